@@ -1,0 +1,27 @@
+-- What is known of files at one moment, and what a read does to it.
+use Rattle.std.specs.Prelude.{◌≡◌, ℕ, ◌≤◌, List, Option, Some, IfSome, take}
+use Rattle.cd_base.specs.Faults.{Rose}
+use Rattle.cd_base.specs.declared.files.ReadError.{ReadError}
+use Rattle.cd_base.specs.declared.files.ReadError.TheVariants.{Failed, Memory}
+
+-- the bytes of the file of each name, where they are told; how many reads failed; and the name of the latest that did
+pub record FilesState : Type 0 where
+  pub told : List ℕ → Option (List ℕ)
+  pub faults : ℕ
+  pub last : Option (List ℕ)
+
+-- these are the first bytes of a file that is told: `most` of them, or all where there are fewer
+abbrev pub IsFrontOf : Option (List ℕ) → ℕ → List ℕ → Type 0
+IsFrontOf told most bytes = IfSome told (λ all. bytes ≡ take most all)
+
+-- the count of faults rose by a read of this name, and what is told stayed
+pub record FailsToRead (old new : FilesState) (name : List ℕ) : Type 0 where
+  pub told : new.told ≡ old.told
+  pub rose : Rose old.faults new.faults
+  pub never_falls : old.faults ≤ new.faults
+  pub last : new.last ≡ Some name
+
+-- what a read that was refused leaves
+abbrev pub AfterRefusedRead : ReadError → FilesState → FilesState → List ℕ → Type 0
+AfterRefusedRead Failed old new name = FailsToRead old new name
+AfterRefusedRead Memory old new name = new ≡ old

@@ -1,0 +1,5 @@
+pub mod Status
+pub mod Faults
+pub mod FilesState
+pub mod SinkState
+pub mod MemorySinkState

@@ -1,0 +1,35 @@
+ghost use Rattle.std.specs.Prelude.{◌≡◌, None, IfOk, OnOk, IfErr};
+ghost use Rattle.cd_base.specs.FilesState.{FilesState, IsFrontOf, AfterRefusedRead};
+
+use std::alloc::AllocError;
+
+/// Why a file was not read.
+#[derive(Clone, Copy, Debug, PartialEq, Eq)]
+pub enum ReadError {
+    /// The file could not be read, and a fault was counted.
+    Failed,
+    /// Memory ran out.
+    Memory,
+}
+
+impl From<AllocError> for ReadError {
+    ghost use Rattle.cd_base.specs.declared.files.ReadError.TheVariants.{Memory};
+
+    ghost from_gives = { λ _ e. e ≡ Memory };
+
+    fn from(_error: AllocError) -> ReadError {
+        ReadError::Memory
+    }
+}
+
+/// Files that are read by name.
+pub trait Files {
+    /// What is known of the files.
+    ghost state: { Self → FilesState };
+
+    /// The first `most` bytes of a file, or all of them where there are fewer.
+    fn read(&mut self, name: &str, most: usize) -> Result<Vec<u8>, ReadError>
+        ensures front { IfOk result (λ bytes. IsFrontOf ((state self.old).told name.now) most bytes.items) }
+        ensures ok { OnOk result (state self.new ≡ state self.old) }
+        ensures err { IfErr result (λ error. AfterRefusedRead error (state self.old) (state self.new) name.now) };
+}

@@ -1,0 +1,71 @@
+ghost use Rattle.std.specs.Prelude.{None};
+
+use crate::sink::{PutError, Sink};
+use std::io::Write;
+use std::rt::{Stderr, Stdout};
+
+// One of the two standard streams.
+#[derive(Drop)]
+enum Stream {
+    Output(Stdout),
+    Errors(Stderr),
+}
+
+/// Standard output or standard error. It tells nothing of what was written, and counts each error
+/// of the stream as a fault.
+#[derive(Drop)]
+pub struct RealSink {
+    stream: Stream,
+    faults: u64,
+}
+
+impl RealSink {
+    /// Standard output.
+    pub fn output(stream: Stdout) -> RealSink {
+        RealSink {
+            stream: Stream::Output(stream),
+            faults: 0,
+        }
+    }
+
+    /// Standard error.
+    pub fn errors(stream: Stderr) -> RealSink {
+        RealSink {
+            stream: Stream::Errors(stream),
+            faults: 0,
+        }
+    }
+}
+
+impl Sink for RealSink {
+    ghost state = { λ s. record { told = None; faults = s.faults } };
+
+    fn put(&mut self, bytes: &[u8]) -> Result<(), PutError> {
+        let written = match &mut self.stream {
+            Stream::Output(stream) => stream.write_all(bytes),
+            Stream::Errors(stream) => stream.write_all(bytes),
+        };
+        if written.is_err() {
+            self.faults = self.faults.saturating_add(1);
+            return Err(PutError::Failed);
+        }
+        Ok(())
+    }
+}
+
+#[cfg(test)]
+mod tests {
+    use super::*;
+    use std::test::Fail;
+
+    // Both streams take bytes, and no fault is counted.
+    #[test]
+    fn takes_bytes(rt: HostRuntime) -> Result<(), Fail> {
+        let mut output = RealSink::output(rt.stdout());
+        let mut errors = RealSink::errors(rt.stderr());
+        output.put(b"to output\n")?;
+        errors.put(b"to errors\n")?;
+        assert_eq!(rt; (output.faults, errors.faults), (0, 0));
+        Ok(())
+    }
+}

@@ -1,0 +1,20 @@
+-- Intervals in rising order, with at least one number between any two.
+use Rattle.std.specs.Prelude.{ℤ, pos, negsuc, ◌+ℤ◌, ◌≤ℤ◌, List, [], ◌∷◌}
+use Rattle.cd_intervals.specs.declared.interval.Interval.{Interval}
+
+-- the least and the greatest number of 128 bits
+abbrev pub LEAST : ℤ
+LEAST = negsuc 170141183460469231731687303715884105727
+
+abbrev pub GREATEST : ℤ
+GREATEST = pos 170141183460469231731687303715884105727
+
+-- the intervals hold a number each, begin at `from` or later, and each leaves a number free before the next, or before `to`
+abbrev pub Rises : ℤ → List Interval → ℤ → Type 0
+Rises from [] to = from ≤ℤ to
+Rises from (interval ∷ rest) to =
+    (from ≤ℤ interval.low) × (interval.low ≤ℤ interval.high) × Rises (interval.high +ℤ pos 2) rest to
+
+-- the intervals are of numbers of 128 bits, and rise
+abbrev pub IsRising : List Interval → Type 0
+IsRising intervals = Rises LEAST intervals (GREATEST +ℤ pos 2)

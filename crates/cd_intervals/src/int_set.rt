@@ -1,0 +1,186 @@
+ghost use Rattle.std.specs.Prelude.{◌≡◌, ℤ, Bool, true, false, [], ◌&&◌, ◌||◌, not, ◌↔◌, IsTrue, IfOk, MatchOption, slice_get};
+ghost use Rattle.std.specs.Option.{option_map};
+ghost use Rattle.cd_intervals.specs.Interval.{is_between, holds, HoldsNothing, bounds_of};
+ghost use Rattle.cd_intervals.specs.Combine.{keeps_of};
+
+use crate::combine::{Operation, combine};
+use crate::interval::Interval;
+use std::alloc::{AllocError, Global};
+use std::marker::Model;
+
+/// A set of integers of 128 bits. A contract sees its list of intervals, of which each number that is
+/// in the set is in one.
+#[derive(Debug, Drop)]
+pub struct IntSet {
+    intervals: Vec<Interval>,
+}
+
+impl Model for IntSet {
+    ghost use Rattle.std.specs.Prelude.{List};
+    ghost use Rattle.cd_intervals.specs.declared.interval.Interval.{Interval as Piece};
+    ghost use Rattle.cd_intervals.specs.Rises.{IsRising};
+
+    ghost Value = { List Piece };
+
+    ghost view = { λ s. s.intervals.items };
+
+    ghost invariant = { λ s. IsRising s.intervals.items };
+}
+
+impl IntSet {
+    /// The set that holds nothing.
+    pub fn empty(alloc: Global) -> IntSet
+        ensures { result ≡ [] }
+    {
+        IntSet {
+            intervals: Vec::new(alloc),
+        }
+    }
+
+    /// The integers from `low` to `high`, both among them; none where `low` is above `high`.
+    pub fn interval(alloc: Global, low: i128, high: i128) -> Result<IntSet, AllocError>
+        ensures { IfOk result (λ set. (z : ℤ) → holds set z ≡ is_between low high z) }
+    {
+        let mut intervals = Vec::new(alloc);
+        if low <= high {
+            intervals.push(Interval { low, high })?;
+        }
+        Ok(IntSet { intervals })
+    }
+
+    /// The integers that are in one of the sets.
+    pub fn union(&self, other: &IntSet) -> Result<IntSet, AllocError>
+        ensures { IfOk result (λ set. (z : ℤ) → holds set z ≡ (holds self.now z || holds other.now z)) }
+    {
+        self.combined(Operation::Union, other)
+    }
+
+    /// The integers that are in both sets.
+    pub fn intersect(&self, other: &IntSet) -> Result<IntSet, AllocError>
+        ensures { IfOk result (λ set. (z : ℤ) → holds set z ≡ (holds self.now z && holds other.now z)) }
+    {
+        self.combined(Operation::Intersection, other)
+    }
+
+    /// The integers that are in this set and not in the other.
+    pub fn minus(&self, other: &IntSet) -> Result<IntSet, AllocError>
+        ensures { IfOk result (λ set. (z : ℤ) → holds set z ≡ (holds self.now z && not (holds other.now z))) }
+    {
+        self.combined(Operation::Difference, other)
+    }
+
+    /// A set with the same integers, by the same intervals.
+    pub fn copy(&self) -> Result<IntSet, AllocError>
+        ensures { IfOk result (λ set. set ≡ self.now) }
+    {
+        Ok(IntSet {
+            intervals: self.intervals.clone()?,
+        })
+    }
+
+    /// Whether the integer is in the set.
+    pub fn contains(&self, value: i128) -> bool
+        ensures { result ≡ holds self.now value }
+    {
+        self.intervals
+            .iter()
+            .any(|interval| interval.low <= value && value <= interval.high)
+    }
+
+    /// Whether no integer is in the set.
+    pub fn is_empty(&self) -> bool
+        ensures { IsTrue result ↔ HoldsNothing self.now }
+    {
+        self.some_member().is_none()
+    }
+
+    /// The bounds of the interval with this number, counted from 0, in the list that contracts see.
+    pub fn piece(&self, index: usize) -> Option<(i128, i128)>
+        ensures { result ≡ option_map bounds_of (slice_get self.now index) }
+    {
+        self.intervals
+            .get(index)
+            .map(|interval| (interval.low, interval.high))
+    }
+
+    /// Some integer of the set, if there is one.
+    pub fn some_member(&self) -> Option<i128>
+        ensures { MatchOption result (HoldsNothing self.now) (λ z. holds self.now z ≡ true) }
+    {
+        self.intervals.first().map(|interval| interval.low)
+    }
+
+    fn combined(&self, operation: Operation, other: &IntSet) -> Result<IntSet, AllocError>
+        ensures { IfOk result (λ set. (z : ℤ) → holds set z ≡ keeps_of operation (holds self.now z) (holds other.now z)) }
+    {
+        let intervals = combine(
+            *self.intervals.allocator(),
+            operation,
+            self.intervals.as_slice(),
+            other.intervals.as_slice(),
+        )?;
+        Ok(IntSet { intervals })
+    }
+}
+
+#[cfg(test)]
+mod tests {
+    use super::*;
+    use std::test::Fail;
+
+    // Each call answers, and at the edges of 128 bits too.
+    #[test]
+    fn combines(rt: HostRuntime) -> Result<(), Fail> {
+        let (least, most) = (i128::MIN, i128::MAX);
+        let rows = [
+            ((0, 5), (0, 4), Some((0, 5)), Some((0, 4)), Some((5, 5))),
+            ((0, 5), (0, 9), Some((0, 9)), Some((0, 5)), None),
+            ((0, 2), (3, 4), Some((0, 4)), None, Some((0, 2))),
+            ((5, 4), (1, 1), Some((1, 1)), None, None),
+            (
+                (least, most),
+                (0, most),
+                Some((least, most)),
+                Some((0, most)),
+                Some((least, -1)),
+            ),
+            (
+                (least, most),
+                (least, least),
+                Some((least, most)),
+                Some((least, least)),
+                Some((least + 1, most)),
+            ),
+        ];
+        for (left, right, union, intersection, difference) in rows {
+            let left = IntSet::interval(rt.alloc(), left.0, left.1)?;
+            let right = IntSet::interval(rt.alloc(), right.0, right.1)?;
+            assert_eq!(rt; left.union(&right)?.piece(0), union);
+            assert_eq!(rt; left.intersect(&right)?.piece(0), intersection);
+            assert_eq!(rt; left.minus(&right)?.piece(0), difference);
+            assert_eq!(rt; left.minus(&right)?.is_empty(), difference.is_none());
+            assert_eq!(rt; left.copy()?.piece(0), left.piece(0));
+        }
+        Ok(())
+    }
+
+    // A difference in the middle leaves two pieces, and the union with the middle joins them again.
+    #[test]
+    fn splits_and_joins(rt: HostRuntime) -> Result<(), Fail> {
+        let all = IntSet::interval(rt.alloc(), 0, 9)?;
+        let middle = IntSet::interval(rt.alloc(), 4, 5)?;
+        let sides = all.minus(&middle)?;
+        let pieces = [sides.piece(0), sides.piece(1), sides.piece(2)];
+        assert_eq!(rt; pieces, [Some((0, 3)), Some((6, 9)), None]);
+        assert_eq!(rt; sides.union(&middle)?.piece(0), Some((0, 9)));
+        assert_eq!(rt;
+            [sides.contains(3), sides.contains(4), sides.contains(6)],
+            [true, false, true]
+        );
+        assert_eq!(rt;
+            (sides.some_member(), IntSet::empty(rt.alloc()).some_member()),
+            (Some(0), None)
+        );
+        Ok(())
+    }
+}
