@@ -3,3 +3,4 @@ pub mod Faults
 pub mod FilesState
 pub mod SinkState
 pub mod MemorySinkState
+pub mod RealFilesState

@@ -3,7 +3,7 @@ use Rattle.std.specs.Prelude.{◌≡◌, ℕ, ◌==◌, List, ◌++◌, Option, 
 use Rattle.std.specs.Option.{option_map}
 use Rattle.cd_base.specs.SinkState.{SinkState}
 
--- the bytes so far, the puts that fail (each with how many bytes it keeps), how many puts were made, and how many failed
+-- the bytes so far, the puts that fail (each with how many bytes it keeps), how many puts were made, and the count of faults
 pub record MemorySinkState : Type 0 where
   pub bytes : List ℕ
   pub failing : List (ℕ × ℕ)

@@ -3,22 +3,22 @@ use Rattle.cd_base.specs.declared.status.Status.{Status}
 use Rattle.cd_base.specs.declared.status.Status.TheVariants.{Done, No, Usage, ReadFault, WriteFault, NoMemory, TooLarge, NotUtf8, Lexical, Syntax, TooDeep, Naming, IllTyped, NotBuilt, NotInput, Uncaught, Overflow, Spent}
 
 -- the number that the program ends with
-abbrev pub number_of : Status → ℕ
-number_of Done = 0
-number_of No = 1
-number_of Usage = 2
-number_of ReadFault = 3
-number_of WriteFault = 4
-number_of NoMemory = 5
-number_of TooLarge = 6
-number_of NotUtf8 = 7
-number_of Lexical = 8
-number_of Syntax = 9
-number_of TooDeep = 10
-number_of Naming = 11
-number_of IllTyped = 12
-number_of NotBuilt = 13
-number_of NotInput = 14
-number_of Uncaught = 15
-number_of Overflow = 16
-number_of Spent = 17
+abbrev pub status_number : Status → ℕ
+status_number Done = 0
+status_number No = 1
+status_number Usage = 2
+status_number ReadFault = 3
+status_number WriteFault = 4
+status_number NoMemory = 5
+status_number TooLarge = 6
+status_number NotUtf8 = 7
+status_number Lexical = 8
+status_number Syntax = 9
+status_number TooDeep = 10
+status_number Naming = 11
+status_number IllTyped = 12
+status_number NotBuilt = 13
+status_number NotInput = 14
+status_number Uncaught = 15
+status_number Overflow = 16
+status_number Spent = 17

@@ -2,13 +2,16 @@ ghost use Rattle.std.specs.Prelude.{◌≡◌, None, IfOk, OnOk, IfErr};
 ghost use Rattle.cd_base.specs.FilesState.{FilesState, IsFrontOf, AfterRefusedRead};
 
 use std::alloc::AllocError;
+use thiserror::Error;
 
 /// Why a file was not read.
-#[derive(Clone, Copy, Debug, PartialEq, Eq)]
+#[derive(Clone, Copy, Debug, PartialEq, Eq, Error)]
 pub enum ReadError {
     /// The file could not be read, and a fault was counted.
+    #[error("the file could not be read")]
     Failed,
     /// Memory ran out.
+    #[error("memory ran out")]
     Memory,
 }
 

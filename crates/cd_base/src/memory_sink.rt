@@ -1,5 +1,5 @@
-ghost use Rattle.std.specs.Prelude.{◌≡◌, ◌+◌, [], ◌++◌, take, min, Some, None, OnOk, IfErr, IsErrOf};
-ghost use Rattle.cd_base.specs.Faults.{END};
+ghost use Rattle.std.specs.Prelude.{◌≡◌, ◌+◌, [], ◌++◌, take, Some, None, OnOk, IfErr, IsErrOf};
+ghost use Rattle.cd_base.specs.Faults.{END, one_more};
 ghost use Rattle.cd_base.specs.SinkState.{Puts, AfterRefusedPut};
 ghost use Rattle.cd_base.specs.MemorySinkState.{sink_state, refusal_of, RefusesAsPlanned};
 
@@ -54,9 +54,10 @@ impl Sink for MemorySink {
         ensures err { IfErr result (λ error. AfterRefusedPut error (sink_state self.old) (sink_state self.new) bytes.now) }
 
         // The plan of refusals is kept to.
-        ensures counted { self.new.puts ≡ min (self.old.puts + 1) END }
+        ensures counted { self.new.puts ≡ one_more self.old.puts }
         ensures plan { self.new.failing ≡ self.old.failing }
         ensures ok_as_planned { OnOk result (refusal_of self.new.puts self.old.failing ≡ None) }
+        ensures failed_once { IsErrOf result PutError.Failed → self.new.faults ≡ one_more self.old.faults }
         ensures failed_as_planned { IsErrOf result PutError.Failed → RefusesAsPlanned self.old self.new bytes.now }
     {
         self.puts = self.puts.saturating_add(1);

@@ -1,10 +1,13 @@
-ghost use Rattle.std.specs.Prelude.{None, string_bytes};
-ghost use Rattle.std.specs.Option.{option_map};
+ghost use Rattle.std.specs.Prelude.{◌≡◌, ◌≤◌, None, OnOk, IfOk, IfErr, IsErrOf, vec_len};
+ghost use Rattle.cd_base.specs.Faults.{one_more};
+ghost use Rattle.cd_base.specs.FilesState.{IsFrontOf, AfterRefusedRead};
+ghost use Rattle.cd_base.specs.RealFilesState.{files_state};
 
 use crate::files::{Files, ReadError};
 use std::alloc::Global;
 use std::fs::File;
 use std::io::{ErrorKind, Read};
+use std::marker::Model;
 use std::{io, rt};
 
 /// The files of the system, reached through the runtime. They tell nothing of their bytes, and count
@@ -17,9 +20,21 @@ pub struct RealFiles<R> {
     last: Option<String>,
 }
 
+impl<R> Model for RealFiles<R> {
+    ghost use Rattle.std.specs.Prelude.{string_bytes};
+    ghost use Rattle.std.specs.Option.{option_map};
+    ghost use Rattle.cd_base.specs.RealFilesState.{RealFilesState};
+
+    ghost Value = { RealFilesState };
+
+    ghost view = { λ f. record { faults = f.faults; last = option_map string_bytes f.last } };
+}
+
 impl<R: rt::Files> RealFiles<R> {
     /// The files that this runtime opens.
-    pub fn new(alloc: Global, runtime: R) -> RealFiles<R> {
+    pub fn new(alloc: Global, runtime: R) -> RealFiles<R>
+        ensures { result ≡ record { faults = 0; last = None } }
+    {
         RealFiles {
             runtime,
             alloc,
@@ -30,9 +45,15 @@ impl<R: rt::Files> RealFiles<R> {
 }
 
 impl<R: rt::Files> Files for RealFiles<R> {
-    ghost state = { λ f. record { told = λ _. None; faults = f.faults; last = option_map string_bytes f.last } };
+    ghost state = { files_state };
 
-    fn read(&mut self, name: &str, most: usize) -> Result<Vec<u8>, ReadError> {
+    fn read(&mut self, name: &str, most: usize) -> Result<Vec<u8>, ReadError>
+        ensures front { IfOk result (λ bytes. IsFrontOf ((files_state self.old).told name.now) most bytes.items) }
+        ensures ok { OnOk result (files_state self.new ≡ files_state self.old) }
+        ensures err { IfErr result (λ error. AfterRefusedRead error (files_state self.old) (files_state self.new) name.now) }
+        ensures within { IfOk result (λ bytes. vec_len bytes ≤ most) }
+        ensures failed_once { IsErrOf result ReadError.Failed → self.new.faults ≡ one_more self.old.faults }
+    {
         match read_front(self.alloc, &self.runtime, name, most) {
             Ok(bytes) => Ok(bytes),
             Err(error) if error.kind() == ErrorKind::OutOfMemory => Err(ReadError::Memory),
@@ -46,15 +67,26 @@ impl<R: rt::Files> Files for RealFiles<R> {
     }
 }
 
+// The front of a file.
 fn read_front<R: rt::Files>(
     alloc: Global,
     runtime: &R,
     name: &str,
     most: usize,
-) -> io::Result<Vec<u8>> {
+) -> io::Result<Vec<u8>>
+    ensures { IfOk result (λ bytes. vec_len bytes ≤ most) }
+{
+    front(alloc, File::open(runtime, name)?, most)
+}
+
+// The first `most` bytes that a reader gives, or all of them where there are fewer.
+fn front<R: Read + Drop>(alloc: Global, reader: R, most: usize) -> io::Result<Vec<u8>>
+    ensures front { IfOk result (λ bytes. IsFrontOf (R.remaining reader) most bytes.items) }
+    ensures within { IfOk result (λ bytes. vec_len bytes ≤ most) }
+{
     let mut bytes = Vec::new(alloc);
-    let mut front = File::open(runtime, name)?.take(most as u64);
-    front.read_to_end(&mut bytes)?;
+    reader.take(most as u64).read_to_end(&mut bytes)?;
+    bytes.truncate(most);
     Ok(bytes)
 }
 
@@ -62,13 +94,14 @@ fn read_front<R: rt::Files>(
 mod tests {
     use super::*;
     use std::test::Fail;
-    use std::{env, fs};
+    use std::{env, fs, process};
 
     // The front of a file is read, and a missing file and a folder are told as faults.
     #[test]
     fn reads_fronts_and_counts_faults(rt: HostRuntime) -> Result<(), Fail> {
         let folder = env::temp_dir(&rt)?;
-        let path = format!(in rt.alloc(); "{}/cd_base_real_files", folder.display())?;
+        let id = process::id(rt.process());
+        let path = format!(in rt.alloc(); "{}/cd_base_{id}", folder.display())?;
         fs::write(&rt, path.as_str(), "0123456789")?;
         let mut files = RealFiles::new(rt.alloc(), rt);
         for (most, want) in [(0, ""), (4, "0123"), (10, "0123456789"), (11, "0123456789")] {

@@ -1,7 +1,10 @@
-ghost use Rattle.std.specs.Prelude.{None};
+ghost use Rattle.std.specs.Prelude.{◌≡◌, None, OnOk, IfErr, IsErrOf};
+ghost use Rattle.cd_base.specs.Faults.{one_more};
+ghost use Rattle.cd_base.specs.SinkState.{Puts, AfterRefusedPut};
 
 use crate::sink::{PutError, Sink};
 use std::io::Write;
+use std::marker::Model;
 use std::rt::{Stderr, Stdout};
 
 // One of the two standard streams.
@@ -19,9 +22,20 @@ pub struct RealSink {
     faults: u64,
 }
 
+impl Model for RealSink {
+    ghost use Rattle.cd_base.specs.SinkState.{SinkState};
+    ghost use Rattle.std.specs.Prelude.{None};
+
+    ghost Value = { SinkState };
+
+    ghost view = { λ s. record { told = None; faults = s.faults } };
+}
+
 impl RealSink {
     /// Standard output.
-    pub fn output(stream: Stdout) -> RealSink {
+    pub fn output(stream: Stdout) -> RealSink
+        ensures { result ≡ record { told = None; faults = 0 } }
+    {
         RealSink {
             stream: Stream::Output(stream),
             faults: 0,
@@ -29,7 +43,9 @@ impl RealSink {
     }
 
     /// Standard error.
-    pub fn errors(stream: Stderr) -> RealSink {
+    pub fn errors(stream: Stderr) -> RealSink
+        ensures { result ≡ record { told = None; faults = 0 } }
+    {
         RealSink {
             stream: Stream::Errors(stream),
             faults: 0,
@@ -38,9 +54,13 @@ impl RealSink {
 }
 
 impl Sink for RealSink {
-    ghost state = { λ s. record { told = None; faults = s.faults } };
+    ghost state = { λ s. s };
 
-    fn put(&mut self, bytes: &[u8]) -> Result<(), PutError> {
+    fn put(&mut self, bytes: &[u8]) -> Result<(), PutError>
+        ensures ok { OnOk result (Puts self.old self.new bytes.now) }
+        ensures err { IfErr result (λ error. AfterRefusedPut error self.old self.new bytes.now) }
+        ensures failed_once { IsErrOf result PutError.Failed → self.new.faults ≡ one_more self.old.faults }
+    {
         let written = match &mut self.stream {
             Stream::Output(stream) => stream.write_all(bytes),
             Stream::Errors(stream) => stream.write_all(bytes),

@@ -2,13 +2,16 @@ ghost use Rattle.std.specs.Prelude.{◌≡◌, OnOk, IfErr};
 ghost use Rattle.cd_base.specs.SinkState.{SinkState, Puts, AfterRefusedPut};
 
 use std::alloc::AllocError;
+use thiserror::Error;
 
 /// Why bytes were not written, or not all of them.
-#[derive(Clone, Copy, Debug, PartialEq, Eq)]
+#[derive(Clone, Copy, Debug, PartialEq, Eq, Error)]
 pub enum PutError {
     /// The sink refused the bytes, and a fault was counted.
+    #[error("the bytes could not be written")]
     Failed,
     /// Memory ran out.
+    #[error("memory ran out")]
     Memory,
 }
 

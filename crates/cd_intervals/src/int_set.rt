@@ -8,8 +8,8 @@ use crate::interval::Interval;
 use std::alloc::{AllocError, Global};
 use std::marker::Model;
 
-/// A set of integers of 128 bits. A contract sees its list of intervals, of which each number that is
-/// in the set is in one.
+/// A set of integers of 128 bits. A contract sees its intervals, in rising order and with a number left
+/// out between any two.
 #[derive(Debug, Drop)]
 pub struct IntSet {
     intervals: Vec<Interval>,

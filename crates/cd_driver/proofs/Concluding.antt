@@ -1,0 +1,110 @@
+-- From the put of a message to the theorem about the whole program.
+use Rattle.std.proofs.Common.{◌≡◌, ℕ, Bool, true, false, List, [], ◌∷◌, ◌++◌, Option, Some, None, refl, ap, inl, inr, ◌⊎◌, rules}
+use Rattle.std.specs.Prelude.{IsTrue, if◌then◌else◌, string_bytes, codes}
+use Rattle.std.specs.Io.KnownBytes.{Appends}
+use Rattle.cd_base.specs.declared.status.Status.{Status}
+use Rattle.cd_base.specs.declared.status.Status.TheVariants.{NoMemory}
+use Rattle.cd_base.specs.SinkState.{SinkState, Puts}
+use Rattle.cd_driver.specs.Command.{Bytes, name_of}
+use Rattle.cd_driver.specs.Reply.{Reply, line}
+use Rattle.cd_driver.specs.World.{World}
+use Rattle.cd_driver.specs.Answer.{Disk, Answer, SubAnswer, TextRefusal, no_form, sub, command_not_built, yes, no, first_refused, second_refused, text_not_built}
+use Rattle.cd_driver.specs.Ending.{unmarked, Delivered, whole, out_refused, err_refused, out_cut, err_cut, Ending, answered, no_memory, Completes}
+use Rattle.cd_driver.specs.Headline.{NothingFailed, IsAnswered, Headline, told_files}
+use Rattle.cd_driver.specs.Telling.{Put, whole as put_whole, refused as put_refused, cut as put_cut}
+use Rattle.cd_driver.specs.declared.message.Message.{Message}
+use Rattle.cd_driver.specs.Message.{reply_of}
+
+-- a line has a line feed
+line_some : (text : Bytes) → line text ≡ [] → ⊥
+line_some [] none = cc
+line_some (c ∷ cs) none = cc
+
+-- an answer has a text
+refusal_speaks : (origin text : Bytes) (reply : Reply) → TextRefusal origin text reply → reply.err ≡ [] → ⊥
+refusal_speaks origin text _ (text_not_built unread) err = line_some (origin ++ codes ": not built") err
+
+sub_speaks : (text1 text2 : Bytes) (reply : Reply) → SubAnswer text1 text2 reply → reply.out ≡ [] → reply.err ≡ [] → ⊥
+sub_speaks text1 text2 _ (yes first second is1 is2 within) out err = cc
+sub_speaks text1 text2 _ (no first second is1 is2 element is inside outside text prints) out err = cc
+sub_speaks text1 text2 _ (first_refused reply refusal) out err = refusal_speaks (codes "T1") text1 reply refusal err
+sub_speaks text1 text2 _ (second_refused first is1 reply refusal) out err = refusal_speaks (codes "T2") text2 reply refusal err
+
+speaks : (words : List Bytes) (disk : Disk) (reply : Reply) → Answer words disk reply → reply.out ≡ [] → reply.err ≡ [] → ⊥
+speaks words disk _ (no_form none) out err = cc
+speaks words disk _ (sub text1 text2 give reply answers) out err = sub_speaks text1 text2 reply answers out err
+speaks words disk _ (command_not_built command give is) out err = line_some (name_of command ++ codes ": not built") err
+
+-- nothing was put
+appends_nothing : (told : Option (List ℕ)) → Appends told told []
+appends_nothing None = tt
+appends_nothing (Some bytes) = search rules
+
+puts_nothing : (old new : SinkState) → new ≡ old → Puts old new []
+puts_nothing old new same = record { told = rw same (appends_nothing old.told); faults = ap (λ s. s.faults) same }
+
+-- the text of a message went to one sink
+delivered_out : (before after : World) (status : Status) (text : Bytes) → (text ≡ [] → ⊥) → (ending : Status)
+    → Put text status before.out after.out ending → after.err ≡ before.err → Delivered before after (record { status = status; out = text; err = [] }) ending
+delivered_out before after status text some _ (put_whole puts) same = whole puts (puts_nothing before.err after.err same)
+delivered_out before after status text some _ (put_refused fails) same = out_refused some fails same
+delivered_out before after status text some _ (put_cut puts) same = out_cut some puts same
+
+delivered_err : (before after : World) (status : Status) (text : Bytes) → (text ≡ [] → ⊥) → (ending : Status)
+    → Put text status before.err after.err ending → after.out ≡ before.out → Delivered before after (record { status = status; out = []; err = text }) ending
+delivered_err before after status text some _ (put_whole puts) same = whole (puts_nothing before.out after.out same) puts
+delivered_err before after status text some _ (put_refused fails) same = err_refused some fails same
+delivered_err before after status text some _ (put_cut puts) same = err_cut some puts same
+
+-- a message that is an answer was delivered
+delivered_message : (words : List Bytes) (disk : Disk) (before after : World) (on_output : Bool) (status : Status) (text : Bytes) (ending : Status)
+    → Answer words disk (if on_output then record { status = status; out = text; err = [] } else record { status = status; out = []; err = text })
+    → (IsTrue on_output → Put text status before.out after.out ending × (after.err ≡ before.err))
+    → (on_output ≡ false → Put text status before.err after.err ending × (after.out ≡ before.out))
+    → Ending words disk before after ending
+delivered_message words disk before after true status text ending answer output errors =
+    let put = output refl in
+    answered (record { status = status; out = text; err = [] }) answer ending (delivered_out before after status text (λ none. speaks words disk (record { status = status; out = text; err = [] }) answer none refl) ending put.0 put.1)
+delivered_message words disk before after false status text ending answer output errors =
+    let put = errors refl in
+    answered (record { status = status; out = []; err = text }) answer ending (delivered_err before after status text (λ none. speaks words disk (record { status = status; out = []; err = text }) answer refl none) ending put.0 put.1)
+
+-- a call that reads no file meets the files that are told, and ends in one of the ways
+pub record EndsUnread (words : List Bytes) (before after : World) (status : Status) : Type 0 where
+  pub files : after.files ≡ before.files
+  pub ending : Ending words (told_files before) before after status
+
+pub ends_message : (words : List Bytes) (before after : World) (message : Message) (ending : Status)
+    → after.files ≡ before.files
+    → ((disk : Disk) → Answer words disk (reply_of message))
+    → (IsTrue message.on_output → Put (string_bytes message.text) message.status before.out after.out ending × (after.err ≡ before.err))
+    → (message.on_output ≡ false → Put (string_bytes message.text) message.status before.err after.err ending × (after.out ≡ before.out))
+    → EndsUnread words before after ending
+ends_message words before after message ending same answer output errors = record {
+  files = same;
+  ending = delivered_message words (told_files before) before after message.on_output message.status (string_bytes message.text) ending (answer (told_files before)) output errors;
+}
+
+pub ends_at_once : (words : List Bytes) (before : World) → EndsUnread words before before NoMemory
+ends_at_once words before = record { files = refl; ending = no_memory refl refl }
+
+pub complete : (words : List Bytes) (before after : World) (status : Status) → EndsUnread words before after status → Completes words before after status
+complete words before after status ends =
+    record { disk = told_files before; met = unmarked (ap (λ files. files.faults) ends.files); ending = ends.ending }
+
+-- where nothing failed, the way that a call ended is an answer, or memory ran out
+headline_delivered : (words : List Bytes) (before after : World) (reply : Reply) → Answer words (told_files before) reply → (status : Status) → Delivered before after reply status → NothingFailed before after
+    → (status ≡ NoMemory) ⊎ IsAnswered words before after status
+headline_delivered words before after reply answer _ (whole out err) nothing = inr (record { reply = reply; answer = answer; status_is = refl; out = out.told; err = err.told })
+headline_delivered words before after reply answer _ (out_refused some fails same) nothing = absurd (nothing.out fails.rose)
+headline_delivered words before after reply answer _ (err_refused some fails same) nothing = absurd (nothing.err fails.rose)
+headline_delivered words before after reply answer _ (out_cut some puts same) nothing = inl refl
+headline_delivered words before after reply answer _ (err_cut some puts same) nothing = inl refl
+
+headline_ending : (words : List Bytes) (before after : World) (status : Status) → Ending words (told_files before) before after status → NothingFailed before after
+    → (status ≡ NoMemory) ⊎ IsAnswered words before after status
+headline_ending words before after _ (answered reply answer status ways) nothing = headline_delivered words before after reply answer status ways nothing
+headline_ending words before after _ (no_memory out err) nothing = inl refl
+
+pub headline : (words : List Bytes) (before after : World) (status : Status) → EndsUnread words before after status → Headline words before after status
+headline words before after status ends = λ nothing. headline_ending words before after status ends.ending nothing

@@ -1,0 +1,65 @@
+-- The commands, and the words that give them. Words are texts in UTF-8, seen as their bytes.
+use Rattle.std.specs.Prelude.{◌≡◌, ℕ, ◌≤◌, List, [], ◌∷◌, length, map, codes, String, string_bytes}
+use Rattle.std.specs.Global.{Global}
+use Rattle.cd_syntax.specs.Spelling.{AreDigits, decimal_value}
+
+abbrev pub Bytes : Type 0
+Bytes = List ℕ
+
+-- the texts of words
+abbrev pub texts : List (String Global) → List Bytes
+texts words = map string_bytes words
+
+pub data Command : Type 0 where
+  -- is the first type text within the second
+  Sub : (first second : Bytes) → Command
+  -- the same, with the type declarations of a file
+  SubTypes : (file first second : Bytes) → Command
+  -- is the value of a document in a type text, with the type declarations of a file
+  Member : (file document type : Bytes) → Command
+  -- is the program of a file well typed
+  Check : (file : Bytes) → Command
+  -- run the program of a file on a document, with 1,000,000,000 units
+  Run : (file document : Bytes) → Command
+  -- the same, with so many units
+  RunSteps : (units : ℕ) (file document : Bytes) → Command
+  -- run the workload of this size
+  Work : (size : ℕ) → Command
+
+-- the word is 1 to `most` decimal digits, which write this number
+pub record IsNumeral (most : ℕ) (word : Bytes) (number : ℕ) : Type 0 where
+  pub digits : AreDigits word
+  pub short : length word ≤ most
+  pub value : number ≡ decimal_value word
+
+-- the size of a workload: 1 to 6 decimal digits that write a number from 1 to 100,000
+pub record IsSize (word : Bytes) (size : ℕ) : Type 0 where
+  pub numeral : IsNumeral 6 word size
+  pub least : 1 ≤ size
+  pub most : size ≤ 100000
+
+-- the words give the command
+abbrev pub Give : List Bytes → Command → Type 0
+Give words (Sub first second) = words ≡ codes "sub" ∷ first ∷ second ∷ []
+Give words (SubTypes file first second) = words ≡ codes "sub" ∷ codes "--types" ∷ file ∷ first ∷ second ∷ []
+Give words (Member file document type) = words ≡ codes "member" ∷ file ∷ document ∷ type ∷ []
+Give words (Check file) = words ≡ codes "check" ∷ file ∷ []
+Give words (Run file document) = words ≡ codes "run" ∷ file ∷ document ∷ []
+Give words (RunSteps units file document) =
+    (word : Bytes) × (words ≡ codes "run" ∷ codes "--steps" ∷ word ∷ file ∷ document ∷ []) × IsNumeral 18 word units
+Give words (Work size) =
+    (word : Bytes) × (words ≡ codes "work" ∷ word ∷ []) × IsSize word size
+
+-- the words have no form that is listed
+abbrev pub HaveNoForm : List Bytes → Type 0
+HaveNoForm words = (command : Command) → Give words command → ⊥
+
+-- the first word of the words that give a command
+abbrev pub name_of : Command → Bytes
+name_of (Sub first second) = codes "sub"
+name_of (SubTypes file first second) = codes "sub"
+name_of (Member file document type) = codes "member"
+name_of (Check file) = codes "check"
+name_of (Run file document) = codes "run"
+name_of (RunSteps units file document) = codes "run"
+name_of (Work size) = codes "work"

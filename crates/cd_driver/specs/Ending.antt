@@ -1,0 +1,50 @@
+-- How a call ends, whatever the files and sinks do.
+use Rattle.std.specs.Prelude.{◌≡◌, ◌≢◌, List, [], Some, None}
+use Rattle.cd_base.specs.declared.status.Status.{Status}
+use Rattle.cd_base.specs.declared.status.Status.TheVariants.{WriteFault, NoMemory}
+use Rattle.cd_base.specs.Faults.{Rose}
+use Rattle.cd_base.specs.SinkState.{Puts, PutsPrefix, FailsToPut}
+use Rattle.cd_driver.specs.Command.{Bytes}
+use Rattle.cd_driver.specs.Reply.{Reply}
+use Rattle.cd_driver.specs.World.{World}
+use Rattle.cd_driver.specs.Answer.{Disk, Answer}
+
+-- the files that a call met, by what is known of them before and after it
+pub data Met (before after : World) : Disk → Type 0 where
+  -- where the count of faults is as it was, no name is marked
+  unmarked : after.files.faults ≡ before.files.faults
+      → Met before after (record { told = before.files.told; marked = None })
+  -- where it rose, the name of the latest read that failed is marked
+  marked : (name : Bytes) → Rose before.files.faults after.files.faults → after.files.last ≡ Some name
+      → Met before after (record { told = before.files.told; marked = Some name })
+
+-- the ways to deliver a reply to the sinks, and the status that each ends with
+pub data Delivered (before after : World) (reply : Reply) : Status → Type 0 where
+  -- both texts were written whole
+  whole : Puts before.out after.out reply.out → Puts before.err after.err reply.err
+      → Delivered before after reply reply.status
+  -- a sink refused its text and has a prefix of it, and its count of faults rose; the other sink is as it was
+  out_refused : reply.out ≢ [] → FailsToPut before.out after.out reply.out → after.err ≡ before.err
+      → Delivered before after reply WriteFault
+  err_refused : reply.err ≢ [] → FailsToPut before.err after.err reply.err → after.out ≡ before.out
+      → Delivered before after reply WriteFault
+  -- memory ran out at a sink, which has a prefix of its text; the other sink is as it was
+  out_cut : reply.out ≢ [] → PutsPrefix before.out after.out reply.out → after.err ≡ before.err
+      → Delivered before after reply NoMemory
+  err_cut : reply.err ≢ [] → PutsPrefix before.err after.err reply.err → after.out ≡ before.out
+      → Delivered before after reply NoMemory
+
+-- the ways that a call on these words ends
+pub data Ending (words : List Bytes) (disk : Disk) (before after : World) : Status → Type 0 where
+  -- an answer to the words was delivered, or a prefix of it
+  answered : (reply : Reply) → Answer words disk reply → (status : Status) → Delivered before after reply status
+      → Ending words disk before after status
+  -- memory ran out before anything was written
+  no_memory : after.out ≡ before.out → after.err ≡ before.err
+      → Ending words disk before after NoMemory
+
+-- whatever faults came, the call ended in one of these ways, for the files that it met
+pub record Completes (words : List Bytes) (before after : World) (status : Status) : Type 0 where
+  pub disk : Disk
+  pub met : Met before after disk
+  pub ending : Ending words disk before after status

@@ -1,0 +1,12 @@
+pub mod Command
+pub mod Reply
+pub mod World
+pub mod Answer
+pub mod Ending
+pub mod Headline
+pub mod Causes
+pub mod Decision
+pub mod Machine
+pub mod Message
+pub mod Request
+pub mod Telling

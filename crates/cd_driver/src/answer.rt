@@ -1,0 +1,37 @@
+ghost use Rattle.std.specs.Prelude.{IfOk};
+ghost use Rattle.cd_driver.specs.Answer.{Disk, Answer, SubAnswer};
+ghost use Rattle.cd_driver.specs.Message.{reply_of};
+ghost use Rattle.cd_driver.specs.Command.{texts};
+
+use crate::decision::outside;
+use crate::message::{Message, no, not_built, usage, yes};
+use crate::reader::read_type;
+use crate::request::{Request, request_of};
+use std::alloc::{AllocError, Global};
+
+/// The answer to words. It reads no file.
+pub(crate) fn answer(alloc: Global, words: &[String]) -> Result<Message, AllocError>
+    ensures { IfOk result (λ message. (disk : Disk) → Answer (texts words.now) disk (reply_of message)) }
+{
+    match request_of(words) {
+        None => usage(alloc),
+        Some(Request::Sub(first, second)) => sub(alloc, first, second),
+        Some(Request::NotBuilt(name)) => not_built(alloc, name),
+    }
+}
+
+// Whether the first type text is within the second.
+fn sub(alloc: Global, first: &str, second: &str) -> Result<Message, AllocError>
+    ensures { IfOk result (λ message. SubAnswer first.now second.now (reply_of message)) }
+{
+    let Some(left) = read_type(alloc, first)? else {
+        return not_built(alloc, "T1");
+    };
+    let Some(right) = read_type(alloc, second)? else {
+        return not_built(alloc, "T2");
+    };
+    match outside(alloc, &left, &right)? {
+        None => yes(alloc),
+        Some(element) => no(alloc, element),
+    }
+}

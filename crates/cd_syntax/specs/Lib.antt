@@ -1,0 +1,10 @@
+pub mod Name
+pub mod Integer
+pub mod Element
+pub mod Tree
+pub mod Written
+pub mod Membership
+pub mod Subtype
+pub mod Notation
+pub mod Spelling
+pub mod Grammar

@@ -1,0 +1,24 @@
+-- Names, of atoms and of labels.
+use Rattle.std.specs.Prelude.{◌≢◌, ℕ, ◌==◌, Bool, false, ◌&&◌, ◌||◌, List, [], ◌∷◌, IsTrue, codes}
+use Rattle.std.specs.Char.{is_ascii_alphabetic, is_ascii_alphanumeric}
+use Rattle.std.specs.List.{list_all}
+
+-- a name is the list of its characters
+abbrev pub Name : Type 0
+Name = List ℕ
+
+-- a character that a word may begin with, and one that it may go on with
+abbrev pub begins_word : ℕ → Bool
+begins_word c = is_ascii_alphabetic c || c == 95
+
+abbrev pub goes_on_word : ℕ → Bool
+goes_on_word c = is_ascii_alphanumeric c || c == 95
+
+-- an ASCII letter or `_`, and then ASCII letters, digits and `_`
+abbrev pub is_word : Name → Bool
+is_word [] = false
+is_word (c ∷ cs) = begins_word c && list_all goes_on_word cs
+
+-- a label, or the name of an atom: a word other than `_` alone
+abbrev pub IsLabel : Name → Type 0
+IsLabel name = IsTrue (is_word name) × (name ≢ codes "_")

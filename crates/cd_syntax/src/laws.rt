@@ -1,0 +1,35 @@
+//! Laws of the definitions in `specs/`. Each is the contract of a function that does nothing.
+ghost use Rattle.std.specs.Prelude.{◌≡◌, ◌⊎◌, ℕ, List, pos, negsuc, Some, None, codes};
+ghost use Rattle.cd_syntax.specs.Element.{Element, IsElement, Integer, Atom, Pair, Xml, Record, Function, NoField, Field, NoPair, Maps, Fails};
+ghost use Rattle.cd_syntax.specs.Grammar.{Reads};
+ghost use Rattle.cd_syntax.specs.Membership.{IsIn, IsOutside};
+ghost use Rattle.cd_syntax.specs.Notation.{Prints};
+ghost use Rattle.cd_syntax.specs.Tree.{Ints};
+ghost use Rattle.cd_syntax.specs.Written.{Written};
+
+/// Each element is in a type or outside it, and not both.
+pub fn membership_is_decided()
+    ensures in_or_outside { (element : Element) (type : Written) → IsIn element type ⊎ IsOutside element type }
+    ensures not_both { (element : Element) (type : Written) → IsIn element type → IsOutside element type → ⊥ }
+{}
+
+/// An element has one canonical text.
+pub fn notation_is_one()
+    ensures { (element : Element) (first second : List ℕ) → Prints element first → Prints element second → first ≡ second }
+{}
+
+/// The definitions at some values: an XML element and a function that are elements, a record whose
+/// labels do not rise, a text and its type, an element in a type and one outside, and printed texts.
+pub fn worked_examples()
+    ensures xml { IsElement (Xml (Atom (codes "a")) (Record (Field (codes "x") (Integer (pos 1)) NoField)) (Atom (codes "nil"))) }
+    ensures function { IsElement (Function (Maps (Integer (pos 0)) (Integer (pos 5)) (Fails (Pair (Integer (pos 0)) (Atom (codes "_b"))) NoPair))) }
+    ensures labels_rise { IsElement (Record (Field (codes "b") (Integer (pos 1)) (Field (codes "a") (Integer (pos 1)) NoField))) → ⊥ }
+    ensures no_name { IsElement (Atom (codes "_")) → ⊥ }
+    ensures reads { Reads (codes " 007 --12") (record { tree = Ints (Some (pos 7)) (Some (pos 12)) }) }
+    ensures reads_one { Reads (codes "5") (record { tree = Ints (Some (pos 5)) (Some (pos 5)) }) }
+    ensures inside { IsIn (Integer (pos 5)) (record { tree = Ints (Some (pos 0)) (Some (pos 5)) }) }
+    ensures outside { IsOutside (Integer (pos 5)) (record { tree = Ints (Some (pos 0)) (Some (pos 4)) }) }
+    ensures unbounded { IsIn (Integer (negsuc 4)) (record { tree = Ints None (Some (pos 4)) }) }
+    ensures prints { Prints (Integer (pos 120)) (codes "120") }
+    ensures prints_negative { Prints (Integer (negsuc 4)) (codes "-5") }
+{}

@@ -1,0 +1,7 @@
+//! The syntax of types, and the definitions that every theorem of the program cites: elements, types as
+//! sets of elements, subtyping, spelling, grammar and notation. They stand in `specs/`.
+#![tactic(auto)]
+
+pub mod laws;
+pub mod token;
+pub mod tree;
