@@ -4,3 +4,4 @@ pub mod FilesState
 pub mod SinkState
 pub mod MemorySinkState
 pub mod RealFilesState
+pub mod MemoryFilesState

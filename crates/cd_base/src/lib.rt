@@ -2,6 +2,7 @@
 #![tactic(auto)]
 
 pub mod files;
+pub mod memory_files;
 pub mod memory_sink;
 pub mod real_files;
 pub mod real_sink;
