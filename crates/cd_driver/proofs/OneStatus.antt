@@ -13,7 +13,7 @@ use Rattle.cd_driver.specs.Command.{Bytes, Command, Sub, SubTypes, Member, Check
 use Rattle.cd_driver.specs.Reply.{Reply}
 use Rattle.cd_driver.specs.Answer.{Disk, Answer, SubAnswer, ReadsAs, CommandIsNotBuilt, TextRefusal, no_form, sub, command_not_built, yes, no, first_refused, second_refused, text_not_built}
 use Rattle.cd_driver.proofs.Reading.{spelled_read, derived_read}
-use Rattle.cd_driver.proofs.Deciding.{not_both}
+use Rattle.cd_syntax.proofs.Membership.{not_both}
 
 -- a text reads as one type at most
 reads_one : (text : List _) (first second : Written) → Reads text first → Reads text second → first ≡ second

@@ -1,10 +1,11 @@
 //! Laws of the definitions in `specs/`. Each is the contract of a function that does nothing.
-ghost use Rattle.std.specs.Prelude.{◌≡◌, ◌⊎◌, ℕ, List, pos, negsuc, Some, None, codes};
+ghost use Rattle.std.specs.Prelude.{◌≡◌, ◌⊎◌, ℕ, List, pos, negsuc, true, false, Some, None, codes};
 ghost use Rattle.cd_syntax.specs.Element.{Element, IsElement, Integer, Atom, Pair, Xml, Record, Function, NoField, Field, NoPair, Maps, Fails};
 ghost use Rattle.cd_syntax.specs.Grammar.{Reads};
 ghost use Rattle.cd_syntax.specs.Membership.{IsIn, IsOutside};
 ghost use Rattle.cd_syntax.specs.Notation.{Prints};
-ghost use Rattle.cd_syntax.specs.Tree.{Ints};
+ghost use Rattle.cd_syntax.specs.Tree.{Builtin, Ints, Union, Meet, NoTree, ATree, NoSign, ASign};
+ghost use Rattle.cd_syntax.specs.declared.tree.NodeName.TheVariants.{Int, Empty};
 ghost use Rattle.cd_syntax.specs.Written.{Written};
 
 /// Each element is in a type or outside it, and not both.
@@ -29,6 +30,12 @@ pub fn worked_examples()
     ensures reads_one { Reads (codes "5") (record { tree = Ints (Some (pos 5)) (Some (pos 5)) }) }
     ensures inside { IsIn (Integer (pos 5)) (record { tree = Ints (Some (pos 0)) (Some (pos 5)) }) }
     ensures outside { IsOutside (Integer (pos 5)) (record { tree = Ints (Some (pos 0)) (Some (pos 4)) }) }
+    ensures any_integer { IsIn (Integer (negsuc 4)) (record { tree = Builtin Int }) }
+    ensures nothing { IsOutside (Integer (negsuc 4)) (record { tree = Builtin Empty }) }
+    ensures no_integer { IsOutside (Atom (codes "a")) (record { tree = Builtin Int }) }
+    ensures in_union { IsIn (Integer (pos 5)) (record { tree = Union (ATree (Builtin Empty) (ATree (Ints None (Some (pos 5))) NoTree)) }) }
+    ensures in_meet { IsIn (Integer (pos 5)) (record { tree = Meet (Builtin Int) (ASign true (Ints None (Some (pos 5))) (ASign false (Builtin Empty) NoSign)) }) }
+    ensures out_of_meet { IsOutside (Integer (pos 5)) (record { tree = Meet (Builtin Int) (ASign true (Ints None (Some (pos 5))) (ASign false (Builtin Int) NoSign)) }) }
     ensures unbounded { IsIn (Integer (negsuc 4)) (record { tree = Ints None (Some (pos 4)) }) }
     ensures prints { Prints (Integer (pos 120)) (codes "120") }
     ensures prints_negative { Prints (Integer (negsuc 4)) (codes "-5") }
