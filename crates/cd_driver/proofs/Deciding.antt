@@ -3,15 +3,15 @@ use Rattle.std.proofs.Common.{◌≡◌, ℤ, Bool, true, false, ◌&&◌, ◌||
 use Rattle.std.specs.Prelude.{int_le}
 use Rattle.std.specs.Option.{MatchOption, unwrap_or}
 use Rattle.std.proofs.lemmas.Bool.{and_parts, cases_Bool, not-true}
-use Rattle.std.proofs.lemmas.Int.{ints, by_lt_z}
+use Rattle.std.proofs.lemmas.Int.{ints}
 use Rattle.cd_intervals.specs.declared.interval.Interval.{Interval}
 use Rattle.cd_intervals.specs.Interval.{is_between, holds, HoldsNothing}
 use Rattle.cd_syntax.specs.Integer.{LEAST, GREATEST}
-use Rattle.cd_syntax.specs.Element.{Element, Integer, Character, Atom, Pair, Xml, Record, Function}
+use Rattle.cd_syntax.specs.Element.{Integer, Character, Atom, Pair, Xml, Record, Function}
 use Rattle.cd_syntax.specs.declared.tree.NodeName.TheVariants.{Int, Empty}
 use Rattle.cd_syntax.specs.Tree.{Tree, Builtin, Ints, Union, Meet, Trees, NoTree, ATree, Signs, NoSign, ASign}
 use Rattle.cd_syntax.specs.Written.{Written}
-use Rattle.cd_syntax.specs.Membership.{integer_in, integer_reader, other_reader, answers, IsIn, IsOutside}
+use Rattle.cd_syntax.specs.Membership.{integer_in, integer_reader, other_reader, answers, IsIn}
 use Rattle.cd_syntax.specs.Membership.{holds as answers_at, holds_one as answers_one, holds_signs as answers_signs}
 use Rattle.cd_syntax.specs.Subtype.{IsWithin}
 use Rattle.cd_syntax.proofs.Membership.{not_both}

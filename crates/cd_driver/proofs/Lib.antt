@@ -1,3 +1,7 @@
+pub mod Lexing
+pub mod Parsing
+pub mod ParsingComplete
+pub mod ParsingSound
 pub mod Reading
 pub mod Deciding
 pub mod Asking

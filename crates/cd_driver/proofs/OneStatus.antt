@@ -12,17 +12,17 @@ use Rattle.cd_syntax.specs.Grammar.{Reads}
 use Rattle.cd_driver.specs.Command.{Bytes, Command, Sub, SubTypes, Member, Check, Run, RunSteps, Work, Give}
 use Rattle.cd_driver.specs.Reply.{Reply}
 use Rattle.cd_driver.specs.Answer.{Disk, Answer, SubAnswer, ReadsAs, CommandIsNotBuilt, TextRefusal, no_form, sub, command_not_built, yes, no, first_refused, second_refused, text_not_built}
-use Rattle.cd_driver.proofs.Reading.{spelled_read, derived_read}
+use Rattle.cd_driver.proofs.Reading.{made_of}
 use Rattle.cd_syntax.proofs.Membership.{not_both}
 
 -- a text reads as one type at most
 reads_one : (text : List _) (first second : Written) → Reads text first → Reads text second → first ≡ second
 reads_one text first second a b =
-    let same_tokens = spelled_read text a.0 a.1 in
-    let other_tokens = spelled_read text b.0 b.1 in
-    let same : a.0 ≡ b.0 = cc in
-    let first_is = derived_read a.0 first.tree a.2 in
-    let second_is = rw (sym same) at (derived_read b.0 second.tree b.2) in
+    let one = made_of text first a in
+    let other = made_of text second b in
+    let same : a.tokens ≡ b.tokens = let first_is = one.0 in let second_is = other.0 in cc in
+    let second_is = rw (sym same) at other.1 in
+    let first_is = one.1 in
     let same_tree : first.tree ≡ second.tree = cc in
     ap (λ tree. record { tree = tree }) same_tree
 

@@ -6,7 +6,9 @@ pub mod Ending
 pub mod Headline
 pub mod Causes
 pub mod Decision
-pub mod Machine
+pub mod Lexer
+pub mod Parser
+pub mod Parsing
 pub mod Message
 pub mod Request
 pub mod Telling

@@ -19,7 +19,9 @@ use std::alloc::Global;
 mod answer;
 mod decision;
 pub mod laws;
+mod lexer;
 mod message;
+mod parser;
 mod reader;
 mod request;
 #[cfg(test)]

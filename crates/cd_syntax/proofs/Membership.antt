@@ -1,5 +1,5 @@
 -- Each type answers just one of true and false at an element.
-use Rattle.std.proofs.Common.{◌≡◌, ℤ, Bool, true, false, not, ◌⊎◌, inl, inr, arith}
+use Rattle.std.proofs.Common.{ℤ, true, false, ◌⊎◌, inl, inr, arith}
 use Rattle.std.specs.Option.{unwrap_or}
 use Rattle.std.proofs.lemmas.Int.{ints, by_lt_z}
 use Rattle.cd_syntax.specs.Integer.{LEAST, GREATEST}
@@ -7,7 +7,7 @@ use Rattle.cd_syntax.specs.Element.{Element, Integer, Character, Atom, Pair, Xml
 use Rattle.cd_syntax.specs.declared.tree.NodeName.TheVariants.{Int, Empty}
 use Rattle.cd_syntax.specs.Tree.{Tree, Builtin, Ints, Union, Meet, Trees, NoTree, ATree, Signs, NoSign, ASign}
 use Rattle.cd_syntax.specs.Written.{Written}
-use Rattle.cd_syntax.specs.Membership.{Reader, integer_in, integer_reader, other_reader, holds, holds_one, holds_signs, answers, IsIn, IsOutside}
+use Rattle.cd_syntax.specs.Membership.{Reader, integer_in, integer_reader, other_reader, holds, holds_one, holds_signs, IsIn, IsOutside}
 
 -- a reader answers true or false at each form
 abbrev Decides : Reader → Type 0
@@ -24,27 +24,27 @@ module _ (reader : Reader) (decides : Decides reader) where
     holds_decided (Ints low high) = decides (Ints low high)
     holds_decided (Union trees) = one_decided trees
     holds_decided (Meet first signs) = elim (holds_decided first) [
-        inr out ↦ inr (inl out)
+      | inr out ↦ inr (inl out)
       | inl is ↦ elim (signs_decided signs) [ inr out ↦ inr (inr out) | inl are ↦ inl (is, are) ]
-      ]
+    ]
 
     one_decided : (trees : Trees) → holds_one reader trees true ⊎ holds_one reader trees false
     one_decided NoTree = inr tt
     one_decided (ATree tree rest) = elim (holds_decided tree) [
-        inl is ↦ inl (inl is)
+      | inl is ↦ inl (inl is)
       | inr out ↦ elim (one_decided rest) [ inl is ↦ inl (inr is) | inr none ↦ inr (out, none) ]
-      ]
+    ]
 
     signs_decided : (signs : Signs) → holds_signs reader signs true ⊎ holds_signs reader signs false
     signs_decided NoSign = inl tt
     signs_decided (ASign true tree rest) = elim (holds_decided tree) [
-        inr out ↦ inr (inl out)
+      | inr out ↦ inr (inl out)
       | inl is ↦ elim (signs_decided rest) [ inr out ↦ inr (inr out) | inl are ↦ inl (is, are) ]
-      ]
+    ]
     signs_decided (ASign false tree rest) = elim (holds_decided tree) [
-        inl is ↦ inr (inl is)
+      | inl is ↦ inr (inl is)
       | inr out ↦ elim (signs_decided rest) [ inr stray ↦ inr (inr stray) | inl are ↦ inl (out, are) ]
-      ]
+    ]
 
 module _ (reader : Reader) (agrees : Agrees reader) where
   mutual

@@ -20,7 +20,7 @@ pub fn notation_is_one()
 {}
 
 /// The definitions at some values: an XML element and a function that are elements, a record whose
-/// labels do not rise, a text and its type, an element in a type and one outside, and printed texts.
+/// labels do not rise, texts and their types, an element in a type and one outside, and printed texts.
 pub fn worked_examples()
     ensures xml { IsElement (Xml (Atom (codes "a")) (Record (Field (codes "x") (Integer (pos 1)) NoField)) (Atom (codes "nil"))) }
     ensures function { IsElement (Function (Maps (Integer (pos 0)) (Integer (pos 5)) (Fails (Pair (Integer (pos 0)) (Atom (codes "_b"))) NoPair))) }
@@ -28,6 +28,7 @@ pub fn worked_examples()
     ensures no_name { IsElement (Atom (codes "_")) → ⊥ }
     ensures reads { Reads (codes " 007 --12") (record { tree = Ints (Some (pos 7)) (Some (pos 12)) }) }
     ensures reads_one { Reads (codes "5") (record { tree = Ints (Some (pos 5)) (Some (pos 5)) }) }
+    ensures reads_signs { Reads (codes "Int\\(4|5)&0--9") (record { tree = Meet (Builtin Int) (ASign false (Union (ATree (Ints (Some (pos 4)) (Some (pos 4))) (ATree (Ints (Some (pos 5)) (Some (pos 5))) NoTree))) (ASign true (Ints (Some (pos 0)) (Some (pos 9))) NoSign)) }) }
     ensures inside { IsIn (Integer (pos 5)) (record { tree = Ints (Some (pos 0)) (Some (pos 5)) }) }
     ensures outside { IsOutside (Integer (pos 5)) (record { tree = Ints (Some (pos 0)) (Some (pos 4)) }) }
     ensures any_integer { IsIn (Integer (negsuc 4)) (record { tree = Builtin Int }) }

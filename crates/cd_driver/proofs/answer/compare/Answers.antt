@@ -19,7 +19,7 @@ returns-in-None c =
     let second = written c.args.second.now in
     let within = rw c.in-None.is at c.in_ok-outside.ensures in
     replies c.yes.result (says Done (codes "yes")) (λ reply. (text1 text2 : Bytes) → ReadsAs text1 first → ReadsAs text2 second → SubAnswer text1 text2 reply) c.yes.ensures
-      (λ text1 text2 first_is second_is. yes first second first_is second_is within)
+    (λ text1 text2 first_is second_is. yes first second first_is second_is within)
 
 pub returns-in-Some : goal.returns-in-Some
 returns-in-Some c =
@@ -30,4 +30,4 @@ returns-in-Some c =
     let fits : IsInteger n = (omega (arith, ints), omega (arith, ints)) in
     let sized : SFits w128 n = search rules in
     replies c.no.result (says No (codes "no: " ++ signed_decimal n)) (λ reply. (text1 text2 : Bytes) → ReadsAs text1 first → ReadsAs text2 second → SubAnswer text1 text2 reply) (simp to_z-of_z at c.no.ensures)
-      (λ text1 text2 first_is second_is. no_with text1 text2 first second first_is second_is n fits separates)
+    (λ text1 text2 first_is second_is. no_with text1 text2 first second first_is second_is n fits separates)

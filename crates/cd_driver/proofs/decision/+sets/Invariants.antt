@@ -8,7 +8,7 @@ use Rattle.cd_driver.proofs.decision.+sets.Given as goal
 abbrev pub invariant-meet_of-loop-other : goal.invariant-meet_of-loop-other
 invariant-meet_of-loop-other l =
     (z : ℤ) → (holds l.meet z && has_signs z (signs_of (map signed_plain (drop l.other-index l.others))))
-        ≡ (holds l.fn.first z && has_signs z (signs_of (map signed_plain l.fn.others)))
+    ≡ (holds l.fn.first z && has_signs z (signs_of (map signed_plain l.fn.others)))
 
 -- the set so far and the types that are left have the integers of all the types
 abbrev pub invariant-union_of-loop-tree : goal.invariant-union_of-loop-tree

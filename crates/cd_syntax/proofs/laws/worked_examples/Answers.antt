@@ -1,23 +1,51 @@
-use Rattle.std.proofs.Common.{pos, negsuc, [], ◌∷◌, refl}
+use Rattle.std.proofs.Common.{pos, negsuc, [], ◌∷◌, refl, arith}
 use lib.Signed.{le_z_yes}
 use Rattle.std.specs.Fmt.{digits}
-use Rattle.cd_syntax.specs.declared.token.Token.TheVariants.{Int, Sign}
-use Rattle.cd_syntax.specs.declared.token.Sign.TheVariants.{To}
-use Rattle.cd_syntax.specs.Spelling.{nothing, space, number, to}
-use Rattle.cd_syntax.specs.Grammar.{number as derives_number, interval}
+use Rattle.cd_syntax.specs.declared.token.Token.TheVariants.{Int, Name, Sign}
+use Rattle.cd_syntax.specs.declared.token.Sign.TheVariants.{To, Or, And, Minus, Open, Close}
+use Rattle.cd_syntax.specs.declared.tree.NodeName.TheVariants.{Int as IntName}
+use Rattle.cd_syntax.specs.Tree.{NoSign, NoTree}
+use Rattle.cd_syntax.specs.Spelling.{nothing, space, number, word, sign}
+use Rattle.cd_syntax.specs.Grammar.{number as derives_number, interval, name, group, meet, no_sign, and, minus, union, no_meet, or}
+use Rattle.cd_syntax.proofs.Grammar.{alone}
 use Rattle.cd_syntax.specs.Notation.{integer}
 use Rattle.cd_syntax.proofs.laws.worked_examples.Goals as goal
 
 pub returns-clause-reads : goal.returns-clause-reads
-returns-clause-reads c = (
-  Int (pos 7) ∷ Sign To ∷ Int (pos 12) ∷ [],
-  space _ _ (number (48 ∷ 48 ∷ 55 ∷ []) (32 ∷ 45 ∷ 45 ∷ 49 ∷ 50 ∷ []) _ (refl, λ e. cc) (le_z_yes tt, le_z_yes tt) refl
-      (space _ _ (to _ _ (number (49 ∷ 50 ∷ []) [] _ (refl, λ e. cc) (le_z_yes tt, le_z_yes tt) tt nothing)))),
-  interval (pos 7) (pos 12),
-)
+returns-clause-reads c = record {
+  tokens = Int (pos 7) ∷ Sign To ∷ Int (pos 12) ∷ [];
+  spelled =
+      space _ _ (number (48 ∷ 48 ∷ 55 ∷ []) (32 ∷ 45 ∷ 45 ∷ 49 ∷ 50 ∷ []) _ (refl, λ e. cc) (le_z_yes tt, le_z_yes tt) refl
+      (space _ _ (sign To _ _ (number (49 ∷ 50 ∷ []) [] _ (refl, λ e. cc) (le_z_yes tt, le_z_yes tt) tt nothing))));
+  derived = alone (interval (pos 7) (pos 12));
+  few = omega arith;
+}
 
 pub returns-clause-reads_one : goal.returns-clause-reads_one
-returns-clause-reads_one c = (Int (pos 5) ∷ [], number (53 ∷ []) [] _ (refl, λ e. cc) (le_z_yes tt, le_z_yes tt) tt nothing, derives_number (pos 5))
+returns-clause-reads_one c = record {
+  tokens = Int (pos 5) ∷ [];
+  spelled = number (53 ∷ []) [] _ (refl, λ e. cc) (le_z_yes tt, le_z_yes tt) tt nothing;
+  derived = alone (derives_number (pos 5));
+  few = omega arith;
+}
+
+pub returns-clause-reads_signs : goal.returns-clause-reads_signs
+returns-clause-reads_signs c = record {
+  tokens = Name IntName ∷ Sign Minus ∷ Sign Open ∷ Int (pos 4) ∷ Sign Or ∷ Int (pos 5) ∷ Sign Close ∷ Sign And ∷ Int (pos 0) ∷ Sign To ∷ Int (pos 9) ∷ [];
+  spelled = word IntName _ _ refl (sign Minus _ _ (sign Open _ _
+      (number (52 ∷ []) (124 ∷ 53 ∷ 41 ∷ 38 ∷ 48 ∷ 45 ∷ 45 ∷ 57 ∷ []) _ (refl, λ e. cc) (le_z_yes tt, le_z_yes tt) refl (sign Or _ _
+      (number (53 ∷ []) (41 ∷ 38 ∷ 48 ∷ 45 ∷ 45 ∷ 57 ∷ []) _ (refl, λ e. cc) (le_z_yes tt, le_z_yes tt) refl (sign Close _ _ (sign And _ _
+      (number (48 ∷ []) (45 ∷ 45 ∷ 57 ∷ []) _ (refl, λ e. cc) (le_z_yes tt, le_z_yes tt) refl (sign To _ _
+      (number (57 ∷ []) [] _ (refl, λ e. cc) (le_z_yes tt, le_z_yes tt) tt nothing))))))))));
+  derived =
+      let four = meet (Int (pos 4) ∷ []) [] _ NoSign (derives_number (pos 4)) no_sign in
+      let five = meet (Int (pos 5) ∷ []) [] _ NoSign (derives_number (pos 5)) no_sign in
+      let inner = union (Int (pos 4) ∷ []) (Sign Or ∷ Int (pos 5) ∷ []) _ _ four (or (Int (pos 5) ∷ []) [] _ NoTree five no_meet) in
+      let kept = and (Int (pos 0) ∷ Sign To ∷ Int (pos 9) ∷ []) [] _ NoSign (interval (pos 0) (pos 9)) no_sign in
+      let refused = minus (Sign Open ∷ Int (pos 4) ∷ Sign Or ∷ Int (pos 5) ∷ Sign Close ∷ []) (Sign And ∷ Int (pos 0) ∷ Sign To ∷ Int (pos 9) ∷ []) _ _ (group _ _ inner) kept in
+      union _ [] _ NoTree (meet (Name IntName ∷ []) _ _ _ (name IntName) refused) no_meet;
+  few = omega arith;
+}
 
 pub returns-clause-prints : goal.returns-clause-prints
 unfolding digits
