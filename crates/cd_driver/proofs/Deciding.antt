@@ -1,21 +1,35 @@
--- What the difference of the sets of two types says of the types.
-use Rattle.std.proofs.Common.{◌≡◌, ℤ, Bool, true, false, ◌&&◌, ◌||◌, not, List, Option, Some, None, ◌⊎◌, inl, inr, refl, sym, subst, ◌∙◌, arith}
-use Rattle.std.specs.Prelude.{int_le}
+-- What is found for a question fits it, and where nothing is found nothing fits.
+use native.Mathlib.Numerals.{unary_clauses}
+use Rattle.std.proofs.Math.ListN.{get_or}
+use Rattle.std.proofs.Math.Seq.{drop-cons}
+use Rattle.std.proofs.Common.{◌≡◌, ℕ, zero, suc, ◌<◌, ◌≤◌, ◌+◌, length, drop, ℤ, Bool, true, false, ◌&&◌, ◌||◌, not, List, [], ◌∷◌, Option, Some, None, Result, Ok, Err, inl, inr, refl, sym, ap, subst, ◌∙◌, arith}
+use Rattle.std.specs.declared.alloc.AllocError.{AllocError}
+use Rattle.std.specs.Prelude.{IfOk, int_le, if◌then◌else◌}
 use Rattle.std.specs.Option.{MatchOption, unwrap_or}
-use Rattle.std.proofs.lemmas.Bool.{and_parts, cases_Bool, not-true}
+use Rattle.std.proofs.lemmas.Bool.{and_parts, and_from, cases_Bool, not-true, true≢false}
 use Rattle.std.proofs.lemmas.Int.{ints}
 use Rattle.cd_intervals.specs.declared.interval.Interval.{Interval}
 use Rattle.cd_intervals.specs.Interval.{is_between, holds, HoldsNothing}
-use Rattle.cd_syntax.specs.Integer.{LEAST, GREATEST}
-use Rattle.cd_syntax.specs.Element.{Integer, Character, Atom, Pair, Xml, Record, Function}
+use Rattle.cd_syntax.specs.Integer.{LEAST, GREATEST, IsInteger}
+use Rattle.cd_syntax.specs.Element.{Element, IsElement, Integer, Character, Atom, Pair, Xml, Record, Function}
 use Rattle.cd_syntax.specs.declared.tree.NodeName.TheVariants.{Int, Empty}
-use Rattle.cd_syntax.specs.Tree.{Tree, Builtin, Ints, Union, Meet, Trees, NoTree, ATree, Signs, NoSign, ASign}
+use Rattle.cd_syntax.specs.Tree.{Tree, Builtin, Ints, Tuple, Union, Meet, Trees, NoTree, ATree, Signs, NoSign, ASign}
 use Rattle.cd_syntax.specs.Written.{Written}
-use Rattle.cd_syntax.specs.Membership.{integer_in, integer_reader, other_reader, answers, IsIn}
+use Rattle.cd_syntax.specs.Membership.{integer_in, integer_reader, other_reader, answers}
 use Rattle.cd_syntax.specs.Membership.{holds as answers_at, holds_one as answers_one, holds_signs as answers_signs}
 use Rattle.cd_syntax.specs.Subtype.{IsWithin}
-use Rattle.cd_syntax.proofs.Membership.{not_both}
-use Rattle.cd_driver.specs.Decision.{has, has_one, has_signs, Separates}
+use Rattle.cd_syntax.proofs.Membership.{not_both, in_or_outside}
+use Rattle.cd_driver.specs.Question.{Question, Fits, HasKept}
+use Rattle.cd_driver.specs.Ways.{Way, ways_of}
+use Rattle.cd_driver.specs.Depth.{OneWay}
+use Rattle.cd_driver.specs.declared.witness.Witness.{Witness}
+use Rattle.cd_driver.specs.Witness.{element}
+use Rattle.cd_driver.specs.declared.ways.Way.{Way as CodeWay}
+use Rattle.cd_driver.specs.declared.ways.Asked.{Asked as CodeAsked}
+use Rattle.cd_driver.specs.PlainWays.{plain_part, plain_asked, plain_question, plain_way, plain_ways}
+use Rattle.cd_driver.specs.Decision.{has, has_one, has_signs, has_all, Separates, NothingFits, NoPairFits, FitsAsPair, AreLeft}
+use Rattle.cd_driver.proofs.WaysExact.{fits, found}
+use Rattle.cd_driver.proofs.WaysShallower.{shallower}
 
 -- an interval answers as the test of its bounds does
 between_is : (n low high : ℤ) → integer_in n low high (is_between low high n)
@@ -32,6 +46,7 @@ module _ (n : ℤ) where
     has_is (Builtin Empty) = tt
     has_is (Builtin Int) = between_is n LEAST GREATEST
     has_is (Ints low high) = between_is n (unwrap_or low LEAST) (unwrap_or high GREATEST)
+    has_is (Tuple trees) = tt
     has_is (Union trees) = has_one_is trees
     has_is (Meet first others) = both (has n first) (has_signs n others) (has_is first) (has_signs_is others)
       where
@@ -64,38 +79,38 @@ module _ (n : ℤ) where
         both false true is are = (is, are)
         both false false is are = inr are
 
-module _ (left right set : List Interval) (first second : Written)
-    (left_is : (n : ℤ) → holds left n ≡ has n first.tree) (right_is : (n : ℤ) → holds right n ≡ has n second.tree)
-    (set_is : (n : ℤ) → holds set n ≡ (holds left n && not (holds right n))) where
-  left_answers : (n : ℤ) → answers (Integer n) first.tree (holds left n)
-  left_answers n = subst (answers (Integer n) first.tree) (sym (left_is n)) (has_is n first.tree)
+-- an integer fits a question just where the test of all its types says so
+kept_answers : (n : ℤ) (kept : Bool) (tree : Tree) → (if kept then has n tree else not (has n tree)) ≡ true → answers (Integer n) tree kept
+kept_answers n true tree is = subst (answers (Integer n) tree) is (has_is n tree)
+kept_answers n false tree is = subst (answers (Integer n) tree) (not-true (has n tree) is) (has_is n tree)
 
-  right_answers : (n : ℤ) → answers (Integer n) second.tree (holds right n)
-  right_answers n = subst (answers (Integer n) second.tree) (sym (right_is n)) (has_is n second.tree)
+answers_kept : (n : ℤ) (kept : Bool) (tree : Tree) → answers (Integer n) tree kept → (if kept then has n tree else not (has n tree)) ≡ true
+answers_kept n true tree is = elim (cases_Bool (has n tree)) [
+  | inl held ↦ held
+  | inr out ↦ absurd (not_both (Integer n) (record { tree = tree }) is (subst (answers (Integer n) tree) out (has_is n tree)))
+]
+answers_kept n false tree is = elim (cases_Bool (has n tree)) [
+  | inl held ↦ absurd (not_both (Integer n) (record { tree = tree }) (subst (answers (Integer n) tree) held (has_is n tree)) is)
+  | inr out ↦ ap not out
+]
 
-  -- where the difference is empty, each integer of the first type is in the second
-  integer_within : (n : ℤ) → holds set n ≡ false → IsIn (Integer n) first → IsIn (Integer n) second
-  integer_within n empty inside = by_cases (cases_Bool (holds left n)) (cases_Bool (holds right n))
-    where
-      by_cases : ((holds left n ≡ true) ⊎ (holds left n ≡ false)) → ((holds right n ≡ true) ⊎ (holds right n ≡ false)) → IsIn (Integer n) second
-      by_cases (inr out) right = absurd (not_both (Integer n) first inside (subst (answers (Integer n) first.tree) out (left_answers n)))
-      by_cases (inl is) (inl held) = subst (answers (Integer n) second.tree) held (right_answers n)
-      by_cases (inl is) (inr out) = let held : holds set n ≡ true = rw (set_is n, is, out) refl in absurd cc
+pub integer_fits : (n : ℤ) (question : Question) → has_all n question ≡ true → Fits (Integer n) question
+integer_fits n [] is = tt
+integer_fits n (part ∷ parts) is =
+    let both = and_parts (if part.0 then has n part.1 else not (has n part.1)) (has_all n parts) is in
+    (kept_answers n part.0 part.1 both.0, integer_fits n parts both.1)
 
-  -- an integer of the difference is in the first type and outside the second
-  integer_separates : (n : ℤ) → holds set n ≡ true → Separates n first second
-  integer_separates n held =
-      let parts = and_parts (holds left n) (not (holds right n)) (sym (set_is n) ∙ held) in
-      record {
-        inside = subst (answers (Integer n) first.tree) parts.0 (left_answers n);
-        outside = subst (answers (Integer n) second.tree) (not-true (holds right n) parts.1) (right_answers n);
-      }
+fits_integer : (n : ℤ) (question : Question) → Fits (Integer n) question → has_all n question ≡ true
+fits_integer n [] fit = refl
+fits_integer n (part ∷ parts) fit =
+    and_from (if part.0 then has n part.1 else not (has n part.1)) (has_all n parts) (answers_kept n part.0 part.1 fit.0) (fits_integer n parts fit.1)
 
--- what is no integer is in no type
+-- what is no integer and no pair is in no type
 mutual
   others_outside : (tree : Tree) → answers_at other_reader tree true → ⊥
   others_outside (Builtin name) is = is
   others_outside (Ints low high) is = is
+  others_outside (Tuple trees) is = is
   others_outside (Union trees) is = others_outside_all trees is
   others_outside (Meet first others) is = others_outside first is.0
 
@@ -103,22 +118,113 @@ mutual
   others_outside_all NoTree is = is
   others_outside_all (ATree tree rest) is = elim is [ inl one ↦ others_outside tree one | inr one ↦ others_outside_all rest one ]
 
--- so types are within each other where their integers are
-all_within : (first second : Written) → ((n : ℤ) → IsIn (Integer n) first → IsIn (Integer n) second) → IsWithin first second
-all_within first second within (Integer n) is inside = within n inside
-all_within first second within (Character c) is inside = absurd (others_outside first.tree inside)
-all_within first second within (Atom name) is inside = absurd (others_outside first.tree inside)
-all_within first second within (Pair a b) is inside = absurd (others_outside first.tree inside)
-all_within first second within (Xml tag attributes content) is inside = absurd (others_outside first.tree inside)
-all_within first second within (Record fields) is inside = absurd (others_outside first.tree inside)
-all_within first second within (Function pairs) is inside = absurd (others_outside first.tree inside)
+-- so it does not fit a question that asks it to be in some type
+others_miss : (element : Element) (question : Question) → ((tree : Tree) → answers element tree true → ⊥) → HasKept question → Fits element question → ⊥
+others_miss element [] out kept fit = kept
+others_miss element (part ∷ parts) out kept fit = elim kept [
+  | inl is ↦ out part.1 (subst (answers element part.1) is fit.0)
+  | inr more ↦ others_miss element parts out more fit.1
+]
 
-pub decides : (left right set : List Interval) (first second : Written)
-    → ((n : ℤ) → holds left n ≡ has n first.tree) → ((n : ℤ) → holds right n ≡ has n second.tree)
-    → ((n : ℤ) → holds set n ≡ (holds left n && not (holds right n)))
-    → (found : Option ℤ) → MatchOption found (HoldsNothing set) (λ n. holds set n ≡ true)
-    → MatchOption found (IsWithin first second) (λ n. Separates n first second)
-decides left right set first second left_is right_is set_is None empty =
-    all_within first second (λ n inside. integer_within left right set first second left_is right_is set_is n (empty n) inside)
-decides left right set first second left_is right_is set_is (Some n) held =
-    integer_separates left right set first second left_is right_is set_is n held
+-- where no integer fits a question, and no pair fits one of its ways, nothing fits it
+pub nothing_fits : (question : Question) (set : List Interval) → HasKept question
+    → ((n : ℤ) → holds set n ≡ (is_between LEAST GREATEST n && has_all n question)) → HoldsNothing set
+    → ((a b : Element) → IsElement a → IsElement b → OneWay a b (ways_of question) → ⊥) → NothingFits question
+nothing_fits question set kept set_is none no_pair (Integer n) is fit =
+    let held : (is_between LEAST GREATEST n && has_all n question) ≡ true = and_from (is_between LEAST GREATEST n) (has_all n question) (in_range n is) (fits_integer n question fit) in
+    true≢false (sym held ∙ sym (set_is n) ∙ none n)
+  where
+    in_range : (n : ℤ) → IsInteger n → is_between LEAST GREATEST n ≡ true
+    in_range n is = by_cases (int_le LEAST n) (int_le n GREATEST) refl refl
+      where
+        by_cases : (a b : Bool) → int_le LEAST n ≡ a → int_le n GREATEST ≡ b → (a && b) ≡ true
+        by_cases true true from to = refl
+        by_cases true false from past = absurd (omega (arith, ints))
+        by_cases false b below to = absurd (omega (arith, ints))
+nothing_fits question set kept set_is none no_pair (Pair a b) is fit = no_pair a b is.0 is.1 (found a b question fit)
+nothing_fits question set kept set_is none no_pair (Character c) is fit = others_miss (Character c) question others_outside kept fit
+nothing_fits question set kept set_is none no_pair (Atom name) is fit = others_miss (Atom name) question others_outside kept fit
+nothing_fits question set kept set_is none no_pair (Xml tag attributes content) is fit = others_miss (Xml tag attributes content) question others_outside kept fit
+nothing_fits question set kept set_is none no_pair (Record fields) is fit = others_miss (Record fields) question others_outside kept fit
+nothing_fits question set kept set_is none no_pair (Function pairs) is fit = others_miss (Function pairs) question others_outside kept fit
+
+-- an integer of the set fits the question
+pub integer_found : (question : Question) (set : List Interval) (n : ℤ)
+    → ((n : ℤ) → holds set n ≡ (is_between LEAST GREATEST n && has_all n question)) → holds set n ≡ true → Fits (Integer n) question
+integer_found question set n set_is held =
+    let both = and_parts (is_between LEAST GREATEST n) (has_all n question) (sym (set_is n) ∙ held) in
+    integer_fits n question both.1
+
+-- all ways are left at first
+pub all_left : (question : Question) → HasKept question → AreLeft question (ways_of question)
+all_left question kept = record { shallow = shallower question kept; fit = λ a b one. one; all = λ a b is_a is_b one. one }
+
+-- a way that no pair fits is left no more
+pub less_left : (question : Question) (way : Way) (ways : List Way) → AreLeft question (way ∷ ways) → NoPairFits way → AreLeft question ways
+less_left question way ways left none = record {
+  shallow = left.shallow.1;
+  fit = λ a b one. left.fit a b (inr one);
+  all = λ a b is_a is_b one. elim (left.all a b is_a is_b one) [ inl fit ↦ absurd (none a b is_a is_b fit.0 fit.1) | inr more ↦ more ];
+}
+
+-- a pair that fits a way that is left fits the question
+pub pair_found : (question : Question) (way : Way) (ways : List Way) (element : Element) → AreLeft question (way ∷ ways) → FitsAsPair element way → Fits element question
+pair_found question way ways (Pair a b) left fit =
+    fits a b question (left.fit a b (inl fit))
+pair_found question way ways (Integer n) left fit = absurd fit
+pair_found question way ways (Character c) left fit = absurd fit
+pair_found question way ways (Atom name) left fit = absurd fit
+pair_found question way ways (Xml tag attributes content) left fit = absurd fit
+pair_found question way ways (Record fields) left fit = absurd fit
+pair_found question way ways (Function pairs) left fit = absurd fit
+
+-- the question whether a type lies outside another, in part
+decides : (first second : Written) (witness : Option Witness)
+    → MatchOption witness (NothingFits ((true, first.tree) ∷ (false, second.tree) ∷ [])) (λ witness. Fits (element witness) ((true, first.tree) ∷ (false, second.tree) ∷ []))
+    → MatchOption witness (IsWithin first second) (λ witness. Separates (element witness) first second)
+decides first second None none = λ e is inside. elim (in_or_outside e second) [ inl is_in ↦ is_in | inr out ↦ absurd (none e is (inside, (out, tt))) ]
+decides first second (Some witness) is = record { inside = is.0; outside = is.1.0 }
+
+pub decides_all : (first second : Written) (r : Result (Option Witness) AllocError)
+    → IfOk r (λ found. MatchOption found (NothingFits ((true, first.tree) ∷ (false, second.tree) ∷ [])) (λ witness. Fits (element witness) ((true, first.tree) ∷ (false, second.tree) ∷ [])))
+    → IfOk r (λ found. MatchOption found (IsWithin first second) (λ witness. Separates (element witness) first second))
+decides_all first second (Ok found) is = decides first second found is
+decides_all first second (Err error) is = tt
+
+-- the ways from one on are this one and those after it
+pub next_way : (ways : List CodeWay) (index : ℕ) (way : CodeWay) → index < length ways → way ≡ get_or ways index way
+    → plain_ways (drop index ways) ≡ plain_way way ∷ plain_ways (drop (index + 1) ways)
+next_way ways index way within is =
+    let from_here : drop index ways ≡ get_or ways index way ∷ drop (index + 1) ways = simp unary_clauses (drop-cons ways index way within) in
+    ap plain_ways from_here ∙ ap (λ w. plain_way w ∷ plain_ways (drop (index + 1) ways)) (sym is)
+
+-- where no way is left, no pair fits
+pub none_left : (question : Question) (ways : List CodeWay) (index : ℕ) → length ways ≤ index → AreLeft question (plain_ways (drop index ways))
+    → (a b : Element) → IsElement a → IsElement b → OneWay a b (ways_of question) → ⊥
+none_left question ways index past left a b is_a is_b one =
+    subst (λ ways. OneWay a b (plain_ways ways)) (drop_past ways index past) (left.all a b is_a is_b one)
+  where
+    drop_past : (ways : List CodeWay) (index : ℕ) → length ways ≤ index → drop index ways ≡ []
+    drop_past [] zero past = refl
+    drop_past [] (suc index) past = refl
+    drop_past (way ∷ ways) zero past = absurd (omega arith)
+    drop_past (way ∷ ways) (suc index) past = drop_past ways index (omega arith)
+
+-- what is asked from one place on is what is asked there and after it
+next_asked : (question : List CodeAsked) (index : ℕ) (asked : CodeAsked) → index < length question → asked ≡ get_or question index asked
+    → plain_question (drop index question) ≡ plain_asked asked ∷ plain_question (drop (index + 1) question)
+next_asked question index asked within is =
+    let from_here : drop index question ≡ get_or question index asked ∷ drop (index + 1) question = simp unary_clauses (drop-cons question index asked within) in
+    ap plain_question from_here ∙ ap (λ a. plain_asked a ∷ plain_question (drop (index + 1) question)) (sym is)
+
+and_moved : (a b c : Bool) → ((a && b) && c) ≡ (a && (b && c))
+and_moved true b c = refl
+and_moved false b c = refl
+
+pub narrowed : (question : List CodeAsked) (index : ℕ) (asked : CodeAsked) → index < length question → asked ≡ get_or question index asked
+    → (old new : List Interval) → ((z : ℤ) → holds new z ≡ (holds old z && (if asked.kept then has z (plain_part asked.part) else not (has z (plain_part asked.part)))))
+    → (z : ℤ) → (holds new z && has_all z (plain_question (drop (index + 1) question))) ≡ (holds old z && has_all z (plain_question (drop index question)))
+narrowed question index asked within is old new new_is z =
+    let rest = has_all z (plain_question (drop (index + 1) question)) in
+    let here = if asked.kept then has z (plain_part asked.part) else not (has z (plain_part asked.part)) in
+    ap (λ h. h && rest) (new_is z) ∙ and_moved (holds old z) here rest ∙ ap (λ q. holds old z && has_all z q) (sym (next_asked question index asked within is))

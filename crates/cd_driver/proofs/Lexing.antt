@@ -10,14 +10,14 @@ use Rattle.std.proofs.lemmas.Grind.{common_steps}
 use Rattle.std.proofs.lemmas.Int.{ints}
 use Rattle.cd_syntax.specs.declared.token.Token.{Token}
 use Rattle.cd_syntax.specs.declared.token.Token.TheVariants.{Int, Name, Sign}
-use Rattle.cd_syntax.specs.declared.token.Sign.TheVariants.{To, Or, And, Minus, Open, Close}
+use Rattle.cd_syntax.specs.declared.token.Sign.TheVariants.{To, Or, And, Minus, Open, Close, Comma}
 use Rattle.cd_syntax.specs.declared.tree.NodeName.{NodeName}
 use Rattle.cd_syntax.specs.declared.tree.NodeName.TheVariants.{Int as IntName, Empty as EmptyName}
 use Rattle.cd_syntax.specs.Spelling.{AreDigits, decimal_value, BeginsWithNoDigit, is_word_character, EndsWord, letters, characters, Spells, nothing, space, number, word, sign}
 use Rattle.cd_driver.specs.declared.lexer.Pending.{Pending}
 use Rattle.cd_driver.specs.declared.lexer.Pending.TheVariants.{Nothing, Number, Word, Dash, Sign as SignRead}
 use Rattle.cd_driver.specs.declared.lexer.Step.{Step}
-use Rattle.cd_driver.specs.Lexer.{widened, digit_of, begins_of, begin_of, word_step, tokens_from}
+use Rattle.cd_driver.specs.Lexer.{widened, digit_of, begins_of, begin_of, step_of, word_step, tokens_from}
 
 -- the value of a list of digits that follow a number
 abbrev pub number_after : ℕ → List ℕ → ℕ
@@ -68,7 +68,7 @@ digit_begins c is =
     let range = digit_range c is in
     other c 32 _ _ (λ e. omega arith) ∙ other c 45 _ _ (λ e. omega arith) ∙ other c 124 _ _ (λ e. omega arith)
     ∙ other c 38 _ _ (λ e. omega arith) ∙ other c 92 _ _ (λ e. omega arith) ∙ other c 40 _ _ (λ e. omega arith)
-    ∙ other c 41 _ _ (λ e. omega arith) ∙ other c 73 _ _ (λ e. omega arith) ∙ other c 69 _ _ (λ e. omega arith)
+    ∙ other c 41 _ _ (λ e. omega arith) ∙ other c 44 _ _ (λ e. omega arith) ∙ other c 73 _ _ (λ e. omega arith) ∙ other c 69 _ _ (λ e. omega arith)
     ∙ ap (λ n. option_map (λ n. Number n) n) (cond-true (is_ascii_digit c) _ _ is)
 
 -- a token that ends before a character comes first
@@ -87,6 +87,13 @@ number_ends n [] end = refl
 number_ends n (c ∷ cs) end =
     let no_digit : is_ascii_digit c ≡ false = end in
     ap (tokens_after cs) (cond-false (is_ascii_digit c) _ _ no_digit) ∙ emitted (Int n) c cs
+
+-- a character that is no digit ends a number
+pub number_step : (n : ℤ) (c : ℕ) → digit_of c ≡ None → step_of (Number n) c ≡ begin_of (Some (Int n)) c
+number_step n c none = elim (cases_Bool (is_ascii_digit c)) [
+  | inl digit ↦ let some : digit_of c ≡ Some (pos (c - 48)) = cond-true (is_ascii_digit c) _ _ digit in absurd cc
+  | inr no_digit ↦ cond-false (is_ascii_digit c) _ _ no_digit
+]
 
 -- a sign is whole
 sign_ends : (is : _) (text : List ℕ) → tokens_from (SignRead is) text ≡ with_token (Sign is) (tokens_from Nothing text)
@@ -126,6 +133,7 @@ spelled_read _ _ (sign is text tokens spells) = sign_read is text ∙ ap (with_t
     sign_read And text = with_none (tokens_from (SignRead And) text) ∙ sign_ends And text
     sign_read Minus text = with_none (tokens_from (SignRead Minus) text) ∙ sign_ends Minus text
     sign_read Open text = with_none (tokens_from (SignRead Open) text) ∙ sign_ends Open text
+    sign_read Comma text = with_none (tokens_from (SignRead Comma) text) ∙ sign_ends Comma text
     sign_read Close text = with_none (tokens_from (SignRead Close) text) ∙ sign_ends Close text
 spelled_read _ _ (word name text tokens ends spells) = word_read name text ends ∙ ap (with_token (Name name)) (spelled_read text tokens spells)
   where
@@ -205,8 +213,8 @@ begun_is c pending begun =
     at_test 32 Nothing _ (λ is. is) (at_test 45 Dash _ (λ is. is) (at_test 124 (SignRead Or) _ (λ is. ap (λ x. x ∷ []) (sym is))
     (at_test 38 (SignRead And) _ (λ is. ap (λ x. x ∷ []) (sym is)) (at_test 92 (SignRead Minus) _ (λ is. ap (λ x. x ∷ []) (sym is))
     (at_test 40 (SignRead Open) _ (λ is. ap (λ x. x ∷ []) (sym is)) (at_test 41 (SignRead Close) _ (λ is. ap (λ x. x ∷ []) (sym is))
-    (at_test 73 (Word IntName 1) _ (λ is. (ap (λ x. x ∷ drop 1 (letters IntName)) (sym is), refl))
-    (at_test 69 (Word EmptyName 1) _ (λ is. (ap (λ x. x ∷ drop 1 (letters EmptyName)) (sym is), refl)) at_digit)))))))) begun
+    (at_test 44 (SignRead Comma) _ (λ is. ap (λ x. x ∷ []) (sym is)) (at_test 73 (Word IntName 1) _ (λ is. (ap (λ x. x ∷ drop 1 (letters IntName)) (sym is), refl))
+    (at_test 69 (Word EmptyName 1) _ (λ is. (ap (λ x. x ∷ drop 1 (letters EmptyName)) (sym is), refl)) at_digit))))))))) begun
   where
     at_test : (k : ℕ) (q : Pending) (others : Option Pending) → (c ≡ k → IsBegun c q) → (others ≡ Some pending → IsBegun c pending)
         → (if c == k then Some q else others) ≡ Some pending → IsBegun c pending

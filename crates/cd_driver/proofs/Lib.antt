@@ -9,3 +9,7 @@ pub mod Answering
 pub mod Concluding
 pub mod Causing
 pub mod OneStatus
+pub mod Printing
+pub mod WaysExact
+pub mod WaysShallower
+pub mod ClauseLaws

@@ -4,7 +4,7 @@ use Rattle.std.specs.Char.{is_ascii_digit}
 use Rattle.std.specs.Option.{option_map, option_and_then, option_to_list}
 use Rattle.cd_syntax.specs.declared.token.Token.{Token}
 use Rattle.cd_syntax.specs.declared.token.Token.TheVariants.{Int, Name, Sign}
-use Rattle.cd_syntax.specs.declared.token.Sign.TheVariants.{To, Or, And, Minus, Open, Close}
+use Rattle.cd_syntax.specs.declared.token.Sign.TheVariants.{To, Or, And, Minus, Open, Close, Comma}
 use Rattle.cd_syntax.specs.declared.tree.NodeName.{NodeName}
 use Rattle.cd_syntax.specs.declared.tree.NodeName.TheVariants.{Int as IntName, Empty as EmptyName}
 use Rattle.cd_syntax.specs.Integer.{LEAST, GREATEST}
@@ -35,9 +35,10 @@ begins_of c =
     else (if c == 92 then Some (SignRead Minus)
     else (if c == 40 then Some (SignRead Open)
     else (if c == 41 then Some (SignRead Close)
+    else (if c == 44 then Some (SignRead Comma)
     else (if c == 73 then Some (Word IntName 1)
     else (if c == 69 then Some (Word EmptyName 1)
-    else option_map (λ n. Number n) (digit_of c)))))))))
+    else option_map (λ n. Number n) (digit_of c))))))))))
 
 -- a character where nothing is pending, after this token if there is one
 abbrev pub begin_of : Option Token → ℕ → Option Step

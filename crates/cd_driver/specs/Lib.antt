@@ -5,6 +5,11 @@ pub mod Answer
 pub mod Ending
 pub mod Headline
 pub mod Causes
+pub mod Question
+pub mod Ways
+pub mod PlainWays
+pub mod Depth
+pub mod Witness
 pub mod Decision
 pub mod Lexer
 pub mod Parser

@@ -3,17 +3,19 @@ use Rattle.std.specs.Prelude.{ℤ, Bool, true, false, List, [], ◌∷◌, ◌++
 use Rattle.std.specs.Option.{option_and_then}
 use Rattle.cd_syntax.specs.declared.token.Token.{Token}
 use Rattle.cd_syntax.specs.declared.token.Token.TheVariants.{Int, Name, Sign}
-use Rattle.cd_syntax.specs.declared.token.Sign.TheVariants.{To, Or, And, Minus, Open, Close}
+use Rattle.cd_syntax.specs.declared.token.Sign.TheVariants.{To, Or, And, Minus, Open, Close, Comma}
 use Rattle.cd_syntax.specs.Tree.{Tree, Builtin, Ints, trees_of, signs_of}
-use Rattle.cd_syntax.specs.Grammar.{meet_of, union_of}
+use Rattle.cd_syntax.specs.Grammar.{meet_of, union_of, tuple_of}
 
 -- the simple types of a meet so far: the first, and the others with their signs
 pub record Chain : Type 0 where
   pub first : Tree
   pub others : List (Bool × Tree)
 
--- a union that stands open: its meets so far, and the simple types of the last, if a sign follows them
+-- a union that stands open: the unions before it in the same parentheses, its meets so far, and the simple types of
+-- the last, if a sign follows them
 pub record Frame : Type 0 where
+  pub items : List Tree
   pub trees : List Tree
   pub pending : Option (Chain × Bool)
 
@@ -35,7 +37,7 @@ abbrev pub chain_tree : Chain → Tree
 chain_tree chain = meet_of chain.first (signs_of chain.others)
 
 abbrev pub empty_frame : Frame
-empty_frame = record { trees = []; pending = None }
+empty_frame = record { items = []; trees = []; pending = None }
 
 abbrev pub start : State
 start = record { place = Before; top = empty_frame; below = [] }
@@ -50,19 +52,25 @@ abbrev pub trees_with : List Tree → Tree → Tree
 trees_with [] last = last
 trees_with (first ∷ trees) last = union_of first (trees_of (trees ++ last ∷ []))
 
+-- the tree in parentheses, with its last union
+abbrev pub items_with : List Tree → Tree → Tree
+items_with [] last = last
+items_with (first ∷ items) last = tuple_of first (trees_of (items ++ last ∷ []))
+
 -- a simple type was read
 abbrev pub put : Tree → Frame → List Frame → State
-put tree frame below = record { place = After (chain_with frame.pending tree); top = record { trees = frame.trees; pending = None }; below = below }
+put tree frame below = record { place = After (chain_with frame.pending tree); top = record { items = frame.items; trees = frame.trees; pending = None }; below = below }
 
 abbrev pub close : Tree → List Frame → Option State
 close tree [] = None
 close tree (frame ∷ below) = Some (put tree frame below)
 
 abbrev pub step_after : Chain → Frame → List Frame → Token → Option State
-step_after chain top below (Sign Or) = Some (record { place = Before; top = record { trees = top.trees ++ chain_tree chain ∷ []; pending = None }; below = below })
-step_after chain top below (Sign And) = Some (record { place = Before; top = record { trees = top.trees; pending = Some (chain, true) }; below = below })
-step_after chain top below (Sign Minus) = Some (record { place = Before; top = record { trees = top.trees; pending = Some (chain, false) }; below = below })
-step_after chain top below (Sign Close) = close (trees_with top.trees (chain_tree chain)) below
+step_after chain top below (Sign Or) = Some (record { place = Before; top = record { items = top.items; trees = top.trees ++ chain_tree chain ∷ []; pending = None }; below = below })
+step_after chain top below (Sign And) = Some (record { place = Before; top = record { items = top.items; trees = top.trees; pending = Some (chain, true) }; below = below })
+step_after chain top below (Sign Minus) = Some (record { place = Before; top = record { items = top.items; trees = top.trees; pending = Some (chain, false) }; below = below })
+step_after chain top below (Sign Comma) = Some (record { place = Before; top = record { items = top.items ++ trees_with top.trees (chain_tree chain) ∷ []; trees = []; pending = None }; below = below })
+step_after chain top below (Sign Close) = close (items_with top.items (trees_with top.trees (chain_tree chain))) below
 step_after chain top below token = None
 
 abbrev pub step_before : Frame → List Frame → Token → Option State
@@ -80,7 +88,7 @@ number_of n = Ints (Some n) (Some n)
 
 abbrev pub step_low : ℤ → Frame → List Frame → Token → Option State
 step_low n top below (Sign To) = Some (record { place = Bound n; top = top; below = below })
-step_low n top below token = step_after (chain_with top.pending (number_of n)) (record { trees = top.trees; pending = None }) below token
+step_low n top below token = step_after (chain_with top.pending (number_of n)) (record { items = top.items; trees = top.trees; pending = None }) below token
 
 abbrev pub step_at : Place → Frame → List Frame → Token → Option State
 step_at Before = step_before
@@ -91,10 +99,13 @@ step_at (After chain) = step_after chain
 abbrev pub step : State → Token → Option State
 step state token = step_at state.place state.top state.below token
 
--- the tree, where the tokens end
+-- the tree, where the tokens end outside all parentheses and after no comma
+abbrev pub ended_with : List Tree → Tree → List Frame → Option Tree
+ended_with [] tree [] = Some tree
+ended_with items tree below = None
+
 abbrev pub ended : Chain → Frame → List Frame → Option Tree
-ended chain top [] = Some (trees_with top.trees (chain_tree chain))
-ended chain top (frame ∷ below) = None
+ended chain top below = ended_with top.items (trees_with top.trees (chain_tree chain)) below
 
 abbrev pub finish_at : Place → Frame → List Frame → Option Tree
 finish_at Before top below = None

@@ -16,7 +16,7 @@ abbrev pub plain_pending : Option (Chain × Bool) → Option (machine.Chain × B
 plain_pending pending = option_map (λ signed. (plain_chain signed.0, signed.1)) pending
 
 abbrev pub plain_frame : Frame → machine.Frame
-plain_frame frame = record { trees = map plain frame.trees.items; pending = plain_pending frame.pending }
+plain_frame frame = record { items = map plain frame.items.items; trees = map plain frame.trees.items; pending = plain_pending frame.pending }
 
 -- the unions that stand open, which the code keeps from the outer to the inner
 abbrev pub plain_frames : List Frame → List machine.Frame

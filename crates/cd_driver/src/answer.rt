@@ -8,6 +8,7 @@ use crate::decision::outside;
 use crate::message::{Message, no, not_built, usage, yes};
 use crate::reader::read_type;
 use crate::request::{Request, request_of};
+use crate::witness::text;
 use cd_syntax::tree::TreeKind;
 use std::alloc::{AllocError, Global};
 
@@ -41,6 +42,6 @@ fn compare(alloc: Global, first: &TreeKind, second: &TreeKind) -> Result<Message
 {
     match outside(alloc, first, second)? {
         None => yes(alloc),
-        Some(element) => no(alloc, element),
+        Some(witness) => no(alloc, text(alloc, &witness)?.as_str()),
     }
 }

@@ -1,26 +1,111 @@
 ghost use Rattle.std.specs.Prelude.{◌≡◌, ℤ, ◌&&◌, not, if◌then◌else◌, map, IfOk, MatchOption};
-ghost use Rattle.cd_intervals.specs.Interval.{holds};
+ghost use Rattle.cd_intervals.specs.Interval.{is_between, holds};
+ghost use Rattle.cd_syntax.specs.Integer.{LEAST, GREATEST};
 ghost use Rattle.cd_syntax.specs.Tree.{plain, signed_plain, trees_of, signs_of};
+ghost use Rattle.cd_syntax.specs.Membership.{rest_of};
 ghost use Rattle.cd_syntax.specs.Written.{written};
 ghost use Rattle.cd_syntax.specs.Subtype.{IsWithin};
-ghost use Rattle.cd_driver.specs.Decision.{has, has_one, has_signs, Separates};
+ghost use Rattle.cd_driver.specs.Decision.{has, has_one, has_signs, has_all, Separates, NothingFits, FitsAsPair, NoPairFits};
+ghost use Rattle.cd_driver.specs.Question.{Fits, HasKept};
+ghost use Rattle.cd_driver.specs.PlainWays.{plain_part, plain_question, plain_way};
+ghost use Rattle.cd_driver.specs.Witness.{element};
 
+use crate::ways::{Asked, Part, Way, ways_of};
+use crate::witness::{Witness, integer};
 use cd_intervals::int_set::IntSet;
 use cd_syntax::tree::{NodeName, Signed, TreeKind};
 use std::alloc::{AllocError, Global};
 
-/// An integer of the first type that is outside the second. There is none where the first type is
+/// An element of the first type that is outside the second. There is none where the first type is
 /// within the second.
 pub(crate) fn outside(
     alloc: Global,
     first: &TreeKind,
     second: &TreeKind,
-) -> Result<Option<i128>, AllocError>
-    ensures { IfOk result (λ found. MatchOption found (IsWithin (written first.now) (written second.now)) (λ n. Separates n (written first.now) (written second.now))) }
+) -> Result<Option<Witness>, AllocError>
+    ensures { IfOk result (λ found. MatchOption found (IsWithin (written first.now) (written second.now)) (λ witness. Separates (element witness) (written first.now) (written second.now))) }
 {
-    let left = set_of(alloc, first)?;
-    let right = set_of(alloc, second)?;
-    Ok(left.minus(&right)?.some_member())
+    let question = [
+        Asked {
+            kept: true,
+            part: Part::Whole(first),
+        },
+        Asked {
+            kept: false,
+            part: Part::Whole(second),
+        },
+    ];
+    find(alloc, &question)
+}
+
+// An element that fits a question.
+#[cycle(find)]
+fn find(alloc: Global, question: &[Asked<'_>]) -> Result<Option<Witness>, AllocError>
+    requires { HasKept (plain_question question.now) }
+    ensures { IfOk result (λ found. MatchOption found (NothingFits (plain_question question.now)) (λ witness. Fits (element witness) (plain_question question.now))) }
+{
+    if let Some(found) = integers_of(alloc, question)?.some_member() {
+        return Ok(Some(integer(found)));
+    }
+    let ways = ways_of(alloc, question)?;
+    for way in ways.as_slice() {
+        if let Some(pair) = pair_of(alloc, way)? {
+            return Ok(Some(pair));
+        }
+    }
+    Ok(None)
+}
+
+// A pair whose parts are what a way asks.
+#[cycle(find)]
+fn pair_of(alloc: Global, way: &Way<'_>) -> Result<Option<Witness>, AllocError>
+    requires first { HasKept (plain_question way.now.first.items) }
+    requires second { HasKept (plain_question way.now.second.items) }
+    ensures { IfOk result (λ found. MatchOption found (NoPairFits (plain_way way.now)) (λ witness. FitsAsPair (element witness) (plain_way way.now))) }
+{
+    let Some(first) = find(alloc, way.first.as_slice())? else {
+        return Ok(None);
+    };
+    let Some(second) = find(alloc, way.second.as_slice())? else {
+        return Ok(None);
+    };
+    Ok(Some(Witness::Pair(Box::new(alloc, first)?, Box::new(alloc, second)?)))
+}
+
+// The integers that fit a question.
+fn integers_of(alloc: Global, question: &[Asked<'_>]) -> Result<IntSet, AllocError>
+    ensures { IfOk result (λ set. (z : ℤ) → holds set z ≡ (is_between LEAST GREATEST z && has_all z (plain_question question.now))) }
+{
+    let mut integers = IntSet::interval(alloc, i128::MIN, i128::MAX)?;
+    for asked in question {
+        integers = narrow_by(alloc, &integers, asked)?;
+    }
+    Ok(integers)
+}
+
+fn narrow_by(alloc: Global, integers: &IntSet, asked: &Asked<'_>) -> Result<IntSet, AllocError>
+    ensures { IfOk result (λ set. (z : ℤ) → holds set z ≡ (holds integers.now z && (if asked.now.kept then has z (plain_part asked.now.part) else not (has z (plain_part asked.now.part))))) }
+{
+    narrow(integers, asked.kept, &set_of_part(alloc, asked.part)?)
+}
+
+fn set_of_part(alloc: Global, part: Part<'_>) -> Result<IntSet, AllocError>
+    ensures { IfOk result (λ set. (z : ℤ) → holds set z ≡ has z (plain_part part.entry)) }
+{
+    match part {
+        Part::Whole(tree) => set_of(alloc, tree),
+        Part::Rest(trees) => set_of_rest(alloc, trees),
+    }
+}
+
+fn set_of_rest(alloc: Global, trees: &[TreeKind]) -> Result<IntSet, AllocError>
+    ensures { IfOk result (λ set. (z : ℤ) → holds set z ≡ has z (rest_of (trees_of (map plain trees.now)))) }
+{
+    match trees {
+        [] => Ok(IntSet::empty(alloc)),
+        [tree, rest @ ..] if rest.is_empty() => set_of(alloc, tree),
+        [_, ..] => Ok(IntSet::empty(alloc)),
+    }
 }
 
 // The integers of a type.
@@ -34,6 +119,7 @@ fn set_of(alloc: Global, tree: &TreeKind) -> Result<IntSet, AllocError>
         TreeKind::Ints(low, high) => {
             IntSet::interval(alloc, low.unwrap_or(i128::MIN), high.unwrap_or(i128::MAX))
         }
+        TreeKind::Tuple(_) => Ok(IntSet::empty(alloc)),
         TreeKind::Union(trees) => union_of(alloc, trees.as_slice()),
         TreeKind::Meet(first, others) => meet_of(set_of(alloc, first)?, others.as_slice(), alloc),
     }

@@ -123,6 +123,7 @@ fn begins(c: char) -> Option<Pending>
         '\\' => Some(Pending::Sign(Sign::Minus)),
         '(' => Some(Pending::Sign(Sign::Open)),
         ')' => Some(Pending::Sign(Sign::Close)),
+        ',' => Some(Pending::Sign(Sign::Comma)),
         'I' => Some(Pending::Word(NodeName::Int, 1)),
         'E' => Some(Pending::Word(NodeName::Empty, 1)),
         _ => digit(c).map(|digit| Pending::Number(digit)),

@@ -26,6 +26,8 @@ mod reader;
 mod request;
 #[cfg(test)]
 mod tests;
+mod ways;
+mod witness;
 
 /// Does what the words ask, which are the program's arguments without its name, and answers the status
 /// that the program ends with. An answer has a text for `out` or for `err`, which is made whole before

@@ -1,5 +1,4 @@
 ghost use Rattle.std.specs.Prelude.{◌≡◌, ◌≢◌, [], ◌++◌, IfOk, codes, string_bytes};
-ghost use Rattle.std.specs.Fmt.{signed_decimal};
 ghost use Rattle.cd_base.specs.declared.status.Status.TheVariants.{Done as IsDone, No as IsNo};
 ghost use Rattle.cd_driver.specs.Reply.{Reply, says, usage as usage_reply, not_built as not_built_reply};
 ghost use Rattle.cd_driver.specs.Message.{reply_of};
@@ -48,8 +47,8 @@ pub(crate) fn yes(alloc: Global) -> Result<Message, AllocError>
     })
 }
 
-pub(crate) fn no(alloc: Global, element: i128) -> Result<Message, AllocError>
-    ensures { IfOk result (λ message. reply_of message ≡ says IsNo (codes "no: " ++ signed_decimal element)) }
+pub(crate) fn no(alloc: Global, element: &str) -> Result<Message, AllocError>
+    ensures { IfOk result (λ message. reply_of message ≡ says IsNo (codes "no: " ++ element.now)) }
 {
     Ok(Message {
         status: Status::No,

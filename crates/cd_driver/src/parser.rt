@@ -6,7 +6,7 @@ ghost use Rattle.cd_driver.specs.Parser as machine;
 ghost use Rattle.cd_driver.specs.Parsing.{plain_chain, plain_frame, plain_frames, plain_pending, plain_state};
 
 use cd_syntax::token::{Sign, Token};
-use cd_syntax::tree::{Signed, TreeKind, meet, union};
+use cd_syntax::tree::{Signed, TreeKind, meet, tuple, union};
 use std::alloc::{AllocError, Global};
 
 /// The tree that tokens make, if they make one.
@@ -34,9 +34,11 @@ struct Chain {
     others: Vec<Signed>,
 }
 
-// A union that stands open: its meets so far, and the simple types of the last, if a sign follows them.
+// A union that stands open: the unions before it in the same parentheses, its meets so far, and the
+// simple types of the last, if a sign follows them.
 #[derive(Drop)]
 struct Frame {
+    items: Vec<TreeKind>,
     trees: Vec<TreeKind>,
     pending: Option<(Chain, bool)>,
 }
@@ -81,14 +83,18 @@ impl State {
         ensures { IfOk result (λ found. option_map plain found ≡ machine.finish (plain_state self)) }
     {
         let State { place, top, below } = self;
-        let Frame { trees, pending } = top;
+        let Frame {
+            items,
+            trees,
+            pending,
+        } = top;
         match place {
             Place::Before | Place::Bound(_) => Ok(None),
             Place::Low(number) => {
                 let chain = chain_with(alloc, pending, number_tree(&number))?;
-                ended(alloc, chain, trees, below)
+                ended(alloc, chain, items, trees, below)
             }
-            Place::After(chain) => ended(alloc, chain, trees, below),
+            Place::After(chain) => ended(alloc, chain, items, trees, below),
         }
     }
 }
@@ -97,6 +103,7 @@ fn empty_frame(alloc: Global) -> Frame
     ensures { plain_frame result ≡ machine.empty_frame }
 {
     Frame {
+        items: Vec::new(alloc),
         trees: Vec::new(alloc),
         pending: None,
     }
@@ -160,6 +167,24 @@ fn trees_with(trees: Vec<TreeKind>, last: TreeKind) -> Result<TreeKind, AllocErr
     Ok(union(pushed(trees, last)?))
 }
 
+// The tree of a union whose last meet is a chain.
+fn union_tree(alloc: Global, chain: Chain, trees: Vec<TreeKind>) -> Result<TreeKind, AllocError>
+    ensures { IfOk result (λ tree. plain tree ≡ machine.trees_with (map plain trees.items) (machine.chain_tree (plain_chain chain))) }
+{
+    let last = chain_tree(alloc, chain)?;
+    trees_with(trees, last)
+}
+
+// The tree in parentheses, with its last union.
+fn items_with(items: Vec<TreeKind>, last: TreeKind) -> Result<TreeKind, AllocError>
+    ensures { IfOk result (λ tree. plain tree ≡ machine.items_with (map plain items.items) (plain last)) }
+{
+    if items.is_empty() {
+        return Ok(last);
+    }
+    Ok(tuple(pushed(items, last)?))
+}
+
 fn pushed(mut trees: Vec<TreeKind>, last: TreeKind) -> Result<Vec<TreeKind>, AllocError>
     ensures { IfOk result (λ all. map plain all.items ≡ map plain trees.items ++ plain last ∷ []) }
 {
@@ -171,11 +196,16 @@ fn pushed(mut trees: Vec<TreeKind>, last: TreeKind) -> Result<Vec<TreeKind>, All
 fn put(alloc: Global, tree: TreeKind, frame: Frame, below: Vec<Frame>) -> Result<State, AllocError>
     ensures { IfOk result (λ state. plain_state state ≡ machine.put (plain tree) (plain_frame frame) (plain_frames below.items)) }
 {
-    let Frame { trees, pending } = frame;
+    let Frame {
+        items,
+        trees,
+        pending,
+    } = frame;
     let chain = chain_with(alloc, pending, tree)?;
     Ok(State {
         place: Place::After(chain),
         top: Frame {
+            items,
             trees,
             pending: None,
         },
@@ -183,7 +213,7 @@ fn put(alloc: Global, tree: TreeKind, frame: Frame, below: Vec<Frame>) -> Result
     })
 }
 
-// A `)` was read after the tree of a union.
+// A `)` was read after the tree in the parentheses.
 fn close(alloc: Global, tree: TreeKind, mut below: Vec<Frame>) -> Result<Option<State>, AllocError>
     ensures { IfOk result (λ found. option_map plain_state found ≡ machine.close (plain tree) (plain_frames below.items)) }
 {
@@ -197,16 +227,16 @@ fn close(alloc: Global, tree: TreeKind, mut below: Vec<Frame>) -> Result<Option<
 fn ended(
     alloc: Global,
     chain: Chain,
+    items: Vec<TreeKind>,
     trees: Vec<TreeKind>,
     below: Vec<Frame>,
 ) -> Result<Option<TreeKind>, AllocError>
-    ensures { (pending : Option (machine.Chain × Bool)) → IfOk result (λ found. option_map plain found ≡ machine.ended (plain_chain chain) (record { trees = map plain trees.items; pending = pending }) (plain_frames below.items)) }
+    ensures { IfOk result (λ found. option_map plain found ≡ machine.ended_with (map plain items.items) (machine.trees_with (map plain trees.items) (machine.chain_tree (plain_chain chain))) (plain_frames below.items)) }
 {
-    if !below.is_empty() {
+    if !items.is_empty() || !below.is_empty() {
         return Ok(None);
     }
-    let last = chain_tree(alloc, chain)?;
-    Ok(Some(trees_with(trees, last)?))
+    Ok(Some(union_tree(alloc, chain, trees)?))
 }
 
 // One more token after the simple types of a meet.
@@ -222,33 +252,26 @@ fn step_after(
     let Token::Sign(sign) = token else {
         return Ok(None);
     };
-    let trees = top.trees;
     match sign {
-        Sign::Or => Ok(Some(after_or(alloc, chain, trees, below)?)),
-        Sign::And => Ok(Some(after_sign(chain, true, trees, below))),
-        Sign::Minus => Ok(Some(after_sign(chain, false, trees, below))),
-        Sign::Close => {
-            let last = chain_tree(alloc, chain)?;
-            close(alloc, trees_with(trees, last)?, below)
-        }
+        Sign::Or => Ok(Some(after_or(alloc, chain, top, below)?)),
+        Sign::And => Ok(Some(after_sign(chain, true, top, below))),
+        Sign::Minus => Ok(Some(after_sign(chain, false, top, below))),
+        Sign::Comma => Ok(Some(after_comma(alloc, chain, top, below)?)),
+        Sign::Close => after_close(alloc, chain, top, below),
         Sign::To | Sign::Open => Ok(None),
     }
 }
 
 // A `|` was read.
-fn after_or(
-    alloc: Global,
-    chain: Chain,
-    trees: Vec<TreeKind>,
-    below: Vec<Frame>,
-) -> Result<State, AllocError>
-    ensures { IfOk result (λ state. plain_state state ≡ record { place = machine.Before; top = record { trees = map plain trees.items ++ machine.chain_tree (plain_chain chain) ∷ []; pending = None }; below = plain_frames below.items }) }
+fn after_or(alloc: Global, chain: Chain, top: Frame, below: Vec<Frame>) -> Result<State, AllocError>
+    ensures { IfOk result (λ state. plain_state state ≡ record { place = machine.Before; top = record { items = map plain top.items.items; trees = map plain top.trees.items ++ machine.chain_tree (plain_chain chain) ∷ []; pending = None }; below = plain_frames below.items }) }
 {
     let last = chain_tree(alloc, chain)?;
     Ok(State {
         place: Place::Before,
         top: Frame {
-            trees: pushed(trees, last)?,
+            items: top.items,
+            trees: pushed(top.trees, last)?,
             pending: None,
         },
         below,
@@ -256,17 +279,52 @@ fn after_or(
 }
 
 // A `&` or a `\` was read.
-fn after_sign(chain: Chain, kept: bool, trees: Vec<TreeKind>, below: Vec<Frame>) -> State
-    ensures { plain_state result ≡ record { place = machine.Before; top = record { trees = map plain trees.items; pending = Some (plain_chain chain, kept) }; below = plain_frames below.items } }
+fn after_sign(chain: Chain, kept: bool, top: Frame, below: Vec<Frame>) -> State
+    ensures { plain_state result ≡ record { place = machine.Before; top = record { items = map plain top.items.items; trees = map plain top.trees.items; pending = Some (plain_chain chain, kept) }; below = plain_frames below.items } }
 {
     State {
         place: Place::Before,
         top: Frame {
-            trees,
+            items: top.items,
+            trees: top.trees,
             pending: Some((chain, kept)),
         },
         below,
     }
+}
+
+// A `,` was read.
+fn after_comma(
+    alloc: Global,
+    chain: Chain,
+    top: Frame,
+    below: Vec<Frame>,
+) -> Result<State, AllocError>
+    ensures { IfOk result (λ state. plain_state state ≡ record { place = machine.Before; top = record { items = map plain top.items.items ++ machine.trees_with (map plain top.trees.items) (machine.chain_tree (plain_chain chain)) ∷ []; trees = []; pending = None }; below = plain_frames below.items }) }
+{
+    let last = union_tree(alloc, chain, top.trees)?;
+    Ok(State {
+        place: Place::Before,
+        top: Frame {
+            items: pushed(top.items, last)?,
+            trees: Vec::new(alloc),
+            pending: None,
+        },
+        below,
+    })
+}
+
+// A `)` was read.
+fn after_close(
+    alloc: Global,
+    chain: Chain,
+    top: Frame,
+    below: Vec<Frame>,
+) -> Result<Option<State>, AllocError>
+    ensures { IfOk result (λ found. option_map plain_state found ≡ machine.close (machine.items_with (map plain top.items.items) (machine.trees_with (map plain top.trees.items) (machine.chain_tree (plain_chain chain)))) (plain_frames below.items)) }
+{
+    let last = union_tree(alloc, chain, top.trees)?;
+    close(alloc, items_with(top.items, last)?, below)
 }
 
 // One more token where a simple type has to come.
@@ -335,9 +393,14 @@ fn step_low(
             below,
         }));
     }
-    let Frame { trees, pending } = top;
+    let Frame {
+        items,
+        trees,
+        pending,
+    } = top;
     let chain = chain_with(alloc, pending, number_tree(&number))?;
     let top = Frame {
+        items,
         trees,
         pending: None,
     };

@@ -200,7 +200,6 @@ fn reads_connectives(rt: HostRuntime) -> Result<(), Fail> {
         complains("sub;Int_;0", Status::NotBuilt, "T1: not built\n"),
         complains("sub;Empty0;0", Status::NotBuilt, "T1: not built\n"),
         complains("sub;IntEmpty;0", Status::NotBuilt, "T1: not built\n"),
-        complains("sub;0;(1, 2)", Status::NotBuilt, "T2: not built\n"),
         complains("sub;0;1->2", Status::NotBuilt, "T2: not built\n"),
         complains("sub;1--*;0", Status::NotBuilt, "T1: not built\n"),
     ];
@@ -208,20 +207,71 @@ fn reads_connectives(rt: HostRuntime) -> Result<(), Fail> {
     Ok(())
 }
 
-// A text may hold 1,000 times `(`, and not once more: one within the other, or one after the other.
+// What tuples hold: they nest to the right, and `,` binds loosest.
+#[test]
+fn decides_pairs(rt: HostRuntime) -> Result<(), Fail> {
+    let rows = [
+        says("sub;(0--3, 5) | (2--9, 5);(0--9, 5)", Status::Done, "yes\n"),
+        says(
+            "sub;(0--1, 0--1);(0, 0--1) | (0--1, 0)",
+            Status::No,
+            "no: (1, 1)\n",
+        ),
+        says("sub;(1,2);(1,2)", Status::Done, "yes\n"),
+        says("sub;(1,2);Int", Status::No, "no: (1, 2)\n"),
+        says("sub;1|(1,2);Int", Status::No, "no: (1, 2)\n"),
+        says(
+            "sub;Int;(Int,Int)|0--5\\0--5",
+            Status::No,
+            "no: -170141183460469231731687303715884105728\n",
+        ),
+        says("sub;(1,2,3);(1,(2,3))", Status::Done, "yes\n"),
+        says("sub;(1,(2,3));(1,2,3)", Status::Done, "yes\n"),
+        says("sub;((1,2),3);(1,2,3)", Status::No, "no: ((1, 2), 3)\n"),
+        says("sub;(1,2,3);((1,2),3)", Status::No, "no: (1, 2, 3)\n"),
+        says("sub;(Empty,1);Empty", Status::Done, "yes\n"),
+        says("sub;(1,Empty)|(2,3,Empty);Empty", Status::Done, "yes\n"),
+        says(
+            "sub;(0--2,0--2)\\(1,Int)\\(Int,1);(0,0)|(0,2)|(2,0)|(2,2)",
+            Status::Done,
+            "yes\n",
+        ),
+        says(
+            "sub;(0--2,0--2)\\(1,Int);(0|2,0|2)|(2,1)",
+            Status::No,
+            "no: (0, 1)\n",
+        ),
+        says(
+            "sub;(0--9,0--9)&(5--20,5--20);(5--9,5--9)",
+            Status::Done,
+            "yes\n",
+        ),
+        says("sub;(1|2,3);(1,3)|(2,3)", Status::Done, "yes\n"),
+        says("sub;(1,2|3,4);(1,2,4)|(1,3,4)", Status::Done, "yes\n"),
+        complains("sub;(1,-5);0", Status::NotBuilt, "T1: not built\n"),
+        complains("sub;(1,);0", Status::NotBuilt, "T1: not built\n"),
+        complains("sub;(,1);0", Status::NotBuilt, "T1: not built\n"),
+        complains("sub;1,2;0", Status::NotBuilt, "T1: not built\n"),
+        complains("sub;(1,2;0", Status::NotBuilt, "T1: not built\n"),
+        complains("sub;0;1,2", Status::NotBuilt, "T2: not built\n"),
+    ];
+    check(&rt, rt.alloc(), rows.as_slice())?;
+    Ok(())
+}
+
+// A text may hold 1,000 times `(`, and not once more: one within the other with a pair or a plain
+// parenthesis at each, or one after the other.
 #[test]
 fn reads_a_thousand_parentheses(rt: HostRuntime) -> Result<(), Fail> {
     for (count, status) in [(1000, Status::Done), (1001, Status::NotBuilt)] {
-        let nested = format!(in rt.alloc();
-            "{}7{}",
-            "(".repeat(rt.alloc(), count)?,
-            ")".repeat(rt.alloc(), count)?
-        )?;
-        let flat = format!(in rt.alloc(); "{}7", "(7)|".repeat(rt.alloc(), count)?)?;
-        for text in [nested, flat] {
-            let alloc = rt.alloc();
+        let alloc = rt.alloc();
+        let close = ")".repeat(alloc, count)?;
+        let nested = format!(in alloc; "{}7{close}", "(".repeat(alloc, count)?)?;
+        let pairs = format!(in alloc; "{}7{close}", "(1,".repeat(alloc, count)?)?;
+        let flat = format!(in alloc; "{}7", "(7)|".repeat(alloc, count)?)?;
+        for text in [nested, pairs, flat] {
             let mut words = Vec::new(alloc);
-            for word in ["sub", text.as_str(), "7"] {
+            for word in ["sub", text.as_str(), text.as_str()] {
                 words.push(String::from_str(alloc, word)?)?;
             }
             let mut out = MemorySink::new(alloc, Vec::new(alloc));

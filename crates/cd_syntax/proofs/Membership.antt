@@ -5,9 +5,9 @@ use Rattle.std.proofs.lemmas.Int.{ints, by_lt_z}
 use Rattle.cd_syntax.specs.Integer.{LEAST, GREATEST}
 use Rattle.cd_syntax.specs.Element.{Element, Integer, Character, Atom, Pair, Xml, Record, Function}
 use Rattle.cd_syntax.specs.declared.tree.NodeName.TheVariants.{Int, Empty}
-use Rattle.cd_syntax.specs.Tree.{Tree, Builtin, Ints, Union, Meet, Trees, NoTree, ATree, Signs, NoSign, ASign}
+use Rattle.cd_syntax.specs.Tree.{Tree, Builtin, Ints, Tuple, Union, Meet, Trees, NoTree, ATree, Signs, NoSign, ASign}
 use Rattle.cd_syntax.specs.Written.{Written}
-use Rattle.cd_syntax.specs.Membership.{Reader, integer_in, integer_reader, other_reader, holds, holds_one, holds_signs, IsIn, IsOutside}
+use Rattle.cd_syntax.specs.Membership.{Reader, integer_in, integer_reader, other_reader, pair_reader, rest_of, answers, holds, holds_one, holds_signs, IsIn, IsOutside}
 
 -- a reader answers true or false at each form
 abbrev Decides : Reader → Type 0
@@ -22,6 +22,7 @@ module _ (reader : Reader) (decides : Decides reader) where
     holds_decided : (tree : Tree) → holds reader tree true ⊎ holds reader tree false
     holds_decided (Builtin name) = decides (Builtin name)
     holds_decided (Ints low high) = decides (Ints low high)
+    holds_decided (Tuple trees) = decides (Tuple trees)
     holds_decided (Union trees) = one_decided trees
     holds_decided (Meet first signs) = elim (holds_decided first) [
       | inr out ↦ inr (inl out)
@@ -51,6 +52,7 @@ module _ (reader : Reader) (agrees : Agrees reader) where
     holds_agrees : (tree : Tree) → holds reader tree true → holds reader tree false → ⊥
     holds_agrees (Builtin name) is out = agrees (Builtin name) is out
     holds_agrees (Ints low high) is out = agrees (Ints low high) is out
+    holds_agrees (Tuple trees) is out = agrees (Tuple trees) is out
     holds_agrees (Union trees) is out = one_agrees trees is out
     holds_agrees (Meet first signs) is out = elim out [ inl miss ↦ holds_agrees first is.0 miss | inr miss ↦ signs_agrees signs is.1 miss ]
 
@@ -72,6 +74,7 @@ integer_decides : (n : ℤ) → Decides (integer_reader n)
 integer_decides n (Builtin Int) = between_decided n LEAST GREATEST
 integer_decides n (Builtin Empty) = inr tt
 integer_decides n (Ints low high) = between_decided n (unwrap_or low LEAST) (unwrap_or high GREATEST)
+integer_decides n (Tuple trees) = inr tt
 integer_decides n (Union trees) = inr tt
 integer_decides n (Meet first signs) = inr tt
 
@@ -85,26 +88,54 @@ integer_agrees : (n : ℤ) → Agrees (integer_reader n)
 integer_agrees n (Builtin Int) is out = between_agrees n LEAST GREATEST is out
 integer_agrees n (Builtin Empty) is out = is
 integer_agrees n (Ints low high) is out = between_agrees n (unwrap_or low LEAST) (unwrap_or high GREATEST) is out
+integer_agrees n (Tuple trees) is out = is
 integer_agrees n (Union trees) is out = is
 integer_agrees n (Meet first signs) is out = is
 
 other_agrees : Agrees other_reader
 other_agrees tree is out = is
 
+pair_decides : (first second : Reader) → Decides first → Decides second → Decides (pair_reader first second)
+pair_decides first second is_first is_second (Tuple (ATree tree rest)) = elim (is_first tree) [
+  | inr out ↦ inr (inl out)
+  | inl is ↦ elim (is_second (rest_of rest)) [ inr out ↦ inr (inr out) | inl more ↦ inl (is, more) ]
+]
+pair_decides first second is_first is_second (Tuple NoTree) = inr tt
+pair_decides first second is_first is_second (Builtin name) = inr tt
+pair_decides first second is_first is_second (Ints low high) = inr tt
+pair_decides first second is_first is_second (Union trees) = inr tt
+pair_decides first second is_first is_second (Meet tree signs) = inr tt
+
+pair_agrees : (first second : Reader) → Agrees first → Agrees second → Agrees (pair_reader first second)
+pair_agrees first second is_first is_second (Tuple (ATree tree rest)) is out =
+    elim out [ inl miss ↦ is_first tree is.0 miss | inr miss ↦ is_second (rest_of rest) is.1 miss ]
+pair_agrees first second is_first is_second (Tuple NoTree) is out = is
+pair_agrees first second is_first is_second (Builtin name) is out = is
+pair_agrees first second is_first is_second (Ints low high) is out = is
+pair_agrees first second is_first is_second (Union trees) is out = is
+pair_agrees first second is_first is_second (Meet tree signs) is out = is
+
+-- the law, by recursion on the element
+element_decides : (element : Element) → Decides (answers element)
+element_decides (Integer n) = holds_decided (integer_reader n) (integer_decides n)
+element_decides (Pair a b) = holds_decided (pair_reader (answers a) (answers b)) (pair_decides (answers a) (answers b) (element_decides a) (element_decides b))
+element_decides (Character c) = holds_decided other_reader other_decides
+element_decides (Atom name) = holds_decided other_reader other_decides
+element_decides (Xml tag attributes content) = holds_decided other_reader other_decides
+element_decides (Record fields) = holds_decided other_reader other_decides
+element_decides (Function pairs) = holds_decided other_reader other_decides
+
+element_agrees : (element : Element) → Agrees (answers element)
+element_agrees (Integer n) = holds_agrees (integer_reader n) (integer_agrees n)
+element_agrees (Pair a b) = holds_agrees (pair_reader (answers a) (answers b)) (pair_agrees (answers a) (answers b) (element_agrees a) (element_agrees b))
+element_agrees (Character c) = holds_agrees other_reader other_agrees
+element_agrees (Atom name) = holds_agrees other_reader other_agrees
+element_agrees (Xml tag attributes content) = holds_agrees other_reader other_agrees
+element_agrees (Record fields) = holds_agrees other_reader other_agrees
+element_agrees (Function pairs) = holds_agrees other_reader other_agrees
+
 pub in_or_outside : (element : Element) (type : Written) → IsIn element type ⊎ IsOutside element type
-in_or_outside (Integer n) type = holds_decided (integer_reader n) (integer_decides n) type.tree
-in_or_outside (Character c) type = holds_decided other_reader other_decides type.tree
-in_or_outside (Atom name) type = holds_decided other_reader other_decides type.tree
-in_or_outside (Pair a b) type = holds_decided other_reader other_decides type.tree
-in_or_outside (Xml tag attributes content) type = holds_decided other_reader other_decides type.tree
-in_or_outside (Record fields) type = holds_decided other_reader other_decides type.tree
-in_or_outside (Function pairs) type = holds_decided other_reader other_decides type.tree
+in_or_outside element type = element_decides element type.tree
 
 pub not_both : (element : Element) (type : Written) → IsIn element type → IsOutside element type → ⊥
-not_both (Integer n) type is out = holds_agrees (integer_reader n) (integer_agrees n) type.tree is out
-not_both (Character c) type is out = holds_agrees other_reader other_agrees type.tree is out
-not_both (Atom name) type is out = holds_agrees other_reader other_agrees type.tree is out
-not_both (Pair a b) type is out = holds_agrees other_reader other_agrees type.tree is out
-not_both (Xml tag attributes content) type is out = holds_agrees other_reader other_agrees type.tree is out
-not_both (Record fields) type is out = holds_agrees other_reader other_agrees type.tree is out
-not_both (Function pairs) type is out = holds_agrees other_reader other_agrees type.tree is out
+not_both element type is out = element_agrees element type.tree is out

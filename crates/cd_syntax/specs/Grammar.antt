@@ -1,13 +1,13 @@
 -- The grammar of types.
 --
--- A union is meets with `|` between them, and a meet is simple types with `&` or `\` between them. A chain of one or
+-- A tuple is unions with commas between them, a union is meets with `|` between them, and a meet is simple types with `&` or `\` between them. A chain of one or
 -- more of these is one node, and no node where it has one part.
 use Rattle.std.specs.Prelude.{ℕ, ℤ, ◌≤◌, true, false, List, [], ◌∷◌, ◌++◌, length, filter, ◌==◌, Some}
 use Rattle.cd_syntax.specs.declared.token.Token.{Token}
 use Rattle.cd_syntax.specs.declared.token.Token.TheVariants.{Int, Name, Sign}
-use Rattle.cd_syntax.specs.declared.token.Sign.TheVariants.{To, Or, And, Minus, Open, Close}
+use Rattle.cd_syntax.specs.declared.token.Sign.TheVariants.{To, Or, And, Minus, Open, Close, Comma}
 use Rattle.cd_syntax.specs.declared.tree.NodeName.{NodeName}
-use Rattle.cd_syntax.specs.Tree.{Tree, Builtin, Ints, Union, Meet, Trees, NoTree, ATree, Signs, NoSign, ASign}
+use Rattle.cd_syntax.specs.Tree.{Tree, Builtin, Ints, Tuple, Union, Meet, Trees, NoTree, ATree, Signs, NoSign, ASign}
 use Rattle.cd_syntax.specs.Written.{Written}
 use Rattle.cd_syntax.specs.Spelling.{Spells}
 
@@ -20,15 +20,26 @@ abbrev pub union_of : Tree → Trees → Tree
 union_of tree NoTree = tree
 union_of tree (ATree other trees) = Union (ATree tree (ATree other trees))
 
+abbrev pub tuple_of : Tree → Trees → Tree
+tuple_of tree NoTree = tree
+tuple_of tree (ATree other trees) = Tuple (ATree tree (ATree other trees))
+
 mutual
-  -- Simple = Number [ "--" Number ] | "Int" | "Empty" | "(" Union ")"
+  -- Simple = Number [ "--" Number ] | "Int" | "Empty" | "(" Union { "," Union } ")"
   pub data IsSimple : List Token → Tree → Type 0 where
     -- a number alone is the interval of that number
     number : (n : ℤ) → IsSimple (Int n ∷ []) (Ints (Some n) (Some n))
     -- two numbers joined by `--` are the bounds of an interval
     interval : (low high : ℤ) → IsSimple (Int low ∷ Sign To ∷ Int high ∷ []) (Ints (Some low) (Some high))
     name : (n : NodeName) → IsSimple (Name n ∷ []) (Builtin n)
-    group : (tokens : List Token) (tree : Tree) → IsUnion tokens tree → IsSimple (Sign Open ∷ tokens ++ Sign Close ∷ []) tree
+    -- a union in parentheses is that union, and several are a tuple
+    group : (tokens rest : List Token) (tree : Tree) (trees : Trees) → IsUnion tokens tree → AreItems rest trees
+        → IsSimple (Sign Open ∷ (tokens ++ rest) ++ Sign Close ∷ []) (tuple_of tree trees)
+
+  pub data AreItems : List Token → Trees → Type 0 where
+    no_item : AreItems [] NoTree
+    comma : (tokens rest : List Token) (tree : Tree) (trees : Trees) → IsUnion tokens tree → AreItems rest trees
+        → AreItems (Sign Comma ∷ tokens ++ rest) (ATree tree trees)
 
   -- Meet = Simple { ( "&" | "\" ) Simple }
   pub data IsMeet : List Token → Tree → Type 0 where

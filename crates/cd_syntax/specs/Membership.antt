@@ -7,7 +7,7 @@ use Rattle.std.specs.Option.{unwrap_or}
 use Rattle.cd_syntax.specs.Integer.{LEAST, GREATEST}
 use Rattle.cd_syntax.specs.Element.{Element, Integer, Character, Atom, Pair, Xml, Record, Function}
 use Rattle.cd_syntax.specs.declared.tree.NodeName.TheVariants.{Int}
-use Rattle.cd_syntax.specs.Tree.{Tree, Builtin, Ints, Union, Meet, Trees, NoTree, ATree, Signs, NoSign, ASign}
+use Rattle.cd_syntax.specs.Tree.{Tree, Builtin, Ints, Tuple, Union, Meet, Trees, NoTree, ATree, Signs, NoSign, ASign}
 use Rattle.cd_syntax.specs.Written.{Written}
 
 abbrev pub Reader : Type 1
@@ -28,12 +28,24 @@ integer_reader n (Builtin Int) = integer_in n LEAST GREATEST
 integer_reader n (Ints low high) = integer_in n (unwrap_or low LEAST) (unwrap_or high GREATEST)
 integer_reader n tree = other_reader tree
 
+-- the tuple of the trees after the first, or the one tree that is left
+abbrev pub rest_of : Trees → Tree
+rest_of (ATree tree NoTree) = tree
+rest_of trees = Tuple trees
+
+-- a pair is in a tuple where its first part is in the first tree, and its second part in the rest
+abbrev pub pair_reader : Reader → Reader → Reader
+pair_reader first second (Tuple (ATree tree rest)) true = first tree true × second (rest_of rest) true
+pair_reader first second (Tuple (ATree tree rest)) false = first tree false ⊎ second (rest_of rest) false
+pair_reader first second tree answer = other_reader tree answer
+
 -- what a reader answers at a tree. A union holds what one of its trees holds, and a meet what its first tree holds and
 -- each of the others holds or, after a `\`, doesn't hold
 abbrev mutual
   pub holds : Reader → Tree → Bool → Type 0
   holds reader (Builtin name) answer = reader (Builtin name) answer
   holds reader (Ints low high) answer = reader (Ints low high) answer
+  holds reader (Tuple trees) answer = reader (Tuple trees) answer
   holds reader (Union trees) answer = holds_one reader trees answer
   holds reader (Meet first signs) true = holds reader first true × holds_signs reader signs true
   holds reader (Meet first signs) false = holds reader first false ⊎ holds_signs reader signs false
@@ -55,7 +67,7 @@ abbrev pub answers : Element → Tree → Bool → Type 0
 answers (Integer n) = holds (integer_reader n)
 answers (Character c) = holds other_reader
 answers (Atom name) = holds other_reader
-answers (Pair first second) = holds other_reader
+answers (Pair first second) = holds (pair_reader (answers first) (answers second))
 answers (Xml tag attributes content) = holds other_reader
 answers (Record fields) = holds other_reader
 answers (Function pairs) = holds other_reader

@@ -5,7 +5,7 @@ use Rattle.std.specs.List.{list_all}
 use Rattle.cd_syntax.specs.declared.token.Token.{Token}
 use Rattle.cd_syntax.specs.declared.token.Token.TheVariants.{Int, Name, Sign}
 use Rattle.cd_syntax.specs.declared.token.Sign.{Sign as ASign}
-use Rattle.cd_syntax.specs.declared.token.Sign.TheVariants.{To, Or, And, Minus, Open, Close}
+use Rattle.cd_syntax.specs.declared.token.Sign.TheVariants.{To, Or, And, Minus, Open, Close, Comma}
 use Rattle.cd_syntax.specs.declared.tree.NodeName.{NodeName}
 use Rattle.cd_syntax.specs.declared.tree.NodeName.TheVariants.{Int as IntName, Empty as EmptyName}
 use Rattle.cd_syntax.specs.Integer.{IsInteger}
@@ -44,6 +44,7 @@ characters And = codes "&"
 characters Minus = codes "\\"
 characters Open = codes "("
 characters Close = codes ")"
+characters Comma = codes ","
 
 -- the text spells these tokens
 pub data Spells : List ℕ → List Token → Type 0 where

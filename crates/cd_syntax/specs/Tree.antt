@@ -10,6 +10,8 @@ mutual
     Builtin : NodeName → Tree
     -- the integers from a bound to a bound; where there is none, from the least or to the greatest
     Ints : (low high : Option ℤ) → Tree
+    -- the pairs of the first tree and the second, which is again a tuple where there are more than two
+    Tuple : Trees → Tree
     -- what one of the trees holds
     Union : Trees → Tree
     -- what the first tree holds, and each of the others holds or, after a `\`, doesn't hold
@@ -36,6 +38,7 @@ signs_of (sign ∷ rest) = ASign sign.0 sign.1 (signs_of rest)
 abbrev pub tree_layer : TreeKind-F Tree (Bool × Tree) → Tree
 tree_layer (layer.Builtin name) = Builtin name
 tree_layer (layer.Ints low high) = Ints low high
+tree_layer (layer.Tuple trees) = Tuple (trees_of trees.items)
 tree_layer (layer.Union trees) = Union (trees_of trees.items)
 tree_layer (layer.Meet first signs) = Meet first.value (signs_of signs.items)
 

@@ -40,4 +40,5 @@ pub fn worked_examples()
     ensures unbounded { IsIn (Integer (negsuc 4)) (record { tree = Ints None (Some (pos 4)) }) }
     ensures prints { Prints (Integer (pos 120)) (codes "120") }
     ensures prints_negative { Prints (Integer (negsuc 4)) (codes "-5") }
+    ensures prints_pairs { Prints (Pair (Integer (pos 1)) (Pair (Integer (pos 2)) (Integer (pos 3)))) (codes "(1, 2, 3)") }
 {}

@@ -26,4 +26,6 @@ pub enum Sign {
     Open,
     /// `)`.
     Close,
+    /// `,`, between the types of a tuple.
+    Comma,
 }

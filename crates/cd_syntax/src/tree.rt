@@ -1,5 +1,5 @@
 ghost use Rattle.std.specs.Prelude.{◌≡◌, map};
-ghost use Rattle.cd_syntax.specs.Tree.{Union, Meet, plain, signed_plain, trees_of, signs_of};
+ghost use Rattle.cd_syntax.specs.Tree.{Tuple, Union, Meet, plain, signed_plain, trees_of, signs_of};
 
 /// A name of a type that is built in.
 #[derive(Clone, Copy, Debug, PartialEq, Eq)]
@@ -19,6 +19,8 @@ pub enum TreeKind {
     /// The integers from the one bound to the other, both among them. A bound that is not there is the
     /// least or the greatest integer.
     Ints(Option<i128>, Option<i128>),
+    /// The pairs of the first type and the second, which is again a tuple where there are more than two.
+    Tuple(Vec<TreeKind>),
     /// What one of the types holds.
     Union(Vec<TreeKind>),
     /// What the first type holds, and each of the others holds or doesn't hold.
@@ -33,6 +35,12 @@ pub struct Signed {
     pub kept: bool,
     /// The type.
     pub tree: TreeKind,
+}
+
+pub fn tuple(trees: Vec<TreeKind>) -> TreeKind
+    ensures { plain result ≡ Tuple (trees_of (map plain trees.items)) }
+{
+    TreeKind::Tuple(trees)
 }
 
 pub fn union(trees: Vec<TreeKind>) -> TreeKind

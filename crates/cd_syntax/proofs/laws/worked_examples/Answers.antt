@@ -6,9 +6,9 @@ use Rattle.cd_syntax.specs.declared.token.Sign.TheVariants.{To, Or, And, Minus, 
 use Rattle.cd_syntax.specs.declared.tree.NodeName.TheVariants.{Int as IntName}
 use Rattle.cd_syntax.specs.Tree.{NoSign, NoTree}
 use Rattle.cd_syntax.specs.Spelling.{nothing, space, number, word, sign}
-use Rattle.cd_syntax.specs.Grammar.{number as derives_number, interval, name, group, meet, no_sign, and, minus, union, no_meet, or}
+use Rattle.cd_syntax.specs.Grammar.{number as derives_number, interval, name, group, meet, no_sign, and, minus, union, no_meet, or, no_item}
 use Rattle.cd_syntax.proofs.Grammar.{alone}
-use Rattle.cd_syntax.specs.Notation.{integer}
+use Rattle.cd_syntax.specs.Notation.{integer, pair, part, end}
 use Rattle.cd_syntax.proofs.laws.worked_examples.Goals as goal
 
 pub returns-clause-reads : goal.returns-clause-reads
@@ -42,7 +42,7 @@ returns-clause-reads_signs c = record {
       let five = meet (Int (pos 5) ∷ []) [] _ NoSign (derives_number (pos 5)) no_sign in
       let inner = union (Int (pos 4) ∷ []) (Sign Or ∷ Int (pos 5) ∷ []) _ _ four (or (Int (pos 5) ∷ []) [] _ NoTree five no_meet) in
       let kept = and (Int (pos 0) ∷ Sign To ∷ Int (pos 9) ∷ []) [] _ NoSign (interval (pos 0) (pos 9)) no_sign in
-      let refused = minus (Sign Open ∷ Int (pos 4) ∷ Sign Or ∷ Int (pos 5) ∷ Sign Close ∷ []) (Sign And ∷ Int (pos 0) ∷ Sign To ∷ Int (pos 9) ∷ []) _ _ (group _ _ inner) kept in
+      let refused = minus (Sign Open ∷ Int (pos 4) ∷ Sign Or ∷ Int (pos 5) ∷ Sign Close ∷ []) (Sign And ∷ Int (pos 0) ∷ Sign To ∷ Int (pos 9) ∷ []) _ _ (group _ [] _ NoTree inner no_item) kept in
       union _ [] _ NoTree (meet (Name IntName ∷ []) _ _ _ (name IntName) refused) no_meet;
   few = omega arith;
 }
@@ -54,3 +54,10 @@ returns-clause-prints c = integer (pos 120)
 pub returns-clause-prints_negative : goal.returns-clause-prints_negative
 unfolding digits
 returns-clause-prints_negative c = integer (negsuc 4)
+
+pub returns-clause-prints_pairs : goal.returns-clause-prints_pairs
+unfolding digits
+returns-clause-prints_pairs c =
+    let three = end _ _ (λ is. is) (integer (pos 3)) in
+    let two = part _ _ _ _ (integer (pos 2)) three in
+    pair _ _ _ (λ is. is) (part _ _ _ _ (integer (pos 1)) two)
