@@ -1,7 +1,7 @@
 -- The grammar of types.
 --
--- A tuple is unions with commas between them, a union is meets with `|` between them, and a meet is simple types with `&` or `\` between them. A chain of one or
--- more of these is one node, and no node where it has one part.
+-- A tuple is unions in parentheses with commas between them, a union is meets with `|` between them, and a meet is simple
+-- types with `&` or `\` between them. A chain of two parts or more is one node; a chain of one part is that part.
 use Rattle.std.specs.Prelude.{ℕ, ℤ, ◌≤◌, true, false, List, [], ◌∷◌, ◌++◌, length, filter, ◌==◌, Some}
 use Rattle.cd_syntax.specs.declared.token.Token.{Token}
 use Rattle.cd_syntax.specs.declared.token.Token.TheVariants.{Int, Name, Sign}

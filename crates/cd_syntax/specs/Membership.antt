@@ -28,7 +28,8 @@ integer_reader n (Builtin Int) = integer_in n LEAST GREATEST
 integer_reader n (Ints low high) = integer_in n (unwrap_or low LEAST) (unwrap_or high GREATEST)
 integer_reader n tree = other_reader tree
 
--- the tuple of the trees after the first, or the one tree that is left
+-- what a tuple asks of the second part: the tree after the first where there is one, else the tuple of those trees. A
+-- tuple of one tree leaves the tuple of none, which holds nothing
 abbrev pub rest_of : Trees → Tree
 rest_of (ATree tree NoTree) = tree
 rest_of trees = Tuple trees

@@ -1,4 +1,5 @@
--- The canonical text of an element.
+-- The canonical text of an element. Integers have one, and pairs of elements that have one, but for the pairs that end in
+-- the atom `nil`.
 use Rattle.std.specs.Prelude.{◌≡◌, ℕ, ℤ, List, ◌++◌, codes}
 use Rattle.std.specs.Fmt.{signed_decimal}
 use Rattle.cd_syntax.specs.Element.{Element, Integer, Atom, Pair}

@@ -10,7 +10,8 @@ mutual
     Builtin : NodeName → Tree
     -- the integers from a bound to a bound; where there is none, from the least or to the greatest
     Ints : (low high : Option ℤ) → Tree
-    -- the pairs of the first tree and the second, which is again a tuple where there are more than two
+    -- the pairs whose first part is in the first tree, and whose second part is in the tuple of the others, or in the
+    -- other where there is one. A tuple of fewer than two trees holds nothing
     Tuple : Trees → Tree
     -- what one of the trees holds
     Union : Trees → Tree

@@ -4,7 +4,7 @@ ghost use Rattle.cd_syntax.specs.Element.{Element, IsElement, Integer, Atom, Pai
 ghost use Rattle.cd_syntax.specs.Grammar.{Reads};
 ghost use Rattle.cd_syntax.specs.Membership.{IsIn, IsOutside};
 ghost use Rattle.cd_syntax.specs.Notation.{Prints};
-ghost use Rattle.cd_syntax.specs.Tree.{Builtin, Ints, Union, Meet, NoTree, ATree, NoSign, ASign};
+ghost use Rattle.cd_syntax.specs.Tree.{Builtin, Ints, Tuple, Union, Meet, NoTree, ATree, NoSign, ASign};
 ghost use Rattle.cd_syntax.specs.declared.tree.NodeName.TheVariants.{Int, Empty};
 ghost use Rattle.cd_syntax.specs.Written.{Written};
 
@@ -14,13 +14,14 @@ pub fn membership_is_decided()
     ensures not_both { (element : Element) (type : Written) → IsIn element type → IsOutside element type → ⊥ }
 {}
 
-/// An element has one canonical text.
+/// An element has at most one canonical text. Those that have one are the integers, and the pairs of
+/// such elements.
 pub fn notation_is_one()
     ensures { (element : Element) (first second : List ℕ) → Prints element first → Prints element second → first ≡ second }
 {}
 
 /// The definitions at some values: an XML element and a function that are elements, a record whose
-/// labels do not rise, texts and their types, an element in a type and one outside, and printed texts.
+/// labels do not rise, texts and their types, elements in a type and outside one, and printed texts.
 pub fn worked_examples()
     ensures xml { IsElement (Xml (Atom (codes "a")) (Record (Field (codes "x") (Integer (pos 1)) NoField)) (Atom (codes "nil"))) }
     ensures function { IsElement (Function (Maps (Integer (pos 0)) (Integer (pos 5)) (Fails (Pair (Integer (pos 0)) (Atom (codes "_b"))) NoPair))) }
@@ -29,6 +30,9 @@ pub fn worked_examples()
     ensures reads { Reads (codes " 007 --12") (record { tree = Ints (Some (pos 7)) (Some (pos 12)) }) }
     ensures reads_one { Reads (codes "5") (record { tree = Ints (Some (pos 5)) (Some (pos 5)) }) }
     ensures reads_signs { Reads (codes "Int\\(4|5)&0--9") (record { tree = Meet (Builtin Int) (ASign false (Union (ATree (Ints (Some (pos 4)) (Some (pos 4))) (ATree (Ints (Some (pos 5)) (Some (pos 5))) NoTree))) (ASign true (Ints (Some (pos 0)) (Some (pos 9))) NoSign)) }) }
+    ensures reads_parentheses { Reads (codes "(1)") (record { tree = Ints (Some (pos 1)) (Some (pos 1)) }) }
+    ensures reads_tuple { Reads (codes "(1,2,3)") (record { tree = Tuple (ATree (Ints (Some (pos 1)) (Some (pos 1))) (ATree (Ints (Some (pos 2)) (Some (pos 2))) (ATree (Ints (Some (pos 3)) (Some (pos 3))) NoTree))) }) }
+    ensures reads_inner_pair { Reads (codes "((1,2),3)") (record { tree = Tuple (ATree (Tuple (ATree (Ints (Some (pos 1)) (Some (pos 1))) (ATree (Ints (Some (pos 2)) (Some (pos 2))) NoTree))) (ATree (Ints (Some (pos 3)) (Some (pos 3))) NoTree)) }) }
     ensures inside { IsIn (Integer (pos 5)) (record { tree = Ints (Some (pos 0)) (Some (pos 5)) }) }
     ensures outside { IsOutside (Integer (pos 5)) (record { tree = Ints (Some (pos 0)) (Some (pos 4)) }) }
     ensures any_integer { IsIn (Integer (negsuc 4)) (record { tree = Builtin Int }) }
@@ -37,8 +41,14 @@ pub fn worked_examples()
     ensures in_union { IsIn (Integer (pos 5)) (record { tree = Union (ATree (Builtin Empty) (ATree (Ints None (Some (pos 5))) NoTree)) }) }
     ensures in_meet { IsIn (Integer (pos 5)) (record { tree = Meet (Builtin Int) (ASign true (Ints None (Some (pos 5))) (ASign false (Builtin Empty) NoSign)) }) }
     ensures out_of_meet { IsOutside (Integer (pos 5)) (record { tree = Meet (Builtin Int) (ASign true (Ints None (Some (pos 5))) (ASign false (Builtin Int) NoSign)) }) }
+    ensures in_tuple { IsIn (Pair (Integer (pos 1)) (Pair (Integer (pos 2)) (Integer (pos 3)))) (record { tree = Tuple (ATree (Builtin Int) (ATree (Ints None (Some (pos 2))) (ATree (Ints (Some (pos 3)) None) NoTree))) }) }
+    ensures out_of_tuple_by_its_first { IsOutside (Pair (Integer (pos 1)) (Integer (pos 2))) (record { tree = Tuple (ATree (Ints (Some (pos 2)) None) (ATree (Builtin Int) NoTree)) }) }
+    ensures out_of_tuple_by_its_second { IsOutside (Pair (Integer (pos 1)) (Integer (pos 2))) (record { tree = Tuple (ATree (Builtin Int) (ATree (Builtin Empty) NoTree)) }) }
+    ensures no_pair { IsOutside (Integer (pos 1)) (record { tree = Tuple (ATree (Builtin Int) (ATree (Builtin Int) NoTree)) }) }
+    ensures pair_is_no_integer { IsOutside (Pair (Integer (pos 1)) (Integer (pos 2))) (record { tree = Builtin Int }) }
     ensures unbounded { IsIn (Integer (negsuc 4)) (record { tree = Ints None (Some (pos 4)) }) }
     ensures prints { Prints (Integer (pos 120)) (codes "120") }
     ensures prints_negative { Prints (Integer (negsuc 4)) (codes "-5") }
     ensures prints_pairs { Prints (Pair (Integer (pos 1)) (Pair (Integer (pos 2)) (Integer (pos 3)))) (codes "(1, 2, 3)") }
+    ensures prints_inner_pair { Prints (Pair (Pair (Integer (pos 1)) (Integer (pos 2))) (Integer (pos 3))) (codes "((1, 2), 3)") }
 {}

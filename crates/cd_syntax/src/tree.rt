@@ -10,7 +10,8 @@ pub enum NodeName {
     Int,
 }
 
-/// A type as it is written. A chain of one operator is one node, whatever its length.
+/// A type as it is written. A chain at one level, of `|`, of `&` and `\`, or of commas, is one node, whatever
+/// its length.
 #[cycle(tree)]
 #[derive(Debug, Drop)]
 pub enum TreeKind {
@@ -19,7 +20,8 @@ pub enum TreeKind {
     /// The integers from the one bound to the other, both among them. A bound that is not there is the
     /// least or the greatest integer.
     Ints(Option<i128>, Option<i128>),
-    /// The pairs of the first type and the second, which is again a tuple where there are more than two.
+    /// The pairs whose first part is in the first type, and whose second part is in the tuple of the others,
+    /// or in the other where there is one. A tuple of fewer than two types holds nothing.
     Tuple(Vec<TreeKind>),
     /// What one of the types holds.
     Union(Vec<TreeKind>),
