@@ -2,10 +2,11 @@
 use native.Mathlib.Numerals.{unary_clauses}
 use Rattle.std.proofs.Math.ListN.{get_or}
 use Rattle.std.proofs.Math.Seq.{drop-cons}
-use Rattle.std.proofs.Common.{◌≡◌, ℕ, zero, suc, ◌<◌, ◌≤◌, ◌+◌, length, drop, ℤ, Bool, true, false, ◌&&◌, ◌||◌, not, List, [], ◌∷◌, Option, Some, None, Result, Ok, Err, inl, inr, refl, sym, ap, subst, ◌∙◌, arith}
+use Rattle.std.proofs.Common.{◌≡◌, ℕ, ◌<◌, ◌+◌, length, drop, ℤ, Bool, true, false, ◌&&◌, ◌||◌, not, List, [], ◌∷◌, Option, Some, None, Result, Ok, Err, inl, inr, refl, sym, ap, subst, ◌∙◌, arith}
 use Rattle.std.specs.declared.alloc.AllocError.{AllocError}
 use Rattle.std.specs.Prelude.{IfOk, int_le, if◌then◌else◌}
 use Rattle.std.specs.Option.{MatchOption, unwrap_or}
+use Rattle.std.proofs.Math.Bool.{and_assoc}
 use Rattle.std.proofs.lemmas.Bool.{and_parts, and_from, cases_Bool, not-true, true≢false}
 use Rattle.std.proofs.lemmas.Int.{ints}
 use Rattle.cd_intervals.specs.declared.interval.Interval.{Interval}
@@ -20,16 +21,14 @@ use Rattle.cd_syntax.specs.Membership.{holds as answers_at, holds_one as answers
 use Rattle.cd_syntax.specs.Subtype.{IsWithin}
 use Rattle.cd_syntax.proofs.Membership.{not_both, in_or_outside}
 use Rattle.cd_driver.specs.Question.{Question, Fits, HasKept}
-use Rattle.cd_driver.specs.Ways.{Way, ways_of}
+use Rattle.cd_driver.specs.Ways.{ways_of}
 use Rattle.cd_driver.specs.Depth.{OneWay}
 use Rattle.cd_driver.specs.declared.witness.Witness.{Witness}
 use Rattle.cd_driver.specs.Witness.{element}
-use Rattle.cd_driver.specs.declared.ways.Way.{Way as CodeWay}
 use Rattle.cd_driver.specs.declared.ways.Asked.{Asked as CodeAsked}
-use Rattle.cd_driver.specs.PlainWays.{plain_part, plain_asked, plain_question, plain_way, plain_ways}
-use Rattle.cd_driver.specs.Decision.{has, has_one, has_signs, has_all, Separates, NothingFits, NoPairFits, FitsAsPair, AreLeft}
-use Rattle.cd_driver.proofs.WaysExact.{fits, found}
-use Rattle.cd_driver.proofs.WaysShallower.{shallower}
+use Rattle.cd_driver.specs.PlainWays.{plain_part, plain_asked, plain_question}
+use Rattle.cd_driver.specs.Decision.{has, has_one, has_signs, has_all, Separates, NothingFits}
+use Rattle.cd_driver.proofs.WaysExact.{found}
 
 -- an interval answers as the test of its bounds does
 between_is : (n low high : ℤ) → integer_in n low high (is_between low high n)
@@ -155,29 +154,6 @@ integer_found question set n set_is held =
     let both = and_parts (is_between LEAST GREATEST n) (has_all n question) (sym (set_is n) ∙ held) in
     integer_fits n question both.1
 
--- all ways are left at first
-pub all_left : (question : Question) → HasKept question → AreLeft question (ways_of question)
-all_left question kept = record { shallow = shallower question kept; fit = λ a b one. one; all = λ a b is_a is_b one. one }
-
--- a way that no pair fits is left no more
-pub less_left : (question : Question) (way : Way) (ways : List Way) → AreLeft question (way ∷ ways) → NoPairFits way → AreLeft question ways
-less_left question way ways left none = record {
-  shallow = left.shallow.1;
-  fit = λ a b one. left.fit a b (inr one);
-  all = λ a b is_a is_b one. elim (left.all a b is_a is_b one) [ inl fit ↦ absurd (none a b is_a is_b fit.0 fit.1) | inr more ↦ more ];
-}
-
--- a pair that fits a way that is left fits the question
-pub pair_found : (question : Question) (way : Way) (ways : List Way) (element : Element) → AreLeft question (way ∷ ways) → FitsAsPair element way → Fits element question
-pair_found question way ways (Pair a b) left fit =
-    fits a b question (left.fit a b (inl fit))
-pair_found question way ways (Integer n) left fit = absurd fit
-pair_found question way ways (Character c) left fit = absurd fit
-pair_found question way ways (Atom name) left fit = absurd fit
-pair_found question way ways (Xml tag attributes content) left fit = absurd fit
-pair_found question way ways (Record fields) left fit = absurd fit
-pair_found question way ways (Function pairs) left fit = absurd fit
-
 -- the question whether a type lies outside another, in part
 decides : (first second : Written) (witness : Option Witness)
     → MatchOption witness (NothingFits ((true, first.tree) ∷ (false, second.tree) ∷ [])) (λ witness. Fits (element witness) ((true, first.tree) ∷ (false, second.tree) ∷ []))
@@ -191,25 +167,6 @@ pub decides_all : (first second : Written) (r : Result (Option Witness) AllocErr
 decides_all first second (Ok found) is = decides first second found is
 decides_all first second (Err error) is = tt
 
--- the ways from one on are this one and those after it
-pub next_way : (ways : List CodeWay) (index : ℕ) (way : CodeWay) → index < length ways → way ≡ get_or ways index way
-    → plain_ways (drop index ways) ≡ plain_way way ∷ plain_ways (drop (index + 1) ways)
-next_way ways index way within is =
-    let from_here : drop index ways ≡ get_or ways index way ∷ drop (index + 1) ways = simp unary_clauses (drop-cons ways index way within) in
-    ap plain_ways from_here ∙ ap (λ w. plain_way w ∷ plain_ways (drop (index + 1) ways)) (sym is)
-
--- where no way is left, no pair fits
-pub none_left : (question : Question) (ways : List CodeWay) (index : ℕ) → length ways ≤ index → AreLeft question (plain_ways (drop index ways))
-    → (a b : Element) → IsElement a → IsElement b → OneWay a b (ways_of question) → ⊥
-none_left question ways index past left a b is_a is_b one =
-    subst (λ ways. OneWay a b (plain_ways ways)) (drop_past ways index past) (left.all a b is_a is_b one)
-  where
-    drop_past : (ways : List CodeWay) (index : ℕ) → length ways ≤ index → drop index ways ≡ []
-    drop_past [] zero past = refl
-    drop_past [] (suc index) past = refl
-    drop_past (way ∷ ways) zero past = absurd (omega arith)
-    drop_past (way ∷ ways) (suc index) past = drop_past ways index (omega arith)
-
 -- what is asked from one place on is what is asked there and after it
 next_asked : (question : List CodeAsked) (index : ℕ) (asked : CodeAsked) → index < length question → asked ≡ get_or question index asked
     → plain_question (drop index question) ≡ plain_asked asked ∷ plain_question (drop (index + 1) question)
@@ -217,14 +174,10 @@ next_asked question index asked within is =
     let from_here : drop index question ≡ get_or question index asked ∷ drop (index + 1) question = simp unary_clauses (drop-cons question index asked within) in
     ap plain_question from_here ∙ ap (λ a. plain_asked a ∷ plain_question (drop (index + 1) question)) (sym is)
 
-and_moved : (a b c : Bool) → ((a && b) && c) ≡ (a && (b && c))
-and_moved true b c = refl
-and_moved false b c = refl
-
 pub narrowed : (question : List CodeAsked) (index : ℕ) (asked : CodeAsked) → index < length question → asked ≡ get_or question index asked
     → (old new : List Interval) → ((z : ℤ) → holds new z ≡ (holds old z && (if asked.kept then has z (plain_part asked.part) else not (has z (plain_part asked.part)))))
     → (z : ℤ) → (holds new z && has_all z (plain_question (drop (index + 1) question))) ≡ (holds old z && has_all z (plain_question (drop index question)))
 narrowed question index asked within is old new new_is z =
     let rest = has_all z (plain_question (drop (index + 1) question)) in
     let here = if asked.kept then has z (plain_part asked.part) else not (has z (plain_part asked.part)) in
-    ap (λ h. h && rest) (new_is z) ∙ and_moved (holds old z) here rest ∙ ap (λ q. holds old z && has_all z q) (sym (next_asked question index asked within is))
+    ap (λ h. h && rest) (new_is z) ∙ and_assoc (holds old z) here rest ∙ ap (λ q. holds old z && has_all z q) (sym (next_asked question index asked within is))

@@ -4,6 +4,7 @@ pub mod ParsingComplete
 pub mod ParsingSound
 pub mod Reading
 pub mod Deciding
+pub mod Looking
 pub mod Asking
 pub mod Answering
 pub mod Concluding

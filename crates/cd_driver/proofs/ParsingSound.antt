@@ -94,7 +94,7 @@ data AreOpen : List Token → List Tree → List Frame → Type 0 where
   one_open : (outer tokens inner : List Token) (frame : Frame) (items : List Tree) (below : List Frame) → AreOpen outer frame.items below → Waits tokens frame → Holds inner items
       → AreOpen (outer ++ (tokens ++ Sign Open ∷ inner)) items (frame ∷ below)
 
--- the tokens of a simple type that is not yet read to its end
+-- the tokens of a simple type that stands half read
 abbrev half : Place → List Token
 half Before = []
 half (Low n) = Int n ∷ []

@@ -1,8 +1,12 @@
 -- The text of an element that is an integer or a pair of such elements.
-use Rattle.std.proofs.Common.{◌≡◌, ℕ, suc, ℤ, pos, negsuc, List, [], ◌++◌, arith}
-use Rattle.std.specs.Prelude.{codes, encode_utf8_all}
+use Rattle.std.proofs.lemmas.List.{append_assoc}
+use Rattle.std.proofs.Common.{◌≡◌, ◌==◌, false, length, map, ◌∷◌, Result, Ok, Err, ap, sym, ◌∙◌, ℕ, suc, ℤ, pos, negsuc, List, [], ◌++◌, arith}
+use Rattle.std.specs.declared.alloc.AllocError.{AllocError}
+use Rattle.std.specs.Result.{is_ok}
+use Rattle.std.specs.Prelude.{if◌then◌else◌, OnOk, codes, encode_utf8_all}
 use Rattle.std.specs.Fmt.{decimal, signed_decimal}
 use Rattle.std.specs.Str.{IsAscii}
+use Rattle.std.proofs.lemmas.Bool.{true≢false}
 use Rattle.std.proofs.lemmas.Int.{ints}
 use Rattle.std.proofs.lemmas.Str.{encodes-IsAscii, IsAscii-append}
 use Rattle.std.proofs.lemmas.Str.Ascii.{IsAscii-nil, IsAscii-cons}
@@ -10,7 +14,22 @@ use Rattle.std.proofs.lemmas.Fmt.{IsAscii-decimal_wide}
 use Rattle.cd_syntax.specs.Integer.{IsInteger}
 use Rattle.cd_syntax.specs.Element.{Element, IsElement, Integer, Pair}
 use Rattle.cd_syntax.specs.Notation.{Prints, PrintsParts, EndsInNil, integer, pair, part, end}
-use Rattle.cd_driver.specs.Witness.{AreIntegers, text_of, parts_of}
+use Rattle.cd_driver.specs.declared.witness.Witness.{Witness}
+use Rattle.cd_driver.specs.Witness.{row_of, element, AreIntegers, text_of, parts_of}
+
+-- the text of what has a first part is that of its parts in parentheses
+pub row_text : (firsts : List Witness) (last : Element) → (length firsts == 0) ≡ false
+    → text_of (row_of (map element firsts) last) ≡ codes "(" ++ parts_of (row_of (map element firsts) last) ++ codes ")"
+row_text [] last some = absurd (true≢false some)
+row_text (first ∷ firsts) last some = simp append_assoc
+
+-- so where the parts are written between parentheses, that text is written
+pub closed : (r : Result (Unit {0}) AllocError) (before opened parted after parts text : List ℕ) → text ≡ codes "(" ++ parts ++ codes ")"
+    → opened ≡ before ++ codes "(" → parted ≡ opened ++ parts → after ≡ (if is_ok r then parted ++ codes ")" else parted) → OnOk r (after ≡ before ++ text)
+closed (Ok done) before opened parted after parts text text_is opened_is parted_is after_is =
+    let same : ((before ++ codes "(") ++ parts) ++ codes ")" ≡ before ++ (codes "(" ++ parts ++ codes ")") = simp append_assoc in
+    after_is ∙ ap (λ p. p ++ codes ")") (parted_is ∙ ap (λ o. o ++ parts) opened_is) ∙ same ∙ ap (λ t. before ++ t) (sym text_is)
+closed (Err error) before opened parted after parts text text_is opened_is parted_is after_is = tt
 
 -- such an element does not end in `nil`
 open_end : (element : Element) → AreIntegers element → EndsInNil element → ⊥

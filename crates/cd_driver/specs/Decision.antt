@@ -1,5 +1,5 @@
 -- What is found for a question.
-use Rattle.std.specs.Prelude.{ℤ, Bool, true, false, List, [], ◌∷◌, ◌&&◌, ◌||◌, not, if◌then◌else◌}
+use Rattle.std.specs.Prelude.{ℤ, Bool, true, false, [], ◌∷◌, ◌&&◌, ◌||◌, not, if◌then◌else◌}
 use Rattle.std.specs.Option.{unwrap_or}
 use Rattle.cd_intervals.specs.Interval.{is_between}
 use Rattle.cd_syntax.specs.Integer.{LEAST, GREATEST}
@@ -9,8 +9,7 @@ use Rattle.cd_syntax.specs.Element.{Element, Pair, IsElement}
 use Rattle.cd_syntax.specs.Written.{Written}
 use Rattle.cd_syntax.specs.Membership.{IsIn, IsOutside}
 use Rattle.cd_driver.specs.Question.{Question, Fits}
-use Rattle.cd_driver.specs.Ways.{Way, ways_of}
-use Rattle.cd_driver.specs.Depth.{depth_of, EachShallower, OneWay}
+use Rattle.cd_driver.specs.Ways.{Way}
 
 -- whether an integer is in a type, as set operations find it
 abbrev mutual
@@ -51,10 +50,3 @@ NoPairFits way = (a b : Element) → IsElement a → IsElement b → Fits a way.
 abbrev pub FitsAsPair : Element → Way → Type 0
 FitsAsPair (Pair a b) way = Fits a way.first × Fits b way.second
 FitsAsPair element way = ⊥
-
--- what is known of a question where these of its ways are left to be looked at: they are less deep, and a pair fits one of
--- them just where it fits the question
-pub record AreLeft (question : Question) (ways : List Way) : Type 0 where
-  pub shallow : EachShallower (depth_of question) ways
-  pub fit : (a b : Element) → OneWay a b ways → OneWay a b (ways_of question)
-  pub all : (a b : Element) → IsElement a → IsElement b → OneWay a b (ways_of question) → OneWay a b ways

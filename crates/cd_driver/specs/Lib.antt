@@ -11,6 +11,7 @@ pub mod PlainWays
 pub mod Depth
 pub mod Witness
 pub mod Decision
+pub mod Looking
 pub mod Lexer
 pub mod Parser
 pub mod Parsing

@@ -1,15 +1,20 @@
 -- Elements that are integers or pairs of such elements, and their texts.
-use Rattle.std.specs.Prelude.{ℕ, List, [], ◌++◌, codes}
+use Rattle.std.specs.Prelude.{ℕ, List, [], ◌∷◌, ◌++◌, codes}
 use Rattle.std.specs.Fmt.{signed_decimal}
 use Rattle.cd_syntax.specs.Integer.{IsInteger}
 use Rattle.cd_syntax.specs.Element.{Element, Integer, Pair}
 use Rattle.cd_driver.specs.declared.witness.Witness.{Witness, Witness-F, fold-Witness}
 use Rattle.cd_driver.specs.declared.witness.Witness.TheOpen as layer
 
+-- the element with these first parts along the right, and this one after them
+abbrev pub row_of : List Element → Element → Element
+row_of [] last = last
+row_of (first ∷ firsts) last = Pair first (row_of firsts last)
+
 -- one layer of an element of the code, whose parts are plain
 abbrev pub element_layer : Witness-F Element → Element
 element_layer (layer.Integer n) = Integer n
-element_layer (layer.Pair first second) = Pair first.value second.value
+element_layer (layer.Row firsts last) = row_of firsts.items last.value
 
 -- the plain element that an element of the code is
 abbrev pub element : Witness → Element

@@ -6,12 +6,13 @@ ghost use Rattle.cd_syntax.specs.Membership.{rest_of};
 ghost use Rattle.cd_syntax.specs.Written.{written};
 ghost use Rattle.cd_syntax.specs.Subtype.{IsWithin};
 ghost use Rattle.cd_driver.specs.Decision.{has, has_one, has_signs, has_all, Separates, NothingFits, FitsAsPair, NoPairFits};
+ghost use Rattle.cd_driver.specs.Looking.{Finds, GoesAlong};
 ghost use Rattle.cd_driver.specs.Question.{Fits, HasKept};
 ghost use Rattle.cd_driver.specs.PlainWays.{plain_part, plain_question, plain_way};
 ghost use Rattle.cd_driver.specs.Witness.{element};
 
 use crate::ways::{Asked, Part, Way, ways_of};
-use crate::witness::{Witness, integer};
+use crate::witness::{Witness, integer, pair, row};
 use cd_intervals::int_set::IntSet;
 use cd_syntax::tree::{NodeName, Signed, TreeKind};
 use std::alloc::{AllocError, Global};
@@ -38,22 +39,67 @@ pub(crate) fn outside(
     find(alloc, &question)
 }
 
-// An element that fits a question.
+// What a look at a question finds: nothing fits it, this element fits it, or a pair fits it where its first
+// part is this one, and its second part fits a question that is less deep.
+#[derive(Drop)]
+enum Look<'a> {
+    Nothing,
+    Element(Witness),
+    Along(Witness, Vec<Asked<'a>>),
+}
+
+// An element that fits a question. What is asked of the second part of a pair is asked by the loop where one
+// way is left, so a long tuple takes no more stack than a short one.
 #[cycle(find)]
 fn find(alloc: Global, question: &[Asked<'_>]) -> Result<Option<Witness>, AllocError>
     requires { HasKept (plain_question question.now) }
     ensures { IfOk result (λ found. MatchOption found (NothingFits (plain_question question.now)) (λ witness. Fits (element witness) (plain_question question.now))) }
 {
-    if let Some(found) = integers_of(alloc, question)?.some_member() {
-        return Ok(Some(integer(found)));
-    }
-    let ways = ways_of(alloc, question)?;
-    for way in ways.as_slice() {
-        if let Some(pair) = pair_of(alloc, way)? {
-            return Ok(Some(pair));
+    let mut firsts = Vec::new(alloc);
+    let mut question = Vec::from_slice(alloc, question)?;
+    loop {
+        match look_at(alloc, question.as_slice())? {
+            Look::Nothing => return Ok(None),
+            Look::Element(last) => return Ok(Some(row(alloc, firsts, last)?)),
+            Look::Along(first, second) => {
+                firsts.push(first)?;
+                question = second;
+            }
         }
     }
-    Ok(None)
+}
+
+#[cycle(find)]
+fn look_at<'a>(alloc: Global, question: &[Asked<'a>]) -> Result<Look<'a>, AllocError>
+    requires { HasKept (plain_question question.now) }
+    ensures { IfOk result (λ look. Finds (plain_question question.now) look) }
+{
+    if let Some(found) = integers_of(alloc, question)?.some_member() {
+        return Ok(Look::Element(integer(found)));
+    }
+    let mut ways = ways_of(alloc, question)?;
+    let Some(last) = ways.pop() else {
+        return Ok(Look::Nothing);
+    };
+    for way in ways.as_slice() {
+        if let Some(pair) = pair_of(alloc, way)? {
+            return Ok(Look::Element(pair));
+        }
+    }
+    along(alloc, last)
+}
+
+// What is found where one way is left.
+#[cycle(find)]
+fn along<'a>(alloc: Global, way: Way<'a>) -> Result<Look<'a>, AllocError>
+    requires { HasKept (plain_question way.first.items) }
+    ensures { IfOk result (λ look. GoesAlong (plain_way way.entry) look) }
+{
+    let Way { first, second } = way;
+    Ok(match find(alloc, first.as_slice())? {
+        None => Look::Nothing,
+        Some(first) => Look::Along(first, second),
+    })
 }
 
 // A pair whose parts are what a way asks.
@@ -69,7 +115,7 @@ fn pair_of(alloc: Global, way: &Way<'_>) -> Result<Option<Witness>, AllocError>
     let Some(second) = find(alloc, way.second.as_slice())? else {
         return Ok(None);
     };
-    Ok(Some(Witness::Pair(Box::new(alloc, first)?, Box::new(alloc, second)?)))
+    Ok(Some(pair(alloc, first, second)?))
 }
 
 // The integers that fit a question.
