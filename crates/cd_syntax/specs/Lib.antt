@@ -6,5 +6,10 @@ pub mod Written
 pub mod Membership
 pub mod Subtype
 pub mod Notation
+pub mod Signs
+pub mod Quotes
+pub mod Comments
+pub mod Tokens
+pub mod Faults
 pub mod Spelling
 pub mod Grammar

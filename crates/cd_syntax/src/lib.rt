@@ -3,5 +3,8 @@
 #![tactic(auto)]
 
 pub mod laws;
+pub mod name;
+pub mod sign;
 pub mod token;
+pub mod tokens;
 pub mod tree;

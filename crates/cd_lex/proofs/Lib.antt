@@ -1,0 +1,13 @@
+pub mod Numbering
+pub mod Wording
+pub mod Commenting
+pub mod Quoting
+pub mod Signing
+pub mod Fronts
+pub mod WordFronts
+pub mod Spanning
+pub mod LexingOn
+pub mod OneWay
+pub mod QuotesAreOne
+pub mod FrontsAreOne
+pub mod ReadingIsOne

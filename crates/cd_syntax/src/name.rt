@@ -1,0 +1,57 @@
+ghost use Rattle.std.specs.Prelude.{◌≡◌, IfOk, string_bytes};
+ghost use Rattle.std.specs.Str.{chars};
+
+use std::alloc::{AllocError, Global};
+use std::marker::Model;
+
+/// A text, which a contract sees as the list of its characters: a word, a label, the name of an atom, or
+/// what stands between quotes.
+#[derive(Debug, Drop)]
+pub struct Name {
+    text: String,
+}
+
+impl Model for Name {
+    ghost use Rattle.std.specs.Prelude.{ℕ, List, string_bytes};
+    ghost use Rattle.std.specs.Str.{chars};
+
+    ghost Value = { List ℕ };
+
+    ghost view = { λ name. chars (string_bytes name.text) };
+}
+
+impl Name {
+    /// The name with this text.
+    pub fn of(alloc: Global, text: &str) -> Result<Name, AllocError>
+        ensures { IfOk result (λ name. name ≡ chars text.now) }
+    {
+        Ok(Name {
+            text: String::from_str(alloc, text)?,
+        })
+    }
+
+    /// The name with these characters.
+    pub fn of_characters(alloc: Global, characters: &[char]) -> Result<Name, AllocError>
+        ensures { IfOk result (λ name. name ≡ characters.now) }
+    {
+        let mut text = String::new(alloc);
+        for c in characters {
+            text.push(*c)?;
+        }
+        Ok(Name { text })
+    }
+
+    /// Its text.
+    pub fn as_str(&self) -> &str
+        ensures { chars result.now ≡ self.now }
+    {
+        self.text.as_str()
+    }
+
+    /// An equal name.
+    pub fn copy(&self) -> Result<Name, AllocError>
+        ensures { IfOk result (λ name. name ≡ self.now) }
+    {
+        Name::of(*self.text.allocator(), self.as_str())
+    }
+}
