@@ -13,7 +13,7 @@ use Rattle.cd_syntax.specs.Signs.{characters, BeginsWith, IsLongest}
 use Rattle.cd_syntax.specs.Comments.{begins_pair, Closes, IsComment, comment}
 use Rattle.cd_syntax.specs.Tokens.{begins_negative, bytes, IsDropped, Writes}
 use Rattle.cd_syntax.specs.Tokens as tokens
-use Rattle.cd_syntax.specs.Faults.{begins_nothing, Breaks}
+use Rattle.cd_syntax.specs.Faults.{is_other, Breaks}
 use Rattle.cd_syntax.specs.Faults as faults
 use Rattle.cd_lex.specs.Standing.{IsDroppedFront, IsTokenFront}
 use Rattle.cd_lex.proofs.WordFronts.{token_front}
@@ -148,8 +148,8 @@ some_characters sign.Equal = omega arith
 some_characters sign.Question = omega arith
 some_characters sign.Star = omega arith
 some_characters sign.Plus = omega arith
-some_characters sign.Dash = omega arith
 some_characters sign.Minus = omega arith
+some_characters sign.Backslash = omega arith
 some_characters sign.Or = omega arith
 some_characters sign.And = omega arith
 some_characters sign.Comma = omega arith
@@ -167,7 +167,7 @@ sign_stands joined text is longest no_comment no_number =
     (tokens.sign is rest (subst (IsLongest is) text_is longest) (subst (λ t. begins_pair 40 42 t ≡ false) text_is no_comment)
     (λ apart. subst (λ t. begins_negative t ≡ false) text_is (no_number apart)))
 
-pub no_sign : (joined : Bool) (at : ℕ) (text : List ℕ) → ((c : ℕ) × (rest : List ℕ) × (text ≡ c ∷ rest) × (begins_nothing c ≡ true) × (c ≡ 96 → ⊥))
+pub no_sign : (joined : Bool) (at : ℕ) (text : List ℕ) → ((c : ℕ) × (rest : List ℕ) × (text ≡ c ∷ rest) × (is_other c ≡ true) × (c ≡ 96 → ⊥))
     → ((is : ASign) → BeginsWith text is → ⊥) → Breaks joined at text (BadChar at)
 no_sign joined at text first none =
     let c = first.0 in

@@ -24,7 +24,7 @@ use Rattle.cd_syntax.specs.Comments.{begins_pair, Closes, IsComment}
 use Rattle.cd_syntax.specs.Comments as comments
 use Rattle.cd_syntax.specs.Tokens.{is_blank, begins_negative, bytes, joins, token_at, EndsWord, IsDropped, Writes}
 use Rattle.cd_syntax.specs.Tokens as tokens
-use Rattle.cd_syntax.specs.Faults.{is_quote, begins_nothing, Breaks}
+use Rattle.cd_syntax.specs.Faults.{is_quote, is_other, Breaks}
 use Rattle.cd_syntax.specs.Faults as faults
 use Rattle.cd_lex.specs.Commenting.{within, length_from}
 use Rattle.cd_lex.specs.SignTable.{first_sign}
@@ -199,7 +199,7 @@ nothing_parts false false true e is = absurd (true≢false (sym is))
 nothing_parts false false false true is = absurd (true≢false (sym is))
 nothing_parts false false false false is = (refl, refl, refl, refl)
 
-nothing_class : (c : ℕ) → begins_nothing c ≡ true → class_of c ≡ (if c == 96 then Backquote else Other)
+nothing_class : (c : ℕ) → is_other c ≡ true → class_of c ≡ (if c == 96 then Backquote else Other)
 nothing_class c is =
     let parts = nothing_parts (is_blank c) (begins_word c) (is_ascii_digit c) (is_quote c) is in
     let quotes = or_parts (c == 34) (c == 39) parts.3 in
@@ -330,8 +330,8 @@ sign_class sign.Equal rest = refl
 sign_class sign.Question rest = refl
 sign_class sign.Star rest = refl
 sign_class sign.Plus rest = refl
-sign_class sign.Dash rest = refl
 sign_class sign.Minus rest = refl
+sign_class sign.Backslash rest = refl
 sign_class sign.Or rest = refl
 sign_class sign.And rest = refl
 sign_class sign.Comma rest = refl
@@ -384,7 +384,7 @@ no_first text none = by_found (first_sign text) refl
     by_found None found = found
     by_found (Some is) found = absurd (none is (first_is_longest text is found).stands)
 
-character_front : (joined : Bool) (at c : ℕ) (rest : List ℕ) → begins_nothing c ≡ true → ((is : ASign) → BeginsWith (c ∷ rest) is → ⊥)
+character_front : (joined : Bool) (at c : ℕ) (rest : List ℕ) → is_other c ≡ true → ((is : ASign) → BeginsWith (c ∷ rest) is → ⊥)
     → ((name more : List ℕ) → c ∷ rest ≡ 96 ∷ name ++ more → IsLabel name → EndsWord more → ⊥) → StepAt joined at (c ∷ rest) (fault_step (BadChar at))
 character_front joined at c rest nothing no_sign no_atom = by (cases_eq c 96)
   where
@@ -402,7 +402,7 @@ character_front joined at c rest nothing no_sign no_atom = by (cases_eq c 96)
         ))
     by (inr differs) =
         other_front joined at (c ∷ rest) (fault_step (BadChar at)) (nothing_class c nothing ∙ cond-false (c == 96) _ _ (ne_eqb c 96 differs))
-        (no_pair 40 42 c rest (unlike 40 sign.OpenParenthesis refl)) (λ apart. no_negative c rest (unlike 45 sign.Dash refl))
+        (no_pair 40 42 c rest (unlike 40 sign.OpenParenthesis refl)) (λ apart. no_negative c rest (unlike 45 sign.Minus refl))
         (sym (ap (sign_step at (c ∷ rest)) (no_first (c ∷ rest) no_sign)))
 
 -- a comment that nothing closes

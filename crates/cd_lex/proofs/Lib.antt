@@ -11,3 +11,5 @@ pub mod OneWay
 pub mod QuotesAreOne
 pub mod FrontsAreOne
 pub mod ReadingIsOne
+pub mod DecidingQuotes
+pub mod Deciding

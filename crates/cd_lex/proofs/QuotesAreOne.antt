@@ -7,7 +7,7 @@ use Rattle.std.proofs.Math.Seq.{drop-append_seam}
 use Rattle.std.proofs.lemmas.Bool.{and_parts, cond-true, cond-false, ne_eqb, eq-eqb}
 use Rattle.std.proofs.lemmas.List.{append_assoc}
 use Rattle.cd_syntax.specs.Spelling.{AreDigits, decimal_value, BeginsWithNoDigit}
-use Rattle.cd_syntax.specs.Quotes.{Quotes, nothing, itself, letter, code, IsLetter, line_feed, carriage_return, tab, backslash, apostrophe, quote, AreCode, BreaksEscape, no_letter, no_code, no_semicolon, EndsHalf, alone}
+use Rattle.cd_syntax.specs.Quotes.{Quotes, nothing, itself, letter, code, IsEscapeLetter, line_feed, carriage_return, tab, backslash, apostrophe, quote, IsCode, BreaksEscape, no_letter, no_code, no_semicolon, EndsHalf, alone}
 use Rattle.cd_lex.proofs.Wording.{digits_taken}
 use Rattle.cd_lex.proofs.OneWay.{Outcome, Stop, More, Reads, stop, more, once, Decided, decided_once}
 
@@ -31,17 +31,17 @@ push piece = extend piece.0 (piece.1 ∷ [])
 
 -- after a `\` and digits, where a `;` stands or another character
 abbrev pub AtSemicolon : (digits rest : List ℕ) → Bool → Step → Type 0
-AtSemicolon digits rest true is = Decided Step (AreCode digits) (More rest (92 ∷ digits ++ 59 ∷ [], decimal_value digits)) (Stop (Broken [])) is
+AtSemicolon digits rest true is = Decided Step (IsCode digits) (More rest (92 ∷ digits ++ 59 ∷ [], decimal_value digits)) (Stop (Broken [])) is
 AtSemicolon digits rest false is = is ≡ Stop (Broken [])
 
 abbrev pub AfterDigits : (digits rest : List ℕ) → Step → Type 0
-AfterDigits digits [] is = Decided Step (AreCode digits) (Stop Open) (Stop (Broken [])) is
+AfterDigits digits [] is = Decided Step (IsCode digits) (Stop Open) (Stop (Broken [])) is
 AfterDigits digits (c ∷ cs) is = AtSemicolon digits cs (c == 59) is
 
 -- after a `\`, where a digit stands or another character
 abbrev pub Escape : (c : ℕ) (rest : List ℕ) → Bool → Step → Type 0
 Escape c rest true is = AfterDigits (take_while is_ascii_digit (c ∷ rest)) (drop (length (take_while is_ascii_digit (c ∷ rest))) (c ∷ rest)) is
-Escape c rest false is = ((meant : ℕ) × IsLetter c meant × (is ≡ More rest (92 ∷ c ∷ [], meant))) ⊎ (((meant : ℕ) → IsLetter c meant → ⊥) × (is ≡ Stop (Broken [])))
+Escape c rest false is = ((meant : ℕ) × IsEscapeLetter c meant × (is ≡ More rest (92 ∷ c ∷ [], meant))) ⊎ (((meant : ℕ) → IsEscapeLetter c meant → ⊥) × (is ≡ Stop (Broken [])))
 
 abbrev pub AfterBackslash : List ℕ → Step → Type 0
 AfterBackslash [] is = is ≡ Stop Open
@@ -73,7 +73,7 @@ ReadsQuote q = Reads (List ℕ) Read (List ℕ × ℕ) (QuoteStep q) push
 abbrev pub meaning : ℕ → ℕ
 meaning c = if c == 110 then 10 else (if c == 114 then 13 else (if c == 116 then 9 else c))
 
-means : (c meant : ℕ) → IsLetter c meant → meant ≡ meaning c
+means : (c meant : ℕ) → IsEscapeLetter c meant → meant ≡ meaning c
 means _ _ line_feed = refl
 means _ _ carriage_return = refl
 means _ _ tab = refl
@@ -81,7 +81,7 @@ means _ _ backslash = refl
 means _ _ apostrophe = refl
 means _ _ quote = refl
 
-no_digit_means : (c meant : ℕ) → IsLetter c meant → is_ascii_digit c ≡ false
+no_digit_means : (c meant : ℕ) → IsEscapeLetter c meant → is_ascii_digit c ≡ false
 no_digit_means _ _ line_feed = refl
 no_digit_means _ _ carriage_return = refl
 no_digit_means _ _ tab = refl
@@ -91,11 +91,11 @@ no_digit_means _ _ quote = refl
 
 -- each step has one outcome
 at_semicolon_once : (digits rest : List ℕ) (is : Bool) (a b : Step) → AtSemicolon digits rest is a → AtSemicolon digits rest is b → a ≡ b
-at_semicolon_once digits rest true a b one two = decided_once Step (AreCode digits) _ _ a b one two
+at_semicolon_once digits rest true a b one two = decided_once Step (IsCode digits) _ _ a b one two
 at_semicolon_once digits rest false a b one two = one ∙ sym two
 
 after_digits_once : (digits rest : List ℕ) (a b : Step) → AfterDigits digits rest a → AfterDigits digits rest b → a ≡ b
-after_digits_once digits [] a b one two = decided_once Step (AreCode digits) _ _ a b one two
+after_digits_once digits [] a b one two = decided_once Step (IsCode digits) _ _ a b one two
 after_digits_once digits (c ∷ cs) a b one two = at_semicolon_once digits cs (c == 59) a b one two
 
 letter_once : (c : ℕ) (rest : List ℕ) (a b : Step) → Escape c rest false a → Escape c rest false b → a ≡ b

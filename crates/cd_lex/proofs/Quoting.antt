@@ -9,7 +9,7 @@ use native.Mathlib.Numerals.{unary_clauses}
 use Rattle.std.proofs.lemmas.Bool.{and_from, cond-true, cond-false, cases_Bool, true≢false}
 use Rattle.std.proofs.lemmas.List.{append_assoc, take-append-drop, take_all, length-take-le, length-drop}
 use Rattle.std.proofs.lemmas.List.Folds.{length-prefix_len}
-use Rattle.cd_syntax.specs.Quotes.{Quotes, nothing, itself, letter, code, IsLetter, BreaksEscape, no_letter, no_code, no_semicolon, EndsHalf, alone}
+use Rattle.cd_syntax.specs.Quotes.{Quotes, nothing, itself, letter, code, IsEscapeLetter, BreaksEscape, no_letter, no_code, no_semicolon, EndsHalf, alone}
 use Rattle.cd_syntax.specs.Spelling.{AreDigits, decimal_value, BeginsWithNoDigit}
 use Rattle.cd_lex.specs.Quoted.{IsClosed, IsOpen}
 
@@ -135,12 +135,12 @@ breaks_no_semicolon text n c front within is differs =
     subst (λ t. BreaksEscape (92 ∷ t)) whole (no_semicolon (take n text) c (drop (n + 1) text) front.0 no_digit differs)
 
 -- a letter, and another character that begins no escape
-pub means_letter : (text : List ℕ) (first c quote : ℕ) → 0 < length text → first ≡ get_or text 0 first → IsLetter first c → Quotes quote (92 ∷ take 1 text) (c ∷ [])
+pub means_letter : (text : List ℕ) (first c quote : ℕ) → 0 < length text → first ≡ get_or text 0 first → IsEscapeLetter first c → Quotes quote (92 ∷ take 1 text) (c ∷ [])
 means_letter text first c quote some is meant =
     subst (λ w. Quotes quote (92 ∷ w) (c ∷ [])) (sym (ap (take 1) (at_place text 0 first some is))) (letter first c [] [] meant nothing)
 
 pub breaks_no_letter : (text : List ℕ) (first : ℕ) → 0 < length text → first ≡ get_or text 0 first → false ≡ is_ascii_digit first
-    → ((meant : ℕ) → IsLetter first meant → ⊥) → BreaksEscape (92 ∷ text)
+    → ((meant : ℕ) → IsEscapeLetter first meant → ⊥) → BreaksEscape (92 ∷ text)
 breaks_no_letter text first some is no_digit none =
     subst (λ t. BreaksEscape (92 ∷ t)) (sym (at_place text 0 first some is)) (no_letter first (drop 1 text) (sym no_digit) none)
 

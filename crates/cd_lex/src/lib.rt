@@ -13,3 +13,4 @@ mod tests;
 mod word;
 
 pub use cd_syntax::tokens::{LexError, Span, Token, TokenKind};
+pub use lexer::lex;

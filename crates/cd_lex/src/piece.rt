@@ -3,7 +3,7 @@ ghost use Rattle.std.specs.Char.{is_ascii_digit};
 ghost use Rattle.cd_syntax.specs.Name.{begins_word as begins_word_of};
 ghost use Rattle.cd_syntax.specs.Comments.{begins_pair};
 ghost use Rattle.cd_syntax.specs.Tokens.{is_blank as is_blank_of, begins_negative as begins_negative_of, bytes as bytes_of};
-ghost use Rattle.cd_syntax.specs.Faults.{begins_nothing};
+ghost use Rattle.cd_syntax.specs.Faults.{is_other};
 ghost use Rattle.cd_syntax.specs.declared.tokens.TokenKind.TheVariants.{Text, Chars};
 ghost use Rattle.cd_lex.specs.Standing.{Stands, FaultAtFront, IsAtomFront, NoAtomFront};
 
@@ -193,7 +193,7 @@ fn atom_length(text: &[char]) -> Option<usize>
 
 // The sign that a text begins with.
 fn sign(at: usize, text: &[char]) -> Result<Piece, LexError>
-    requires first { (c : ℕ) × (rest : List ℕ) × (text.now ≡ c ∷ rest) × (begins_nothing c ≡ true) × (c ≡ 96 → ⊥) }
+    requires first { (c : ℕ) × (rest : List ℕ) × (text.now ≡ c ∷ rest) × (is_other c ≡ true) × (c ≡ 96 → ⊥) }
     requires pair { begins_pair 40 42 text.now ≡ false }
     ensures piece { IfOk result (λ piece. (joined : Bool) → (joined ≡ false → begins_negative_of text.now ≡ false) → Stands joined text.now piece) }
     ensures fault { IfErr result (λ error. (joined : Bool) → FaultAtFront joined at text.now error) }

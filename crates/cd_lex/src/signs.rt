@@ -49,8 +49,8 @@ fn signs() -> &'static [Sign]
         Sign::Question,
         Sign::Star,
         Sign::Plus,
-        Sign::Dash,
         Sign::Minus,
+        Sign::Backslash,
         Sign::Or,
         Sign::And,
         Sign::Comma,
@@ -95,8 +95,8 @@ pub(crate) fn characters(sign: Sign) -> &'static [char]
         Sign::Question => &['?'],
         Sign::Star => &['*'],
         Sign::Plus => &['+'],
-        Sign::Dash => &['-'],
-        Sign::Minus => &['\\'],
+        Sign::Minus => &['-'],
+        Sign::Backslash => &['\\'],
         Sign::Or => &['|'],
         Sign::And => &['&'],
         Sign::Comma => &[','],
@@ -107,7 +107,7 @@ pub(crate) fn characters(sign: Sign) -> &'static [char]
     }
 }
 
-/// Whether a sign closes something.
+/// Whether a sign is `)`, `]` or `}`.
 pub(crate) fn closes(sign: Sign) -> bool
     ensures { result ≡ closes_of sign }
 {

@@ -75,6 +75,7 @@ fn reads_each_kind_of_token(rt: HostRuntime) -> Result<(), Fail> {
         ("(* (* \" *) ' *)x", "w:x@15-16"),
         ("(*é*)x", "w:x@6-7"),
         ("(***)x", "w:x@5-6"),
+        ("(*(*)*)", "comment not closed 0"),
     ];
     check(&rt, rt.alloc(), rows.as_slice())?;
     Ok(())
@@ -125,6 +126,9 @@ fn reads_the_sign_of_a_number(rt: HostRuntime) -> Result<(), Fail> {
         ("--5", "s:--@0-2 i:5@2-3"),
         ("-5---1", "i:-5@0-2 s:--@2-4 i:-1@4-6"),
         ("-9--*", "i:-9@0-2 s:--*@2-5"),
+        ("x--1", "w:x@0-1 s:--@1-3 i:1@3-4"),
+        ("_-1", "w:_@0-1 s:-@1-2 i:1@2-3"),
+        ("?-1", "s:?@0-1 i:-1@1-3"),
         ("x-1", "w:x@0-1 s:-@1-2 i:1@2-3"),
         ("x -1", "w:x@0-1 i:-1@2-4"),
         ("x - 1", "w:x@0-1 s:-@2-3 i:1@4-5"),
@@ -180,6 +184,8 @@ fn reads_escapes(rt: HostRuntime) -> Result<(), Fail> {
         ("'é\\q'", "bad character 3"),
         ("\"a\\q", "bad character 2"),
         ("'\\65 ;'", "bad character 1"),
+        ("'\\;'", "bad character 1"),
+        ("'\\65;\\q'", "bad character 5"),
     ];
     check(&rt, rt.alloc(), rows.as_slice())?;
     Ok(())

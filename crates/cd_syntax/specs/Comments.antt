@@ -1,5 +1,5 @@
 -- Comments. They nest, and quotes in them mean nothing.
-use Rattle.std.specs.Prelude.{◌≢◌, ℕ, suc, ◌==◌, ◌&&◌, Bool, true, false, List, [], ◌∷◌, ◌≡◌}
+use Rattle.std.specs.Prelude.{ℕ, suc, ◌==◌, ◌&&◌, Bool, false, List, [], ◌∷◌, ◌≡◌}
 
 -- the text begins with these two characters
 abbrev pub begins_pair : ℕ → ℕ → List ℕ → Bool

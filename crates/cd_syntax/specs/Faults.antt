@@ -1,5 +1,5 @@
 -- Why a text has no tokens.
-use Rattle.std.specs.Prelude.{◌≡◌, ℕ, pos, ◌+◌, ◌==◌, ◌||◌, not, neg_ℤ, Bool, true, false, List, [], ◌∷◌, ◌++◌}
+use Rattle.std.specs.Prelude.{◌≡◌, ℕ, pos, ◌+◌, ◌==◌, ◌||◌, not, neg_ℤ, Bool, true, false, List, ◌∷◌, ◌++◌}
 use Rattle.std.specs.Char.{is_ascii_digit}
 use Rattle.cd_syntax.specs.declared.sign.Sign.{Sign}
 use Rattle.cd_syntax.specs.declared.tokens.TokenKind.{TokenKind}
@@ -17,16 +17,16 @@ use Rattle.cd_syntax.specs.Tokens.{is_blank, EndsWord, bytes, IsDropped, Writes,
 abbrev pub is_quote : ℕ → Bool
 is_quote c = (c == 34) || (c == 39)
 
--- no token and nothing that is dropped begins with this character, whatever goes on after it, but for an atom
-abbrev pub begins_nothing : ℕ → Bool
-begins_nothing c = not (is_blank c || begins_word c || is_ascii_digit c || is_quote c)
+-- no blank, word, number without a sign or quoted text begins with this character
+abbrev pub is_other : ℕ → Bool
+is_other c = not (is_blank c || begins_word c || is_ascii_digit c || is_quote c)
 
 -- the text, which begins at this byte, has a fault at its front
 pub data Breaks (joined : Bool) (at : ℕ) : List ℕ → LexError → Type 0 where
   -- a character that begins no token
-  character : (c : ℕ) (text : List ℕ) → begins_nothing c ≡ true → ((is : Sign) → BeginsWith (c ∷ text) is → ⊥)
+  character : (c : ℕ) (text : List ℕ) → is_other c ≡ true → ((is : Sign) → BeginsWith (c ∷ text) is → ⊥)
       → ((name rest : List ℕ) → c ∷ text ≡ 96 ∷ name ++ rest → IsLabel name → EndsWord rest → ⊥) → Breaks joined at (c ∷ text) (BadChar at)
-  -- between quotes, a `\` that begins no escape
+  -- between quotes, a `\` that no escape can begin with
   escape : (quote : ℕ) (written characters text : List ℕ) → is_quote quote ≡ true → Quotes quote written characters → BreaksEscape text
       → Breaks joined at (quote ∷ written ++ text) (BadChar (at + bytes (quote ∷ written)))
   open_text : (quote : ℕ) (written characters text : List ℕ) → is_quote quote ≡ true → Quotes quote written characters → EndsHalf text

@@ -13,3 +13,7 @@ pub mod Tokens
 pub mod Faults
 pub mod Spelling
 pub mod Grammar
+pub mod TypeTree
+pub mod PlainTree
+pub mod TypeGrammar
+pub mod Examples

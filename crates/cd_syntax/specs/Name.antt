@@ -1,4 +1,4 @@
--- Names, of atoms and of labels.
+-- Names: words, labels and the names of atoms.
 use Rattle.std.specs.Prelude.{◌≢◌, ℕ, ◌==◌, Bool, false, ◌&&◌, ◌||◌, List, [], ◌∷◌, IsTrue, codes}
 use Rattle.std.specs.Char.{is_ascii_alphabetic, is_ascii_alphanumeric}
 use Rattle.std.specs.List.{list_all}

@@ -33,8 +33,8 @@ characters sign.Equal = codes "="
 characters sign.Question = codes "?"
 characters sign.Star = codes "*"
 characters sign.Plus = codes "+"
-characters sign.Dash = codes "-"
-characters sign.Minus = codes "\\"
+characters sign.Minus = codes "-"
+characters sign.Backslash = codes "\\"
 characters sign.Or = codes "|"
 characters sign.And = codes "&"
 characters sign.Comma = codes ","
@@ -52,7 +52,7 @@ pub record IsLongest (is : Sign) (text : List ℕ) : Type 0 where
   pub stands : BeginsWith text is
   pub longest : (other : Sign) → BeginsWith text other → length (characters other) ≤ length (characters is)
 
--- the signs that close something: what follows at once is no sign of a number
+-- `)`, `]` or `}`: a `-` right after it is no sign of a number
 abbrev pub closes : Sign → Bool
 closes sign.CloseParenthesis = true
 closes sign.CloseBracket = true

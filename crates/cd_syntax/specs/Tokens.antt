@@ -1,12 +1,12 @@
--- The tokens of a text, which is a list of characters.
-use Rattle.std.specs.Prelude.{◌≡◌, ℕ, ℤ, pos, ◌+◌, ◌==◌, ◌||◌, ◌&&◌, neg_ℤ, Bool, true, false, List, [], ◌∷◌, ◌++◌, length, IsTrue, encode_utf8_all}
+-- The tokens of a text, a list of characters, in the whole language.
+use Rattle.std.specs.Prelude.{◌≡◌, ℕ, pos, ◌+◌, ◌==◌, ◌||◌, ◌&&◌, neg_ℤ, Bool, true, false, List, [], ◌∷◌, ◌++◌, length, IsTrue, encode_utf8_all}
 use Rattle.std.specs.Char.{is_ascii_digit}
 use Rattle.cd_syntax.specs.declared.sign.Sign.{Sign as ASign}
 use Rattle.cd_syntax.specs.declared.tokens.Token.{Token}
 use Rattle.cd_syntax.specs.declared.tokens.TokenKind.{TokenKind}
 use Rattle.cd_syntax.specs.declared.tokens.TokenKind.TheVariants.{Word, Int, Chars, Text, Atom, Sign}
 use Rattle.cd_syntax.specs.Integer.{IsInteger}
-use Rattle.cd_syntax.specs.Name.{Name, goes_on_word, is_word, IsLabel}
+use Rattle.cd_syntax.specs.Name.{goes_on_word, is_word, IsLabel}
 use Rattle.cd_syntax.specs.Spelling.{AreDigits, decimal_value, BeginsWithNoDigit}
 use Rattle.cd_syntax.specs.Signs.{characters, IsLongest, closes}
 use Rattle.cd_syntax.specs.Quotes.{Quotes}
@@ -31,8 +31,8 @@ pub data IsDropped : List ℕ → Type 0 where
   blank : (c : ℕ) → IsTrue (is_blank c) → IsDropped (c ∷ [])
   comment : (written : List ℕ) → IsComment written → IsDropped written
 
--- What is written is a token, with the text after it. Where the token before ends right here and is no sign, or one that
--- closes something, it is joined to that one, and a `-` is no sign of a number
+-- What is written is a token, with the text after it. It is joined where a token ends right before it that is no sign, or
+-- is `)`, `]` or `}`: then a `-` is no sign of a number
 pub data Writes (joined : Bool) : (written text : List ℕ) → TokenKind → Type 0 where
   word : (name text : List ℕ) → IsTrue (is_word name) → EndsWord text → Writes joined name text (Word name)
   -- a number is all the digits that there are, and fits 128 bits

@@ -1,11 +1,14 @@
 //! Laws of the definitions in `specs/`. Each is the contract of a function that does nothing.
 ghost use Rattle.std.specs.Prelude.{◌≡◌, ◌⊎◌, ℕ, List, pos, negsuc, true, false, Some, None, codes};
 ghost use Rattle.cd_syntax.specs.Element.{Element, IsElement, Integer, Atom, Pair, Xml, Record, Function, NoField, Field, NoPair, Maps, Fails};
+ghost use Rattle.cd_syntax.specs.Examples.{group_tokens, group_tree, tuple_tokens, tuple_tree, arrows_tokens, arrows_tree, arrow_tokens, record_tokens, record_tree, where_tokens, where_tree, signs_tokens, signs_tree, characters_tokens, characters_tree, at_most_tokens, at_most_tree, at_least_tokens, at_least_tree, declared_tokens, declared_declarations};
 ghost use Rattle.cd_syntax.specs.Grammar.{Reads};
 ghost use Rattle.cd_syntax.specs.Membership.{IsIn, IsOutside};
 ghost use Rattle.cd_syntax.specs.Notation.{Prints};
 ghost use Rattle.cd_syntax.specs.Tree.{Builtin, Ints, Tuple, Union, Meet, NoTree, ATree, NoSign, ASign};
 ghost use Rattle.cd_syntax.specs.declared.tree.NodeName.TheVariants.{Int, Empty};
+ghost use Rattle.cd_syntax.specs.TypeGrammar.{IsTree, AreDeclared};
+ghost use Rattle.cd_syntax.specs.TypeTree.{Tree as TypeTree};
 ghost use Rattle.cd_syntax.specs.Written.{Written};
 
 /// Each element is in a type or outside it, and not both.
@@ -51,4 +54,20 @@ pub fn worked_examples()
     ensures prints_negative { Prints (Integer (negsuc 4)) (codes "-5") }
     ensures prints_pairs { Prints (Pair (Integer (pos 1)) (Pair (Integer (pos 2)) (Integer (pos 3)))) (codes "(1, 2, 3)") }
     ensures prints_inner_pair { Prints (Pair (Pair (Integer (pos 1)) (Integer (pos 2))) (Integer (pos 3))) (codes "((1, 2), 3)") }
+{}
+
+/// The grammar of types at some texts, each given as its tokens: the tree that they write, and where it
+/// stands. An arrow is too deep for depth 0.
+pub fn grammar_examples()
+    ensures group { IsTree 1 group_tokens group_tree }
+    ensures tuple { IsTree 1 tuple_tokens tuple_tree }
+    ensures arrows { IsTree 2 arrows_tokens arrows_tree }
+    ensures record_type { IsTree 1 record_tokens record_tree }
+    ensures where_names { IsTree 1 where_tokens where_tree }
+    ensures signs { IsTree 0 signs_tokens signs_tree }
+    ensures characters { IsTree 0 characters_tokens characters_tree }
+    ensures at_most { IsTree 0 at_most_tokens at_most_tree }
+    ensures at_least { IsTree 0 at_least_tokens at_least_tree }
+    ensures declared { AreDeclared 0 declared_tokens declared_declarations }
+    ensures too_deep { (is : TypeTree) → IsTree 0 arrow_tokens is → ⊥ }
 {}

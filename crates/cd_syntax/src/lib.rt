@@ -2,9 +2,15 @@
 //! sets of elements, subtyping, spelling, grammar and notation. They stand in `specs/`.
 #![tactic(auto)]
 
+pub mod builtin;
+pub mod constant;
 pub mod laws;
 pub mod name;
 pub mod sign;
+#[cfg(test)]
+mod tests;
 pub mod token;
 pub mod tokens;
 pub mod tree;
+mod tree_copy;
+pub mod type_tree;

@@ -11,11 +11,11 @@ pub enum Sign {
     PlusQuestion,
     /// `??`, not at all or once where it must be.
     QuestionQuestion,
-    /// `=?`, before a field that may be absent.
+    /// `=?`, between the label and the type of a field that may be absent.
     EqualQuestion,
     /// `--`, between two bounds.
     To,
-    /// `->`, between an argument and a result.
+    /// `->`, between an argument and a result, or a pattern and its expression.
     Arrow,
     /// `::`, after a variable that captures a sequence.
     ColonColon,
@@ -60,9 +60,9 @@ pub enum Sign {
     /// `+`.
     Plus,
     /// `-`.
-    Dash,
-    /// `\`, before a type that doesn't hold, or a label that is taken out.
     Minus,
+    /// `\`, before a type that doesn't hold, or a label that is taken out.
+    Backslash,
     /// `|`, between the types of a union, and between branches.
     Or,
     /// `&`, before a type that holds too.

@@ -42,7 +42,8 @@ pub enum TokenKind {
 /// Why a text was not read as tokens. A place is the byte offset where the first fault of the text stands.
 #[derive(Clone, Copy, Debug, PartialEq, Eq, Error)]
 pub enum LexError {
-    /// A character that begins no token, or a `\` between quotes that begins no escape.
+    /// A character that begins no token, or a `\` between quotes that no escape can begin with, however the
+    /// text goes on.
     #[error("bad character")]
     BadChar(usize),
     /// A quote that no quote closes.

@@ -1,4 +1,4 @@
-use Rattle.std.proofs.Common.{sym, ◌∙◌, ap, drop, drop_of_length-le, ◌++◌, string_bytes, encode_utf8_all}
+use Rattle.std.proofs.Common.{sym, ◌∙◌, ap, drop_of_length-le, ◌++◌, string_bytes, encode_utf8_all}
 use Rattle.std.proofs.lemmas.List.{append-nil}
 use Rattle.std.proofs.lemmas.Str.{chars_from_encodes, IsUtf8-string_bytes}
 use Rattle.cd_syntax.proofs.name.Name.of_characters.Goals as goal
