@@ -1,5 +1,5 @@
 -- Names: words, labels and the names of atoms.
-use Rattle.std.specs.Prelude.{◌≢◌, ℕ, ◌==◌, Bool, false, ◌&&◌, ◌||◌, List, [], ◌∷◌, IsTrue, codes}
+use Rattle.std.specs.Prelude.{◌≢◌, ℕ, ◌==◌, Bool, false, ◌&&◌, ◌||◌, List, [], ◌∷◌, Option, Some, None, IsTrue, codes}
 use Rattle.std.specs.Char.{is_ascii_alphabetic, is_ascii_alphanumeric}
 use Rattle.std.specs.List.{list_all}
 
@@ -22,3 +22,13 @@ is_word (c ∷ cs) = begins_word c && list_all goes_on_word cs
 -- a label, or the name of an atom: a word other than `_` alone
 abbrev pub IsLabel : Name → Type 0
 IsLabel name = IsTrue (is_word name) × (name ≢ codes "_")
+
+-- the first character of a name
+abbrev pub first : Name → Option ℕ
+first [] = None
+first (c ∷ cs) = Some c
+
+-- the one character of a name that has just one
+abbrev pub only : Name → Option ℕ
+only (c ∷ []) = Some c
+only name = None

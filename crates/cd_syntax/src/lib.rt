@@ -5,6 +5,7 @@
 pub mod builtin;
 pub mod constant;
 pub mod laws;
+mod make;
 pub mod name;
 pub mod sign;
 #[cfg(test)]

@@ -1,5 +1,6 @@
-ghost use Rattle.std.specs.Prelude.{◌≡◌, IfOk, string_bytes};
+ghost use Rattle.std.specs.Prelude.{◌≡◌, IfOk, string_bytes, bytes_eq};
 ghost use Rattle.std.specs.Str.{chars};
+ghost use Rattle.cd_syntax.specs.Name.{first, only};
 
 use std::alloc::{AllocError, Global};
 use std::marker::Model;
@@ -46,6 +47,38 @@ impl Name {
         ensures { chars result.now ≡ self.now }
     {
         self.text.as_str()
+    }
+
+    /// Whether these are its characters.
+    pub fn is_spelled(&self, characters: &[char]) -> bool
+        ensures { result ≡ bytes_eq self.now characters.now }
+    {
+        let mut rest = characters;
+        for c in self.text.chars() {
+            match rest {
+                [first, after @ ..] if *first == c => rest = after,
+                _ => return false,
+            }
+        }
+        rest.is_empty()
+    }
+
+    /// Its first character, if it has one.
+    pub fn first_character(&self) -> Option<char>
+        ensures { result ≡ first self.now }
+    {
+        self.text.chars().next()
+    }
+
+    /// Its one character, if it has just one.
+    pub fn only_character(&self) -> Option<char>
+        ensures { result ≡ only self.now }
+    {
+        let first = self.first_character()?;
+        if self.is_spelled(&[first]) {
+            return Some(first);
+        }
+        None
     }
 
     /// An equal name.

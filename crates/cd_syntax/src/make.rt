@@ -1,0 +1,138 @@
+//! Trees from their parts.
+ghost use Rattle.std.specs.Prelude.{◌≡◌, map};
+ghost use Rattle.cd_syntax.specs.TypeTree.{tree as plain_tree, Builtin, Ints, Chars, Atom, Text, Tuple, Arrows, Union, Meet, Record, Named, Where, trees_of, signs_of, fields_of, declarations_of};
+ghost use Rattle.cd_syntax.specs.PlainTree.{plain, plain_kind, plain_signed, plain_field, plain_declaration};
+
+use crate::builtin::BuiltinName;
+use crate::name::Name;
+use crate::tokens::Span;
+use crate::type_tree::{
+    Declaration, Declarations, FieldTree, FieldTrees, Signed, SignedTree, Tree, TreeKind, Trees,
+};
+
+impl Tree {
+    /// What is written, and where.
+    pub fn new(span: Span, kind: TreeKind) -> Tree
+        ensures { plain result ≡ plain_tree span (plain_kind kind) }
+    {
+        Tree { span, kind }
+    }
+}
+
+impl TreeKind {
+    /// A type that is built in.
+    pub fn builtin(name: BuiltinName) -> TreeKind
+        ensures { plain_kind result ≡ Builtin name }
+    {
+        TreeKind::Builtin(name)
+    }
+
+    /// The integers from the one bound to the other, as far as they are there.
+    pub fn ints(low: &Option<i128>, high: &Option<i128>) -> TreeKind
+        ensures { plain_kind result ≡ Ints low.now high.now }
+    {
+        TreeKind::Ints(*low, *high)
+    }
+
+    /// The characters from the one to the other.
+    pub fn chars(low: char, high: char) -> TreeKind
+        ensures { plain_kind result ≡ Chars low high }
+    {
+        TreeKind::Chars(low, high)
+    }
+
+    /// The atom of this name.
+    pub fn atom(name: Name) -> TreeKind
+        ensures { plain_kind result ≡ Atom name }
+    {
+        TreeKind::Atom(name)
+    }
+
+    /// The sequence of these characters.
+    pub fn text(characters: Name) -> TreeKind
+        ensures { plain_kind result ≡ Text characters }
+    {
+        TreeKind::Text(characters)
+    }
+
+    /// The tuple of these trees.
+    pub fn tuple(trees: Vec<Tree>) -> TreeKind
+        ensures { plain_kind result ≡ Tuple (trees_of (map plain trees.items)) }
+    {
+        TreeKind::Tuple(Trees::of(trees))
+    }
+
+    /// The chain of arrows between these trees.
+    pub fn arrows(trees: Vec<Tree>) -> TreeKind
+        ensures { plain_kind result ≡ Arrows (trees_of (map plain trees.items)) }
+    {
+        TreeKind::Arrows(Trees::of(trees))
+    }
+
+    /// The union of these trees.
+    pub fn union(trees: Vec<Tree>) -> TreeKind
+        ensures { plain_kind result ≡ Union (trees_of (map plain trees.items)) }
+    {
+        TreeKind::Union(Trees::of(trees))
+    }
+
+    /// What the first tree holds, and each of the others holds or doesn't hold.
+    pub fn meet(first: Box<Tree>, others: Vec<SignedTree>) -> TreeKind
+        ensures { plain_kind result ≡ Meet (plain first.value) (signs_of (map plain_signed others.items)) }
+    {
+        TreeKind::Meet(first, Signed { items: others })
+    }
+
+    /// The records with these fields, and with true also those that have other fields beside them.
+    pub fn record(fields: Vec<FieldTree>, more: bool) -> TreeKind
+        ensures { plain_kind result ≡ Record (fields_of (map plain_field fields.items)) more }
+    {
+        TreeKind::Record(FieldTrees::of(fields), more)
+    }
+
+    /// What the declaration of this name says.
+    pub fn named(name: Name) -> TreeKind
+        ensures { plain_kind result ≡ Named name }
+    {
+        TreeKind::Named(name)
+    }
+
+    /// A type under its own declarations.
+    pub fn where_names(body: Box<Tree>, declarations: Vec<Declaration>) -> TreeKind
+        ensures { plain_kind result ≡ Where (plain body.value) (declarations_of (map plain_declaration declarations.items)) }
+    {
+        TreeKind::Where(body, Declarations::of(declarations))
+    }
+}
+
+impl SignedTree {
+    /// A tree after `&`, or with false after `\`.
+    pub fn new(kept: bool, tree: Tree) -> SignedTree
+        ensures { plain_signed result ≡ record { kept = kept; tree = plain tree } }
+    {
+        SignedTree { kept, tree }
+    }
+}
+
+impl FieldTree {
+    /// A field of a record, whose label stands at this byte.
+    pub fn new(label: Name, at: usize, optional: bool, tree: Tree) -> FieldTree
+        ensures { plain_field result ≡ record { label = label; at = at; optional = optional; tree = plain tree } }
+    {
+        FieldTree {
+            label,
+            at,
+            optional,
+            tree,
+        }
+    }
+}
+
+impl Declaration {
+    /// A declaration of a type, whose name stands at this byte.
+    pub fn new(name: Name, at: usize, tree: Tree) -> Declaration
+        ensures { plain_declaration result ≡ record { name = name; at = at; tree = plain tree } }
+    {
+        Declaration { name, at, tree }
+    }
+}
