@@ -6,8 +6,8 @@ use Rattle.std.specs.Char.{is_ascii_digit}
 use Rattle.std.specs.List.{list_all}
 use Rattle.std.specs.Str.Parse.{ParsesUnsigned}
 use Rattle.std.proofs.lemmas.Str.Parse.{IsNumeralModel, numerals_by_fold, digits_value_short, parse_gives}
-use Rattle.cd_syntax.specs.Spelling.{AreDigits, decimal_value}
-use Rattle.cd_driver.specs.Command.{Bytes, texts, Check, Work, Run, RunSteps, Member, SubTypes}
+use Rattle.cd_syntax.specs.Digits.{AreDigits, decimal_value}
+use Rattle.cd_driver.specs.Command.{Bytes, texts, Give, Check, Work, Run, RunSteps, Member, SubTypes}
 use Rattle.cd_driver.specs.Request.{GiveNotBuilt, WritesUnits, WritesSize}
 
 digits_model : IsNumeralModel (λ digits. list_all is_ascii_digit digits ≡ true) decimal_value
@@ -36,8 +36,8 @@ asks_run name a b is = (Run a b, rw is refl, tt, refl)
 pub asks_member : (name a b c : Bytes) → name ≡ codes "member" → GiveNotBuilt (name ∷ a ∷ b ∷ c ∷ []) (codes "member")
 asks_member name a b c is = (Member a b c, rw is refl, tt, refl)
 
-pub asks_sub_types : (name option a b c : Bytes) → name ≡ codes "sub" → option ≡ codes "--types" → GiveNotBuilt (name ∷ option ∷ a ∷ b ∷ c ∷ []) (codes "sub")
-asks_sub_types name option a b c is types = (SubTypes a b c, rw (is, types) refl, tt, refl)
+pub asks_sub_types : (name option a b c : Bytes) → name ≡ codes "sub" → option ≡ codes "--types" → Give (name ∷ option ∷ a ∷ b ∷ c ∷ []) (SubTypes a b c)
+asks_sub_types name option a b c is types = rw (is, types) refl
 
 pub asks_run_steps : (name option a b c : Bytes) → name ≡ codes "run" → option ≡ codes "--steps" → WritesUnits a → GiveNotBuilt (name ∷ option ∷ a ∷ b ∷ c ∷ []) (codes "run")
 asks_run_steps name option a b c is steps units = (RunSteps units.0 b c, (a, rw (is, steps) refl, units.1), tt, refl)

@@ -4,12 +4,15 @@ use Rattle.std.specs.Prelude.{IsTrue, if◌then◌else◌, string_bytes, codes}
 use Rattle.std.specs.Io.KnownBytes.{Appends}
 use Rattle.cd_base.specs.declared.status.Status.{Status}
 use Rattle.cd_base.specs.declared.status.Status.TheVariants.{NoMemory}
+use Rattle.cd_base.specs.FilesState.{FilesState}
 use Rattle.cd_base.specs.SinkState.{SinkState, Puts}
+use Rattle.cd_syntax.specs.declared.tokens.LexError.TheVariants.{BadChar, OpenText, OpenComment, TooWide, Memory}
 use Rattle.cd_driver.specs.Command.{Bytes, name_of}
-use Rattle.cd_driver.specs.Reply.{Reply, line}
-use Rattle.cd_driver.specs.World.{World}
-use Rattle.cd_driver.specs.Answer.{Disk, Answer, SubAnswer, TextRefusal, no_form, sub, command_not_built, yes, no, first_refused, second_refused, text_not_built}
-use Rattle.cd_driver.specs.Ending.{unmarked, Delivered, whole, out_refused, err_refused, out_cut, err_cut, Ending, answered, no_memory, Completes}
+use Rattle.cd_driver.specs.Reply.{Reply, line, refusal}
+use Rattle.cd_driver.specs.World.{World, world}
+use Rattle.cd_driver.specs.Texts.{Against, Lexical, Syntax, TooDeep, NotBuilt}
+use Rattle.cd_driver.specs.Answer.{Disk, Answer, SubAnswer, SubTypesAnswer, FileRefusal, no_form, sub, sub_types, command_not_built, yes, no, first_refused, second_refused, file_refused, on_texts, unread, large, encoding, refused}
+use Rattle.cd_driver.specs.Ending.{Met, unmarked, marked, Delivered, whole, out_refused, err_refused, out_cut, err_cut, Ending, answered, no_memory, Completes}
 use Rattle.cd_driver.specs.Headline.{NothingFailed, IsAnswered, Headline, told_files}
 use Rattle.cd_driver.specs.Telling.{Put, whole as put_whole, refused as put_refused, cut as put_cut}
 use Rattle.cd_driver.specs.declared.message.Message.{Message}
@@ -21,18 +24,36 @@ line_some [] none = cc
 line_some (c ∷ cs) none = cc
 
 -- an answer has a text
-refusal_speaks : (origin text : Bytes) (reply : Reply) → TextRefusal origin text reply → reply.err ≡ [] → ⊥
-refusal_speaks origin text _ (text_not_built unread) err = line_some (origin ++ codes ": not built") err
+refusal_speaks : (origin text : Bytes) (against : Against) → (refusal origin text against).out ≡ [] → (refusal origin text against).err ≡ [] → ⊥
+refusal_speaks origin text (Lexical (BadChar place)) out err = line_some _ err
+refusal_speaks origin text (Lexical (OpenText place)) out err = line_some _ err
+refusal_speaks origin text (Lexical (OpenComment place)) out err = line_some _ err
+refusal_speaks origin text (Lexical (TooWide place)) out err = line_some _ err
+refusal_speaks origin text (Lexical Memory) out err = line_some _ err
+refusal_speaks origin text (Syntax place) out err = line_some _ err
+refusal_speaks origin text (TooDeep place) out err = line_some _ err
+refusal_speaks origin text NotBuilt out err = line_some _ err
+
+file_speaks : (disk : Disk) (name : Bytes) (reply : Reply) → FileRefusal disk name reply → reply.out ≡ [] → reply.err ≡ [] → ⊥
+file_speaks disk name _ (unread is) out err = line_some (codes "cannot read " ++ name) err
+file_speaks disk name _ (large bytes has is) out err = line_some (name ++ codes ": too large") err
+file_speaks disk name _ (encoding bytes has size is) out err = line_some _ err
+file_speaks disk name _ (refused text has against stands) out err = refusal_speaks name text against out err
 
 sub_speaks : (text1 text2 : Bytes) (reply : Reply) → SubAnswer text1 text2 reply → reply.out ≡ [] → reply.err ≡ [] → ⊥
 sub_speaks text1 text2 _ (yes first second is1 is2 within) out err = cc
 sub_speaks text1 text2 _ (no first second is1 is2 element is inside outside text prints) out err = cc
-sub_speaks text1 text2 _ (first_refused reply refusal) out err = refusal_speaks (codes "T1") text1 reply refusal err
-sub_speaks text1 text2 _ (second_refused first is1 reply refusal) out err = refusal_speaks (codes "T2") text2 reply refusal err
+sub_speaks text1 text2 _ (first_refused against stands) out err = refusal_speaks (codes "T1") text1 against out err
+sub_speaks text1 text2 _ (second_refused first is1 against stands) out err = refusal_speaks (codes "T2") text2 against out err
+
+sub_types_speaks : (disk : Disk) (file text1 text2 : Bytes) (reply : Reply) → SubTypesAnswer disk file text1 text2 reply → reply.out ≡ [] → reply.err ≡ [] → ⊥
+sub_types_speaks disk file text1 text2 _ (file_refused reply refusal) out err = file_speaks disk file reply refusal out err
+sub_types_speaks disk file text1 text2 _ (on_texts text has declares reply answers) out err = sub_speaks text1 text2 reply answers out err
 
 speaks : (words : List Bytes) (disk : Disk) (reply : Reply) → Answer words disk reply → reply.out ≡ [] → reply.err ≡ [] → ⊥
 speaks words disk _ (no_form none) out err = cc
 speaks words disk _ (sub text1 text2 give reply answers) out err = sub_speaks text1 text2 reply answers out err
+speaks words disk _ (sub_types file text1 text2 give reply answers) out err = sub_types_speaks disk file text1 text2 reply answers out err
 speaks words disk _ (command_not_built command give is) out err = line_some (name_of command ++ codes ": not built") err
 
 -- nothing was put
@@ -69,28 +90,21 @@ delivered_message words disk before after false status text ending answer output
     let put = errors refl in
     answered (record { status = status; out = []; err = text }) answer ending (delivered_err before after status text (λ none. speaks words disk (record { status = status; out = []; err = text }) answer refl none) ending put.0 put.1)
 
--- a call that reads no file meets the files that are told, and ends in one of the ways
-pub record EndsUnread (words : List Bytes) (before after : World) (status : Status) : Type 0 where
-  pub files : after.files ≡ before.files
-  pub ending : Ending words (told_files before) before after status
-
-pub ends_message : (words : List Bytes) (before after : World) (message : Message) (ending : Status)
-    → after.files ≡ before.files
-    → ((disk : Disk) → Answer words disk (reply_of message))
-    → (IsTrue message.on_output → Put (string_bytes message.text) message.status before.out after.out ending × (after.err ≡ before.err))
-    → (message.on_output ≡ false → Put (string_bytes message.text) message.status before.err after.err ending × (after.out ≡ before.out))
-    → EndsUnread words before after ending
-ends_message words before after message ending same answer output errors = record {
-  files = same;
-  ending = delivered_message words (told_files before) before after message.on_output message.status (string_bytes message.text) ending (answer (told_files before)) output errors;
+-- a call ends with the put of a message that answers the words, or with nothing put where memory ran out
+pub ends : (words : List Bytes) (before : World) (files : FilesState) (out err : SinkState) (message : Message) (ending : Status)
+    → (disk : Disk) → Met before.files files disk → Answer words disk (reply_of message)
+    → (IsTrue message.on_output → Put (string_bytes message.text) message.status before.out out ending × (err ≡ before.err))
+    → (message.on_output ≡ false → Put (string_bytes message.text) message.status before.err err ending × (out ≡ before.out))
+    → Completes words before (world files out err) ending
+ends words before files out err message ending disk met answer output errors = record {
+  disk = disk;
+  met = met;
+  ending = delivered_message words disk before (world files out err) message.on_output message.status (string_bytes message.text) ending answer output errors;
 }
 
-pub ends_at_once : (words : List Bytes) (before : World) → EndsUnread words before before NoMemory
-ends_at_once words before = record { files = refl; ending = no_memory refl refl }
-
-pub complete : (words : List Bytes) (before after : World) (status : Status) → EndsUnread words before after status → Completes words before after status
-complete words before after status ends =
-    record { disk = told_files before; met = unmarked (ap (λ files. files.faults) ends.files); ending = ends.ending }
+pub ends_at_once : (words : List Bytes) (before : World) (files : FilesState) (disk : Disk) → Met before.files files disk
+    → Completes words before (world files before.out before.err) NoMemory
+ends_at_once words before files disk met = record { disk = disk; met = met; ending = no_memory refl refl }
 
 -- where nothing failed, the way that a call ended is an answer, or memory ran out
 headline_delivered : (words : List Bytes) (before after : World) (reply : Reply) → Answer words (told_files before) reply → (status : Status) → Delivered before after reply status → NothingFailed before after
@@ -106,5 +120,10 @@ headline_ending : (words : List Bytes) (before after : World) (status : Status) 
 headline_ending words before after _ (answered reply answer status ways) nothing = headline_delivered words before after reply answer status ways nothing
 headline_ending words before after _ (no_memory out err) nothing = inl refl
 
-pub headline : (words : List Bytes) (before after : World) (status : Status) → EndsUnread words before after status → Headline words before after status
-headline words before after status ends = λ nothing. headline_ending words before after status ends.ending nothing
+headline_met : (words : List Bytes) (before after : World) (status : Status) (disk : Disk) → Met before.files after.files disk → Ending words disk before after status
+    → NothingFailed before after → (status ≡ NoMemory) ⊎ IsAnswered words before after status
+headline_met words before after status _ (unmarked same) ending nothing = headline_ending words before after status ending nothing
+headline_met words before after status _ (marked name rose last) ending nothing = absurd (nothing.files rose)
+
+pub headline : (words : List Bytes) (before after : World) (status : Status) → Completes words before after status → Headline words before after status
+headline words before after status completes = λ nothing. headline_met words before after status completes.disk completes.met completes.ending nothing

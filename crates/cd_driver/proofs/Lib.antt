@@ -1,8 +1,3 @@
-pub mod Lexing
-pub mod Parsing
-pub mod ParsingComplete
-pub mod ParsingSound
-pub mod Reading
 pub mod Deciding
 pub mod Looking
 pub mod Asking
@@ -14,3 +9,7 @@ pub mod Printing
 pub mod WaysExact
 pub mod WaysShallower
 pub mod ClauseLaws
+pub mod OneFault
+pub mod OneRefusal
+pub mod Positions
+pub mod TextReading

@@ -1,38 +1,52 @@
 -- The answers of the program.
-use Rattle.std.specs.Prelude.{ℕ, List, Option, ◌++◌, codes, encode_utf8_all}
-use Rattle.std.specs.Str.{chars}
+use Rattle.std.specs.Prelude.{◌≡◌, ℕ, ◌<◌, ◌≤◌, List, Option, Some, IfSome, ◌++◌, length, codes, encode_utf8_all}
+use Rattle.std.specs.Str.{IsUtf8}
+use Rattle.std.specs.Str.Lossy.{utf8_valid_len}
 use Rattle.cd_base.specs.declared.status.Status.TheVariants.{Done, No}
 use Rattle.cd_syntax.specs.Element.{Element, IsElement}
 use Rattle.cd_syntax.specs.Written.{Written}
 use Rattle.cd_syntax.specs.Membership.{IsIn, IsOutside}
 use Rattle.cd_syntax.specs.Subtype.{IsWithin}
 use Rattle.cd_syntax.specs.Notation.{Prints}
-use Rattle.cd_syntax.specs.Grammar.{Reads}
 use Rattle.cd_driver.specs.Command.{Bytes, Command, Sub, SubTypes, Member, Check, Run, RunSteps, Work, Give, HaveNoForm, name_of}
-use Rattle.cd_driver.specs.Reply.{Reply, says, usage, not_built}
+use Rattle.cd_driver.specs.Reply.{Reply, says, usage, not_built, cannot_read, too_large, not_utf8, refusal}
+use Rattle.cd_driver.specs.Texts.{Against, ReadsAs, DeclaresNothing, RefusesType, RefusesDeclarations}
 
 -- the files that a call meets: the bytes of each name that are told, and the one name, if there is one, that can't be read
 pub record Disk : Type 0 where
   pub told : Bytes → Option Bytes
   pub marked : Option Bytes
 
--- the text reads as the type
-abbrev pub ReadsAs : Bytes → Written → Type 0
-ReadsAs text type = Reads (chars text) type
+-- the file can be read and has these bytes, as far as it is told
+pub record Has (disk : Disk) (name bytes : Bytes) : Type 0 where
+  pub read : disk.marked ≡ Some name → ⊥
+  pub told : IfSome (disk.told name) (λ all. all ≡ bytes)
 
--- the text reads as no type that is built
-abbrev pub TextIsNotBuilt : Bytes → Type 0
-TextIsNotBuilt text = (type : Written) → ReadsAs text type → ⊥
+-- how many bytes a file may have
+abbrev pub LARGEST : ℕ
+LARGEST = 16777216
 
--- the replies that refuse a type text, which is told by the name of its place
-pub data TextRefusal (origin text : Bytes) : Reply → Type 0 where
-  text_not_built : TextIsNotBuilt text → TextRefusal origin text (not_built origin)
+-- the file has this text
+pub record HasText (disk : Disk) (name text : Bytes) : Type 0 where
+  pub has : Has disk name text
+  pub size : length text ≤ LARGEST
+  pub encoded : IsUtf8 text
+
+-- the replies that refuse a file of declarations
+pub data FileRefusal (disk : Disk) (name : Bytes) : Reply → Type 0 where
+  unread : disk.marked ≡ Some name → FileRefusal disk name (cannot_read name)
+  large : (bytes : Bytes) → Has disk name bytes → LARGEST < length bytes → FileRefusal disk name (too_large name)
+  -- the byte that is told is the length of the longest front that is UTF-8
+  encoding : (bytes : Bytes) → Has disk name bytes → length bytes ≤ LARGEST → (IsUtf8 bytes → ⊥)
+      → FileRefusal disk name (not_utf8 name (utf8_valid_len bytes))
+  refused : (text : Bytes) → HasText disk name text → (against : Against) → RefusesDeclarations text against
+      → FileRefusal disk name (refusal name text against)
 
 -- the answers of `sub` on two texts; the first is taken first
 pub data SubAnswer (text1 text2 : Bytes) : Reply → Type 0 where
-  first_refused : (reply : Reply) → TextRefusal (codes "T1") text1 reply → SubAnswer text1 text2 reply
+  first_refused : (against : Against) → RefusesType text1 against → SubAnswer text1 text2 (refusal (codes "T1") text1 against)
   second_refused : (first : Written) → ReadsAs text1 first
-      → (reply : Reply) → TextRefusal (codes "T2") text2 reply → SubAnswer text1 text2 reply
+      → (against : Against) → RefusesType text2 against → SubAnswer text1 text2 (refusal (codes "T2") text2 against)
   -- yes: each element of the first type is in the second
   yes : (first second : Written) → ReadsAs text1 first → ReadsAs text2 second
       → IsWithin first second
@@ -43,10 +57,16 @@ pub data SubAnswer (text1 text2 : Bytes) : Reply → Type 0 where
       → (text : List ℕ) → Prints element text
       → SubAnswer text1 text2 (says No (codes "no: " ++ encode_utf8_all text))
 
+-- the answers of `sub` with a file of declarations, which is taken first. None that declares a type is built yet
+pub data SubTypesAnswer (disk : Disk) (file text1 text2 : Bytes) : Reply → Type 0 where
+  file_refused : (reply : Reply) → FileRefusal disk file reply → SubTypesAnswer disk file text1 text2 reply
+  on_texts : (text : Bytes) → HasText disk file text → DeclaresNothing text
+      → (reply : Reply) → SubAnswer text1 text2 reply → SubTypesAnswer disk file text1 text2 reply
+
 -- the commands that aren't built
 abbrev pub CommandIsNotBuilt : Command → Type 0
 CommandIsNotBuilt (Sub text1 text2) = ⊥
-CommandIsNotBuilt (SubTypes file text1 text2) = Unit {0}
+CommandIsNotBuilt (SubTypes file text1 text2) = ⊥
 CommandIsNotBuilt (Member file document type) = Unit {0}
 CommandIsNotBuilt (Check file) = Unit {0}
 CommandIsNotBuilt (Run file document) = Unit {0}
@@ -61,3 +81,9 @@ pub data Answer (words : List Bytes) (disk : Disk) : Reply → Type 0 where
       → Answer words disk (not_built (name_of command))
   sub : (text1 text2 : Bytes) → Give words (Sub text1 text2)
       → (reply : Reply) → SubAnswer text1 text2 reply → Answer words disk reply
+  sub_types : (file text1 text2 : Bytes) → Give words (SubTypes file text1 text2)
+      → (reply : Reply) → SubTypesAnswer disk file text1 text2 reply → Answer words disk reply
+
+-- the file that the words name, if any, is told
+abbrev pub AreTold : List Bytes → Disk → Type 0
+AreTold words disk = (file text1 text2 : Bytes) → Give words (SubTypes file text1 text2) → (bytes : Bytes) × (disk.told file ≡ Some bytes)

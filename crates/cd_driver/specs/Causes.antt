@@ -1,23 +1,30 @@
 -- When each status comes, whatever the files and sinks do and tell.
-use Rattle.std.specs.Prelude.{◌≢◌, List, [], ◌⊎◌}
+use Rattle.std.specs.Prelude.{◌≡◌, ◌≢◌, ◌<◌, ◌≤◌, List, [], Some, length, ◌⊎◌}
+use Rattle.std.specs.Str.{IsUtf8}
 use Rattle.cd_base.specs.declared.status.Status.{Status}
-use Rattle.cd_base.specs.declared.status.Status.TheVariants.{Done, No, Usage, WriteFault, NoMemory, NotBuilt}
+use Rattle.cd_base.specs.declared.status.Status.TheVariants as status
 use Rattle.cd_base.specs.Faults.{Rose}
+use Rattle.cd_syntax.specs.declared.tokens.LexError.{LexError}
 use Rattle.cd_syntax.specs.Element.{Element, IsElement}
 use Rattle.cd_syntax.specs.Written.{Written}
 use Rattle.cd_syntax.specs.Membership.{IsIn, IsOutside}
 use Rattle.cd_syntax.specs.Subtype.{IsWithin}
-use Rattle.cd_driver.specs.Command.{Bytes, Command, Sub, Give, HaveNoForm}
+use Rattle.cd_driver.specs.Command.{Bytes, Command, Sub, SubTypes, Give, HaveNoForm}
+use Rattle.cd_driver.specs.Texts.{Against, Lexical, Syntax, TooDeep, NotBuilt, ReadsAs, RefusesType, RefusesDeclarations}
 use Rattle.cd_driver.specs.Reply.{Reply}
 use Rattle.cd_driver.specs.World.{World}
-use Rattle.cd_driver.specs.Answer.{Disk, Answer, ReadsAs, TextIsNotBuilt, CommandIsNotBuilt}
+use Rattle.cd_driver.specs.Answer.{Disk, Has, HasText, LARGEST, Answer, CommandIsNotBuilt}
 use Rattle.cd_driver.specs.Ending.{Met}
+
+-- the words ask about two type texts, with a file of declarations or without
+abbrev pub GiveTexts : List Bytes → (text1 text2 : Bytes) → Type 0
+GiveTexts words text1 text2 = Give words (Sub text1 text2) ⊎ ((file : Bytes) × Give words (SubTypes file text1 text2))
 
 -- the words ask whether the first type is within the second
 pub record Ask (words : List Bytes) (first second : Written) : Type 0 where
   pub text1 : Bytes
   pub text2 : Bytes
-  pub give : Give words (Sub text1 text2)
+  pub give : GiveTexts words text1 text2
   pub first_is : ReadsAs text1 first
   pub second_is : ReadsAs text2 second
 
@@ -38,16 +45,66 @@ pub record IsNo (words : List Bytes) : Type 0 where
   pub inside : IsIn element first
   pub outside : IsOutside element second
 
--- the words give a command, or texts, that aren't built
-pub data WordsAreNotBuilt (words : List Bytes) : Type 0 where
-  by_command : (command : Command) → Give words command → CommandIsNotBuilt command → WordsAreNotBuilt words
-  by_text : (text1 text2 : Bytes) → Give words (Sub text1 text2) → TextIsNotBuilt text1 ⊎ TextIsNotBuilt text2
-      → WordsAreNotBuilt words
+-- this stands against a text that the words give
+pub data StandsAgainst (words : List Bytes) (disk : Disk) (against : Against) : Type 0 where
+  in_file : (file text1 text2 : Bytes) → Give words (SubTypes file text1 text2) → (text : Bytes) → HasText disk file text
+      → RefusesDeclarations text against → StandsAgainst words disk against
+  in_first : (text1 text2 : Bytes) → GiveTexts words text1 text2 → RefusesType text1 against → StandsAgainst words disk against
+  in_second : (text1 text2 : Bytes) → GiveTexts words text1 text2 → RefusesType text2 against → StandsAgainst words disk against
+
+-- and it is of this kind
+pub record IsRefused (words : List Bytes) (before after : World) (is : Against → Type 0) : Type 0 where
+  pub disk : Disk
+  pub met : Met before.files after.files disk
+  pub against : Against
+  pub kind : is against
+  pub stands : StandsAgainst words disk against
+
+abbrev pub IsLexical : Against → Type 0
+IsLexical against = (fault : LexError) × (against ≡ Lexical fault)
+
+abbrev pub IsSyntax : Against → Type 0
+IsSyntax against = (place : _) × (against ≡ Syntax place)
+
+abbrev pub IsTooDeep : Against → Type 0
+IsTooDeep against = (place : _) × (against ≡ TooDeep place)
+
+-- a read of the file that the words name failed
+pub record IsUnread (words : List Bytes) (before after : World) : Type 0 where
+  pub file : Bytes
+  pub text1 : Bytes
+  pub text2 : Bytes
+  pub give : Give words (SubTypes file text1 text2)
+  pub rose : Rose before.files.faults after.files.faults
+  pub last : after.files.last ≡ Some file
+
+-- the bytes of the file that the words name are of this kind
+pub record FileIs (words : List Bytes) (before after : World) (kind : Bytes → Type 0) : Type 0 where
+  pub disk : Disk
+  pub met : Met before.files after.files disk
+  pub file : Bytes
+  pub text1 : Bytes
+  pub text2 : Bytes
+  pub give : Give words (SubTypes file text1 text2)
+  pub bytes : Bytes
+  pub has : Has disk file bytes
+  pub is : kind bytes
+
+abbrev pub IsLarge : Bytes → Type 0
+IsLarge bytes = LARGEST < length bytes
+
+abbrev pub IsNotText : Bytes → Type 0
+IsNotText bytes = (length bytes ≤ LARGEST) × (IsUtf8 bytes → ⊥)
+
+-- the words give a command that isn't built, or a text that isn't
+pub data IsNotBuilt (words : List Bytes) (before after : World) : Type 0 where
+  by_command : (command : Command) → Give words command → CommandIsNotBuilt command → IsNotBuilt words before after
+  by_text : IsRefused words before after (λ against. against ≡ NotBuilt) → IsNotBuilt words before after
 
 -- the count of faults rose at a sink for which an answer has a text
 pub record SinkFailed (words : List Bytes) (before after : World) : Type 0 where
   pub disk : Disk
-  pub met : Met before after disk
+  pub met : Met before.files after.files disk
   pub reply : Reply
   pub answer : Answer words disk reply
   pub at_sink : ((reply.out ≢ []) × Rose before.out.faults after.out.faults)
@@ -55,10 +112,16 @@ pub record SinkFailed (words : List Bytes) (before after : World) : Type 0 where
 
 -- the cause of each status; want of memory is free, and the others don't come
 abbrev pub Cause : List Bytes → World → World → Status → Type 0
-Cause words before after Done = IsYes words
-Cause words before after No = IsNo words
-Cause words before after Usage = HaveNoForm words
-Cause words before after WriteFault = SinkFailed words before after
-Cause words before after NoMemory = Unit {0}
-Cause words before after NotBuilt = WordsAreNotBuilt words
-Cause words before after _ = ⊥
+Cause words before after status.Done = IsYes words
+Cause words before after status.No = IsNo words
+Cause words before after status.Usage = HaveNoForm words
+Cause words before after status.ReadFault = IsUnread words before after
+Cause words before after status.WriteFault = SinkFailed words before after
+Cause words before after status.NoMemory = Unit {0}
+Cause words before after status.TooLarge = FileIs words before after IsLarge
+Cause words before after status.NotUtf8 = FileIs words before after IsNotText
+Cause words before after status.Lexical = IsRefused words before after IsLexical
+Cause words before after status.Syntax = IsRefused words before after IsSyntax
+Cause words before after status.TooDeep = IsRefused words before after IsTooDeep
+Cause words before after status.NotBuilt = IsNotBuilt words before after
+Cause words before after other = ⊥

@@ -1,7 +1,7 @@
 -- The commands, and the words that give them. Words are texts in UTF-8, seen as their bytes.
 use Rattle.std.specs.Prelude.{◌≡◌, ℕ, ◌≤◌, List, [], ◌∷◌, length, map, codes, String, string_bytes}
 use Rattle.std.specs.Global.{Global}
-use Rattle.cd_syntax.specs.Spelling.{AreDigits, decimal_value}
+use Rattle.cd_syntax.specs.Digits.{AreDigits, decimal_value}
 
 abbrev pub Bytes : Type 0
 Bytes = List ℕ

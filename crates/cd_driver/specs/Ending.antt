@@ -3,6 +3,7 @@ use Rattle.std.specs.Prelude.{◌≡◌, ◌≢◌, List, [], Some, None}
 use Rattle.cd_base.specs.declared.status.Status.{Status}
 use Rattle.cd_base.specs.declared.status.Status.TheVariants.{WriteFault, NoMemory}
 use Rattle.cd_base.specs.Faults.{Rose}
+use Rattle.cd_base.specs.FilesState.{FilesState}
 use Rattle.cd_base.specs.SinkState.{Puts, PutsPrefix, FailsToPut}
 use Rattle.cd_driver.specs.Command.{Bytes}
 use Rattle.cd_driver.specs.Reply.{Reply}
@@ -10,13 +11,13 @@ use Rattle.cd_driver.specs.World.{World}
 use Rattle.cd_driver.specs.Answer.{Disk, Answer}
 
 -- the files that a call met, by what is known of them before and after it
-pub data Met (before after : World) : Disk → Type 0 where
+pub data Met (before after : FilesState) : Disk → Type 0 where
   -- where the count of faults is as it was, no name is marked
-  unmarked : after.files.faults ≡ before.files.faults
-      → Met before after (record { told = before.files.told; marked = None })
+  unmarked : after.faults ≡ before.faults
+      → Met before after (record { told = before.told; marked = None })
   -- where it rose, the name of the latest read that failed is marked
-  marked : (name : Bytes) → Rose before.files.faults after.files.faults → after.files.last ≡ Some name
-      → Met before after (record { told = before.files.told; marked = Some name })
+  marked : (name : Bytes) → Rose before.faults after.faults → after.last ≡ Some name
+      → Met before after (record { told = before.told; marked = Some name })
 
 -- the ways to deliver a reply to the sinks, and the status that each ends with
 pub data Delivered (before after : World) (reply : Reply) : Status → Type 0 where
@@ -46,5 +47,5 @@ pub data Ending (words : List Bytes) (disk : Disk) (before after : World) : Stat
 -- whatever faults came, the call ended in one of these ways, for the files that it met
 pub record Completes (words : List Bytes) (before after : World) (status : Status) : Type 0 where
   pub disk : Disk
-  pub met : Met before after disk
+  pub met : Met before.files after.files disk
   pub ending : Ending words disk before after status

@@ -12,9 +12,11 @@ pub mod Depth
 pub mod Witness
 pub mod Decision
 pub mod Looking
-pub mod Lexer
-pub mod Parser
-pub mod Parsing
 pub mod Message
 pub mod Request
 pub mod Telling
+pub mod Position
+pub mod Texts
+pub mod Refusal
+pub mod File
+pub mod Answering

@@ -1,8 +1,13 @@
 -- Replies: a status, and a text on output or on errors.
-use Rattle.std.specs.Prelude.{[], ◌∷◌, ◌++◌, codes}
+use Rattle.std.specs.Prelude.{ℕ, [], ◌∷◌, ◌++◌, codes}
+use Rattle.std.specs.Fmt.{decimal}
 use Rattle.cd_base.specs.declared.status.Status.{Status}
-use Rattle.cd_base.specs.declared.status.Status.TheVariants.{Usage, NotBuilt}
+use Rattle.cd_base.specs.declared.status.Status.TheVariants.{Usage, ReadFault, TooLarge, NotUtf8, Lexical as IsLexical, Syntax as IsSyntax, TooDeep as IsTooDeep, NotBuilt as IsNotBuilt}
+use Rattle.cd_syntax.specs.declared.tokens.LexError.{LexError}
+use Rattle.cd_syntax.specs.declared.tokens.LexError.TheVariants.{BadChar, OpenText, OpenComment, TooWide, Memory}
 use Rattle.cd_driver.specs.Command.{Bytes}
+use Rattle.cd_driver.specs.Position.{position}
+use Rattle.cd_driver.specs.Texts.{Against, Lexical, Syntax, TooDeep, NotBuilt}
 
 pub record Reply : Type 0 where
   pub status : Status
@@ -24,6 +29,35 @@ complains status text = record { status = status; out = []; err = line text }
 abbrev pub usage : Reply
 usage = complains Usage (codes "usage: cduce sub [--types FILE] T1 T2, member FILE DOC T, check FILE, run [--steps N] FILE DOC, work N")
 
--- what isn't built: a command by its first word, or a text by the name of its place
+-- what isn't built: a command by its first word, or a text by its origin
 abbrev pub not_built : Bytes → Reply
-not_built origin = complains NotBuilt (origin ++ codes ": not built")
+not_built origin = complains IsNotBuilt (origin ++ codes ": not built")
+
+-- files that can't be read, that are too large, and that are UTF-8 just up to a byte
+abbrev pub cannot_read : Bytes → Reply
+cannot_read name = complains ReadFault (codes "cannot read " ++ name)
+
+abbrev pub too_large : Bytes → Reply
+too_large name = complains TooLarge (name ++ codes ": too large")
+
+abbrev pub not_utf8 : Bytes → ℕ → Reply
+not_utf8 name byte = complains NotUtf8 (name ++ codes ": not UTF-8 at byte " ++ decimal byte)
+
+-- what is said of a place of a text
+abbrev pub at_place : Status → (origin text : Bytes) → (place : ℕ) → Bytes → Reply
+at_place status origin text place message = complains status (origin ++ codes ":" ++ position text place ++ codes ": " ++ message)
+
+-- a lexical fault. Want of memory is none, and never comes here
+abbrev pub lexical : (origin text : Bytes) → LexError → Reply
+lexical origin text (BadChar place) = at_place IsLexical origin text place (codes "bad character")
+lexical origin text (OpenText place) = at_place IsLexical origin text place (codes "text not closed")
+lexical origin text (OpenComment place) = at_place IsLexical origin text place (codes "comment not closed")
+lexical origin text (TooWide place) = at_place IsLexical origin text place (codes "number too wide")
+lexical origin text Memory = not_built origin
+
+-- what is said of a text where this stands against it; its origin is the name of its file, or `T1` or `T2`
+abbrev pub refusal : (origin text : Bytes) → Against → Reply
+refusal origin text (Lexical fault) = lexical origin text fault
+refusal origin text (Syntax place) = at_place IsSyntax origin text place (codes "syntax")
+refusal origin text (TooDeep place) = at_place IsTooDeep origin text place (codes "too deep")
+refusal origin text NotBuilt = not_built origin

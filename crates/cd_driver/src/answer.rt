@@ -1,25 +1,88 @@
-ghost use Rattle.std.specs.Prelude.{IfOk};
-ghost use Rattle.cd_driver.specs.Answer.{Disk, Answer, ReadsAs, SubAnswer};
+ghost use Rattle.std.specs.Prelude.{◌≡◌, IfOk};
+ghost use Rattle.cd_driver.specs.Answer.{Disk, HasText, Answer, SubAnswer, SubTypesAnswer};
+ghost use Rattle.cd_driver.specs.Texts.{ReadsAs};
+ghost use Rattle.cd_driver.specs.Answering.{IsAnswer, NamesNoFile};
 ghost use Rattle.cd_syntax.specs.Written.{written};
 ghost use Rattle.cd_driver.specs.Message.{reply_of};
-ghost use Rattle.cd_driver.specs.Command.{Bytes, texts};
+ghost use Rattle.cd_driver.specs.Command.{Bytes, SubTypes, Give, texts};
+ghost use Rattle.cd_driver.specs.File.{ReadsThere, said_of};
 
 use crate::decision::outside;
-use crate::message::{Message, no, not_built, usage, yes};
-use crate::reader::read_type;
+use crate::file::{FileFault, read_file};
+use crate::message::{
+    Message, cannot_read, no, not_built, not_utf8, refused, too_large, usage, yes,
+};
+use crate::reader::{read_declarations, read_type};
 use crate::request::{Request, request_of};
 use crate::witness::text;
+use cd_base::files::Files;
 use cd_syntax::tree::TreeKind;
 use std::alloc::{AllocError, Global};
 
-/// The answer to words. It reads no file.
-pub(crate) fn answer(alloc: Global, words: &[String]) -> Result<Message, AllocError>
-    ensures { IfOk result (λ message. (disk : Disk) → Answer (texts words.now) disk (reply_of message)) }
+/// The answer to words.
+pub(crate) fn answer<F: Files>(
+    alloc: Global,
+    words: &[String],
+    files: &mut F,
+) -> Result<Message, AllocError>
+    ensures answer { IsAnswer (λ disk. Answer (texts words.now) disk) (F.state files.old) (F.state files.new) result }
+    ensures told { (F.state files.new).told ≡ (F.state files.old).told }
+    ensures read { (file text1 text2 : Bytes) → Give (texts words.now) (SubTypes file text1 text2) → ReadsThere (F.state files.old) (F.state files.new) file }
+    ensures unread { NamesNoFile (texts words.now) → F.state files.new ≡ F.state files.old }
 {
     match request_of(words) {
         None => usage(alloc),
         Some(Request::Sub(first, second)) => sub(alloc, first, second),
+        Some(Request::SubTypes(file, first, second)) => {
+            sub_types(alloc, files, file, first, second)
+        }
         Some(Request::NotBuilt(name)) => not_built(alloc, name),
+    }
+}
+
+// Whether the first type text is within the second, with the declarations of a file.
+fn sub_types<F: Files>(
+    alloc: Global,
+    files: &mut F,
+    file: &str,
+    first: &str,
+    second: &str,
+) -> Result<Message, AllocError>
+    ensures answer { IsAnswer (λ disk. SubTypesAnswer disk file.now first.now second.now) (F.state files.old) (F.state files.new) result }
+    ensures told { (F.state files.new).told ≡ (F.state files.old).told }
+    ensures read { ReadsThere (F.state files.old) (F.state files.new) file.now }
+{
+    match read_file(files, file) {
+        Err(error) => Err(error),
+        Ok(Err(fault)) => no_text(alloc, file, fault),
+        Ok(Ok(text)) => with_file(alloc, file, text.as_str(), first, second),
+    }
+}
+
+// What is said of a file that has no text.
+fn no_text(alloc: Global, name: &str, fault: FileFault) -> Result<Message, AllocError>
+    ensures { IfOk result (λ message. reply_of message ≡ said_of name.now fault) }
+{
+    match fault {
+        FileFault::Unread => cannot_read(alloc, name),
+        FileFault::TooLarge => too_large(alloc, name),
+        FileFault::NotUtf8(valid) => not_utf8(alloc, name, valid),
+    }
+}
+
+// The answer of `sub --types`, where the file has this text.
+fn with_file(
+    alloc: Global,
+    file: &str,
+    text: &str,
+    first: &str,
+    second: &str,
+) -> Result<Message, AllocError>
+    ensures { IfOk result (λ message. (disk : Disk) → HasText disk file.now text.now → SubTypesAnswer disk file.now first.now second.now (reply_of message)) }
+{
+    match read_declarations(alloc, text)? {
+        Ok(()) => sub(alloc, first, second),
+        Err(refusal) => refused(alloc, file, text, refusal),
     }
 }
 
@@ -27,11 +90,13 @@ pub(crate) fn answer(alloc: Global, words: &[String]) -> Result<Message, AllocEr
 fn sub(alloc: Global, first: &str, second: &str) -> Result<Message, AllocError>
     ensures { IfOk result (λ message. SubAnswer first.now second.now (reply_of message)) }
 {
-    let Some(left) = read_type(alloc, first)? else {
-        return not_built(alloc, "T1");
+    let left = match read_type(alloc, first)? {
+        Ok(left) => left,
+        Err(refusal) => return refused(alloc, "T1", first, refusal),
     };
-    let Some(right) = read_type(alloc, second)? else {
-        return not_built(alloc, "T2");
+    let right = match read_type(alloc, second)? {
+        Ok(right) => right,
+        Err(refusal) => return refused(alloc, "T2", second, refusal),
     };
     compare(alloc, &left, &right)
 }

@@ -2,8 +2,10 @@
 #![tactic(auto)]
 
 ghost use Rattle.std.specs.Prelude.{◌≡◌, false, IsTrue, string_bytes};
+ghost use Rattle.cd_driver.specs.Answering.{NamesNoFile};
 ghost use Rattle.cd_driver.specs.Causes.{Cause};
-ghost use Rattle.cd_driver.specs.Command.{texts};
+ghost use Rattle.cd_driver.specs.Command.{Bytes, SubTypes, Give, texts};
+ghost use Rattle.cd_driver.specs.File.{ReadsThere};
 ghost use Rattle.cd_driver.specs.Ending.{Completes};
 ghost use Rattle.cd_driver.specs.Headline.{Headline};
 ghost use Rattle.cd_driver.specs.Telling.{Put};
@@ -14,15 +16,17 @@ use cd_base::files::Files;
 use cd_base::sink::{PutError, Sink};
 use cd_base::status::Status;
 use message::Message;
+pub use position::place;
 use std::alloc::Global;
 
 mod answer;
 mod decision;
+mod file;
 pub mod laws;
-mod lexer;
 mod message;
-mod parser;
+pub mod position;
 mod reader;
+mod refusal;
 mod request;
 #[cfg(test)]
 mod tests;
@@ -56,10 +60,13 @@ pub fn cduce<F: Files, S: Sink>(
         (world (F.state files.old) (S.state out.old) (S.state err.old))
         (world (F.state files.new) (S.state out.new) (S.state err.new)) result }
 
-    // No file is read.
-    ensures unread { F.state files.new ≡ F.state files.old }
+    // What is told of files stays. Where the words name a file, at most one fault was counted, at that file; where they
+    // name none, what is known of files stays as it was.
+    ensures told { (F.state files.new).told ≡ (F.state files.old).told }
+    ensures read { (file text1 text2 : Bytes) → Give (texts words.now) (SubTypes file text1 text2) → ReadsThere (F.state files.old) (F.state files.new) file }
+    ensures unread { NamesNoFile (texts words.now) → F.state files.new ≡ F.state files.old }
 {
-    match answer(alloc, words) {
+    match answer(alloc, words, files) {
         Ok(message) => tell(&message, out, err),
         Err(_) => Status::NoMemory,
     }

@@ -1,9 +1,14 @@
-ghost use Rattle.std.specs.Prelude.{◌≡◌, ◌≢◌, [], ◌++◌, IfOk, codes, string_bytes};
+ghost use Rattle.std.specs.Prelude.{◌≡◌, [], ◌++◌, IfOk, codes, string_bytes};
 ghost use Rattle.cd_base.specs.declared.status.Status.TheVariants.{Done as IsDone, No as IsNo};
-ghost use Rattle.cd_driver.specs.Reply.{Reply, says, usage as usage_reply, not_built as not_built_reply};
+ghost use Rattle.cd_driver.specs.Reply as reply;
+ghost use Rattle.cd_driver.specs.Reply.{says};
 ghost use Rattle.cd_driver.specs.Message.{reply_of};
+ghost use Rattle.cd_driver.specs.Refusal.{against};
 
+use crate::position::place;
+use crate::refusal::Refusal;
 use cd_base::status::Status;
+use cd_syntax::tokens::LexError;
 use std::alloc::{AllocError, Global};
 
 const USAGE: &str =
@@ -17,24 +22,95 @@ pub(crate) struct Message {
     pub(crate) text: String,
 }
 
-pub(crate) fn usage(alloc: Global) -> Result<Message, AllocError>
-    ensures { IfOk result (λ message. reply_of message ≡ usage_reply) }
+// A text on errors.
+fn complaint(status: Status, text: String) -> Message
+    ensures { reply_of result ≡ record { status = status; out = []; err = string_bytes text } }
 {
-    Ok(Message {
-        status: Status::Usage,
+    Message {
+        status,
         on_output: false,
-        text: String::from_str(alloc, USAGE)?,
-    })
+        text,
+    }
+}
+
+pub(crate) fn usage(alloc: Global) -> Result<Message, AllocError>
+    ensures { IfOk result (λ message. reply_of message ≡ reply.usage) }
+{
+    Ok(complaint(Status::Usage, String::from_str(alloc, USAGE)?))
 }
 
 pub(crate) fn not_built(alloc: Global, origin: &str) -> Result<Message, AllocError>
-    ensures { IfOk result (λ message. reply_of message ≡ not_built_reply origin.now) }
+    ensures { IfOk result (λ message. reply_of message ≡ reply.not_built origin.now) }
 {
-    Ok(Message {
-        status: Status::NotBuilt,
-        on_output: false,
-        text: format!(in alloc; "{origin}: not built\n")?,
-    })
+    let text = format!(in alloc; "{origin}: not built\n")?;
+    Ok(complaint(Status::NotBuilt, text))
+}
+
+pub(crate) fn cannot_read(alloc: Global, name: &str) -> Result<Message, AllocError>
+    ensures { IfOk result (λ message. reply_of message ≡ reply.cannot_read name.now) }
+{
+    let text = format!(in alloc; "cannot read {name}\n")?;
+    Ok(complaint(Status::ReadFault, text))
+}
+
+pub(crate) fn too_large(alloc: Global, name: &str) -> Result<Message, AllocError>
+    ensures { IfOk result (λ message. reply_of message ≡ reply.too_large name.now) }
+{
+    let text = format!(in alloc; "{name}: too large\n")?;
+    Ok(complaint(Status::TooLarge, text))
+}
+
+pub(crate) fn not_utf8(alloc: Global, name: &str, byte: usize) -> Result<Message, AllocError>
+    ensures { IfOk result (λ message. reply_of message ≡ reply.not_utf8 name.now byte) }
+{
+    let text = format!(in alloc; "{name}: not UTF-8 at byte {byte}\n")?;
+    Ok(complaint(Status::NotUtf8, text))
+}
+
+/// What is said of a text where this stands against it; its origin is the name of its file, or `T1` or `T2`.
+pub(crate) fn refused(
+    alloc: Global,
+    origin: &str,
+    text: &str,
+    refusal: Refusal,
+) -> Result<Message, AllocError>
+    ensures { IfOk result (λ message. reply_of message ≡ reply.refusal origin.now text.now (against refusal)) }
+{
+    match refusal {
+        Refusal::Lexical(fault) => lexical(alloc, origin, text, fault),
+        Refusal::Syntax(at) => at_place(alloc, Status::Syntax, origin, text, at, "syntax"),
+        Refusal::TooDeep(at) => at_place(alloc, Status::TooDeep, origin, text, at, "too deep"),
+        Refusal::NotBuilt => not_built(alloc, origin),
+    }
+}
+
+fn lexical(alloc: Global, origin: &str, text: &str, fault: LexError) -> Result<Message, AllocError>
+    ensures { IfOk result (λ message. reply_of message ≡ reply.lexical origin.now text.now fault) }
+{
+    let (at, message) = match fault {
+        LexError::BadChar(at) => (at, "bad character"),
+        LexError::OpenText(at) => (at, "text not closed"),
+        LexError::OpenComment(at) => (at, "comment not closed"),
+        LexError::TooWide(at) => (at, "number too wide"),
+        LexError::Memory => return Err(AllocError),
+    };
+    at_place(alloc, Status::Lexical, origin, text, at, message)
+}
+
+// What is said of a place of a text.
+fn at_place(
+    alloc: Global,
+    status: Status,
+    origin: &str,
+    text: &str,
+    at: usize,
+    message: &str,
+) -> Result<Message, AllocError>
+    ensures { IfOk result (λ told. reply_of told ≡ reply.at_place status origin.now text.now at message.now) }
+{
+    let (line, column) = place(text, at);
+    let told = format!(in alloc; "{origin}:{line}:{column}: {message}\n")?;
+    Ok(complaint(status, told))
 }
 
 pub(crate) fn yes(alloc: Global) -> Result<Message, AllocError>

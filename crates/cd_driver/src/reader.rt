@@ -1,41 +1,90 @@
-ghost use Rattle.std.specs.Prelude.{◌≡◌, IfOk, MatchOption};
-ghost use Rattle.std.specs.Str.{chars};
+ghost use Rattle.std.specs.Prelude.{◌≡◌, IfOk, MatchResult};
 ghost use Rattle.cd_syntax.specs.Written.{written};
-ghost use Rattle.cd_syntax.specs.Grammar.{opens as opens_in};
-ghost use Rattle.cd_driver.specs.Answer.{ReadsAs, TextIsNotBuilt};
+ghost use Rattle.cd_driver.specs.Refusal.{against, IsAgainstTokens, IsOfFault};
+ghost use Rattle.cd_driver.specs.Texts.{ReadsAs, DeclaresNothing, HasBuiltTokens, RefusesType, RefusesDeclarations, is_unbuilt as is_unbuilt_of, holds_unbuilt as holds_unbuilt_of};
 
-use crate::lexer::tokens;
-use crate::parser::parse;
+use crate::refusal::Refusal;
+use cd_lex::lex;
+use cd_parse_types::{ParseError, parse_declarations, parse_type};
+use cd_syntax::built::built;
+use cd_syntax::sign::Sign;
+use cd_syntax::tokens::{LexError, Token, TokenKind};
 use cd_syntax::tree::TreeKind;
 use std::alloc::{AllocError, Global};
 
-// How many times `(` may stand in a text.
-const MOST_OPENS: usize = 1000;
-
-/// The type that a text reads as, if it is built.
-pub(crate) fn read_type(alloc: Global, text: &str) -> Result<Option<TreeKind>, AllocError>
-    ensures { IfOk result (λ found. MatchOption found (TextIsNotBuilt text.now) (λ tree. ReadsAs text.now (written tree))) }
+/// The type that a text reads as, or what stands against it.
+pub(crate) fn read_type(alloc: Global, text: &str) -> Result<Result<TreeKind, Refusal>, AllocError>
+    ensures { IfOk result (λ read. MatchResult read (λ type. ReadsAs text.now (written type)) (λ refusal. RefusesType text.now (against refusal))) }
 {
-    let characters = characters(alloc, text)?;
-    if opens(characters.as_slice()) > MOST_OPENS {
-        return Ok(None);
-    }
-    match tokens(alloc, characters.as_slice())? {
-        None => Ok(None),
-        Some(tokens) => parse(alloc, tokens.as_slice()),
+    let tokens = match tokens(alloc, text)? {
+        Ok(tokens) => tokens,
+        Err(refusal) => return Ok(Err(refusal)),
+    };
+    let tree = match parse_type(alloc, tokens.as_slice(), text.len()) {
+        Ok(tree) => tree,
+        Err(error) => return Ok(Err(refusal_of(error)?)),
+    };
+    Ok(built(alloc, &tree)?.ok_or(Refusal::NotBuilt))
+}
+
+/// Whether a text reads as type declarations, none so far; else what stands against it.
+pub(crate) fn read_declarations(
+    alloc: Global,
+    text: &str,
+) -> Result<Result<(), Refusal>, AllocError>
+    ensures { IfOk result (λ read. MatchResult read (λ _. DeclaresNothing text.now) (λ refusal. RefusesDeclarations text.now (against refusal))) }
+{
+    let tokens = match tokens(alloc, text)? {
+        Ok(tokens) => tokens,
+        Err(refusal) => return Ok(Err(refusal)),
+    };
+    let declared = match parse_declarations(alloc, tokens.as_slice(), text.len()) {
+        Ok(declared) => declared,
+        Err(error) => return Ok(Err(refusal_of(error)?)),
+    };
+    Ok(if declared.items().is_empty() {
+        Ok(())
+    } else {
+        Err(Refusal::NotBuilt)
+    })
+}
+
+// What a fault of syntax is against its text.
+fn refusal_of(error: ParseError) -> Result<Refusal, AllocError>
+    ensures { IsOfFault error result }
+{
+    match error {
+        ParseError::Syntax(place) => Ok(Refusal::Syntax(place)),
+        ParseError::TooDeep(place) => Ok(Refusal::TooDeep(place)),
+        ParseError::Memory => Err(AllocError),
     }
 }
 
-#[tactic(auto, using(std::proofs::lemmas::Str::chars_from_encodes))]
-fn characters(alloc: Global, text: &str) -> Result<Vec<char>, AllocError>
-    ensures { IfOk result (λ found. found.items ≡ chars text.now) }
+// The tokens of a text, where all their forms are built.
+fn tokens(alloc: Global, text: &str) -> Result<Result<Vec<Token>, Refusal>, AllocError>
+    ensures { IfOk result (λ read. MatchResult read (λ tokens. HasBuiltTokens text.now tokens.items) (λ refusal. IsAgainstTokens text.now (against refusal))) }
 {
-    text.chars().collect(alloc)
+    let tokens = match lex(alloc, text) {
+        Ok(tokens) => tokens,
+        Err(LexError::Memory) => return Err(AllocError),
+        Err(fault) => return Ok(Err(Refusal::Lexical(fault))),
+    };
+    if holds_unbuilt(tokens.as_slice()) {
+        return Ok(Err(Refusal::NotBuilt));
+    }
+    Ok(Ok(tokens))
 }
 
-// How many times `(` stands in a text.
-fn opens(text: &[char]) -> usize
-    ensures { result ≡ opens_in text.now }
+// Whether one of the tokens is of a form that is not built.
+fn holds_unbuilt(tokens: &[Token]) -> bool
+    ensures { result ≡ holds_unbuilt_of tokens.now }
 {
-    text.iter().filter(|c| **c == '(').count()
+    tokens.iter().any(|token| is_unbuilt(&token.kind))
+}
+
+// The signs of sequences and XML.
+fn is_unbuilt(kind: &TokenKind) -> bool
+    ensures { result ≡ is_unbuilt_of kind.now }
+{
+    matches!(kind, TokenKind::Sign(Sign::OpenBracket | Sign::Less))
 }

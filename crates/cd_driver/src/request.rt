@@ -1,7 +1,7 @@
 ghost use Rattle.std.specs.Prelude.{◌≡◌, ◌≤◌, ◌↔◌, [], ◌∷◌, length, IsTrue, MatchOption};
 ghost use Rattle.std.specs.Char.{is_ascii_digit};
 ghost use Rattle.std.specs.List.{list_all};
-ghost use Rattle.cd_syntax.specs.Spelling.{AreDigits, decimal_value};
+ghost use Rattle.cd_syntax.specs.Digits.{AreDigits, decimal_value};
 ghost use Rattle.cd_driver.specs.Command.{texts, HaveNoForm};
 ghost use Rattle.cd_driver.specs.Request.{StandsFor, WritesUnits, WritesSize};
 
@@ -10,6 +10,8 @@ ghost use Rattle.cd_driver.specs.Request.{StandsFor, WritesUnits, WritesSize};
 pub(crate) enum Request<'a> {
     /// Whether the first type text is within the second.
     Sub(&'a str, &'a str),
+    /// The same, with the type declarations of the file of this name, which comes first.
+    SubTypes(&'a str, &'a str, &'a str),
     /// A command with this first word, that is not built.
     NotBuilt(&'static str),
 }
@@ -62,17 +64,17 @@ fn of_four(name: &str, first: &str, second: &str, third: &str) -> Option<Request
     }
 }
 
-fn of_five(
+fn of_five<'a>(
     name: &str,
     option: &str,
-    first: &str,
-    second: &str,
-    third: &str,
-) -> Option<Request<'static>>
+    first: &'a str,
+    second: &'a str,
+    third: &'a str,
+) -> Option<Request<'a>>
     ensures { MatchOption result (HaveNoForm (name.now ∷ option.now ∷ first.now ∷ second.now ∷ third.now ∷ [])) (λ request. StandsFor (name.now ∷ option.now ∷ first.now ∷ second.now ∷ third.now ∷ []) request) }
 {
     match name {
-        "sub" if option == "--types" => Some(Request::NotBuilt("sub")),
+        "sub" if option == "--types" => Some(Request::SubTypes(first, second, third)),
         "run" if option == "--steps" && is_units(first) => Some(Request::NotBuilt("run")),
         _ => None,
     }

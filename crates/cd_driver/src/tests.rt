@@ -1,4 +1,5 @@
 use crate::cduce;
+use crate::position::place;
 use cd_base::memory_files::MemoryFiles;
 use cd_base::memory_sink::MemorySink;
 use cd_base::status::Status;
@@ -78,11 +79,15 @@ fn answers_each_form_of_words(rt: HostRuntime) -> Result<(), Fail> {
         says("sub;7;7", Status::Done, "yes\n"),
         says("sub;5--4;0", Status::Done, "yes\n"),
         says("sub;5--4;Empty", Status::Done, "yes\n"),
-        complains("sub;-1;0", Status::NotBuilt, "T1: not built\n"),
+        says("sub;-1;0", Status::No, "no: -1\n"),
         complains("sub;0;Bool", Status::NotBuilt, "T2: not built\n"),
-        complains("sub;(;)", Status::NotBuilt, "T1: not built\n"),
-        complains("sub;--types;t.cd", Status::NotBuilt, "T1: not built\n"),
-        complains("sub;--types;t.cd;0;0", Status::NotBuilt, "sub: not built\n"),
+        complains("sub;(;)", Status::Syntax, "T1:1:2: syntax\n"),
+        complains("sub;--types;t.cd", Status::Syntax, "T1:1:1: syntax\n"),
+        complains(
+            "sub;--types;t.cd;0;0",
+            Status::ReadFault,
+            "cannot read t.cd\n",
+        ),
         complains("member;t.cd;d;0", Status::NotBuilt, "member: not built\n"),
         complains("check;p.cd", Status::NotBuilt, "check: not built\n"),
         complains("run;p.cd;d", Status::NotBuilt, "run: not built\n"),
@@ -117,24 +122,25 @@ fn answers_each_form_of_words(rt: HostRuntime) -> Result<(), Fail> {
     Ok(())
 }
 
-// What a type text is: spaces, digits and their width, and the sign between two numbers.
+// Numbers, intervals and blanks, and the place that is told of a text that is no type.
 #[test]
 fn reads_each_form_of_type_text(rt: HostRuntime) -> Result<(), Fail> {
     let rows = [
         says("sub; 0 --  5 ;0--5", Status::Done, "yes\n"),
         says("sub;007;7", Status::Done, "yes\n"),
-        complains("sub;12 34;0", Status::NotBuilt, "T1: not built\n"),
-        complains("sub;1- -2;0", Status::NotBuilt, "T1: not built\n"),
-        complains("sub;1---2;0", Status::NotBuilt, "T1: not built\n"),
-        complains("sub;1--;0", Status::NotBuilt, "T1: not built\n"),
-        complains("sub;--1;0", Status::NotBuilt, "T1: not built\n"),
-        complains("sub;1--2--3;0", Status::NotBuilt, "T1: not built\n"),
-        complains("sub;;0", Status::NotBuilt, "T1: not built\n"),
-        complains("sub;\t1;0", Status::NotBuilt, "T1: not built\n"),
-        complains("sub;1x;0", Status::NotBuilt, "T1: not built\n"),
-        complains("sub;5Int;0", Status::NotBuilt, "T1: not built\n"),
+        complains("sub;12 34;0", Status::Syntax, "T1:1:4: syntax\n"),
+        complains("sub;1- -2;0", Status::Syntax, "T1:1:2: syntax\n"),
+        says("sub;1---2;0", Status::Done, "yes\n"),
+        says("sub;-5---1;-9--*", Status::Done, "yes\n"),
+        complains("sub;1--;0", Status::Syntax, "T1:1:4: syntax\n"),
+        complains("sub;--1;0", Status::Syntax, "T1:1:1: syntax\n"),
+        complains("sub;1--2--3;0", Status::Syntax, "T1:1:5: syntax\n"),
+        complains("sub;;0", Status::Syntax, "T1:1:1: syntax\n"),
+        says("sub;\t1;0--9", Status::Done, "yes\n"),
+        complains("sub;1x;0", Status::Syntax, "T1:1:2: syntax\n"),
+        complains("sub;5Int;0", Status::Syntax, "T1:1:2: syntax\n"),
         complains("sub;Int5;0", Status::NotBuilt, "T1: not built\n"),
-        complains("sub;١;0", Status::NotBuilt, "T1: not built\n"),
+        complains("sub;١;0", Status::Lexical, "T1:1:1: bad character\n"),
         says(
             "sub;170141183460469231731687303715884105727;0",
             Status::No,
@@ -142,13 +148,23 @@ fn reads_each_form_of_type_text(rt: HostRuntime) -> Result<(), Fail> {
         ),
         complains(
             "sub;0;170141183460469231731687303715884105728",
-            Status::NotBuilt,
-            "T2: not built\n",
+            Status::Lexical,
+            "T2:1:1: number too wide\n",
+        ),
+        says(
+            "sub;Int;-170141183460469231731687303715884105728--170141183460469231731687303715884105727",
+            Status::Done,
+            "yes\n",
+        ),
+        complains(
+            "sub;Int;-170141183460469231731687303715884105728--170141183460469231731687303715884105728",
+            Status::Lexical,
+            "T2:1:43: number too wide\n",
         ),
         complains(
             "sub;999999999999999999999999999999999999999999;0",
-            Status::NotBuilt,
-            "T1: not built\n",
+            Status::Lexical,
+            "T1:1:1: number too wide\n",
         ),
     ];
     check(&rt, rt.alloc(), rows.as_slice())?;
@@ -176,26 +192,27 @@ fn reads_connectives(rt: HostRuntime) -> Result<(), Fail> {
         says("sub;(1|3)&3;1", Status::No, "no: 3\n"),
         says("sub;((((7))));(7)", Status::Done, "yes\n"),
         says("sub; ( 0--1|Empty ) & Int ;0--1", Status::Done, "yes\n"),
-        complains("sub;();0", Status::NotBuilt, "T1: not built\n"),
-        complains("sub;(1;0", Status::NotBuilt, "T1: not built\n"),
-        complains("sub;1);0", Status::NotBuilt, "T1: not built\n"),
-        complains("sub;1|;0", Status::NotBuilt, "T1: not built\n"),
-        complains("sub;|1;0", Status::NotBuilt, "T1: not built\n"),
-        complains("sub;1||2;0", Status::NotBuilt, "T1: not built\n"),
-        complains("sub;1 2;0", Status::NotBuilt, "T1: not built\n"),
-        complains("sub;1&;0", Status::NotBuilt, "T1: not built\n"),
-        complains("sub;\\1;0", Status::NotBuilt, "T1: not built\n"),
-        complains("sub;(1)--2;0", Status::NotBuilt, "T1: not built\n"),
-        complains("sub;Int--2;0", Status::NotBuilt, "T1: not built\n"),
-        complains("sub;Int(1);0", Status::NotBuilt, "T1: not built\n"),
+        complains("sub;();0", Status::Syntax, "T1:1:2: syntax\n"),
+        complains("sub;(1;0", Status::Syntax, "T1:1:3: syntax\n"),
+        complains("sub;1);0", Status::Syntax, "T1:1:2: syntax\n"),
+        complains("sub;1|;0", Status::Syntax, "T1:1:3: syntax\n"),
+        complains("sub;|1;0", Status::Syntax, "T1:1:1: syntax\n"),
+        complains("sub;1||2;0", Status::Syntax, "T1:1:2: syntax\n"),
+        complains("sub;1 2;0", Status::Syntax, "T1:1:3: syntax\n"),
+        complains("sub;1&;0", Status::Syntax, "T1:1:3: syntax\n"),
+        complains("sub;\\1;0", Status::Syntax, "T1:1:1: syntax\n"),
+        complains("sub;(1)--2;0", Status::Syntax, "T1:1:4: syntax\n"),
+        complains("sub;Int--2;0", Status::Syntax, "T1:1:4: syntax\n"),
+        complains("sub;Int(1);0", Status::Syntax, "T1:1:4: syntax\n"),
         complains("sub;Ints;0", Status::NotBuilt, "T1: not built\n"),
         complains("sub;In;0", Status::NotBuilt, "T1: not built\n"),
-        complains("sub;int;0", Status::NotBuilt, "T1: not built\n"),
+        complains("sub;int;0", Status::Syntax, "T1:1:1: syntax\n"),
         complains("sub;Int_;0", Status::NotBuilt, "T1: not built\n"),
         complains("sub;Empty0;0", Status::NotBuilt, "T1: not built\n"),
         complains("sub;IntEmpty;0", Status::NotBuilt, "T1: not built\n"),
         complains("sub;0;1->2", Status::NotBuilt, "T2: not built\n"),
-        complains("sub;1--*;0", Status::NotBuilt, "T1: not built\n"),
+        says("sub;1--*;*--0|2--*", Status::No, "no: 1\n"),
+        says("sub;Int;1--*|*--0", Status::Done, "yes\n"),
     ];
     check(&rt, rt.alloc(), rows.as_slice())?;
     Ok(())
@@ -238,12 +255,12 @@ fn decides_pairs(rt: HostRuntime) -> Result<(), Fail> {
         ),
         says("sub;(1|2,3);(1,3)|(2,3)", Status::Done, "yes\n"),
         says("sub;(1,2|3,4);(1,2,4)|(1,3,4)", Status::Done, "yes\n"),
-        complains("sub;(1,-5);0", Status::NotBuilt, "T1: not built\n"),
-        complains("sub;(1,);0", Status::NotBuilt, "T1: not built\n"),
-        complains("sub;(,1);0", Status::NotBuilt, "T1: not built\n"),
-        complains("sub;1,2;0", Status::NotBuilt, "T1: not built\n"),
-        complains("sub;(1,2;0", Status::NotBuilt, "T1: not built\n"),
-        complains("sub;0;1,2", Status::NotBuilt, "T2: not built\n"),
+        says("sub;(1,-5);0", Status::No, "no: (1, -5)\n"),
+        complains("sub;(1,);0", Status::Syntax, "T1:1:4: syntax\n"),
+        complains("sub;(,1);0", Status::Syntax, "T1:1:2: syntax\n"),
+        complains("sub;1,2;0", Status::Syntax, "T1:1:2: syntax\n"),
+        complains("sub;(1,2;0", Status::Syntax, "T1:1:5: syntax\n"),
+        complains("sub;0;1,2", Status::Syntax, "T2:1:2: syntax\n"),
     ];
     check(&rt, rt.alloc(), rows.as_slice())?;
     Ok(())
@@ -295,28 +312,198 @@ fn tells_an_element(rt: HostRuntime) -> Result<(), Fail> {
     Ok(())
 }
 
-// A text may hold 1,000 times `(`, and not once more: one within the other with a pair or a plain
-// parenthesis at each, or one after the other.
+// 1,000 parentheses may stand one within the other, and not one more; one after the other there may be more.
 #[test]
 fn reads_a_thousand_parentheses(rt: HostRuntime) -> Result<(), Fail> {
-    for (count, status) in [(1000, Status::Done), (1001, Status::NotBuilt)] {
-        let alloc = rt.alloc();
+    let alloc = rt.alloc();
+    for (count, status) in [(1000, Status::Done), (1001, Status::TooDeep)] {
         let close = ")".repeat(alloc, count)?;
         let nested = format!(in alloc; "{}7{close}", "(".repeat(alloc, count)?)?;
         let pairs = format!(in alloc; "{}7{close}", "(1,".repeat(alloc, count)?)?;
-        let flat = format!(in alloc; "{}7", "(7)|".repeat(alloc, count)?)?;
-        for text in [nested, pairs, flat] {
-            let mut words = Vec::new(alloc);
-            for word in ["sub", text.as_str(), text.as_str()] {
-                words.push(String::from_str(alloc, word)?)?;
-            }
-            let mut out = MemorySink::new(alloc, Vec::new(alloc));
-            let mut err = MemorySink::new(alloc, Vec::new(alloc));
-            let mut files = no_files(alloc);
-            let answer = cduce(alloc, words.as_slice(), &mut files, &mut out, &mut err);
-            assert_eq!(rt; answer, status);
+        for text in [nested, pairs] {
+            assert_eq!(rt; status_of(alloc, text.as_str())?, status);
         }
+        let flat = format!(in alloc; "{}7", "(7)|".repeat(alloc, count)?)?;
+        assert_eq!(rt; status_of(alloc, flat.as_str())?, Status::Done);
     }
+    let deep = "(".repeat(alloc, 1001)?;
+    let words = format!(in alloc; "sub;{deep};0")?;
+    assert_eq!(rt;
+        complaint(alloc, words.as_str())?.as_str(),
+        "T1:1:1001: too deep\n"
+    );
+    let file = format!(in alloc; "type A =\n{deep}")?;
+    let told = told_with(alloc, file.as_bytes(), "1", "1")?;
+    assert_eq!(rt; told.0, Status::TooDeep);
+    assert_eq!(rt; told.1.as_str(), "t.cd:2:1001: too deep\n");
+    Ok(())
+}
+
+// What words are answered on errors.
+fn complaint(alloc: Global, words: &str) -> Result<String, AllocError> {
+    let words = words_of(alloc, words)?;
+    let mut out = MemorySink::new(alloc, Vec::new(alloc));
+    let mut err = MemorySink::new(alloc, Vec::new(alloc));
+    let mut files = no_files(alloc);
+    cduce(alloc, words.as_slice(), &mut files, &mut out, &mut err);
+    String::from_str(alloc, str::from_utf8(err.bytes()).unwrap_or("no text"))
+}
+
+// The status of `sub` on a text and itself.
+fn status_of(alloc: Global, text: &str) -> Result<Status, AllocError> {
+    let mut words = Vec::new(alloc);
+    for word in ["sub", text, text] {
+        words.push(String::from_str(alloc, word)?)?;
+    }
+    let mut out = MemorySink::new(alloc, Vec::new(alloc));
+    let mut err = MemorySink::new(alloc, Vec::new(alloc));
+    let mut files = no_files(alloc);
+    Ok(cduce(alloc, words.as_slice(), &mut files, &mut out, &mut err))
+}
+
+// What stands against a type text, and where: lines and columns are counted in characters.
+#[test]
+fn tells_what_stands_against_a_text(rt: HostRuntime) -> Result<(), Fail> {
+    let rows = [
+        complains("sub;(1,;2", Status::Syntax, "T1:1:4: syntax\n"),
+        complains(
+            "sub;1 (* x;2",
+            Status::Lexical,
+            "T1:1:3: comment not closed\n",
+        ),
+        complains("sub;1;\"a", Status::Lexical, "T2:1:1: text not closed\n"),
+        complains("sub;\"\\q\";0", Status::Lexical, "T1:1:2: bad character\n"),
+        complains("sub;} \";0", Status::Lexical, "T1:1:3: text not closed\n"),
+        complains("sub;[];2", Status::NotBuilt, "T1: not built\n"),
+        complains("sub;) [;2", Status::NotBuilt, "T1: not built\n"),
+        complains("sub;2;<a>1", Status::NotBuilt, "T2: not built\n"),
+        complains("sub;(* é *) x;2", Status::Syntax, "T1:1:9: syntax\n"),
+        complains("sub;1 |\n\n  | 2;2", Status::Syntax, "T1:3:3: syntax\n"),
+        complains("sub;\r\n1\r);2", Status::Syntax, "T1:2:3: syntax\n"),
+        complains("sub;'a';2", Status::NotBuilt, "T1: not built\n"),
+        complains("sub;{a=1};2", Status::NotBuilt, "T1: not built\n"),
+        complains("sub;X where X = 1;2", Status::NotBuilt, "T1: not built\n"),
+        complains("sub;(1, Any);2", Status::NotBuilt, "T1: not built\n"),
+        complains("sub;1 & (2 | `a);2", Status::NotBuilt, "T1: not built\n"),
+    ];
+    check(&rt, rt.alloc(), rows.as_slice())?;
+    Ok(())
+}
+
+// Lines end at line feeds, and columns count characters.
+#[test]
+fn places_bytes(rt: HostRuntime) -> Result<(), Fail> {
+    let rows = [
+        ("", 0, (1, 1)),
+        ("ab", 1, (1, 2)),
+        ("ab", 2, (1, 3)),
+        ("a\nb", 1, (1, 2)),
+        ("a\nb", 2, (2, 1)),
+        ("\n\n", 2, (3, 1)),
+        ("é\r(", 3, (1, 3)),
+        ("💡é", 4, (1, 2)),
+        ("ab", 9, (1, 3)),
+    ];
+    for (text, at, expected) in rows {
+        assert_eq!(rt; place(text, at), expected, "{text}");
+    }
+    Ok(())
+}
+
+// What `sub` with a file says, where the file has these bytes.
+fn told_with(
+    alloc: Global,
+    bytes: &[u8],
+    first: &str,
+    second: &str,
+) -> Result<(Status, String), AllocError> {
+    let mut words = Vec::new(alloc);
+    for word in ["sub", "--types", "t.cd", first, second] {
+        words.push(String::from_str(alloc, word)?)?;
+    }
+    let mut held = Vec::new(alloc);
+    held.push((
+        String::from_str(alloc, "t.cd")?,
+        Vec::from_slice(alloc, bytes)?,
+    ))?;
+    let mut files = MemoryFiles::new(alloc, held, Vec::new(alloc));
+    let mut out = MemorySink::new(alloc, Vec::new(alloc));
+    let mut err = MemorySink::new(alloc, Vec::new(alloc));
+    let status = cduce(alloc, words.as_slice(), &mut files, &mut out, &mut err);
+    let text = if out.bytes().is_empty() {
+        err.bytes()
+    } else {
+        out.bytes()
+    };
+    Ok((
+        status,
+        String::from_str(alloc, str::from_utf8(text).unwrap_or("no text"))?,
+    ))
+}
+
+// The file comes first, then the first type text, then the second.
+#[test]
+fn reads_a_file_of_declarations(rt: HostRuntime) -> Result<(), Fail> {
+    let rows = [
+        ("", "1", "0--9", Status::Done, "yes\n"),
+        (" (* no type *)\n", "1", "2", Status::No, "no: 1\n"),
+        (
+            "type A = 1",
+            "(",
+            "[",
+            Status::NotBuilt,
+            "t.cd: not built\n",
+        ),
+        (
+            "type A = [1]",
+            "(",
+            "[",
+            Status::NotBuilt,
+            "t.cd: not built\n",
+        ),
+        (
+            "type A = 1\ntype = 2",
+            "(",
+            "[",
+            Status::Syntax,
+            "t.cd:2:6: syntax\n",
+        ),
+        ("type A =\n", "(", "[", Status::Syntax, "t.cd:2:1: syntax\n"),
+        (";;", "(", "[", Status::Syntax, "t.cd:1:1: syntax\n"),
+        (
+            "type A = \"é\n$",
+            "(",
+            "[",
+            Status::Lexical,
+            "t.cd:1:10: text not closed\n",
+        ),
+        ("", "(", "[", Status::Syntax, "T1:1:2: syntax\n"),
+        ("", "1", "[", Status::NotBuilt, "T2: not built\n"),
+    ];
+    for (file, first, second, status, text) in rows {
+        let told = told_with(rt.alloc(), file.as_bytes(), first, second)?;
+        assert_eq!(rt; told.0, status, "{file}");
+        assert_eq!(rt; told.1.as_str(), text, "{file}");
+    }
+    Ok(())
+}
+
+// A file may have 16 MiB, and has to be UTF-8.
+#[test]
+fn refuses_files_that_are_no_text(rt: HostRuntime) -> Result<(), Fail> {
+    let alloc = rt.alloc();
+    let mut bytes = vec![in alloc; b' '; 16_777_216]?;
+    let told = told_with(alloc, bytes.as_slice(), "1", "1")?;
+    assert_eq!(rt; told.1.as_str(), "yes\n");
+    bytes.push(b' ')?;
+    let told = told_with(alloc, bytes.as_slice(), "1", "1")?;
+    assert_eq!(rt; told.0, Status::TooLarge);
+    assert_eq!(rt; told.1.as_str(), "t.cd: too large\n");
+    let told = told_with(alloc, &[b'(', 0xc3, 0xa9, 0xff, b'a'], "1", "1")?;
+    assert_eq!(rt; told.0, Status::NotUtf8);
+    assert_eq!(rt; told.1.as_str(), "t.cd: not UTF-8 at byte 3\n");
+    let told = told_with(alloc, &[0xe2, 0x82], "1", "1")?;
+    assert_eq!(rt; told.1.as_str(), "t.cd: not UTF-8 at byte 0\n");
     Ok(())
 }
 

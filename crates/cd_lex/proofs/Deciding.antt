@@ -13,7 +13,7 @@ use Rattle.cd_syntax.specs.declared.tokens.LexError.{LexError}
 use Rattle.cd_syntax.specs.declared.tokens.LexError.TheVariants.{BadChar, OpenText, OpenComment, TooWide, Memory}
 use Rattle.cd_syntax.specs.Integer.{LEAST, GREATEST, IsInteger}
 use Rattle.cd_syntax.specs.Name.{begins_word, goes_on_word}
-use Rattle.cd_syntax.specs.Spelling.{decimal_value}
+use Rattle.cd_syntax.specs.Digits.{decimal_value}
 use Rattle.cd_syntax.specs.Signs.{characters}
 use Rattle.cd_syntax.specs.Comments.{begins_pair, Closes}
 use Rattle.cd_syntax.specs.Tokens.{is_blank, begins_negative, bytes, joins, token_at, Spells}

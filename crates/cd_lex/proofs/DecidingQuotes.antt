@@ -5,7 +5,7 @@ use Rattle.std.specs.Char.{is_ascii_digit}
 use Rattle.std.proofs.Math.Utf8.{scalar}
 use Rattle.std.proofs.lemmas.Bool.{cases_Bool, cases_eq, cases_lt}
 use Rattle.std.proofs.lemmas.List.{append_assoc, append-nil, length-append}
-use Rattle.cd_syntax.specs.Spelling.{AreDigits, decimal_value, BeginsWithNoDigit}
+use Rattle.cd_syntax.specs.Digits.{AreDigits, decimal_value, BeginsWithNoDigit}
 use Rattle.cd_syntax.specs.Quotes.{Quotes, IsEscapeLetter, line_feed, carriage_return, tab, backslash, apostrophe, IsCode, BreaksEscape, EndsHalf}
 use Rattle.cd_syntax.specs.Quotes as quotes
 use Rattle.cd_lex.specs.Quoted.{IsClosed, IsBroken, IsOpen}

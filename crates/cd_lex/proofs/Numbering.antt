@@ -15,7 +15,7 @@ use Rattle.std.proofs.lemmas.Str.Ascii.{IsAscii-cons}
 use Rattle.std.proofs.lemmas.Str.Parse.{IsDigitsTest, FoldsDigits, IsNumeralModel, numerals_by_fold, parse_signed_minus, parse_signed_digits}
 use mir.Syntax.{w128}
 use Rattle.cd_syntax.specs.Integer.{IsInteger}
-use Rattle.cd_syntax.specs.Spelling.{AreDigits, decimal_value}
+use Rattle.cd_syntax.specs.Digits.{AreDigits, decimal_value}
 use Rattle.cd_lex.specs.Number.{signed}
 
 -- a digit is in its range

@@ -6,7 +6,7 @@ use Rattle.std.specs.List.{list_all}
 use Rattle.std.proofs.Math.Seq.{drop-append_seam}
 use Rattle.std.proofs.lemmas.Bool.{and_parts, cond-true, cond-false, ne_eqb, eq-eqb}
 use Rattle.std.proofs.lemmas.List.{append_assoc}
-use Rattle.cd_syntax.specs.Spelling.{AreDigits, decimal_value, BeginsWithNoDigit}
+use Rattle.cd_syntax.specs.Digits.{AreDigits, decimal_value, BeginsWithNoDigit}
 use Rattle.cd_syntax.specs.Quotes.{Quotes, nothing, itself, letter, code, IsEscapeLetter, line_feed, carriage_return, tab, backslash, apostrophe, quote, IsCode, BreaksEscape, no_letter, no_code, no_semicolon, EndsHalf, alone}
 use Rattle.cd_lex.proofs.Wording.{digits_taken}
 use Rattle.cd_lex.proofs.OneWay.{Outcome, Stop, More, Reads, stop, more, once, Decided, decided_once}

@@ -10,7 +10,7 @@ use Rattle.std.proofs.lemmas.Bool.{and_from, cond-true, cond-false, cases_Bool, 
 use Rattle.std.proofs.lemmas.List.{append_assoc, take-append-drop, take_all, length-take-le, length-drop}
 use Rattle.std.proofs.lemmas.List.Folds.{length-prefix_len}
 use Rattle.cd_syntax.specs.Quotes.{Quotes, nothing, itself, letter, code, IsEscapeLetter, BreaksEscape, no_letter, no_code, no_semicolon, EndsHalf, alone}
-use Rattle.cd_syntax.specs.Spelling.{AreDigits, decimal_value, BeginsWithNoDigit}
+use Rattle.cd_syntax.specs.Digits.{AreDigits, decimal_value, BeginsWithNoDigit}
 use Rattle.cd_lex.specs.Quoted.{IsClosed, IsOpen}
 
 -- the value of digits after a number

@@ -13,7 +13,7 @@ use Rattle.cd_syntax.specs.declared.tokens.TokenKind.TheVariants.{Word, Int, Ato
 use Rattle.cd_syntax.specs.declared.tokens.LexError.TheVariants.{BadChar, TooWide}
 use Rattle.cd_syntax.specs.Integer.{IsInteger}
 use Rattle.cd_syntax.specs.Name.{begins_word, goes_on_word, is_word, IsLabel}
-use Rattle.cd_syntax.specs.Spelling.{AreDigits, decimal_value}
+use Rattle.cd_syntax.specs.Digits.{AreDigits, decimal_value}
 use Rattle.cd_syntax.specs.Signs.{characters}
 use Rattle.cd_syntax.specs.Tokens.{EndsWord, Writes, word as writes_word, number as writes_number, negative as writes_negative, atom as writes_atom}
 use Rattle.cd_syntax.specs.Faults.{Breaks, character as breaks_character, number as breaks_number, negative as breaks_negative}

@@ -11,7 +11,7 @@ use Rattle.std.proofs.lemmas.List.Sums.{take_while-cons}
 use Rattle.std.proofs.Math.Bool.{cond}
 use Rattle.std.specs.Prelude.{◌==◌}
 use Rattle.cd_syntax.specs.Name.{begins_word, goes_on_word, is_word}
-use Rattle.cd_syntax.specs.Spelling.{AreDigits, BeginsWithNoDigit}
+use Rattle.cd_syntax.specs.Digits.{AreDigits, BeginsWithNoDigit}
 use Rattle.cd_syntax.specs.Tokens.{EndsWord}
 
 module _ {X : Type 0} (p : X → Bool) where

@@ -1,7 +1,7 @@
 ghost use Rattle.std.specs.Prelude.{◌≡◌, ℤ, pos, neg_ℤ, length, take_while, IfOk, MatchOption, if◌then◌else◌, string_bytes, encode_utf8_all};
 ghost use Rattle.std.specs.Char.{is_ascii_digit};
 ghost use Rattle.cd_syntax.specs.Integer.{IsInteger};
-ghost use Rattle.cd_syntax.specs.Spelling.{AreDigits, decimal_value};
+ghost use Rattle.cd_syntax.specs.Digits.{AreDigits, decimal_value};
 ghost use Rattle.cd_lex.specs.Number.{signed};
 
 use std::alloc::{AllocError, Global};

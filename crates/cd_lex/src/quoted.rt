@@ -1,7 +1,7 @@
 ghost use Rattle.std.specs.Prelude.{◌≤◌, IfOk, IsTrue, SomeIff, length};
 ghost use Rattle.std.specs.Char.{IsScalar, is_ascii_digit};
 ghost use Rattle.std.specs.List.{list_all};
-ghost use Rattle.cd_syntax.specs.Spelling.{decimal_value};
+ghost use Rattle.cd_syntax.specs.Digits.{decimal_value};
 ghost use Rattle.cd_lex.specs.Quoted.{IsQuoted};
 ghost use Rattle.cd_lex.specs.Quoting.{IsMeant, IsEscape};
 

@@ -1,4 +1,4 @@
 pub mod Membership
-pub mod Grammar
 pub mod Notation
 pub mod Spelled
+pub mod Building

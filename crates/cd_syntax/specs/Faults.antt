@@ -7,7 +7,7 @@ use Rattle.cd_syntax.specs.declared.tokens.LexError.{LexError}
 use Rattle.cd_syntax.specs.declared.tokens.LexError.TheVariants.{BadChar, OpenText, OpenComment, TooWide}
 use Rattle.cd_syntax.specs.Integer.{IsInteger}
 use Rattle.cd_syntax.specs.Name.{begins_word, IsLabel}
-use Rattle.cd_syntax.specs.Spelling.{AreDigits, decimal_value, BeginsWithNoDigit}
+use Rattle.cd_syntax.specs.Digits.{AreDigits, decimal_value, BeginsWithNoDigit}
 use Rattle.cd_syntax.specs.Signs.{BeginsWith}
 use Rattle.cd_syntax.specs.Quotes.{Quotes, BreaksEscape, EndsHalf}
 use Rattle.cd_syntax.specs.Comments.{IsComment}

@@ -11,9 +11,10 @@ pub mod Quotes
 pub mod Comments
 pub mod Tokens
 pub mod Faults
-pub mod Spelling
-pub mod Grammar
+pub mod Digits
 pub mod TypeTree
 pub mod PlainTree
+pub mod Built
 pub mod TypeGrammar
+pub mod SyntaxFaults
 pub mod Examples

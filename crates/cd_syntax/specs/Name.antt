@@ -1,5 +1,6 @@
 -- Names: words, labels and the names of atoms.
 use Rattle.std.specs.Prelude.{◌≢◌, ℕ, ◌==◌, Bool, false, ◌&&◌, ◌||◌, List, [], ◌∷◌, Option, Some, None, IsTrue, codes}
+use Rattle.std.specs.Int.{is_in_range}
 use Rattle.std.specs.Char.{is_ascii_alphabetic, is_ascii_alphanumeric}
 use Rattle.std.specs.List.{list_all}
 
@@ -22,6 +23,11 @@ is_word (c ∷ cs) = begins_word c && list_all goes_on_word cs
 -- a label, or the name of an atom: a word other than `_` alone
 abbrev pub IsLabel : Name → Type 0
 IsLabel name = IsTrue (is_word name) × (name ≢ codes "_")
+
+-- a name that a type may have, where none is built in under it: it begins with A to Z
+abbrev pub is_type_name : Name → Bool
+is_type_name [] = false
+is_type_name (c ∷ cs) = is_in_range 65 90 c
 
 -- the first character of a name
 abbrev pub first : Name → Option ℕ

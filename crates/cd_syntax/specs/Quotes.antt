@@ -1,7 +1,7 @@
 -- What stands between two quotes of a kind: characters and escapes.
 use Rattle.std.specs.Prelude.{◌≡◌, ◌≢◌, ℕ, ◌≤◌, false, List, [], ◌∷◌, ◌++◌, length}
 use Rattle.std.specs.Char.{IsScalar, is_ascii_digit}
-use Rattle.cd_syntax.specs.Spelling.{AreDigits, decimal_value, BeginsWithNoDigit}
+use Rattle.cd_syntax.specs.Digits.{AreDigits, decimal_value, BeginsWithNoDigit}
 
 -- `n`, `r`, `t`, `\`, `'` or `"` after a `\`, and the character that this stands for
 pub data IsEscapeLetter : ℕ → ℕ → Type 0 where

@@ -7,7 +7,7 @@ use Rattle.cd_syntax.specs.declared.tokens.TokenKind.{TokenKind}
 use Rattle.cd_syntax.specs.declared.tokens.TokenKind.TheVariants.{Word, Int, Chars, Text, Atom, Sign}
 use Rattle.cd_syntax.specs.Integer.{IsInteger}
 use Rattle.cd_syntax.specs.Name.{goes_on_word, is_word, IsLabel}
-use Rattle.cd_syntax.specs.Spelling.{AreDigits, decimal_value, BeginsWithNoDigit}
+use Rattle.cd_syntax.specs.Digits.{AreDigits, decimal_value, BeginsWithNoDigit}
 use Rattle.cd_syntax.specs.Signs.{characters, IsLongest, closes}
 use Rattle.cd_syntax.specs.Quotes.{Quotes}
 use Rattle.cd_syntax.specs.Comments.{begins_pair, IsComment}

@@ -3,7 +3,6 @@
 -- Each form has a bound on its depth: the number of `(`, `{` and `->` whose forms may hold one of its tokens. A `->` holds
 -- what stands after it in its chain. A chain of two parts or more is one node; a chain of one part is that part.
 use Rattle.std.specs.Prelude.{◌≡◌, ◌≢◌, ℕ, suc, Bool, true, false, List, [], ◌∷◌, ◌++◌, Some, None, codes}
-use Rattle.std.specs.Int.{is_in_range}
 use Rattle.cd_syntax.specs.declared.sign.Sign.{Sign as ASign}
 use Rattle.cd_syntax.specs.declared.sign.Sign.TheVariants as sign
 use Rattle.cd_syntax.specs.declared.tokens.Span.{Span}
@@ -12,7 +11,7 @@ use Rattle.cd_syntax.specs.declared.tokens.TokenKind.{TokenKind}
 use Rattle.cd_syntax.specs.declared.tokens.TokenKind.TheVariants as token
 use Rattle.cd_syntax.specs.declared.builtin.BuiltinName.{BuiltinName}
 use Rattle.cd_syntax.specs.declared.builtin.BuiltinName.TheVariants as builtin
-use Rattle.cd_syntax.specs.Name.{Name}
+use Rattle.cd_syntax.specs.Name.{Name, is_type_name}
 use Rattle.cd_syntax.specs.TypeTree.{Tree, tree, Kind, Builtin, Ints, Chars, Atom, Text, Tuple, Arrows, Union, Meet, Record, Named, Where, Trees, NoTree, ATree, Signs, NoSign, ASign as ASigned, Fields, NoField, AField, Declarations, NoDeclaration, ADeclaration}
 
 -- from the first character of the first token to the end of the last one
@@ -48,11 +47,6 @@ tuple_of tokens first (ATree second rest) = written tokens (Tuple (ATree first (
 abbrev pub meet_of : List Token → Tree → Signs → Tree
 meet_of tokens first NoSign = first
 meet_of tokens first (ASigned kept second rest) = written tokens (Meet first (ASigned kept second rest))
-
--- a type name begins with A to Z
-abbrev pub is_type_name : Name → Bool
-is_type_name [] = false
-is_type_name (c ∷ cs) = is_in_range 65 90 c
 
 -- a name of a type that is built in, and the type
 pub data IsBuiltin : Name → BuiltinName → Type 0 where

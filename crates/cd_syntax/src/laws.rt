@@ -2,7 +2,6 @@
 ghost use Rattle.std.specs.Prelude.{◌≡◌, ◌⊎◌, ℕ, List, pos, negsuc, true, false, Some, None, codes};
 ghost use Rattle.cd_syntax.specs.Element.{Element, IsElement, Integer, Atom, Pair, Xml, Record, Function, NoField, Field, NoPair, Maps, Fails};
 ghost use Rattle.cd_syntax.specs.Examples.{group_tokens, group_tree, tuple_tokens, tuple_tree, arrows_tokens, arrows_tree, arrow_tokens, record_tokens, record_tree, where_tokens, where_tree, signs_tokens, signs_tree, characters_tokens, characters_tree, at_most_tokens, at_most_tree, at_least_tokens, at_least_tree, declared_tokens, declared_declarations};
-ghost use Rattle.cd_syntax.specs.Grammar.{Reads};
 ghost use Rattle.cd_syntax.specs.Membership.{IsIn, IsOutside};
 ghost use Rattle.cd_syntax.specs.Notation.{Prints};
 ghost use Rattle.cd_syntax.specs.Tree.{Builtin, Ints, Tuple, Union, Meet, NoTree, ATree, NoSign, ASign};
@@ -24,18 +23,12 @@ pub fn notation_is_one()
 {}
 
 /// The definitions at some values: an XML element and a function that are elements, a record whose
-/// labels do not rise, texts and their types, elements in a type and outside one, and printed texts.
+/// labels do not rise, elements in a type and outside one, and printed texts.
 pub fn worked_examples()
     ensures xml { IsElement (Xml (Atom (codes "a")) (Record (Field (codes "x") (Integer (pos 1)) NoField)) (Atom (codes "nil"))) }
     ensures function { IsElement (Function (Maps (Integer (pos 0)) (Integer (pos 5)) (Fails (Pair (Integer (pos 0)) (Atom (codes "_b"))) NoPair))) }
     ensures labels_rise { IsElement (Record (Field (codes "b") (Integer (pos 1)) (Field (codes "a") (Integer (pos 1)) NoField))) → ⊥ }
     ensures no_name { IsElement (Atom (codes "_")) → ⊥ }
-    ensures reads { Reads (codes " 007 --12") (record { tree = Ints (Some (pos 7)) (Some (pos 12)) }) }
-    ensures reads_one { Reads (codes "5") (record { tree = Ints (Some (pos 5)) (Some (pos 5)) }) }
-    ensures reads_signs { Reads (codes "Int\\(4|5)&0--9") (record { tree = Meet (Builtin Int) (ASign false (Union (ATree (Ints (Some (pos 4)) (Some (pos 4))) (ATree (Ints (Some (pos 5)) (Some (pos 5))) NoTree))) (ASign true (Ints (Some (pos 0)) (Some (pos 9))) NoSign)) }) }
-    ensures reads_parentheses { Reads (codes "(1)") (record { tree = Ints (Some (pos 1)) (Some (pos 1)) }) }
-    ensures reads_tuple { Reads (codes "(1,2,3)") (record { tree = Tuple (ATree (Ints (Some (pos 1)) (Some (pos 1))) (ATree (Ints (Some (pos 2)) (Some (pos 2))) (ATree (Ints (Some (pos 3)) (Some (pos 3))) NoTree))) }) }
-    ensures reads_inner_pair { Reads (codes "((1,2),3)") (record { tree = Tuple (ATree (Tuple (ATree (Ints (Some (pos 1)) (Some (pos 1))) (ATree (Ints (Some (pos 2)) (Some (pos 2))) NoTree))) (ATree (Ints (Some (pos 3)) (Some (pos 3))) NoTree)) }) }
     ensures inside { IsIn (Integer (pos 5)) (record { tree = Ints (Some (pos 0)) (Some (pos 5)) }) }
     ensures outside { IsOutside (Integer (pos 5)) (record { tree = Ints (Some (pos 0)) (Some (pos 4)) }) }
     ensures any_integer { IsIn (Integer (negsuc 4)) (record { tree = Builtin Int }) }

@@ -2,6 +2,7 @@
 //! sets of elements, subtyping, spelling, grammar and notation. They stand in `specs/`.
 #![tactic(auto)]
 
+pub mod built;
 pub mod builtin;
 pub mod constant;
 pub mod laws;
@@ -10,7 +11,6 @@ pub mod name;
 pub mod sign;
 #[cfg(test)]
 mod tests;
-pub mod token;
 pub mod tokens;
 pub mod tree;
 mod tree_copy;

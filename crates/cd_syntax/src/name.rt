@@ -1,6 +1,6 @@
 ghost use Rattle.std.specs.Prelude.{◌≡◌, IfOk, string_bytes, bytes_eq};
 ghost use Rattle.std.specs.Str.{chars};
-ghost use Rattle.cd_syntax.specs.Name.{first, only};
+ghost use Rattle.cd_syntax.specs.Name.{first, only, is_type_name as is_type_name_of};
 
 use std::alloc::{AllocError, Global};
 use std::marker::Model;
@@ -79,6 +79,14 @@ impl Name {
             return Some(first);
         }
         None
+    }
+
+    /// Whether a type may have this name, where none is built in under it: it begins with A to Z.
+    pub fn is_type_name(&self) -> bool
+        ensures { result ≡ is_type_name_of self.now }
+    {
+        self.first_character()
+            .is_some_and(|c| c.is_ascii_uppercase())
     }
 
     /// An equal name.

@@ -3,7 +3,8 @@ use Rattle.cd_base.specs.declared.status.Status.TheVariants.{Done, No}
 use Rattle.cd_syntax.specs.Written.{written}
 use Rattle.cd_driver.specs.Command.{Bytes}
 use Rattle.cd_driver.specs.Reply.{says}
-use Rattle.cd_driver.specs.Answer.{ReadsAs, SubAnswer, yes}
+use Rattle.cd_driver.specs.Texts.{ReadsAs}
+use Rattle.cd_driver.specs.Answer.{SubAnswer, yes}
 use Rattle.cd_driver.specs.Witness.{element, text_of}
 use Rattle.cd_driver.proofs.Answering.{replies, no_with}
 use Rattle.cd_driver.proofs.answer.compare.Goals as goal

@@ -1,5 +1,5 @@
 use Rattle.std.proofs.Common.{◌≡◌, ◌≤◌, drop}
-use Rattle.cd_syntax.specs.Spelling.{decimal_value}
+use Rattle.cd_syntax.specs.Digits.{decimal_value}
 use Rattle.cd_lex.proofs.Quoting.{number_after}
 use Rattle.cd_lex.proofs.quoted.code.Given as goal
 

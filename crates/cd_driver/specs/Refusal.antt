@@ -1,0 +1,31 @@
+-- What the code finds against a text, as the definitions say it.
+use Rattle.std.specs.Prelude.{◌≡◌, true, false, List, Result, Ok, IsErr}
+use Rattle.std.specs.Str.{chars}
+use Rattle.std.specs.declared.alloc.AllocError.{AllocError}
+use Rattle.cd_syntax.specs.declared.tokens.Token.{Token}
+use Rattle.cd_syntax.specs.Faults.{Fails}
+use Rattle.cd_parse_types.specs.declared.error.ParseError.{ParseError}
+use Rattle.cd_parse_types.specs.declared.error.ParseError.TheVariants as fault
+use Rattle.cd_driver.specs.Command.{Bytes}
+use Rattle.cd_driver.specs.Texts.{Against, Lexical, Syntax, TooDeep, NotBuilt, HasTokens, holds_unbuilt}
+use Rattle.cd_driver.specs.declared.refusal.Refusal.{Refusal}
+use Rattle.cd_driver.specs.declared.refusal.Refusal.TheVariants as refusal
+
+abbrev pub against : Refusal → Against
+against (refusal.Lexical fault) = Lexical fault
+against (refusal.Syntax place) = Syntax place
+against (refusal.TooDeep place) = TooDeep place
+against refusal.NotBuilt = NotBuilt
+
+-- it stands against the tokens of the text, whatever they are to write
+abbrev pub IsAgainstTokens : Bytes → Against → Type 0
+IsAgainstTokens text (Lexical fault) = Fails false 0 (chars text) fault
+IsAgainstTokens text NotBuilt = (tokens : List Token) × HasTokens text tokens × (holds_unbuilt tokens ≡ true)
+IsAgainstTokens text (Syntax place) = ⊥
+IsAgainstTokens text (TooDeep place) = ⊥
+
+-- what a fault of syntax is against its text
+abbrev pub IsOfFault : ParseError → Result Refusal AllocError → Type 0
+IsOfFault (fault.Syntax place) found = found ≡ Ok (refusal.Syntax place)
+IsOfFault (fault.TooDeep place) found = found ≡ Ok (refusal.TooDeep place)
+IsOfFault fault.Memory found = IsErr found

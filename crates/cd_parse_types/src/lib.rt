@@ -1,0 +1,14 @@
+//! The trees of types and of type declarations that tokens write, but for sequences and XML.
+#![tactic(auto)]
+
+pub mod declarations;
+pub mod error;
+pub mod front;
+#[cfg(test)]
+mod tests;
+pub mod types;
+
+pub use declarations::parse_declarations;
+pub use error::ParseError;
+pub use front::{Mode, read_tree};
+pub use types::parse_type;

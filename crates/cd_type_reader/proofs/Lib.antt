@@ -1,0 +1,12 @@
+pub mod FaultingMore
+pub mod FaultingClosed
+pub mod Faulting
+pub mod BuiltinNaming
+pub mod Completing
+pub mod WhatWasRead
+pub mod Sound
+pub mod Finding
+pub mod OtherSigns
+pub mod Readings
+pub mod OneTree
+pub mod Ending

@@ -1,0 +1,5 @@
+pub mod BuiltinNames
+pub mod Machine
+pub mod PlainMachine
+pub mod Reading
+pub mod Examples

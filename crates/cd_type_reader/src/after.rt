@@ -1,0 +1,285 @@
+ghost use Rattle.std.specs.Prelude.{◌≡◌, Bool, true, false, List, [], ◌∷◌, Option, Some, None, Result, Ok, Err, map, IfOk};
+ghost use Rattle.std.specs.Option.{option_map};
+ghost use Rattle.cd_syntax.specs.PlainTree.{plain, plain_declaration};
+ghost use Rattle.cd_syntax.specs.declared.tokens.TokenKind.TheVariants as token;
+ghost use Rattle.cd_type_reader.specs.Machine as machine;
+ghost use Rattle.cd_type_reader.specs.PlainMachine.{plain_part, plain_row, plain_chain, plain_names, plain_around, plain_frame, plain_frames, plain_outcome};
+
+use crate::frame::{
+    Around, Frame, Names, arrow_end, begun, declared_with, fields_with, record_part, tree_end,
+    within,
+};
+use crate::part::{Chain, Part, meet_part, pushed, row_with, tuple_part, union_part};
+use crate::state::{Outcome, Place, at_place, put, syntax, too_deep};
+use cd_syntax::name::Name;
+use cd_syntax::sign::Sign;
+use cd_syntax::tokens::{Span, TokenKind};
+use cd_syntax::type_tree::Declaration;
+use std::alloc::{AllocError, Global};
+
+/// One more token after the simple types of a meet.
+pub(crate) fn step_after(
+    alloc: Global,
+    chain: Chain,
+    top: Frame,
+    below: Vec<Frame>,
+    kind: &TokenKind,
+    span: Span,
+) -> Result<Outcome, AllocError>
+    ensures { IfOk result (λ outcome. plain_outcome outcome ≡ machine.step_after (plain_chain chain) (plain_frame top) (plain_frames below.items) kind.now span) }
+{
+    match kind {
+        TokenKind::Sign(sign) => after_sign(alloc, chain, top, below, *sign, span),
+        TokenKind::Word(name) => after_word(alloc, chain, top, below, name),
+        _ => Ok(syntax()),
+    }
+}
+
+fn after_sign(
+    alloc: Global,
+    chain: Chain,
+    top: Frame,
+    below: Vec<Frame>,
+    sign: Sign,
+    span: Span,
+) -> Result<Outcome, AllocError>
+    ensures { IfOk result (λ outcome. plain_outcome outcome ≡ machine.step_after (plain_chain chain) (plain_frame top) (plain_frames below.items) (token.Sign sign) span) }
+{
+    match sign {
+        Sign::And => Ok(at_place(Place::Before, pending(chain, true, top), below)),
+        Sign::Backslash => Ok(at_place(Place::Before, pending(chain, false, top), below)),
+        Sign::Or => Ok(at_place(Place::Before, after_or(alloc, chain, top)?, below)),
+        Sign::Arrow => after_arrow(alloc, chain, top, below),
+        Sign::Comma => after_comma(alloc, chain, top, below),
+        Sign::CloseParenthesis => close_parenthesis(alloc, chain, top, below, span.to),
+        Sign::Semicolon => after_semicolon(alloc, chain, top, below),
+        Sign::Dots => after_dots(alloc, chain, top, below),
+        Sign::CloseBrace => close_brace(alloc, chain, top, below, span.to),
+        _ => Ok(syntax()),
+    }
+}
+
+// A `&` or a `\` was read.
+fn pending(chain: Chain, kept: bool, top: Frame) -> Frame
+    ensures { plain_frame result ≡ machine.pending_sign (plain_chain chain) kept (plain_frame top) }
+{
+    Frame {
+        room: top.room,
+        left: top.left,
+        around: top.around,
+        names: top.names,
+        arrows: top.arrows,
+        unions: top.unions,
+        pending: Some((chain, kept)),
+    }
+}
+
+// A `|` was read.
+fn after_or(alloc: Global, chain: Chain, top: Frame) -> Result<Frame, AllocError>
+    ensures { IfOk result (λ frame. plain_frame frame ≡ machine.after_or (plain_chain chain) (plain_frame top)) }
+{
+    let meet = meet_part(alloc, chain)?;
+    Ok(Frame {
+        room: top.room,
+        left: top.left,
+        around: top.around,
+        names: top.names,
+        arrows: top.arrows,
+        unions: Some(row_with(alloc, top.unions, meet)?),
+        pending: None,
+    })
+}
+
+// A `->` was read.
+fn after_arrow(
+    alloc: Global,
+    chain: Chain,
+    top: Frame,
+    below: Vec<Frame>,
+) -> Result<Outcome, AllocError>
+    ensures { IfOk result (λ outcome. plain_outcome outcome ≡ machine.opened (machine.within top.left) (λ left. machine.at_place machine.Before (machine.after_arrow (plain_chain chain) (plain_frame top) left) (plain_frames below.items))) }
+{
+    let Some(left) = within(top.left) else {
+        return Ok(too_deep());
+    };
+    Ok(at_place(Place::Before, longer_arrow(alloc, chain, top, left)?, below))
+}
+
+fn longer_arrow(alloc: Global, chain: Chain, top: Frame, left: usize) -> Result<Frame, AllocError>
+    ensures { IfOk result (λ frame. plain_frame frame ≡ machine.after_arrow (plain_chain chain) (plain_frame top) left) }
+{
+    let meet = meet_part(alloc, chain)?;
+    let union = union_part(top.unions, meet)?;
+    Ok(Frame {
+        room: top.room,
+        left,
+        around: top.around,
+        names: top.names,
+        arrows: Some(row_with(alloc, top.arrows, union)?),
+        unions: None,
+        pending: None,
+    })
+}
+
+// A `,` was read.
+fn after_comma(
+    alloc: Global,
+    chain: Chain,
+    top: Frame,
+    below: Vec<Frame>,
+) -> Result<Outcome, AllocError>
+    ensures { IfOk result (λ outcome. plain_outcome outcome ≡ machine.next_item top.room (plain_around top.around) (machine.tree_end (plain_frame top) (plain_chain chain)) (plain_frames below.items)) }
+{
+    let room = top.room;
+    let (around, last) = tree_end(alloc, top, chain)?;
+    match around {
+        Around::InParentheses(from, items) => {
+            let items = pushed(items, last.tree)?;
+            let top = begun(room, Around::InParentheses(from, items));
+            Ok(at_place(Place::Before, top, below))
+        }
+        _ => Ok(syntax()),
+    }
+}
+
+// A `)` was read.
+fn close_parenthesis(
+    alloc: Global,
+    chain: Chain,
+    top: Frame,
+    mut below: Vec<Frame>,
+    to: usize,
+) -> Result<Outcome, AllocError>
+    ensures { IfOk result (λ outcome. plain_outcome outcome ≡ machine.close_parenthesis to (plain_around top.around) (machine.tree_end (plain_frame top) (plain_chain chain)) (plain_frames below.items)) }
+{
+    let (around, last) = tree_end(alloc, top, chain)?;
+    let Around::InParentheses(from, items) = around else {
+        return Ok(syntax());
+    };
+    let Some(outer) = below.pop() else {
+        return Ok(syntax());
+    };
+    let tuple = tuple_part(from, to, items, last.tree)?;
+    Ok(put(alloc, tuple, outer, below)?)
+}
+
+// A `;` was read.
+fn after_semicolon(
+    alloc: Global,
+    chain: Chain,
+    top: Frame,
+    mut below: Vec<Frame>,
+) -> Result<Outcome, AllocError>
+    ensures { IfOk result (λ outcome. plain_outcome outcome ≡ machine.next_field (plain_around top.around) (machine.tree_end (plain_frame top) (plain_chain chain)) (plain_frames below.items)) }
+{
+    let (around, last) = tree_end(alloc, top, chain)?;
+    let Around::InField(opened, label, at, optional) = around else {
+        return Ok(syntax());
+    };
+    let Some(outer) = below.pop() else {
+        return Ok(syntax());
+    };
+    let fields = fields_with(opened, label, at, optional, last.tree)?;
+    Ok(at_place(Place::FieldNext(fields), outer, below))
+}
+
+// A `..` was read.
+fn after_dots(
+    alloc: Global,
+    chain: Chain,
+    top: Frame,
+    mut below: Vec<Frame>,
+) -> Result<Outcome, AllocError>
+    ensures { IfOk result (λ outcome. plain_outcome outcome ≡ machine.fields_end (plain_around top.around) (machine.tree_end (plain_frame top) (plain_chain chain)) (plain_frames below.items)) }
+{
+    let (around, last) = tree_end(alloc, top, chain)?;
+    let Around::InField(opened, label, at, optional) = around else {
+        return Ok(syntax());
+    };
+    let Some(outer) = below.pop() else {
+        return Ok(syntax());
+    };
+    let fields = fields_with(opened, label, at, optional, last.tree)?;
+    Ok(at_place(Place::FieldsEnd(fields), outer, below))
+}
+
+// A `}` was read.
+fn close_brace(
+    alloc: Global,
+    chain: Chain,
+    top: Frame,
+    mut below: Vec<Frame>,
+    to: usize,
+) -> Result<Outcome, AllocError>
+    ensures { IfOk result (λ outcome. plain_outcome outcome ≡ machine.close_brace to (plain_around top.around) (machine.tree_end (plain_frame top) (plain_chain chain)) (plain_frames below.items)) }
+{
+    let (around, last) = tree_end(alloc, top, chain)?;
+    let Around::InField(opened, label, at, optional) = around else {
+        return Ok(syntax());
+    };
+    let Some(outer) = below.pop() else {
+        return Ok(syntax());
+    };
+    let fields = fields_with(opened, label, at, optional, last.tree)?;
+    Ok(put(alloc, record_part(fields, to, false), outer, below)?)
+}
+
+// A word was read.
+fn after_word(
+    alloc: Global,
+    chain: Chain,
+    top: Frame,
+    below: Vec<Frame>,
+    name: &Name,
+) -> Result<Outcome, AllocError>
+    ensures { IfOk result (λ outcome. plain_outcome outcome ≡ machine.step_after_word name.now (plain_chain chain) (plain_frame top) (plain_frames below.items)) }
+{
+    if name.is_spelled(&['w', 'h', 'e', 'r', 'e']) {
+        return next_name(alloc, chain, top, below, true);
+    }
+    if name.is_spelled(&['a', 'n', 'd']) {
+        return next_name(alloc, chain, top, below, false);
+    }
+    Ok(syntax())
+}
+
+// A `where` was read, or with false an `and`.
+fn next_name(
+    alloc: Global,
+    chain: Chain,
+    top: Frame,
+    below: Vec<Frame>,
+    first: bool,
+) -> Result<Outcome, AllocError>
+    ensures { IfOk result (λ outcome. plain_outcome outcome ≡ machine.next_name (machine.names_of (option_map plain_names top.names) (machine.arrow_end (plain_frame top) (plain_chain chain)) first) (plain_frame top) (plain_frames below.items)) }
+{
+    let Frame {
+        room,
+        around,
+        names,
+        arrows,
+        unions,
+        ..
+    } = top;
+    let last = arrow_end(alloc, arrows, unions, chain)?;
+    let Some((body, declared)) = names_of(alloc, names, last, first)? else {
+        return Ok(syntax());
+    };
+    Ok(at_place(Place::NameNext(body, declared), begun(room, around), below))
+}
+
+// The type before its names, and the names that are declared, where this word may stand.
+fn names_of(
+    alloc: Global,
+    names: Option<Names>,
+    last: Part,
+    first: bool,
+) -> Result<Option<(Part, Vec<Declaration>)>, AllocError>
+    ensures { IfOk result (λ found. option_map (λ all. (plain_part all.0, map plain_declaration all.1.items)) found ≡ machine.names_of (option_map plain_names names) (plain_part last) first) }
+{
+    match names {
+        None if first => Ok(Some((last, Vec::new(alloc)))),
+        Some(names) if !first => Ok(Some(declared_with(names, last)?)),
+        _ => Ok(None),
+    }
+}
