@@ -1,2 +1,4 @@
 pub mod Rising
 pub mod Sweep
+pub mod Numbering
+pub mod ListedAtoms
