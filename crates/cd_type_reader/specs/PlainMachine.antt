@@ -1,5 +1,6 @@
 -- The machine of the code that reads types, as plain data.
 use Rattle.std.specs.Prelude.{Bool, List, map, reverse, Option, Result, Ok, Err}
+use Rattle.std.specs.Global.{Box}
 use Rattle.std.specs.Option.{option_map}
 use Rattle.cd_syntax.specs.PlainTree.{plain, plain_signed, plain_field, plain_declaration}
 use Rattle.cd_type_reader.specs.Machine as machine
@@ -54,8 +55,8 @@ plain_frame frame = record {
 }
 
 -- the trees that stand open, which the code keeps from the outer to the inner
-abbrev pub plain_frames : List Frame → List machine.Frame
-plain_frames frames = reverse (map plain_frame frames)
+abbrev pub plain_frames : List (Box Frame) → List machine.Frame
+plain_frames frames = reverse (map (λ frame. plain_frame frame.value) frames)
 
 abbrev pub plain_place : Place → machine.Place
 plain_place place.Before = machine.Before
@@ -72,7 +73,7 @@ plain_place (place.LabelRead opened label at) = machine.LabelRead (plain_opened 
 plain_place (place.FieldsEnd opened) = machine.FieldsEnd (plain_opened opened)
 
 abbrev pub plain_state : State → machine.State
-plain_state state = record { place = plain_place state.place; top = plain_frame state.top; below = plain_frames state.below.items }
+plain_state state = record { place = plain_place state.place; top = plain_frame state.top.value; below = plain_frames state.below.items }
 
 abbrev pub plain_fault : Fault → machine.Fault
 plain_fault fault.Syntax = machine.Syntax

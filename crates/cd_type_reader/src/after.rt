@@ -21,12 +21,12 @@ use std::alloc::{AllocError, Global};
 pub(crate) fn step_after(
     alloc: Global,
     chain: Chain,
-    top: Frame,
-    below: Vec<Frame>,
+    top: Box<Frame>,
+    below: Vec<Box<Frame>>,
     kind: &TokenKind,
     span: Span,
 ) -> Result<Outcome, AllocError>
-    ensures { IfOk result (λ outcome. plain_outcome outcome ≡ machine.step_after (plain_chain chain) (plain_frame top) (plain_frames below.items) kind.now span) }
+    ensures { IfOk result (λ outcome. plain_outcome outcome ≡ machine.step_after (plain_chain chain) (plain_frame top.value) (plain_frames below.items) kind.now span) }
 {
     match kind {
         TokenKind::Sign(sign) => after_sign(alloc, chain, top, below, *sign, span),
@@ -38,12 +38,12 @@ pub(crate) fn step_after(
 fn after_sign(
     alloc: Global,
     chain: Chain,
-    top: Frame,
-    below: Vec<Frame>,
+    top: Box<Frame>,
+    below: Vec<Box<Frame>>,
     sign: Sign,
     span: Span,
 ) -> Result<Outcome, AllocError>
-    ensures { IfOk result (λ outcome. plain_outcome outcome ≡ machine.step_after (plain_chain chain) (plain_frame top) (plain_frames below.items) (token.Sign sign) span) }
+    ensures { IfOk result (λ outcome. plain_outcome outcome ≡ machine.step_after (plain_chain chain) (plain_frame top.value) (plain_frames below.items) (token.Sign sign) span) }
 {
     match sign {
         Sign::And => Ok(at_place(Place::Before, pending(chain, true, top), below)),
@@ -60,44 +60,31 @@ fn after_sign(
 }
 
 // A `&` or a `\` was read.
-fn pending(chain: Chain, kept: bool, top: Frame) -> Frame
-    ensures { plain_frame result ≡ machine.pending_sign (plain_chain chain) kept (plain_frame top) }
+fn pending(chain: Chain, kept: bool, mut top: Box<Frame>) -> Box<Frame>
+    ensures { plain_frame result.value ≡ machine.pending_sign (plain_chain chain) kept (plain_frame top.value) }
 {
-    Frame {
-        room: top.room,
-        left: top.left,
-        around: top.around,
-        names: top.names,
-        arrows: top.arrows,
-        unions: top.unions,
-        pending: Some((chain, kept)),
-    }
+    top.pending = Some((chain, kept));
+    top
 }
 
 // A `|` was read.
-fn after_or(alloc: Global, chain: Chain, top: Frame) -> Result<Frame, AllocError>
-    ensures { IfOk result (λ frame. plain_frame frame ≡ machine.after_or (plain_chain chain) (plain_frame top)) }
+fn after_or(alloc: Global, chain: Chain, mut top: Box<Frame>) -> Result<Box<Frame>, AllocError>
+    ensures { IfOk result (λ frame. plain_frame frame.value ≡ machine.after_or (plain_chain chain) (plain_frame top.value)) }
 {
     let meet = meet_part(alloc, chain)?;
-    Ok(Frame {
-        room: top.room,
-        left: top.left,
-        around: top.around,
-        names: top.names,
-        arrows: top.arrows,
-        unions: Some(row_with(alloc, top.unions, meet)?),
-        pending: None,
-    })
+    top.unions = Some(row_with(alloc, top.unions.take(), meet)?);
+    top.pending = None;
+    Ok(top)
 }
 
 // A `->` was read.
 fn after_arrow(
     alloc: Global,
     chain: Chain,
-    top: Frame,
-    below: Vec<Frame>,
+    top: Box<Frame>,
+    below: Vec<Box<Frame>>,
 ) -> Result<Outcome, AllocError>
-    ensures { IfOk result (λ outcome. plain_outcome outcome ≡ machine.opened (machine.within top.left) (λ left. machine.at_place machine.Before (machine.after_arrow (plain_chain chain) (plain_frame top) left) (plain_frames below.items))) }
+    ensures { IfOk result (λ outcome. plain_outcome outcome ≡ machine.opened (machine.within top.value.left) (λ left. machine.at_place machine.Before (machine.after_arrow (plain_chain chain) (plain_frame top.value) left) (plain_frames below.items))) }
 {
     let Some(left) = within(top.left) else {
         return Ok(too_deep());
@@ -105,37 +92,37 @@ fn after_arrow(
     Ok(at_place(Place::Before, longer_arrow(alloc, chain, top, left)?, below))
 }
 
-fn longer_arrow(alloc: Global, chain: Chain, top: Frame, left: usize) -> Result<Frame, AllocError>
-    ensures { IfOk result (λ frame. plain_frame frame ≡ machine.after_arrow (plain_chain chain) (plain_frame top) left) }
+fn longer_arrow(
+    alloc: Global,
+    chain: Chain,
+    mut top: Box<Frame>,
+    left: usize,
+) -> Result<Box<Frame>, AllocError>
+    ensures { IfOk result (λ frame. plain_frame frame.value ≡ machine.after_arrow (plain_chain chain) (plain_frame top.value) left) }
 {
     let meet = meet_part(alloc, chain)?;
-    let union = union_part(top.unions, meet)?;
-    Ok(Frame {
-        room: top.room,
-        left,
-        around: top.around,
-        names: top.names,
-        arrows: Some(row_with(alloc, top.arrows, union)?),
-        unions: None,
-        pending: None,
-    })
+    let union = union_part(top.unions.take(), meet)?;
+    top.arrows = Some(row_with(alloc, top.arrows.take(), union)?);
+    top.left = left;
+    top.pending = None;
+    Ok(top)
 }
 
 // A `,` was read.
 fn after_comma(
     alloc: Global,
     chain: Chain,
-    top: Frame,
-    below: Vec<Frame>,
+    top: Box<Frame>,
+    below: Vec<Box<Frame>>,
 ) -> Result<Outcome, AllocError>
-    ensures { IfOk result (λ outcome. plain_outcome outcome ≡ machine.next_item top.room (plain_around top.around) (machine.tree_end (plain_frame top) (plain_chain chain)) (plain_frames below.items)) }
+    ensures { IfOk result (λ outcome. plain_outcome outcome ≡ machine.next_item top.value.room (plain_around top.value.around) (machine.tree_end (plain_frame top.value) (plain_chain chain)) (plain_frames below.items)) }
 {
     let room = top.room;
     let (around, last) = tree_end(alloc, top, chain)?;
     match around {
         Around::InParentheses(from, items) => {
             let items = pushed(items, last.tree)?;
-            let top = begun(room, Around::InParentheses(from, items));
+            let top = Box::new(alloc, begun(room, Around::InParentheses(from, items)))?;
             Ok(at_place(Place::Before, top, below))
         }
         _ => Ok(syntax()),
@@ -146,11 +133,11 @@ fn after_comma(
 fn close_parenthesis(
     alloc: Global,
     chain: Chain,
-    top: Frame,
-    mut below: Vec<Frame>,
+    top: Box<Frame>,
+    mut below: Vec<Box<Frame>>,
     to: usize,
 ) -> Result<Outcome, AllocError>
-    ensures { IfOk result (λ outcome. plain_outcome outcome ≡ machine.close_parenthesis to (plain_around top.around) (machine.tree_end (plain_frame top) (plain_chain chain)) (plain_frames below.items)) }
+    ensures { IfOk result (λ outcome. plain_outcome outcome ≡ machine.close_parenthesis to (plain_around top.value.around) (machine.tree_end (plain_frame top.value) (plain_chain chain)) (plain_frames below.items)) }
 {
     let (around, last) = tree_end(alloc, top, chain)?;
     let Around::InParentheses(from, items) = around else {
@@ -167,10 +154,10 @@ fn close_parenthesis(
 fn after_semicolon(
     alloc: Global,
     chain: Chain,
-    top: Frame,
-    mut below: Vec<Frame>,
+    top: Box<Frame>,
+    mut below: Vec<Box<Frame>>,
 ) -> Result<Outcome, AllocError>
-    ensures { IfOk result (λ outcome. plain_outcome outcome ≡ machine.next_field (plain_around top.around) (machine.tree_end (plain_frame top) (plain_chain chain)) (plain_frames below.items)) }
+    ensures { IfOk result (λ outcome. plain_outcome outcome ≡ machine.next_field (plain_around top.value.around) (machine.tree_end (plain_frame top.value) (plain_chain chain)) (plain_frames below.items)) }
 {
     let (around, last) = tree_end(alloc, top, chain)?;
     let Around::InField(opened, label, at, optional) = around else {
@@ -187,10 +174,10 @@ fn after_semicolon(
 fn after_dots(
     alloc: Global,
     chain: Chain,
-    top: Frame,
-    mut below: Vec<Frame>,
+    top: Box<Frame>,
+    mut below: Vec<Box<Frame>>,
 ) -> Result<Outcome, AllocError>
-    ensures { IfOk result (λ outcome. plain_outcome outcome ≡ machine.fields_end (plain_around top.around) (machine.tree_end (plain_frame top) (plain_chain chain)) (plain_frames below.items)) }
+    ensures { IfOk result (λ outcome. plain_outcome outcome ≡ machine.fields_end (plain_around top.value.around) (machine.tree_end (plain_frame top.value) (plain_chain chain)) (plain_frames below.items)) }
 {
     let (around, last) = tree_end(alloc, top, chain)?;
     let Around::InField(opened, label, at, optional) = around else {
@@ -207,11 +194,11 @@ fn after_dots(
 fn close_brace(
     alloc: Global,
     chain: Chain,
-    top: Frame,
-    mut below: Vec<Frame>,
+    top: Box<Frame>,
+    mut below: Vec<Box<Frame>>,
     to: usize,
 ) -> Result<Outcome, AllocError>
-    ensures { IfOk result (λ outcome. plain_outcome outcome ≡ machine.close_brace to (plain_around top.around) (machine.tree_end (plain_frame top) (plain_chain chain)) (plain_frames below.items)) }
+    ensures { IfOk result (λ outcome. plain_outcome outcome ≡ machine.close_brace to (plain_around top.value.around) (machine.tree_end (plain_frame top.value) (plain_chain chain)) (plain_frames below.items)) }
 {
     let (around, last) = tree_end(alloc, top, chain)?;
     let Around::InField(opened, label, at, optional) = around else {
@@ -228,11 +215,11 @@ fn close_brace(
 fn after_word(
     alloc: Global,
     chain: Chain,
-    top: Frame,
-    below: Vec<Frame>,
+    top: Box<Frame>,
+    below: Vec<Box<Frame>>,
     name: &Name,
 ) -> Result<Outcome, AllocError>
-    ensures { IfOk result (λ outcome. plain_outcome outcome ≡ machine.step_after_word name.now (plain_chain chain) (plain_frame top) (plain_frames below.items)) }
+    ensures { IfOk result (λ outcome. plain_outcome outcome ≡ machine.step_after_word name.now (plain_chain chain) (plain_frame top.value) (plain_frames below.items)) }
 {
     if name.is_spelled(&['w', 'h', 'e', 'r', 'e']) {
         return next_name(alloc, chain, top, below, true);
@@ -247,11 +234,11 @@ fn after_word(
 fn next_name(
     alloc: Global,
     chain: Chain,
-    top: Frame,
-    below: Vec<Frame>,
+    top: Box<Frame>,
+    below: Vec<Box<Frame>>,
     first: bool,
 ) -> Result<Outcome, AllocError>
-    ensures { IfOk result (λ outcome. plain_outcome outcome ≡ machine.next_name (machine.names_of (option_map plain_names top.names) (machine.arrow_end (plain_frame top) (plain_chain chain)) first) (plain_frame top) (plain_frames below.items)) }
+    ensures { IfOk result (λ outcome. plain_outcome outcome ≡ machine.next_name (machine.names_of (option_map plain_names top.value.names) (machine.arrow_end (plain_frame top.value) (plain_chain chain)) first) (plain_frame top.value) (plain_frames below.items)) }
 {
     let Frame {
         room,
@@ -260,12 +247,13 @@ fn next_name(
         arrows,
         unions,
         ..
-    } = top;
+    } = Box::into_inner(top);
     let last = arrow_end(alloc, arrows, unions, chain)?;
     let Some((body, declared)) = names_of(alloc, names, last, first)? else {
         return Ok(syntax());
     };
-    Ok(at_place(Place::NameNext(body, declared), begun(room, around), below))
+    let top = Box::new(alloc, begun(room, around))?;
+    Ok(at_place(Place::NameNext(body, declared), top, below))
 }
 
 // The type before its names, and the names that are declared, where this word may stand.

@@ -125,10 +125,10 @@ pub(crate) fn arrow_end(
 /// The tree that ends with this meet, and what it was read for.
 pub(crate) fn tree_end(
     alloc: Global,
-    top: Frame,
+    top: Box<Frame>,
     chain: Chain,
 ) -> Result<(Around, Part), AllocError>
-    ensures { IfOk result (λ all. (plain_around all.0 ≡ plain_around top.around) × (plain_part all.1 ≡ machine.tree_end (plain_frame top) (plain_chain chain))) }
+    ensures { IfOk result (λ all. (plain_around all.0 ≡ plain_around top.value.around) × (plain_part all.1 ≡ machine.tree_end (plain_frame top.value) (plain_chain chain))) }
 {
     let Frame {
         around,
@@ -136,7 +136,7 @@ pub(crate) fn tree_end(
         arrows,
         unions,
         ..
-    } = top;
+    } = Box::into_inner(top);
     let arrow = arrow_end(alloc, arrows, unions, chain)?;
     Ok((around, where_part(alloc, names, arrow)?))
 }

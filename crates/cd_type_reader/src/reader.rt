@@ -43,7 +43,7 @@ fn run(alloc: Global, tokens: &[Token], most: usize) -> Result<Reading, AllocErr
 {
     let mut state = State {
         place: Place::Before,
-        top: begun(most, Around::Alone),
+        top: Box::new(alloc, begun(most, Around::Alone))?,
         below: Vec::new(alloc),
     };
     for (index, token) in tokens.iter().enumerate() {
@@ -94,10 +94,10 @@ impl State {
 fn ended_with(
     alloc: Global,
     one: Part,
-    top: Frame,
-    below: Vec<Frame>,
+    top: Box<Frame>,
+    below: Vec<Box<Frame>>,
 ) -> Result<Option<Tree>, AllocError>
-    ensures { IfOk result (λ found. option_map plain found ≡ machine.ended (machine.chain_with (plain_frame top).pending (plain_part one)) (machine.settled (plain_frame top)) (plain_frames below.items)) }
+    ensures { IfOk result (λ found. option_map plain found ≡ machine.ended (machine.chain_with (plain_frame top.value).pending (plain_part one)) (machine.settled (plain_frame top.value)) (plain_frames below.items)) }
 {
     let (pending, top) = settled(top);
     let chain = chain_with(alloc, pending, one)?;
@@ -108,10 +108,10 @@ fn ended_with(
 fn ended(
     alloc: Global,
     chain: Chain,
-    top: Frame,
-    below: Vec<Frame>,
+    top: Box<Frame>,
+    below: Vec<Box<Frame>>,
 ) -> Result<Option<Tree>, AllocError>
-    ensures { IfOk result (λ found. option_map plain found ≡ machine.ended (plain_chain chain) (plain_frame top) (plain_frames below.items)) }
+    ensures { IfOk result (λ found. option_map plain found ≡ machine.ended (plain_chain chain) (plain_frame top.value) (plain_frames below.items)) }
 {
     let (around, last) = tree_end(alloc, top, chain)?;
     let Around::Alone = around else {

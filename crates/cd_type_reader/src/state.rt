@@ -43,9 +43,9 @@ pub(crate) enum Place {
 #[derive(Drop)]
 pub(crate) struct State {
     pub(crate) place: Place,
-    pub(crate) top: Frame,
+    pub(crate) top: Box<Frame>,
     /// The trees round the top one, from the outer to the inner.
-    pub(crate) below: Vec<Frame>,
+    pub(crate) below: Vec<Box<Frame>>,
 }
 
 /// Why a token cannot come next.
@@ -63,8 +63,8 @@ pub(crate) enum Outcome {
 }
 
 /// The machine goes on at a place.
-pub(crate) fn at_place(place: Place, top: Frame, below: Vec<Frame>) -> Outcome
-    ensures { plain_outcome result ≡ machine.at_place (plain_place place) (plain_frame top) (plain_frames below.items) }
+pub(crate) fn at_place(place: Place, top: Box<Frame>, below: Vec<Box<Frame>>) -> Outcome
+    ensures { plain_outcome result ≡ machine.at_place (plain_place place) (plain_frame top.value) (plain_frames below.items) }
 {
     Outcome::Next(State { place, top, below })
 }
@@ -87,10 +87,10 @@ pub(crate) fn too_deep() -> Outcome
 pub(crate) fn put(
     alloc: Global,
     one: Part,
-    top: Frame,
-    below: Vec<Frame>,
+    top: Box<Frame>,
+    below: Vec<Box<Frame>>,
 ) -> Result<Outcome, AllocError>
-    ensures { IfOk result (λ outcome. plain_outcome outcome ≡ machine.put (plain_part one) (plain_frame top) (plain_frames below.items)) }
+    ensures { IfOk result (λ outcome. plain_outcome outcome ≡ machine.put (plain_part one) (plain_frame top.value) (plain_frames below.items)) }
 {
     let (pending, top) = settled(top);
     let chain = chain_with(alloc, pending, one)?;
@@ -98,27 +98,10 @@ pub(crate) fn put(
 }
 
 /// A frame without the meet that is pending, and that meet.
-pub(crate) fn settled(top: Frame) -> (Option<(Chain, bool)>, Frame)
-    ensures pending { plain_pending result.0 ≡ plain_pending top.pending }
-    ensures frame { plain_frame result.1 ≡ machine.settled (plain_frame top) }
+pub(crate) fn settled(mut top: Box<Frame>) -> (Option<(Chain, bool)>, Box<Frame>)
+    ensures pending { plain_pending result.0 ≡ plain_pending top.value.pending }
+    ensures frame { plain_frame result.1.value ≡ machine.settled (plain_frame top.value) }
 {
-    let Frame {
-        room,
-        left,
-        around,
-        names,
-        arrows,
-        unions,
-        pending,
-    } = top;
-    let rest = Frame {
-        room,
-        left,
-        around,
-        names,
-        arrows,
-        unions,
-        pending: None,
-    };
-    (pending, rest)
+    let pending = top.pending.take();
+    (pending, top)
 }

@@ -38,7 +38,9 @@ impl State {
                 Ok(name_read(body, declared, name, at, top, below, kind))
             }
             Place::FieldNext(opened) => field_next(alloc, opened, top, below, kind, span),
-            Place::LabelRead(opened, label, at) => label_read(opened, label, at, top, below, kind),
+            Place::LabelRead(opened, label, at) => {
+                label_read(alloc, opened, label, at, top, below, kind)
+            }
             Place::FieldsEnd(opened) => fields_end(alloc, opened, top, below, kind, span),
         }
     }
@@ -47,12 +49,12 @@ impl State {
 // Where a simple type has to come.
 fn before(
     alloc: Global,
-    top: Frame,
-    below: Vec<Frame>,
+    top: Box<Frame>,
+    below: Vec<Box<Frame>>,
     kind: &TokenKind,
     span: Span,
 ) -> Result<Outcome, AllocError>
-    ensures { IfOk result (λ outcome. plain_outcome outcome ≡ machine.step_before (plain_frame top) (plain_frames below.items) kind.now span) }
+    ensures { IfOk result (λ outcome. plain_outcome outcome ≡ machine.step_before (plain_frame top.value) (plain_frames below.items) kind.now span) }
 {
     match kind {
         TokenKind::Int(value) => {
@@ -69,18 +71,18 @@ fn before(
             put(alloc, form(span.from, span.to, kind), top, below)
         }
         TokenKind::Word(name) => before_word(alloc, name, top, below, span),
-        TokenKind::Sign(sign) => before_sign(*sign, top, below, span),
+        TokenKind::Sign(sign) => before_sign(alloc, *sign, top, below, span),
     }
 }
 
 // A character that may be a low bound, where the token holds just one.
 fn before_letter(
     name: &Name,
-    top: Frame,
-    below: Vec<Frame>,
+    top: Box<Frame>,
+    below: Vec<Box<Frame>>,
     span: Span,
 ) -> Result<Outcome, AllocError>
-    ensures { IfOk result (λ outcome. plain_outcome outcome ≡ machine.step_before (plain_frame top) (plain_frames below.items) (token.Chars name.now) span) }
+    ensures { IfOk result (λ outcome. plain_outcome outcome ≡ machine.step_before (plain_frame top.value) (plain_frames below.items) (token.Chars name.now) span) }
 {
     match name.only_character() {
         Some(c) => Ok(at_place(Place::Letter(c, span.from, span.to), top, below)),
@@ -92,11 +94,11 @@ fn before_letter(
 fn before_word(
     alloc: Global,
     name: &Name,
-    top: Frame,
-    below: Vec<Frame>,
+    top: Box<Frame>,
+    below: Vec<Box<Frame>>,
     span: Span,
 ) -> Result<Outcome, AllocError>
-    ensures { IfOk result (λ outcome. plain_outcome outcome ≡ machine.put_kind (machine.kind_of name.now) span (plain_frame top) (plain_frames below.items)) }
+    ensures { IfOk result (λ outcome. plain_outcome outcome ≡ machine.put_kind (machine.kind_of name.now) span (plain_frame top.value) (plain_frames below.items)) }
 {
     match kind_of(name)? {
         Some(kind) => put(alloc, form(span.from, span.to, kind), top, below),
@@ -118,40 +120,56 @@ fn kind_of(name: &Name) -> Result<Option<TreeKind>, AllocError>
 }
 
 // A sign that a simple type may begin with.
-fn before_sign(sign: Sign, top: Frame, below: Vec<Frame>, span: Span) -> Result<Outcome, AllocError>
-    ensures { IfOk result (λ outcome. plain_outcome outcome ≡ machine.step_before (plain_frame top) (plain_frames below.items) (token.Sign sign) span) }
+fn before_sign(
+    alloc: Global,
+    sign: Sign,
+    top: Box<Frame>,
+    below: Vec<Box<Frame>>,
+    span: Span,
+) -> Result<Outcome, AllocError>
+    ensures { IfOk result (λ outcome. plain_outcome outcome ≡ machine.step_before (plain_frame top.value) (plain_frames below.items) (token.Sign sign) span) }
 {
     match sign {
         Sign::StarTo => Ok(at_place(Place::Most(span.from), top, below)),
-        Sign::OpenParenthesis => open_parenthesis(top, below, span),
-        Sign::OpenBrace => open_brace(top, below, span),
+        Sign::OpenParenthesis => open_parenthesis(alloc, top, below, span),
+        Sign::OpenBrace => open_brace(alloc, top, below, span),
         _ => Ok(syntax()),
     }
 }
 
 // A `(` was read.
-fn open_parenthesis(top: Frame, mut below: Vec<Frame>, span: Span) -> Result<Outcome, AllocError>
-    ensures { IfOk result (λ outcome. plain_outcome outcome ≡ machine.step_before (plain_frame top) (plain_frames below.items) (token.Sign sign.OpenParenthesis) span) }
+fn open_parenthesis(
+    alloc: Global,
+    top: Box<Frame>,
+    mut below: Vec<Box<Frame>>,
+    span: Span,
+) -> Result<Outcome, AllocError>
+    ensures { IfOk result (λ outcome. plain_outcome outcome ≡ machine.step_before (plain_frame top.value) (plain_frames below.items) (token.Sign sign.OpenParenthesis) span) }
 {
     let Some(room) = within(top.left) else {
         return Ok(too_deep());
     };
-    let items = Vec::new(*below.allocator());
     below.push(top)?;
-    let inner = begun(room, Around::InParentheses(span.from, items));
+    let around = Around::InParentheses(span.from, Vec::new(alloc));
+    let inner = Box::new(alloc, begun(room, around))?;
     Ok(at_place(Place::Before, inner, below))
 }
 
 // A `{` was read.
-fn open_brace(top: Frame, below: Vec<Frame>, span: Span) -> Result<Outcome, AllocError>
-    ensures { IfOk result (λ outcome. plain_outcome outcome ≡ machine.step_before (plain_frame top) (plain_frames below.items) (token.Sign sign.OpenBrace) span) }
+fn open_brace(
+    alloc: Global,
+    top: Box<Frame>,
+    below: Vec<Box<Frame>>,
+    span: Span,
+) -> Result<Outcome, AllocError>
+    ensures { IfOk result (λ outcome. plain_outcome outcome ≡ machine.step_before (plain_frame top.value) (plain_frames below.items) (token.Sign sign.OpenBrace) span) }
 {
     if within(top.left).is_none() {
         return Ok(too_deep());
     }
     let opened = Opened {
         from: span.from,
-        fields: Vec::new(*below.allocator()),
+        fields: Vec::new(alloc),
     };
     Ok(at_place(Place::FieldNext(opened), top, below))
 }
@@ -162,12 +180,12 @@ fn low(
     value: i128,
     from: usize,
     to: usize,
-    top: Frame,
-    below: Vec<Frame>,
+    top: Box<Frame>,
+    below: Vec<Box<Frame>>,
     kind: &TokenKind,
     span: Span,
 ) -> Result<Outcome, AllocError>
-    ensures { IfOk result (λ outcome. plain_outcome outcome ≡ machine.step_low value from to (plain_frame top) (plain_frames below.items) kind.now span) }
+    ensures { IfOk result (λ outcome. plain_outcome outcome ≡ machine.step_low value from to (plain_frame top.value) (plain_frames below.items) kind.now span) }
 {
     match kind {
         TokenKind::Sign(Sign::To) => Ok(at_place(Place::Bound(value, from), top, below)),
@@ -188,12 +206,12 @@ fn low(
 fn after_part(
     alloc: Global,
     one: Part,
-    top: Frame,
-    below: Vec<Frame>,
+    top: Box<Frame>,
+    below: Vec<Box<Frame>>,
     kind: &TokenKind,
     span: Span,
 ) -> Result<Outcome, AllocError>
-    ensures { IfOk result (λ outcome. plain_outcome outcome ≡ machine.step_after (machine.chain_with (plain_frame top).pending (plain_part one)) (machine.settled (plain_frame top)) (plain_frames below.items) kind.now span) }
+    ensures { IfOk result (λ outcome. plain_outcome outcome ≡ machine.step_after (machine.chain_with (plain_frame top.value).pending (plain_part one)) (machine.settled (plain_frame top.value)) (plain_frames below.items) kind.now span) }
 {
     let (pending, top) = settled(top);
     let chain = chain_with(alloc, pending, one)?;
@@ -212,12 +230,12 @@ fn bound(
     alloc: Global,
     value: i128,
     from: usize,
-    top: Frame,
-    below: Vec<Frame>,
+    top: Box<Frame>,
+    below: Vec<Box<Frame>>,
     kind: &TokenKind,
     span: Span,
 ) -> Result<Outcome, AllocError>
-    ensures { IfOk result (λ outcome. plain_outcome outcome ≡ machine.step_bound value from (plain_frame top) (plain_frames below.items) kind.now span) }
+    ensures { IfOk result (λ outcome. plain_outcome outcome ≡ machine.step_bound value from (plain_frame top.value) (plain_frames below.items) kind.now span) }
 {
     let TokenKind::Int(high) = kind else {
         return Ok(syntax());
@@ -230,12 +248,12 @@ fn bound(
 fn most(
     alloc: Global,
     from: usize,
-    top: Frame,
-    below: Vec<Frame>,
+    top: Box<Frame>,
+    below: Vec<Box<Frame>>,
     kind: &TokenKind,
     span: Span,
 ) -> Result<Outcome, AllocError>
-    ensures { IfOk result (λ outcome. plain_outcome outcome ≡ machine.step_most from (plain_frame top) (plain_frames below.items) kind.now span) }
+    ensures { IfOk result (λ outcome. plain_outcome outcome ≡ machine.step_most from (plain_frame top.value) (plain_frames below.items) kind.now span) }
 {
     let TokenKind::Int(high) = kind else {
         return Ok(syntax());
@@ -250,12 +268,12 @@ fn letter(
     c: char,
     from: usize,
     to: usize,
-    top: Frame,
-    below: Vec<Frame>,
+    top: Box<Frame>,
+    below: Vec<Box<Frame>>,
     kind: &TokenKind,
     span: Span,
 ) -> Result<Outcome, AllocError>
-    ensures { IfOk result (λ outcome. plain_outcome outcome ≡ machine.step_letter c from to (plain_frame top) (plain_frames below.items) kind.now span) }
+    ensures { IfOk result (λ outcome. plain_outcome outcome ≡ machine.step_letter c from to (plain_frame top.value) (plain_frames below.items) kind.now span) }
 {
     match kind {
         TokenKind::Sign(Sign::To) => Ok(at_place(Place::LetterBound(c, from), top, below)),
@@ -280,12 +298,12 @@ fn letter_bound(
     alloc: Global,
     low: char,
     from: usize,
-    top: Frame,
-    below: Vec<Frame>,
+    top: Box<Frame>,
+    below: Vec<Box<Frame>>,
     kind: &TokenKind,
     span: Span,
 ) -> Result<Outcome, AllocError>
-    ensures { IfOk result (λ outcome. plain_outcome outcome ≡ machine.step_letter_bound low from (plain_frame top) (plain_frames below.items) kind.now span) }
+    ensures { IfOk result (λ outcome. plain_outcome outcome ≡ machine.step_letter_bound low from (plain_frame top.value) (plain_frames below.items) kind.now span) }
 {
     let TokenKind::Chars(name) = kind else {
         return Ok(syntax());
@@ -305,12 +323,12 @@ fn letter_bound(
 fn name_next(
     body: Part,
     declared: Vec<Declaration>,
-    top: Frame,
-    below: Vec<Frame>,
+    top: Box<Frame>,
+    below: Vec<Box<Frame>>,
     kind: &TokenKind,
     span: Span,
 ) -> Result<Outcome, AllocError>
-    ensures { IfOk result (λ outcome. plain_outcome outcome ≡ machine.step_name (plain_part body) (map plain_declaration declared.items) (plain_frame top) (plain_frames below.items) kind.now span) }
+    ensures { IfOk result (λ outcome. plain_outcome outcome ≡ machine.step_name (plain_part body) (map plain_declaration declared.items) (plain_frame top.value) (plain_frames below.items) kind.now span) }
 {
     let TokenKind::Word(name) = kind else {
         return Ok(syntax());
@@ -328,11 +346,11 @@ fn name_read(
     declared: Vec<Declaration>,
     name: Name,
     at: usize,
-    top: Frame,
-    below: Vec<Frame>,
+    top: Box<Frame>,
+    below: Vec<Box<Frame>>,
     kind: &TokenKind,
 ) -> Outcome
-    ensures { plain_outcome result ≡ machine.step_equal (plain_part body) (map plain_declaration declared.items) name at (plain_frame top) (plain_frames below.items) kind.now }
+    ensures { plain_outcome result ≡ machine.step_equal (plain_part body) (map plain_declaration declared.items) name at (plain_frame top.value) (plain_frames below.items) kind.now }
 {
     let TokenKind::Sign(Sign::Equal) = kind else {
         return syntax();
@@ -346,30 +364,26 @@ fn name_read(
     at_place(Place::Before, with_names(names, top), below)
 }
 
-fn with_names(names: Names, top: Frame) -> Frame
-    ensures { plain_frame result ≡ machine.with_names (plain_names names) (plain_frame top) }
+fn with_names(names: Names, mut top: Box<Frame>) -> Box<Frame>
+    ensures { plain_frame result.value ≡ machine.with_names (plain_names names) (plain_frame top.value) }
 {
-    Frame {
-        room: top.room,
-        left: top.left,
-        around: top.around,
-        names: Some(names),
-        arrows: None,
-        unions: None,
-        pending: None,
-    }
+    top.names = Some(names);
+    top.arrows = None;
+    top.unions = None;
+    top.pending = None;
+    top
 }
 
 // Within a record, before a field.
 fn field_next(
     alloc: Global,
     opened: Opened,
-    top: Frame,
-    below: Vec<Frame>,
+    top: Box<Frame>,
+    below: Vec<Box<Frame>>,
     kind: &TokenKind,
     span: Span,
 ) -> Result<Outcome, AllocError>
-    ensures { IfOk result (λ outcome. plain_outcome outcome ≡ machine.step_field (plain_opened opened) (plain_frame top) (plain_frames below.items) kind.now span) }
+    ensures { IfOk result (λ outcome. plain_outcome outcome ≡ machine.step_field (plain_opened opened) (plain_frame top.value) (plain_frames below.items) kind.now span) }
 {
     match kind {
         TokenKind::Word(label) => field_label(opened, label, top, below, span),
@@ -387,11 +401,11 @@ fn field_next(
 fn field_label(
     opened: Opened,
     label: &Name,
-    top: Frame,
-    below: Vec<Frame>,
+    top: Box<Frame>,
+    below: Vec<Box<Frame>>,
     span: Span,
 ) -> Result<Outcome, AllocError>
-    ensures { IfOk result (λ outcome. plain_outcome outcome ≡ machine.step_field (plain_opened opened) (plain_frame top) (plain_frames below.items) (token.Word label.now) span) }
+    ensures { IfOk result (λ outcome. plain_outcome outcome ≡ machine.step_field (plain_opened opened) (plain_frame top.value) (plain_frames below.items) (token.Word label.now) span) }
 {
     if label.is_spelled(&['_']) {
         return Ok(syntax());
@@ -402,37 +416,44 @@ fn field_label(
 
 // After the label of a field.
 fn label_read(
+    alloc: Global,
     opened: Opened,
     label: Name,
     at: usize,
-    top: Frame,
-    below: Vec<Frame>,
+    top: Box<Frame>,
+    below: Vec<Box<Frame>>,
     kind: &TokenKind,
 ) -> Result<Outcome, AllocError>
-    ensures { IfOk result (λ outcome. plain_outcome outcome ≡ machine.step_label (plain_opened opened) label at (plain_frame top) (plain_frames below.items) kind.now) }
+    ensures { IfOk result (λ outcome. plain_outcome outcome ≡ machine.step_label (plain_opened opened) label at (plain_frame top.value) (plain_frames below.items) kind.now) }
 {
     match kind {
-        TokenKind::Sign(Sign::Equal) => open_field(opened, label, at, false, top, below),
-        TokenKind::Sign(Sign::EqualQuestion) => open_field(opened, label, at, true, top, below),
+        TokenKind::Sign(Sign::Equal) => open_field(alloc, opened, label, at, false, top, below),
+        TokenKind::Sign(Sign::EqualQuestion) => open_field(
+            alloc, opened, label, at, true, top, below,
+        ),
         _ => Ok(syntax()),
     }
 }
 
 fn open_field(
+    alloc: Global,
     opened: Opened,
     label: Name,
     at: usize,
     optional: bool,
-    top: Frame,
-    mut below: Vec<Frame>,
+    top: Box<Frame>,
+    mut below: Vec<Box<Frame>>,
 ) -> Result<Outcome, AllocError>
-    ensures { IfOk result (λ outcome. plain_outcome outcome ≡ machine.open_field (plain_opened opened) label at optional (plain_frame top) (plain_frames below.items)) }
+    ensures { IfOk result (λ outcome. plain_outcome outcome ≡ machine.open_field (plain_opened opened) label at optional (plain_frame top.value) (plain_frames below.items)) }
 {
     let Some(room) = within(top.left) else {
         return Ok(too_deep());
     };
     below.push(top)?;
-    let inner = begun(room, Around::InField(opened, label, at, optional));
+    let inner = Box::new(
+        alloc,
+        begun(room, Around::InField(opened, label, at, optional)),
+    )?;
     Ok(at_place(Place::Before, inner, below))
 }
 
@@ -440,12 +461,12 @@ fn open_field(
 fn fields_end(
     alloc: Global,
     opened: Opened,
-    top: Frame,
-    below: Vec<Frame>,
+    top: Box<Frame>,
+    below: Vec<Box<Frame>>,
     kind: &TokenKind,
     span: Span,
 ) -> Result<Outcome, AllocError>
-    ensures { IfOk result (λ outcome. plain_outcome outcome ≡ machine.step_fields_end (plain_opened opened) (plain_frame top) (plain_frames below.items) kind.now span) }
+    ensures { IfOk result (λ outcome. plain_outcome outcome ≡ machine.step_fields_end (plain_opened opened) (plain_frame top.value) (plain_frames below.items) kind.now span) }
 {
     let TokenKind::Sign(Sign::CloseBrace) = kind else {
         return Ok(syntax());
