@@ -1,4 +1,4 @@
-ghost use Rattle.std.specs.Prelude.{◌≡◌, ℕ, ℤ, pos, ◌≤ℤ◌, Bool, true, false, [], ◌&&◌, ◌||◌, not, ◌↔◌, IsTrue, IfOk, MatchOption, slice_get};
+ghost use Rattle.std.specs.Prelude.{◌≡◌, ℕ, ℤ, pos, ◌≤ℤ◌, ◌≤◌, ◌∷◌, Bool, true, false, [], ◌&&◌, ◌||◌, not, ◌↔◌, IsTrue, IfOk, MatchOption, slice_get};
 ghost use Rattle.std.specs.Char.{IsScalar};
 ghost use Rattle.std.specs.Option.{option_map};
 ghost use Rattle.cd_intervals.specs.Interval.{holds};
@@ -40,7 +40,8 @@ impl CharSet {
 
     /// The characters from `low` to `high`, both among them; none where `low` is above `high`.
     pub fn interval(alloc: Global, low: char, high: char) -> Result<CharSet, AllocError>
-        ensures { IfOk result (λ set. (c : ℕ) → IsScalar c → holds_character set c ≡ is_among low high c) }
+        ensures characters { IfOk result (λ set. (c : ℕ) → IsScalar c → holds_character set c ≡ is_among low high c) }
+        ensures list { IfOk result (λ set. low ≤ high → set ≡ record { low = low; high = high } ∷ []) }
     {
         let mut numbers = Vec::new(alloc);
         if low <= high {

@@ -1,4 +1,4 @@
-ghost use Rattle.std.specs.Prelude.{◌≡◌, ℤ, Bool, true, false, [], ◌&&◌, ◌||◌, not, ◌↔◌, IsTrue, IfOk, MatchOption, slice_get};
+ghost use Rattle.std.specs.Prelude.{◌≡◌, ℤ, ◌≤ℤ◌, ◌∷◌, Bool, true, false, [], ◌&&◌, ◌||◌, not, ◌↔◌, IsTrue, IfOk, MatchOption, slice_get};
 ghost use Rattle.std.specs.Option.{option_map};
 ghost use Rattle.cd_intervals.specs.Interval.{is_between, holds, HoldsNothing, bounds_of};
 ghost use Rattle.cd_intervals.specs.Combine.{keeps_of};
@@ -39,7 +39,8 @@ impl IntSet {
 
     /// The integers from `low` to `high`, both among them; none where `low` is above `high`.
     pub fn interval(alloc: Global, low: i128, high: i128) -> Result<IntSet, AllocError>
-        ensures { IfOk result (λ set. (z : ℤ) → holds set z ≡ is_between low high z) }
+        ensures numbers { IfOk result (λ set. (z : ℤ) → holds set z ≡ is_between low high z) }
+        ensures list { IfOk result (λ set. low ≤ℤ high → set ≡ record { low = low; high = high } ∷ []) }
     {
         let mut intervals = Vec::new(alloc);
         if low <= high {
