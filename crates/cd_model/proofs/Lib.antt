@@ -1,0 +1,11 @@
+pub mod EachLabel
+pub mod RisingLabels
+pub mod BuiltInReaders
+pub mod BuiltIns
+pub mod BuiltInsOfValues
+pub mod Labels
+pub mod Decided
+pub mod Apart
+pub mod SameAnswers
+pub mod Extension
+pub mod DataElements

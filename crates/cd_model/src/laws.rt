@@ -1,0 +1,107 @@
+//! Laws of the definitions in `specs/`. Each is the contract of a function that does nothing.
+ghost use Rattle.std.specs.Prelude.{◌≡◌, ◌⊎◌, ◌↔◌, ◌<◌, ◌++◌, ℕ, pos, negsuc, Bool, true, false, length, codes};
+ghost use Rattle.cd_sets.specs.declared.node_id.NodeId.{NodeId};
+ghost use Rattle.cd_syntax.specs.Element as element;
+ghost use Rattle.cd_syntax.specs.Element.{Element, IsElement, Integer, Character, Atom};
+ghost use Rattle.cd_model.specs.BuiltIns.{built_ins, EMPTY, ANY, INT, CHAR, BYTE, ATOM, BOOL, STRING, ARROW, PAIR, RECORD, ANY_XML, DATA, NIL};
+ghost use Rattle.cd_model.specs.Canonical.{canonical};
+ghost use Rattle.cd_model.specs.Examples as example;
+ghost use Rattle.cd_model.specs.Formula.{Graph, IsGraph};
+ghost use Rattle.cd_model.specs.Kinds.{kind_of, kind_of_value, element_of, AnInteger, ACharacter, AnAtom, APair, AnXml, ARecord, AFunction, IsByte, IsBool, IsString, IsData, IsNil};
+ghost use Rattle.cd_model.specs.Membership.{answers, value_answers, IsIn, IsOutside, IsValueIn};
+ghost use Rattle.cd_model.specs.Value as value;
+ghost use Rattle.cd_model.specs.Value.{Value, IsValue};
+
+/// Each element is in a node or outside it, and not both; no value is both.
+pub fn membership_is_decided()
+    ensures in_or_outside { (graph : Graph) (is : Element) (id : NodeId) → answers graph is id true ⊎ answers graph is id false }
+    ensures not_both { (graph : Graph) (is : Element) (id : NodeId) → answers graph is id true → answers graph is id false → ⊥ }
+    ensures no_value_both { (graph : Graph) (is : Value) (id : NodeId) → value_answers graph is id true → value_answers graph is id false → ⊥ }
+{}
+
+/// Where formulas are put after those of a graph, each old node holds the elements and the values that it held.
+pub fn extension_keeps()
+    ensures elements { (graph more : Graph) (is : Element) (id : NodeId) (answer : Bool) → IsGraph graph → id.0 < length graph
+        → answers graph is id answer ↔ answers (graph ++ more) is id answer }
+    ensures values { (graph more : Graph) (is : Value) (id : NodeId) (answer : Bool) → IsGraph graph → id.0 < length graph → IsValue (length graph) is
+        → value_answers graph is id answer ↔ value_answers (graph ++ more) is id answer }
+{}
+
+/// A value that holds no closure is in the nodes in which the element is that is written as it is.
+pub fn data_are_elements()
+    ensures { (graph : Graph) (is : Value) (id : NodeId) (answer : Bool) → value.IsData is
+        → value_answers graph is id answer ↔ answers graph (element_of is) id answer }
+{}
+
+/// The nodes that every graph begins with, and what each of them holds.
+pub fn built_ins_hold()
+    ensures sound { IsGraph built_ins }
+    ensures empty { (more : Graph) (is : Element) → IsIn (built_ins ++ more) is EMPTY → ⊥ }
+    ensures any { (more : Graph) (is : Element) → IsIn (built_ins ++ more) is ANY }
+    ensures int { (more : Graph) (is : Element) → IsElement is → IsIn (built_ins ++ more) is INT ↔ (kind_of is ≡ AnInteger) }
+    ensures char { (more : Graph) (is : Element) → IsElement is → IsIn (built_ins ++ more) is CHAR ↔ (kind_of is ≡ ACharacter) }
+    ensures byte { (more : Graph) (is : Element) → IsIn (built_ins ++ more) is BYTE ↔ IsByte is }
+    ensures atom { (more : Graph) (is : Element) → IsIn (built_ins ++ more) is ATOM ↔ (kind_of is ≡ AnAtom) }
+    ensures bool { (more : Graph) (is : Element) → IsIn (built_ins ++ more) is BOOL ↔ IsBool is }
+    ensures string { (more : Graph) (is : Element) → IsElement is → IsIn (built_ins ++ more) is STRING ↔ IsString is }
+    ensures arrow { (more : Graph) (is : Element) → IsIn (built_ins ++ more) is ARROW ↔ (kind_of is ≡ AFunction) }
+    ensures pair { (more : Graph) (is : Element) → IsIn (built_ins ++ more) is PAIR ↔ (kind_of is ≡ APair) }
+    ensures record_type { (more : Graph) (is : Element) → IsIn (built_ins ++ more) is RECORD ↔ (kind_of is ≡ ARecord) }
+    ensures any_xml { (more : Graph) (is : Element) → IsIn (built_ins ++ more) is ANY_XML ↔ (kind_of is ≡ AnXml) }
+    ensures data { (more : Graph) (is : Element) → IsElement is → IsIn (built_ins ++ more) is DATA ↔ IsData is }
+    ensures nil { (more : Graph) (is : Element) → IsIn (built_ins ++ more) is NIL ↔ IsNil is }
+{}
+
+/// The same for values, where a closure is a function.
+pub fn built_ins_hold_values()
+    ensures empty { (more : Graph) (is : Value) → IsValueIn (built_ins ++ more) is EMPTY → ⊥ }
+    ensures any { (more : Graph) (is : Value) → IsValueIn (built_ins ++ more) is ANY }
+    ensures int { (nodes : ℕ) (more : Graph) (is : Value) → IsValue nodes is → IsValueIn (built_ins ++ more) is INT ↔ (kind_of_value is ≡ AnInteger) }
+    ensures char { (nodes : ℕ) (more : Graph) (is : Value) → IsValue nodes is → IsValueIn (built_ins ++ more) is CHAR ↔ (kind_of_value is ≡ ACharacter) }
+    ensures byte { (more : Graph) (is : Value) → IsValueIn (built_ins ++ more) is BYTE ↔ (value.IsData is × IsByte (element_of is)) }
+    ensures atom { (more : Graph) (is : Value) → IsValueIn (built_ins ++ more) is ATOM ↔ (kind_of_value is ≡ AnAtom) }
+    ensures bool { (more : Graph) (is : Value) → IsValueIn (built_ins ++ more) is BOOL ↔ (value.IsData is × IsBool (element_of is)) }
+    ensures string { (nodes : ℕ) (more : Graph) (is : Value) → IsValue nodes is → IsValueIn (built_ins ++ more) is STRING ↔ (value.IsData is × IsString (element_of is)) }
+    ensures arrow { (more : Graph) (is : Value) → IsValueIn (built_ins ++ more) is ARROW ↔ (kind_of_value is ≡ AFunction) }
+    ensures pair { (more : Graph) (is : Value) → IsValueIn (built_ins ++ more) is PAIR ↔ (kind_of_value is ≡ APair) }
+    ensures record_type { (more : Graph) (is : Value) → IsValueIn (built_ins ++ more) is RECORD ↔ (kind_of_value is ≡ ARecord) }
+    ensures any_xml { (more : Graph) (is : Value) → IsValueIn (built_ins ++ more) is ANY_XML ↔ (kind_of_value is ≡ AnXml) }
+    ensures data { (nodes : ℕ) (more : Graph) (is : Value) → IsValue nodes is → IsValueIn (built_ins ++ more) is DATA ↔ value.IsData is }
+    ensures nil { (more : Graph) (is : Value) → IsValueIn (built_ins ++ more) is NIL ↔ (value.IsData is × IsNil (element_of is)) }
+{}
+
+/// Membership at some elements: each answer has a short reason.
+pub fn worked_examples()
+    ensures integer { IsIn example.graph (Integer (negsuc 4)) INT }
+    ensures no_integer { IsOutside example.graph (Atom (codes "a")) INT }
+    ensures pair { IsIn example.graph (element.Pair (Integer (pos 1)) (Character 99)) example.INT_AND_CHAR }
+    ensures no_pair { IsOutside example.graph example.pair example.INT_AND_CHAR }
+    ensures fails_where_nothing_is { IsIn example.graph example.fails_at_zero ARROW }
+    ensures fails_at_an_argument { IsOutside example.graph example.fails_at_zero example.FROM_ZERO }
+    ensures closed { IsIn example.graph example.one_field example.CLOSED }
+    ensures not_closed { IsOutside example.graph example.two_fields example.CLOSED }
+    ensures opened { IsIn example.graph example.two_fields example.OPEN }
+    ensures no_field { IsOutside example.graph (element.Record element.NoField) example.OPEN }
+    ensures list { IsIn example.graph example.list example.INTS }
+    ensures no_list { IsOutside example.graph example.pair example.INTS }
+    ensures xml { IsIn example.graph example.xml example.XML }
+    ensures no_xml { IsOutside example.graph example.list example.XML }
+{}
+
+/// Canonical texts.
+pub fn canonical_examples()
+    ensures integer { canonical (Integer (negsuc 4)) ≡ codes "-5" }
+    ensures character { canonical (Character 39) ≡ codes "'\\''" }
+    ensures unseen { canonical (Character 7) ≡ codes "'\\7;'" }
+    ensures atom { canonical (Atom (codes "true")) ≡ codes "`true" }
+    ensures nil { canonical example.nil ≡ codes "[]" }
+    ensures text { canonical (element.Pair (Character 97) (element.Pair (Character 34) example.nil)) ≡ codes "\"a\\\"\"" }
+    ensures runs { canonical (element.Pair (Character 97) (element.Pair (Character 98) (element.Pair (Integer (pos 1)) (element.Pair (Character 99) example.nil)))) ≡ codes "['ab' 1 'c']" }
+    ensures nested { canonical (element.Pair (element.Pair (Character 97) example.nil) (element.Pair (Integer (pos 1)) example.nil)) ≡ codes "[\"a\" 1]" }
+    ensures tuple { canonical (element.Pair (Character 97) (element.Pair (Character 98) (Integer (pos 1)))) ≡ codes "('a', 'b', 1)" }
+    ensures record_text { canonical example.two_fields ≡ codes "{a=1; b=2}" }
+    ensures no_field { canonical (element.Record element.NoField) ≡ codes "{}" }
+    ensures xml { canonical (element.Xml (Atom (codes "a")) example.one_field example.list) ≡ codes "<a a=1>[1 2]" }
+    ensures function { canonical (element.Function (element.Maps (Integer (pos 0)) (Atom (codes "true")) (element.Fails example.pair element.NoPair))) ≡ codes "fun{0 => `true; (1, 2) => ?}" }
+    ensures no_pairs { canonical (element.Function element.NoPair) ≡ codes "fun{}" }
+{}
