@@ -6,7 +6,7 @@ use Rattle.cd_syntax.specs.Name.{Name}
 use Rattle.cd_syntax.specs.Element as element
 use Rattle.cd_syntax.specs.Element.{Element}
 use Rattle.cd_model.specs.Formula as formula
-use Rattle.cd_model.specs.Formula.{Formula, Formulas, NoFormula, AFormula, Field, Graph, formula_of, field_of}
+use Rattle.cd_model.specs.Formula.{Formula, Formulas, NoFormula, AFormula, Field, Graph, formula_at, field_of}
 use Rattle.cd_model.specs.Membership.{Answers, Reader, Labelled, Mapping, holds, each_holds, one_holds, either, integer_reader, character_reader, atom_reader, pair_reader, xml_reader, record_reader, function_reader, closure_mapping, at_nodes, reader, labelled, mapping, answers, value_reader, value_labelled, value_answers}
 use Rattle.cd_model.specs.Value as value
 use Rattle.cd_model.specs.Value.{Value, ArrowOf}
@@ -55,7 +55,7 @@ module _ (reader : Reader) (apart : ApartAtForms reader) where
         elim one [ inl in_it ↦ holds_apart is in_it each.0 | inr later ↦ none_apart rest later each.1 ]
 
   nodes_apart : (graph : Graph) → Apart (at_nodes graph reader)
-  nodes_apart graph id is out = holds_apart (formula_of graph id) is out
+  nodes_apart graph id is out = holds_apart (formula_at graph id) is out
 
 integer_apart : (n : ℤ) → ApartAtForms (integer_reader n)
 integer_apart n (formula.Ints set) is out = one_outcome _ is out

@@ -9,8 +9,8 @@ use Rattle.std.proofs.lemmas.Slice.Eq.{bytes_eq-Decides}
 use Rattle.cd_sets.specs.declared.node_id.NodeId.{NodeId}
 use Rattle.cd_syntax.specs.Integer.{IsInteger}
 use Rattle.cd_syntax.specs.Name.{Name}
-use Rattle.cd_model.specs.Formula.{Formula, Field, Or, Pair}
-use Rattle.cd_model.specs.BuiltIns.{data_formula, one_of, atoms_of, chars_to, DATA, ATOM, CHAR, STRING}
+use Rattle.cd_model.specs.Formula.{formulas_of, Formula, Field, Or, Pair}
+use Rattle.cd_model.specs.BuiltIns.{data_formula, atoms_of, chars_to, DATA, ATOM, CHAR, STRING}
 use Rattle.cd_model.specs.Membership.{Answers, Labelled, Mapping, holds, integer_reader, character_reader}
 use Rattle.cd_model.specs.Membership.{atom_reader, pair_reader, xml_reader, record_reader, function_reader}
 
@@ -33,13 +33,13 @@ pub nil_is : (name : Name) → holds (atom_reader name) (atoms_of (codes "nil" �
 nil_is name = grind (arith, bytes_eq-Decides)
 
 pub bool_is : (name : Name)
-    → holds (atom_reader name) (Or (one_of (atoms_of (codes "false" ∷ []) ∷ atoms_of (codes "true" ∷ []) ∷ []))) true
+    → holds (atom_reader name) (Or (formulas_of (atoms_of (codes "false" ∷ []) ∷ atoms_of (codes "true" ∷ []) ∷ []))) true
     ↔ ((name ≡ codes "false") ⊎ (name ≡ codes "true"))
 bool_is name = grind (arith, bytes_eq-Decides)
 
 -- strings
 abbrev string_formula : Formula
-string_formula = Or (one_of (Pair CHAR STRING ∷ atoms_of (codes "nil" ∷ []) ∷ []))
+string_formula = Or (formulas_of (Pair CHAR STRING ∷ atoms_of (codes "nil" ∷ []) ∷ []))
 
 pub nil_in_string : (name : Name) → holds (atom_reader name) string_formula true ↔ (name ≡ codes "nil")
 nil_in_string name = grind (arith, bytes_eq-Decides)

@@ -48,7 +48,7 @@ module _ (more : Graph) where
   strings_are (Atom name) are = nil_in_string name
   strings_are _ are = grind arith
 
-  tag_is : (is : Element) → IsAtom is → IsIn graph is ATOM ↔ Unit {0}
+  tag_is : (is : Element) → IsAtom is → IsIn graph is ATOM ↔ IsData is
   tag_is (Atom name) atom = (λ h. tt, λ h. refl)
   tag_is _ atom = absurd atom
 
@@ -60,9 +60,8 @@ module _ (more : Graph) where
     data_are (Pair first second) are =
         pair_in_data (answers graph first) (answers graph second) (data_are first are.0) (data_are second are.1)
     data_are (Xml tag attributes content) are =
-        let parts = xml_in_data (answers graph tag) (answers graph attributes) (answers graph content)
-        (tag_is tag are.0) (data_are attributes are.3) (data_are content are.4) in
-        (λ is. ((parts.0 is).1, (parts.0 is).2), λ is. parts.1 (tt, is.0, is.1))
+        xml_in_data (answers graph tag) (answers graph attributes) (answers graph content)
+        (tag_is tag are.0) (data_are attributes are.3) (data_are content are.4)
     data_are (Record fields) are = record_in_data (labelled graph fields) (fields_are fields None are.0 are.1)
     data_are (Function pairs) are = function_in_data (mapping graph pairs)
 

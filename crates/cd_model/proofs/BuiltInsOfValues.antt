@@ -2,7 +2,7 @@
 use Rattle.std.proofs.Common.{◌≡◌, ℕ, ◌++◌, true, Option, Some, None, refl, ◌↔◌, arith}
 use Rattle.cd_syntax.specs.Name.{Name}
 use Rattle.cd_model.specs.Formula.{Graph}
-use Rattle.cd_model.specs.Value.{Value, IsValue, AreValues, LabelsRise, IsAtom, IsData, AreData, Fields, NoField, Field}
+use Rattle.cd_model.specs.Value.{Value, IsValue, AreValues, AreRisingLabels, IsAtom, IsData, AreData, Fields, NoField, Field}
 use Rattle.cd_model.specs.Value.{Integer, Character, Atom, Pair, Xml, Record, Closure}
 use Rattle.cd_model.specs.BuiltIns.{built_ins, ANY, CHAR, BYTE, ATOM, BOOL, STRING, ARROW, RECORD, DATA, NIL}
 use Rattle.cd_model.specs.Kinds.{kind_of, kind_of_value, element_of, ACharacter, ARecord, AFunction, IsByte, IsBool}
@@ -82,7 +82,7 @@ module _ (more : Graph) where
       data_are (Record fields) are = record_in_data (value_labelled graph fields) (fields_are fields None are.0 are.1)
       data_are (Closure function interface environment) are = function_in_data (closure_mapping graph interface)
 
-      fields_are : (fields : Fields) (before : Option Name) → LabelsRise before fields → AreValues nodes fields
+      fields_are : (fields : Fields) (before : Option Name) → AreRisingLabels before fields → AreValues nodes fields
           → ((label : Name) → value_labelled graph fields label (optional_in DATA) true) ↔ AreData fields
       fields_are NoField before rise are = (λ each. tt, λ are label. refl)
       fields_are (Field name is rest) before rise are =

@@ -10,7 +10,7 @@ use Rattle.cd_syntax.specs.Name.{Name}
 use Rattle.cd_syntax.specs.Element as element
 use Rattle.cd_syntax.specs.Element.{Element}
 use Rattle.cd_model.specs.Formula as formula
-use Rattle.cd_model.specs.Formula.{Formula, Formulas, NoFormula, AFormula, Field, Graph, formula_of, field_of}
+use Rattle.cd_model.specs.Formula.{Formula, Formulas, NoFormula, AFormula, Field, Graph, formula_at, field_of}
 use Rattle.cd_model.proofs.Labels.{IsOneOf, names_of, named_or_not, all_or_fails}
 use Rattle.cd_model.specs.Membership.{Answers, Reader, Labelled, Mapping, holds, each_holds, one_holds, either, integer_reader, character_reader, atom_reader, pair_reader, xml_reader, record_reader, function_reader, at_nodes, reader, labelled, mapping, answers}
 
@@ -62,7 +62,7 @@ module _ (reader : Reader) (decides : DecidesForms reader) where
     none_or_one (AFormula is rest) = both_or (swapped (holds_decided is)) (none_or_one rest)
 
   nodes_decided : (graph : Graph) → Decides (at_nodes graph reader)
-  nodes_decided graph id = holds_decided (formula_of graph id)
+  nodes_decided graph id = holds_decided (formula_at graph id)
 
 integer_decides : (n : ℤ) → DecidesForms (integer_reader n)
 integer_decides n (formula.Ints set) = cases_Bool (integers.holds set n)

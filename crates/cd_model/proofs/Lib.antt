@@ -9,3 +9,14 @@ pub mod Apart
 pub mod SameAnswers
 pub mod Extension
 pub mod DataElements
+pub mod SoundData
+pub mod KeptAnswers
+pub mod DecidedValues
+pub mod Nowhere
+pub mod TextsAgree
+pub mod Covered
+pub mod CoveredParts
+pub mod Leading
+pub mod SameWritten
+pub mod SameNames
+pub mod Enough

@@ -42,7 +42,7 @@ nothing_more graph fields name field answer = nothing_passed graph fields name n
 
 -- in a record of values
 no_value_passed : (graph : Graph) (fields : value.Fields) (name before : Name) (field : Field) (answer : Bool)
-    → IsPassed name before → value.LabelsRise (Some before) fields → absent field answer
+    → IsPassed name before → value.AreRisingLabels (Some before) fields → absent field answer
     → value_labelled graph fields name field answer
 no_value_passed graph value.NoField name before field answer passed rise is = is
 no_value_passed graph (value.Field label is_value rest) name before field answer passed rise is =
@@ -51,5 +51,5 @@ no_value_passed graph (value.Field label is_value rest) name before field answer
     (no_value_passed graph rest name label field answer later rise.2 is)
 
 pub no_value_more : (graph : Graph) (fields : value.Fields) (name : Name) (field : Field) (answer : Bool)
-    → value.LabelsRise (Some name) fields → absent field answer → value_labelled graph fields name field answer
+    → value.AreRisingLabels (Some name) fields → absent field answer → value_labelled graph fields name field answer
 no_value_more graph fields name field answer = no_value_passed graph fields name name field answer (passed_itself name)

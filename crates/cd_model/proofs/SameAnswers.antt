@@ -1,9 +1,9 @@
 -- Things that answer the same at the nodes of a graph, and what is made of them.
 --
 -- Answers are compared as types, so what is shown holds in both directions.
-use Rattle.std.proofs.Common.{◌≡◌, ℕ, ◌<◌, Bool, true, false, List, [], ◌∷◌, ◌⊎◌, inl, inr, refl, bytes_eq}
+use Rattle.std.proofs.Common.{◌≡◌, ℕ, ◌<◌, Bool, true, false, List, [], ◌∷◌, ◌⊎◌, inl, inr, refl, sym, ◌↔◌, bytes_eq}
 use Rattle.std.proofs.lemmas.Bool.{cases_Bool}
-use Rattle.std.proofs.Math.Path.{ap₂}
+use Rattle.std.proofs.Math.Path.{ap₂, transport}
 use Rattle.cd_sets.specs.declared.node_id.NodeId.{NodeId}
 use Rattle.cd_syntax.specs.Name.{Name}
 use Rattle.cd_model.specs.Each.{Each}
@@ -25,6 +25,10 @@ SameAtLabels nodes one other = (label : Name) (field : Field) → field.node.0 <
 abbrev pub SameAtArrows : ℕ → Mapping → Mapping → Type 1
 SameAtArrows nodes one other = (argument result : NodeId) → argument.0 < nodes → result.0 < nodes → (answer : Bool)
     → one argument result answer ≡ other argument result answer
+
+-- the same types hold both ways
+pub both_ways : {A B : Type 0} → A ≡ B → A ↔ B
+both_ways same = (transport same, transport (sym same))
 
 -- what both say, and what one of two says
 pub both_same : {A B C D : Type 0} → A ≡ B → C ≡ D → (A × C) ≡ (B × D)
@@ -85,7 +89,7 @@ xml_same nodes is_tag is_attributes is_content (formula.Xml one other last) soun
 xml_same nodes is_tag is_attributes is_content _ sound answer = refl
 
 -- what a record type says of a label is one of its fields, or of its rest
-field_is_sound : (nodes : ℕ) (named : List (Name × Field)) (rest : NodeId) (label : Name)
+pub field_is_sound : (nodes : ℕ) (named : List (Name × Field)) (rest : NodeId) (label : Name)
     → Each (λ field. field.1.node.0 < nodes) named → rest.0 < nodes → (field_of named rest label).node.0 < nodes
 field_is_sound nodes [] rest label each rest_is = rest_is
 field_is_sound nodes (field ∷ named) rest label each rest_is = elim (cases_Bool (bytes_eq field.0 label)) [

@@ -5,7 +5,7 @@ use Rattle.cd_intervals.specs.Atoms.{listing, leaving_out}
 use Rattle.cd_syntax.specs.Integer.{LEAST, GREATEST}
 use Rattle.cd_syntax.specs.declared.builtin.BuiltinName.{BuiltinName}
 use Rattle.cd_syntax.specs.declared.builtin.BuiltinName.TheVariants as name
-use Rattle.cd_model.specs.Formula.{Graph, Formula, Formulas, NoFormula, AFormula, Nothing, Everything, Ints, Chars, Atoms, Pair, Xml, Record, Arrow, Or}
+use Rattle.cd_model.specs.Formula.{Graph, Formula, formulas_of, Nothing, Everything, Ints, Chars, Atoms, Pair, Xml, Record, Arrow, Or}
 
 abbrev pub node : ℕ → NodeId
 node number = record { 0 = number }
@@ -52,7 +52,7 @@ DATA = node 12
 abbrev pub NIL : NodeId
 NIL = node 13
 
--- the node of a name; no name has the atom `nil`
+-- the node of a name; the last node, of the atom `nil`, has no name
 abbrev pub node_named : BuiltinName → NodeId
 node_named name.Empty = EMPTY
 node_named name.Any = ANY
@@ -81,13 +81,9 @@ atoms_of names = Atoms (listing names)
 abbrev pub all_atoms : Formula
 all_atoms = Atoms (leaving_out [])
 
-abbrev pub one_of : List Formula → Formulas
-one_of [] = NoFormula
-one_of (first ∷ rest) = AFormula first (one_of rest)
-
 -- integers, characters, atoms, pairs of data, records of data, and XML elements whose attributes and content are data
 abbrev pub data_formula : Formula
-data_formula = Or (one_of (all_ints ∷ chars_to 0x10FFFF ∷ all_atoms ∷ Pair DATA DATA ∷ Record [] DATA ∷ Xml ATOM DATA DATA ∷ []))
+data_formula = Or (formulas_of (all_ints ∷ chars_to 0x10FFFF ∷ all_atoms ∷ Pair DATA DATA ∷ Record [] DATA ∷ Xml ATOM DATA DATA ∷ []))
 
 -- in the order of the numbers above
 abbrev pub built_ins : Graph
@@ -98,8 +94,8 @@ built_ins =
     ∷ chars_to 0x10FFFF
     ∷ chars_to 255
     ∷ all_atoms
-    ∷ Or (one_of (atoms_of (codes "false" ∷ []) ∷ atoms_of (codes "true" ∷ []) ∷ []))
-    ∷ Or (one_of (Pair CHAR STRING ∷ atoms_of (codes "nil" ∷ []) ∷ []))
+    ∷ Or (formulas_of (atoms_of (codes "false" ∷ []) ∷ atoms_of (codes "true" ∷ []) ∷ []))
+    ∷ Or (formulas_of (Pair CHAR STRING ∷ atoms_of (codes "nil" ∷ []) ∷ []))
     ∷ Arrow EMPTY ANY
     ∷ Pair ANY ANY
     ∷ Record [] ANY

@@ -13,7 +13,7 @@ abbrev pub joined : Text → List Text → Text
 joined between texts = join_by (λ text. text) between texts
 
 -- A character between two of these quotes: a backslash stands before a backslash and before the quote, and the characters
--- that are not seen are written by a letter or by their number
+-- below U+0020 and U+007F are written by a letter or by their number
 abbrev pub escaped : (quote c : ℕ) → Text
 escaped quote c =
     if (c == 92) || (c == quote) then 92 ∷ c ∷ []

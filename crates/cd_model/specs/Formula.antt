@@ -39,23 +39,28 @@ mutual
     NoFormula : Formulas
     AFormula : Formula → Formulas → Formulas
 
+-- a list as formulas
+abbrev pub formulas_of : List Formula → Formulas
+formulas_of [] = NoFormula
+formulas_of (first ∷ rest) = AFormula first (formulas_of rest)
+
 -- a node is named by its place in the list, from 0
 abbrev pub Graph : Type 0
 Graph = List Formula
 
 -- the formula of a node; a number that names none holds nothing
-abbrev pub formula_of : Graph → NodeId → Formula
-formula_of graph id = unwrap_or (slice_get graph id.0) Nothing
+abbrev pub formula_at : Graph → NodeId → Formula
+formula_at graph id = unwrap_or (slice_get graph id.0) Nothing
 
 -- what a record type says of a label: a field that is not named may be absent, and else is in `rest`
 abbrev pub field_of : List (Name × Field) → NodeId → Name → Field
 field_of [] rest label = record { optional = true; node = rest }
 field_of (field ∷ named) rest label = if bytes_eq field.0 label then field.1 else field_of named rest label
 
--- the labels are such, and rise strictly
-abbrev pub LabelsRise : Option Name → List (Name × Field) → Type 0
-LabelsRise before [] = Unit {0}
-LabelsRise before (field ∷ named) = IsLabel field.0 × IsAbove before field.0 × LabelsRise (Some field.0) named
+-- each is a label, and they rise strictly
+abbrev pub AreRisingLabels : Option Name → List (Name × Field) → Type 0
+AreRisingLabels before [] = Unit {0}
+AreRisingLabels before (field ∷ named) = IsLabel field.0 × IsAbove before field.0 × AreRisingLabels (Some field.0) named
 
 -- a formula of a graph with so many nodes: its node numbers are below that, its names are atoms and rising labels
 abbrev mutual
@@ -67,7 +72,7 @@ abbrev mutual
   IsFormula nodes (Atoms set) = Each IsLabel set.names
   IsFormula nodes (Pair first second) = (first.0 < nodes) × (second.0 < nodes)
   IsFormula nodes (Xml tag attributes content) = (tag.0 < nodes) × (attributes.0 < nodes) × (content.0 < nodes)
-  IsFormula nodes (Record named rest) = LabelsRise None named × Each (λ field. field.1.node.0 < nodes) named × (rest.0 < nodes)
+  IsFormula nodes (Record named rest) = AreRisingLabels None named × Each (λ field. field.1.node.0 < nodes) named × (rest.0 < nodes)
   IsFormula nodes (Arrow argument result) = (argument.0 < nodes) × (result.0 < nodes)
   IsFormula nodes (And formulas) = AreFormulas nodes formulas
   IsFormula nodes (Or formulas) = AreFormulas nodes formulas
@@ -77,5 +82,6 @@ abbrev mutual
   AreFormulas nodes NoFormula = Unit {0}
   AreFormulas nodes (AFormula formula rest) = IsFormula nodes formula × AreFormulas nodes rest
 
+-- each formula is one of this graph; that a graph begins with the built-in nodes is said apart
 abbrev pub IsGraph : Graph → Type 0
 IsGraph graph = Each (IsFormula (length graph)) graph

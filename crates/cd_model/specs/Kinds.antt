@@ -37,11 +37,12 @@ abbrev pub IsByte : Element → Type 0
 IsByte (element.Character c) = c < 256
 IsByte _ = ⊥
 
--- the truth values, and the empty sequence
+-- a truth value
 abbrev pub IsBool : Element → Type 0
 IsBool (element.Atom name) = (name ≡ codes "false") ⊎ (name ≡ codes "true")
 IsBool _ = ⊥
 
+-- the empty sequence
 abbrev pub IsNil : Element → Type 0
 IsNil (element.Atom name) = name ≡ codes "nil"
 IsNil _ = ⊥
@@ -58,7 +59,7 @@ abbrev mutual
   IsData (element.Character c) = Unit {0}
   IsData (element.Atom name) = Unit {0}
   IsData (element.Pair first second) = IsData first × IsData second
-  IsData (element.Xml tag attributes content) = IsData attributes × IsData content
+  IsData (element.Xml tag attributes content) = IsData tag × IsData attributes × IsData content
   IsData (element.Record fields) = AreData fields
   IsData (element.Function pairs) = ⊥
 
@@ -66,7 +67,7 @@ abbrev mutual
   AreData element.NoField = Unit {0}
   AreData (element.Field label is rest) = IsData is × AreData rest
 
--- the element that a value is; one that holds a closure is none, and a function without pairs stands there
+-- the element that a value is; a closure is no element, and the function without pairs stands in its place
 abbrev mutual
   pub element_of : Value → Element
   element_of (value.Integer n) = element.Integer n

@@ -6,3 +6,6 @@ pub mod Canonical
 pub mod BuiltIns
 pub mod Kinds
 pub mod Examples
+pub mod Scope
+pub mod Written
+pub mod Guarded

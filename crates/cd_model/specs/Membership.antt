@@ -14,7 +14,7 @@ use Rattle.cd_syntax.specs.Element as element
 use Rattle.cd_syntax.specs.Element.{Element, IsElement}
 use Rattle.cd_model.specs.Each.{Each, One}
 use Rattle.cd_model.specs.Formula as formula
-use Rattle.cd_model.specs.Formula.{Formula, Formulas, NoFormula, AFormula, Field, Graph, formula_of, field_of}
+use Rattle.cd_model.specs.Formula.{Formula, Formulas, NoFormula, AFormula, Field, Graph, formula_at, field_of}
 use Rattle.cd_model.specs.Value as value
 use Rattle.cd_model.specs.Value.{Value, ArrowOf}
 
@@ -53,7 +53,7 @@ abbrev mutual
   one_holds reader NoFormula answer = ⊥
   one_holds reader (AFormula is rest) answer = holds reader is answer ⊎ one_holds reader rest answer
 
--- nothing is in a formula of another kind
+-- a thing is in no formula of another kind
 abbrev pub elsewhere : Reader
 elsewhere is answer = answer ≡ false
 
@@ -109,7 +109,7 @@ function_reader mapping is answer = elsewhere is answer
 
 -- what a thing with this reader answers at the nodes of a graph
 abbrev pub at_nodes : Graph → Reader → Answers
-at_nodes graph reader = λ id. holds reader (formula_of graph id)
+at_nodes graph reader = λ id. holds reader (formula_at graph id)
 
 -- What an element answers. A function maps one node into another where each of its pairs does: its argument is outside the
 -- one, or its result in the other. A pair that fails has no result

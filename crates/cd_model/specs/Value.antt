@@ -37,13 +37,13 @@ abbrev pub IsRecord : Value → Type 0
 IsRecord (Record fields) = Unit {0}
 IsRecord _ = ⊥
 
--- the labels are such, and rise strictly
-abbrev pub LabelsRise : Option Name → Fields → Type 0
-LabelsRise before NoField = Unit {0}
-LabelsRise before (Field label value rest) = IsLabel label × IsAbove before label × LabelsRise (Some label) rest
+-- each is a label, and they rise strictly
+abbrev pub AreRisingLabels : Option Name → Fields → Type 0
+AreRisingLabels before NoField = Unit {0}
+AreRisingLabels before (Field label value rest) = IsLabel label × IsAbove before label × AreRisingLabels (Some label) rest
 
--- A term is a value where its integers, characters and names are such, and its labels rise; the arrows of closures are of a
--- graph with so many nodes
+-- A term is a value where its integers have 128 bits, its characters are scalar values, its names are labels, and the labels
+-- of its records rise; the arrows of its closures are of a graph with so many nodes
 abbrev mutual
   pub IsValue : (nodes : ℕ) → Value → Type 0
   IsValue nodes (Integer n) = IsInteger n
@@ -52,7 +52,7 @@ abbrev mutual
   IsValue nodes (Pair first second) = IsValue nodes first × IsValue nodes second
   IsValue nodes (Xml tag attributes content) =
       IsAtom tag × IsRecord attributes × IsValue nodes tag × IsValue nodes attributes × IsValue nodes content
-  IsValue nodes (Record fields) = LabelsRise None fields × AreValues nodes fields
+  IsValue nodes (Record fields) = AreRisingLabels None fields × AreValues nodes fields
   IsValue nodes (Closure function interface environment) =
       Each (λ arrow. (arrow.argument.0 < nodes) × (arrow.result.0 < nodes)) interface × AreValues nodes environment
 

@@ -1,14 +1,19 @@
 //! Laws of the definitions in `specs/`. Each is the contract of a function that does nothing.
-ghost use Rattle.std.specs.Prelude.{◌≡◌, ◌⊎◌, ◌↔◌, ◌<◌, ◌++◌, ℕ, pos, negsuc, Bool, true, false, length, codes};
+ghost use Rattle.std.specs.Prelude.{◌≡◌, ◌⊎◌, ◌↔◌, ◌<◌, ◌≤◌, ◌++◌, ℕ, pos, negsuc, Bool, true, false, List, [], ◌∷◌, length, codes};
 ghost use Rattle.cd_sets.specs.declared.node_id.NodeId.{NodeId};
 ghost use Rattle.cd_syntax.specs.Element as element;
 ghost use Rattle.cd_syntax.specs.Element.{Element, IsElement, Integer, Character, Atom};
 ghost use Rattle.cd_model.specs.BuiltIns.{built_ins, EMPTY, ANY, INT, CHAR, BYTE, ATOM, BOOL, STRING, ARROW, PAIR, RECORD, ANY_XML, DATA, NIL};
 ghost use Rattle.cd_model.specs.Canonical.{canonical};
 ghost use Rattle.cd_model.specs.Examples as example;
-ghost use Rattle.cd_model.specs.Formula.{Graph, IsGraph};
+ghost use Rattle.cd_model.specs.Examples.{text_of};
+ghost use Rattle.cd_syntax.specs.Integer.{LEAST};
+ghost use Rattle.cd_syntax.specs.Notation.{Prints};
+ghost use Rattle.cd_model.specs.Formula.{Graph, Formula, IsFormula, IsGraph};
+ghost use Rattle.cd_model.specs.Guarded.{NamesAreGuarded};
+ghost use Rattle.cd_model.specs.Written.{Written, number_of_names, answers_with, value_answers_with, written_answers, written_value_answers};
 ghost use Rattle.cd_model.specs.Kinds.{kind_of, kind_of_value, element_of, AnInteger, ACharacter, AnAtom, APair, AnXml, ARecord, AFunction, IsByte, IsBool, IsString, IsData, IsNil};
-ghost use Rattle.cd_model.specs.Membership.{answers, value_answers, IsIn, IsOutside, IsValueIn};
+ghost use Rattle.cd_model.specs.Membership.{holds, reader, value_reader, answers, value_answers, IsIn, IsOutside, IsValueIn};
 ghost use Rattle.cd_model.specs.Value as value;
 ghost use Rattle.cd_model.specs.Value.{Value, IsValue};
 
@@ -19,17 +24,23 @@ pub fn membership_is_decided()
     ensures no_value_both { (graph : Graph) (is : Value) (id : NodeId) → value_answers graph is id true → value_answers graph is id false → ⊥ }
 {}
 
-/// Where formulas are put after those of a graph, each old node holds the elements and the values that it held.
+/// Where formulas are put after those of a graph, each old node, and each formula that names old nodes alone, holds the
+/// elements that it held, and the values whose closures have arrows of the old graph.
 pub fn extension_keeps()
     ensures elements { (graph more : Graph) (is : Element) (id : NodeId) (answer : Bool) → IsGraph graph → id.0 < length graph
         → answers graph is id answer ↔ answers (graph ++ more) is id answer }
     ensures values { (graph more : Graph) (is : Value) (id : NodeId) (answer : Bool) → IsGraph graph → id.0 < length graph → IsValue (length graph) is
         → value_answers graph is id answer ↔ value_answers (graph ++ more) is id answer }
+    ensures formulas { (graph more : Graph) (is : Element) (formula : Formula) (answer : Bool) → IsGraph graph → IsFormula (length graph) formula
+        → holds (reader graph is) formula answer ↔ holds (reader (graph ++ more) is) formula answer }
+    ensures value_formulas { (graph more : Graph) (is : Value) (formula : Formula) (answer : Bool) → IsGraph graph → IsFormula (length graph) formula
+        → IsValue (length graph) is → holds (value_reader graph is) formula answer ↔ holds (value_reader (graph ++ more) is) formula answer }
 {}
 
-/// A value that holds no closure is in the nodes in which the element is that is written as it is.
+/// A value that holds no closure is an element, and is in just the nodes that hold this element.
 pub fn data_are_elements()
-    ensures { (graph : Graph) (is : Value) (id : NodeId) (answer : Bool) → value.IsData is
+    ensures sound { (nodes : ℕ) (is : Value) → IsValue nodes is → value.IsData is → IsElement (element_of is) }
+    ensures same { (graph : Graph) (is : Value) (id : NodeId) (answer : Bool) → value.IsData is
         → value_answers graph is id answer ↔ answers graph (element_of is) id answer }
 {}
 
@@ -52,8 +63,9 @@ pub fn built_ins_hold()
     ensures nil { (more : Graph) (is : Element) → IsIn (built_ins ++ more) is NIL ↔ IsNil is }
 {}
 
-/// The same for values, where a closure is a function.
+/// The same for values, where a closure is a function; each is in such a node or outside it.
 pub fn built_ins_hold_values()
+    ensures decided { (more : Graph) (is : Value) (id : NodeId) → id.0 < 14 → value_answers (built_ins ++ more) is id true ⊎ value_answers (built_ins ++ more) is id false }
     ensures empty { (more : Graph) (is : Value) → IsValueIn (built_ins ++ more) is EMPTY → ⊥ }
     ensures any { (more : Graph) (is : Value) → IsValueIn (built_ins ++ more) is ANY }
     ensures int { (nodes : ℕ) (more : Graph) (is : Value) → IsValue nodes is → IsValueIn (built_ins ++ more) is INT ↔ (kind_of_value is ≡ AnInteger) }
@@ -86,6 +98,28 @@ pub fn worked_examples()
     ensures no_list { IsOutside example.graph example.pair example.INTS }
     ensures xml { IsIn example.graph example.xml example.XML }
     ensures no_xml { IsOutside example.graph example.list example.XML }
+    ensures other_tag { IsOutside example.graph example.other_xml example.XML }
+    ensures out_of_bounds { IsOutside example.graph (Integer (pos 1)) example.ZERO }
+    ensures maps { IsIn example.graph example.zero_to_one example.FROM_ZERO }
+    ensures maps_elsewhere { IsOutside example.graph example.zero_to_one example.TO_ZERO }
+    ensures absent { IsIn example.graph (element.Record element.NoField) example.OPTIONAL }
+    ensures wrong_field { IsOutside example.graph example.wrong_field example.OPTIONAL }
+    ensures difference { IsIn example.graph (Integer (pos 1)) example.NOT_ZERO }
+    ensures no_difference { IsOutside example.graph (Integer (pos 0)) example.NOT_ZERO }
+    ensures all_arrows_at_once { IsValueIn example.graph example.to_both example.NOWHERE }
+    ensures no_arrow { IsValueIn example.graph example.no_arrow example.FROM_ZERO → ⊥ }
+{}
+
+/// Terms that are a graph, elements and values, and some that are not.
+pub fn sound_examples()
+    ensures graph { IsGraph example.graph }
+    ensures list { IsElement example.list }
+    ensures fields { IsElement example.two_fields }
+    ensures xml { IsElement example.xml }
+    ensures function { IsElement example.fails_at_zero }
+    ensures closure { IsValue (length example.graph) example.to_both }
+    ensures falling_labels { IsElement example.falling_fields → ⊥ }
+    ensures label_again { IsElement example.label_again → ⊥ }
 {}
 
 /// Canonical texts.
@@ -104,4 +138,26 @@ pub fn canonical_examples()
     ensures xml { canonical (element.Xml (Atom (codes "a")) example.one_field example.list) ≡ codes "<a a=1>[1 2]" }
     ensures function { canonical (element.Function (element.Maps (Integer (pos 0)) (Atom (codes "true")) (element.Fails example.pair element.NoPair))) ≡ codes "fun{0 => `true; (1, 2) => ?}" }
     ensures no_pairs { canonical (element.Function element.NoPair) ≡ codes "fun{}" }
+    ensures least { canonical (Integer LEAST) ≡ codes "-170141183460469231731687303715884105728" }
+    ensures other_quote { canonical (Character 34) ≡ codes "'\"'" }
+    ensures escapes { canonical (text_of (92 ∷ 39 ∷ 10 ∷ 13 ∷ 9 ∷ 31 ∷ 32 ∷ 127 ∷ 128 ∷ 955 ∷ [])) ≡ 34 ∷ 92 ∷ 92 ∷ 39 ∷ (codes "\\n\\r\\t\\31; \\127;" ++ (128 ∷ 955 ∷ 34 ∷ [])) }
+    ensures no_attributes { canonical example.xml ≡ codes "<a>[]" }
+    ensures two_attributes { canonical (element.Xml (Atom (codes "nil")) example.two_fields example.nil) ≡ codes "<nil a=1 b=2>[]" }
+    ensures nil_as_item { canonical (element.Pair example.nil (element.Pair (Integer (pos 1)) example.nil)) ≡ codes "[[] 1]" }
+    ensures one_item { canonical (element.Pair (Integer (pos 1)) example.nil) ≡ codes "[1]" }
+    ensures character_at_the_end { canonical (element.Pair (Integer (pos 1)) (Character 97)) ≡ codes "(1, 'a')" }
+    ensures function_in_a_field { canonical (element.Record (element.Field (codes "a") (element.Function element.NoPair) element.NoField)) ≡ codes "{a=fun{}}" }
+{}
+
+/// A text that was defined for integers and for pairs of them is the canonical one.
+pub fn texts_agree()
+    ensures { (is : Element) (text : List ℕ) → Prints is text → text ≡ canonical is }
+{}
+
+/// Where names are guarded, as many as are declared are enough: more of them change no answer.
+pub fn names_are_enough()
+    ensures elements { (type : Written) (more : ℕ) (is : Element) (answer : Bool) → NamesAreGuarded type → number_of_names type ≤ more
+        → written_answers is type answer ↔ answers_with more is type answer }
+    ensures values { (type : Written) (more : ℕ) (graph : Graph) (is : Value) (answer : Bool) → NamesAreGuarded type → number_of_names type ≤ more
+        → written_value_answers graph is type answer ↔ value_answers_with more graph is type answer }
 {}

@@ -1,6 +1,10 @@
 use Rattle.cd_model.proofs.BuiltInsOfValues.{bytes_are, bools_are, nils_are, strings_are}
 use Rattle.cd_model.proofs.BuiltInsOfValues.{functions_are, records_are, data_are}
+use Rattle.cd_model.proofs.DecidedValues.{values_decided}
 use Rattle.cd_model.proofs.laws.built_ins_hold_values.Goals as goal
+
+pub returns-clause-decided : goal.returns-clause-decided
+returns-clause-decided c = values_decided
 
 pub returns-clause-byte : goal.returns-clause-byte
 returns-clause-byte c = bytes_are

@@ -34,3 +34,27 @@ returns-clause-xml c = refl
 pub returns-clause-function : goal.returns-clause-function
 unfolding digits
 returns-clause-function c = refl
+
+pub returns-clause-least : goal.returns-clause-least
+unfolding digits
+returns-clause-least c = refl
+
+pub returns-clause-escapes : goal.returns-clause-escapes
+unfolding digits
+returns-clause-escapes c = refl
+
+pub returns-clause-two_attributes : goal.returns-clause-two_attributes
+unfolding digits
+returns-clause-two_attributes c = refl
+
+pub returns-clause-nil_as_item : goal.returns-clause-nil_as_item
+unfolding digits
+returns-clause-nil_as_item c = refl
+
+pub returns-clause-one_item : goal.returns-clause-one_item
+unfolding digits
+returns-clause-one_item c = refl
+
+pub returns-clause-character_at_the_end : goal.returns-clause-character_at_the_end
+unfolding digits
+returns-clause-character_at_the_end c = refl

@@ -1,0 +1,89 @@
+-- What constructors stand round in a place whose names all have a fact.
+use Rattle.std.proofs.Common.{◌≡◌, Bool, true, false, ◌++◌, ◌⊎◌, inl, inr, bytes_eq}
+use Rattle.std.proofs.lemmas.Bool.{cases_Bool}
+use Rattle.cd_syntax.specs.Name.{Name}
+use Rattle.cd_syntax.specs.TypeTree as type
+use Rattle.cd_syntax.specs.TypeTree.{Tree, Trees, NoTree, ATree}
+use Rattle.cd_model.specs.Each.{Each}
+use Rattle.cd_model.specs.Scope.{Scope, Declared, names_in, names_in_trees, names_in_fields, names_over}
+use Rattle.cd_model.specs.Written.{kind_of, tuple_rest, arrows_rest, field_of}
+use Rattle.cd_model.proofs.Covered.{Covered, each_parts, covered_tree}
+
+-- the parts of an XML type
+pub record XmlParts (Fact : Declared → Type 0) (scope : Scope) (tag attributes content : Tree) : Type 0 where
+  pub tag_is : Covered Fact scope (kind_of tag)
+  pub attributes_are : Covered Fact scope (kind_of attributes)
+  pub content_is : Covered Fact scope (kind_of content)
+
+module _ (Fact : Declared → Type 0) where
+  -- the first of some trees, and the others
+  first_tree : (scope : Scope) (is : Tree) (rest : Trees) → Each Fact (names_in_trees scope (ATree is rest))
+      → Each Fact (names_over scope) → Covered Fact scope (kind_of is)
+  first_tree scope is rest within over =
+      covered_tree Fact scope is (each_parts Fact (names_in scope is) (names_in_trees scope rest) within).0 over
+
+  other_trees : (scope : Scope) (is : Tree) (rest : Trees) → Each Fact (names_in_trees scope (ATree is rest))
+      → Each Fact (names_in_trees scope rest)
+  other_trees scope is rest within = (each_parts Fact (names_in scope is) (names_in_trees scope rest) within).1
+
+  tuple_of : (scope : Scope) (rest : Trees) → Each Fact (names_in_trees scope rest) → Each Fact (names_over scope)
+      → Covered Fact scope (tuple_rest rest)
+  tuple_of scope NoTree within over = record { within = within; over = over }
+  tuple_of scope (ATree is NoTree) within over = first_tree scope is NoTree within over
+  tuple_of scope (ATree is (ATree other rest)) within over = record { within = within; over = over }
+
+  arrows_of : (scope : Scope) (rest : Trees) → Each Fact (names_in_trees scope rest) → Each Fact (names_over scope)
+      → Covered Fact scope (arrows_rest rest)
+  arrows_of scope NoTree within over = record { within = within; over = over }
+  arrows_of scope (ATree is NoTree) within over = first_tree scope is NoTree within over
+  arrows_of scope (ATree is (ATree other rest)) within over = record { within = within; over = over }
+
+  pub covered_first : (scope : Scope) (is : Tree) (rest : Trees) → Covered Fact scope (type.Tuple (ATree is rest))
+      → Covered Fact scope (kind_of is)
+  covered_first scope is rest covered = first_tree scope is rest covered.within covered.over
+
+  pub covered_tuple : (scope : Scope) (is : Tree) (rest : Trees) → Covered Fact scope (type.Tuple (ATree is rest))
+      → Covered Fact scope (tuple_rest rest)
+  covered_tuple scope is rest covered = tuple_of scope rest (other_trees scope is rest covered.within) covered.over
+
+  pub covered_argument : (scope : Scope) (is : Tree) (rest : Trees) → Covered Fact scope (type.Arrows (ATree is rest))
+      → Covered Fact scope (kind_of is)
+  covered_argument scope is rest covered = first_tree scope is rest covered.within covered.over
+
+  pub covered_arrows : (scope : Scope) (is : Tree) (rest : Trees) → Covered Fact scope (type.Arrows (ATree is rest))
+      → Covered Fact scope (arrows_rest rest)
+  covered_arrows scope is rest covered = arrows_of scope rest (other_trees scope is rest covered.within) covered.over
+
+  pub covered_xml : (scope : Scope) (tag attributes content : Tree) → Covered Fact scope (type.Xml tag attributes content)
+      → XmlParts Fact scope tag attributes content
+  covered_xml scope tag attributes content covered =
+      by_content (each_parts Fact (names_in scope tag ++ names_in scope attributes) (names_in scope content) covered.within)
+    where
+      by_all : Each Fact (names_in scope tag) × Each Fact (names_in scope attributes) → Each Fact (names_in scope content)
+          → XmlParts Fact scope tag attributes content
+      by_all others last = record {
+        tag_is = covered_tree Fact scope tag others.0 covered.over;
+        attributes_are = covered_tree Fact scope attributes others.1 covered.over;
+        content_is = covered_tree Fact scope content last covered.over;
+      }
+
+      by_content : Each Fact (names_in scope tag ++ names_in scope attributes) × Each Fact (names_in scope content)
+          → XmlParts Fact scope tag attributes content
+      by_content parts = by_all (each_parts Fact (names_in scope tag) (names_in scope attributes) parts.0) parts.1
+
+  -- what a record type says of a label
+  pub covered_field : (scope : Scope) (fields : type.Fields) (more : Bool) (label : Name)
+      → Each Fact (names_in_fields scope fields) → Each Fact (names_over scope)
+      → Covered Fact scope (field_of fields more label).kind
+  covered_field scope type.NoField more label within over = record { within = tt; over = over }
+  covered_field scope (type.AField name at optional is rest) more label within over = by_name
+      (cases_Bool (bytes_eq name label))
+      (each_parts Fact (names_in scope is) (names_in_fields scope rest) within)
+      (λ within. covered_field scope rest more label within over)
+    where
+      by_name : (bytes_eq name label ≡ true) ⊎ (bytes_eq name label ≡ false)
+          → Each Fact (names_in scope is) × Each Fact (names_in_fields scope rest)
+          → (Each Fact (names_in_fields scope rest) → Covered Fact scope (field_of rest more label).kind)
+          → Covered Fact scope (field_of (type.AField name at optional is rest) more label).kind
+      by_name (inl equal) parts later = rw equal (covered_tree Fact scope is parts.0 over)
+      by_name (inr differs) parts later = rw differs (later parts.1)
