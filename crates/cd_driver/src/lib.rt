@@ -60,8 +60,8 @@ pub fn cduce<F: Files, S: Sink>(
         (world (F.state files.old) (S.state out.old) (S.state err.old))
         (world (F.state files.new) (S.state out.new) (S.state err.new)) result }
 
-    // What is told of files stays. Where the words name a file, at most one fault was counted, at that file; where they
-    // name none, what is known of files stays as it was.
+    // What is told of files stays. Where the words name a file, what is known of files stays as it was, or the count of
+    // faults rose and this file is the last at which one came; where they name none, it stays as it was.
     ensures told { (F.state files.new).told ≡ (F.state files.old).told }
     ensures read { (file text1 text2 : Bytes) → Give (texts words.now) (SubTypes file text1 text2) → ReadsThere (F.state files.old) (F.state files.new) file }
     ensures unread { NamesNoFile (texts words.now) → F.state files.new ≡ F.state files.old }
