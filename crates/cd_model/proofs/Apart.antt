@@ -25,7 +25,7 @@ abbrev ApartAtArrows : Mapping → Type 0
 ApartAtArrows mapping = (argument result : NodeId) → mapping argument result true → mapping argument result false → ⊥
 
 -- a test has one outcome
-one_outcome : (b : Bool) → b ≡ true → b ≡ false → ⊥
+pub one_outcome : (b : Bool) → b ≡ true → b ≡ false → ⊥
 one_outcome b is out = true≢false (sym is ∙ out)
 
 module _ (reader : Reader) (apart : ApartAtForms reader) where
@@ -91,17 +91,17 @@ function_apart : (mapping : Mapping) → ApartAtArrows mapping → ApartAtForms 
 function_apart mapping apart (formula.Arrow argument result) is out = apart argument result is out
 function_apart mapping apart _ is out = true≢false is
 
-either_apart : (b : Bool) {A B C D : Type 0} → (A → B → ⊥) → (C → D → ⊥) → either b A C → either b B D → ⊥
+pub either_apart : (b : Bool) {A B C D : Type 0} → (A → B → ⊥) → (C → D → ⊥) → either b A C → either b B D → ⊥
 either_apart true one other is out = one is out
 either_apart false one other is out = other is out
 
 -- a pair that maps, and one that fails, before others
-maps_apart : {A B C D E F : Type 0} → (A → B → ⊥) → (C → D → ⊥) → (E → F → ⊥) → ((B ⊎ C) × E) → ((A × D) ⊎ F) → ⊥
+pub maps_apart : {A B C D E F : Type 0} → (A → B → ⊥) → (C → D → ⊥) → (E → F → ⊥) → ((B ⊎ C) × E) → ((A × D) ⊎ F) → ⊥
 maps_apart first second rest is (inr later) = rest is.1 later
 maps_apart first second rest (inl outside, rest_is) (inl miss) = first miss.0 outside
 maps_apart first second rest (inr inside, rest_is) (inl miss) = second inside miss.1
 
-fails_apart : {A B E F : Type 0} → (A → B → ⊥) → (E → F → ⊥) → (B × E) → (A ⊎ F) → ⊥
+pub fails_apart : {A B E F : Type 0} → (A → B → ⊥) → (E → F → ⊥) → (B × E) → (A ⊎ F) → ⊥
 fails_apart first rest is (inl miss) = first miss is.0
 fails_apart first rest is (inr later) = rest is.1 later
 

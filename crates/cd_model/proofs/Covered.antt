@@ -132,16 +132,17 @@ module _ (Fact : Declared → Type 0) where
           by_list parts = record { itself = parts.0; place = covered_tree here first parts.1 over }
 
   -- a name that a place leads to
-  pub led_to : (scope : Scope) (kind : Kind) (is : Declared) → LeadsTo scope kind is → Covered Fact scope kind → Fact is
-  led_to scope _ is (guarded.LeadsTo.in_union _ trees part _ one on) covered =
-      led_to scope (kind_of part) is on (in_union scope trees part one covered)
-  led_to scope _ is (guarded.LeadsTo.in_first _ part signs _ on) covered =
-      led_to scope (kind_of part) is on (in_first scope part signs covered)
-  led_to scope _ is (guarded.LeadsTo.in_signed _ first part signs _ one on) covered =
-      led_to scope (kind_of part) is on (in_signed scope first part signs one covered)
-  led_to scope _ is (guarded.LeadsTo.under_where _ part declarations _ on) covered =
-      led_to (declarations ∷ scope) (kind_of part) is on (under_where scope part declarations covered)
-  led_to scope _ is (guarded.LeadsTo.named _ name _ found) covered =
+  pub led_to : (outer scope : Scope) (kind : Kind) (is : Declared) → LeadsTo outer scope kind is → Covered Fact scope kind
+      → Fact is
+  led_to outer scope _ is (guarded.LeadsTo.in_union _ _ trees part _ one on) covered =
+      led_to outer scope (kind_of part) is on (in_union scope trees part one covered)
+  led_to outer scope _ is (guarded.LeadsTo.in_first _ _ part signs _ on) covered =
+      led_to outer scope (kind_of part) is on (in_first scope part signs covered)
+  led_to outer scope _ is (guarded.LeadsTo.in_signed _ _ first part signs _ one on) covered =
+      led_to outer scope (kind_of part) is on (in_signed scope first part signs one covered)
+  led_to outer scope _ is (guarded.LeadsTo.under_where _ _ part declarations _ on) covered =
+      led_to outer (declarations ∷ scope) (kind_of part) is on (under_where scope part declarations covered)
+  led_to outer scope _ is (guarded.LeadsTo.named _ _ name _ found) covered =
       (declared_covered scope name is found covered.over).itself
-  led_to scope _ is (guarded.LeadsTo.through_name _ name first _ found on) covered =
-      led_to first.scope (kind_of first.tree) is on (declared_covered scope name first found covered.over).place
+  led_to outer scope _ is (guarded.LeadsTo.through_name _ _ name first _ found inside on) covered =
+      led_to outer first.scope (kind_of first.tree) is on (declared_covered scope name first found covered.over).place

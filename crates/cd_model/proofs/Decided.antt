@@ -27,12 +27,12 @@ DecidesLabels labelled = (label : Name) (field : Field) → labelled label field
 abbrev DecidesArrows : Mapping → Type 0
 DecidesArrows mapping = (argument result : NodeId) → mapping argument result true ⊎ mapping argument result false
 
-swapped : {A B : Type 0} → A ⊎ B → B ⊎ A
+pub swapped : {A B : Type 0} → A ⊎ B → B ⊎ A
 swapped (inl a) = inr a
 swapped (inr b) = inl b
 
 -- both hold, or one of those that stand against them
-both_or : {A B C D : Type 0} → A ⊎ B → C ⊎ D → (A × C) ⊎ (B ⊎ D)
+pub both_or : {A B C D : Type 0} → A ⊎ B → C ⊎ D → (A × C) ⊎ (B ⊎ D)
 both_or (inl a) (inl c) = inl (a, c)
 both_or (inl a) (inr d) = inr (inr d)
 both_or (inr b) other = inr (inl b)
@@ -81,7 +81,7 @@ pair_decides first second is_first is_second (formula.Pair one other) = both_or 
 pair_decides first second is_first is_second _ = inr refl
 
 -- and of three
-three_or : {A B C D E F : Type 0} → A ⊎ B → C ⊎ D → E ⊎ F → (A × C × E) ⊎ (B ⊎ D ⊎ F)
+pub three_or : {A B C D E F : Type 0} → A ⊎ B → C ⊎ D → E ⊎ F → (A × C × E) ⊎ (B ⊎ D ⊎ F)
 three_or (inl a) (inl c) (inl e) = inl (a, c, e)
 three_or (inl a) (inl c) (inr f) = inr (inr (inr f))
 three_or (inl a) (inr d) last = inr (inr (inl d))
@@ -118,7 +118,7 @@ record_decides names labelled ends decides (formula.Record named rest) =
 record_decides names labelled ends decides _ = inr refl
 
 -- the labels of a record
-abbrev labels_of : element.Fields → List Name
+abbrev pub labels_of : element.Fields → List Name
 labels_of element.NoField = []
 labels_of (element.Field label is rest) = label ∷ labels_of rest
 
@@ -136,12 +136,12 @@ fields_end graph (element.Field name is rest) label =
     by_name (inr other) (inr absent) = inr (λ field free. rw other (absent field free))
 
 -- whichever of the two is chosen
-either_decided : (b : Bool) {A B C D : Type 0} → A ⊎ B → C ⊎ D → either b A C ⊎ either b B D
+pub either_decided : (b : Bool) {A B C D : Type 0} → A ⊎ B → C ⊎ D → either b A C ⊎ either b B D
 either_decided true one other = one
 either_decided false one other = other
 
 -- a pair maps where its argument is outside or its result is in
-maps_or : {A B C D E F : Type 0} → A ⊎ B → C ⊎ D → E ⊎ F → ((B ⊎ C) × E) ⊎ ((A × D) ⊎ F)
+pub maps_or : {A B C D E F : Type 0} → A ⊎ B → C ⊎ D → E ⊎ F → ((B ⊎ C) × E) ⊎ ((A × D) ⊎ F)
 maps_or (inl a) (inl c) (inl e) = inl (inr c, e)
 maps_or (inr b) other (inl e) = inl (inl b, e)
 maps_or (inl a) (inr d) rest = inr (inl (a, d))

@@ -10,6 +10,7 @@ use Rattle.cd_model.specs.Scope.{Scope, Declared, declared_as}
 use Rattle.cd_model.specs.Written.{kind_of}
 use Rattle.cd_model.proofs.Covered as covered
 use Rattle.cd_model.proofs.Covered.{Covered, declared_covered}
+use Rattle.cd_model.proofs.DeclaredScope.{stands_in_a_list}
 use Rattle.cd_model.proofs.SameWritten.{AreClosed}
 
 -- the name is one of these
@@ -54,26 +55,26 @@ of_each Fact (name ∷ names) every = (every name (inl refl), of_each Fact names
 -- a place whose names have the fact, and which leads to these names alone
 pub record Leads (Fact : Declared → Type 0) (names : List Declared) (scope : Scope) (kind : Kind) : Type 0 where
   pub covered : Covered Fact scope kind
-  pub to : (is : Declared) → LeadsTo scope kind is → IsIn is names
+  pub to : (is : Declared) → LeadsTo [] scope kind is → IsIn is names
 
 module _ (Fact : Declared → Type 0) where
   pub leads_closed : (names : List Declared) → AreClosed (Leads Fact names)
   leads_closed names = record {
     in_union = λ scope trees is one place. record {
       covered = covered.in_union Fact scope trees is one place.covered;
-      to = λ name on. place.to name (guarded.LeadsTo.in_union scope trees is name one on);
+      to = λ name on. place.to name (guarded.LeadsTo.in_union [] scope trees is name one on);
     };
     in_first = λ scope is signs place. record {
       covered = covered.in_first Fact scope is signs place.covered;
-      to = λ name on. place.to name (guarded.LeadsTo.in_first scope is signs name on);
+      to = λ name on. place.to name (guarded.LeadsTo.in_first [] scope is signs name on);
     };
     in_signed = λ scope first is signs one place. record {
       covered = covered.in_signed Fact scope first is signs one place.covered;
-      to = λ name on. place.to name (guarded.LeadsTo.in_signed scope first is signs name one on);
+      to = λ name on. place.to name (guarded.LeadsTo.in_signed [] scope first is signs name one on);
     };
     under_where = λ scope is declarations place. record {
       covered = covered.under_where Fact scope is declarations place.covered;
-      to = λ name on. place.to name (guarded.LeadsTo.under_where scope is declarations name on);
+      to = λ name on. place.to name (guarded.LeadsTo.under_where [] scope is declarations name on);
     };
   }
 
@@ -85,7 +86,7 @@ module _ (Fact : Declared → Type 0) where
     where
       by_tree : (found : Option Declared) → declared_as scope name ≡ found → declared_as scope name ≡ None
       by_tree None found = found
-      by_tree (Some is) found = elim (place.to is (guarded.LeadsTo.named scope name is found)) [ ]
+      by_tree (Some is) found = elim (place.to is (guarded.LeadsTo.named [] scope name is found)) [ ]
 
   -- the tree of a name that is guarded leads to the other names alone
   pub leads_on : (names : List Declared) (scope : Scope) (name : Name) (is : Declared)
@@ -94,6 +95,7 @@ module _ (Fact : Declared → Type 0) where
   leads_on names scope name is found is_guarded place leads = record {
     covered = (declared_covered Fact scope name is found leads.covered.over).place;
     to = λ last on. still_in is names place last
-        (λ same. is_guarded (subst (λ last. LeadsTo is.scope (kind_of is.tree) last) same on))
-        (leads.to last (guarded.LeadsTo.through_name scope name is last found on));
+        (λ same. is_guarded (subst (λ last. LeadsTo [] is.scope (kind_of is.tree) last) same on))
+        (leads.to last (guarded.LeadsTo.through_name [] scope name is last found
+        (stands_in_a_list scope name is found) on));
   }

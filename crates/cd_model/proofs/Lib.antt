@@ -16,7 +16,12 @@ pub mod Nowhere
 pub mod TextsAgree
 pub mod Covered
 pub mod CoveredParts
+pub mod DeclaredScope
 pub mod Leading
 pub mod SameWritten
 pub mod SameNames
 pub mod Enough
+pub mod WrittenLabels
+pub mod WrittenDecided
+pub mod WrittenApart
+pub mod Unguarded

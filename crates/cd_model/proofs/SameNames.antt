@@ -1,6 +1,6 @@
 -- What answers the same at forms answers the same at guarded names, with any number of them to use up that is at least the
 -- number of the names that are led to.
-use Rattle.std.proofs.Common.{◌≡◌, ℕ, zero, suc, ◌≤◌, Bool, false, List, Option, Some, None, length, refl, ap, sym, ◌∙◌}
+use Rattle.std.proofs.Common.{◌≡◌, ℕ, zero, suc, ◌≤◌, Bool, false, List, [], Option, Some, None, length, refl, ap, sym, ◌∙◌}
 use Rattle.cd_syntax.specs.Name.{Name}
 use Rattle.cd_syntax.specs.TypeTree as type
 use Rattle.cd_model.specs.Guarded.{IsGuarded}
@@ -45,7 +45,7 @@ module _ (Fact : Declared → Type 0) (guards : (is : Declared) → Fact is → 
         by_tree None found next = both_undeclared (suc count) (suc count') scope name answer found
         by_tree (Some is) found next =
             ap (λ is. declared_holds one (name_holds one count) is answer) found
-            ∙ by_place (leads.to is (guarded.LeadsTo.named scope name is found))
+            ∙ by_place (leads.to is (guarded.LeadsTo.named [] scope name is found))
             ∙ sym (ap (λ is. declared_holds other (name_holds other count') is answer) found)
           where
             by_place : IsIn is names → declared_holds one (name_holds one count) (Some is) answer
@@ -55,8 +55,8 @@ module _ (Fact : Declared → Type 0) (guards : (is : Declared) → Fact is → 
                 (name_holds one count) (name_holds other count')
                 (next (without is names place) (shorter is names place count fits) (shorter is names place count' fits'))
                 is.scope is.tree
-                (leads_on Fact names scope name is found (guards is (led_to Fact scope (type.Named name) is
-                (guarded.LeadsTo.named scope name is found) leads.covered)) place leads)
+                (leads_on Fact names scope name is found (guards is (led_to Fact [] scope (type.Named name) is
+                (guarded.LeadsTo.named [] scope name is found) leads.covered)) place leads)
                 answer
 
   -- all names that have the fact are among these, which are no more than either number
@@ -67,5 +67,5 @@ module _ (Fact : Declared → Type 0) (guards : (is : Declared) → Fact is → 
         one other (λ scope kind leads. same scope kind leads.covered)
         (name_holds one count) (name_holds other count') (names_same one other same count count' names fits fits')
         scope kind
-        (record { covered = covered; to = λ is on. among is (led_to Fact scope kind is on covered) })
+        (record { covered = covered; to = λ is on. among is (led_to Fact [] scope kind is on covered) })
         answer

@@ -60,15 +60,15 @@ module _ (Place : Scope → Kind → Type 0) (closed : AreClosed Place)
     kind_same scope (type.Meet first signs) place false = one_same
         (tree_same scope first (closed.in_first scope first signs place) false)
         (signs_same scope signs (λ is among. closed.in_signed scope first is signs among place) false)
-    kind_same scope (type.Sequence is) place answer = same scope (type.Sequence is) place answer
+    kind_same scope (type.Sequence is) place answer = refl
     kind_same scope (type.Record fields more) place answer = same scope (type.Record fields more) place answer
     kind_same scope (type.Xml tag attributes content) place answer =
         same scope (type.Xml tag attributes content) place answer
     kind_same scope (type.Named name) place answer = names_same scope name place answer
     kind_same scope (type.Where is declarations) place answer =
         tree_same (declarations ∷ scope) is (closed.under_where scope is declarations place) answer
-    kind_same scope (type.Variable name) place answer = same scope (type.Variable name) place answer
-    kind_same scope (type.Default name constant) place answer = same scope (type.Default name constant) place answer
+    kind_same scope (type.Variable name) place answer = refl
+    kind_same scope (type.Default name constant) place answer = refl
 
     each_same : (scope : Scope) (trees : Trees) → ((is : Tree) → IsOneOf is trees → Place scope (kind_of is))
         → (answer : Bool) → each_holds one names scope trees answer ≡ each_holds other names' scope trees answer
@@ -109,12 +109,12 @@ module _ (Fact : Declared → Type 0) where
 
   pub pair_same : {first first' second second' : Answers} → Same first first' → Same second second'
       → Same (pair_reader first second) (pair_reader first' second')
-  pair_same is_first is_second scope (type.Tuple (ATree is rest)) covered true = both_same
-      (is_first scope (kind_of is) (covered_first Fact scope is rest covered) true)
-      (is_second scope (tuple_rest rest) (covered_tuple Fact scope is rest covered) true)
-  pair_same is_first is_second scope (type.Tuple (ATree is rest)) covered false = one_same
-      (is_first scope (kind_of is) (covered_first Fact scope is rest covered) false)
-      (is_second scope (tuple_rest rest) (covered_tuple Fact scope is rest covered) false)
+  pair_same is_first is_second scope (type.Tuple (ATree is (ATree next rest))) covered true = both_same
+      (is_first scope (kind_of is) (covered_first Fact scope is (ATree next rest) covered) true)
+      (is_second scope (tuple_rest (ATree next rest)) (covered_tuple Fact scope is (ATree next rest) covered) true)
+  pair_same is_first is_second scope (type.Tuple (ATree is (ATree next rest))) covered false = one_same
+      (is_first scope (kind_of is) (covered_first Fact scope is (ATree next rest) covered) false)
+      (is_second scope (tuple_rest (ATree next rest)) (covered_tuple Fact scope is (ATree next rest) covered) false)
   pair_same is_first is_second scope (type.Text (c ∷ text)) covered true = both_same
       (is_first scope (type.Chars c c) (record { within = tt; over = covered.over }) true)
       (is_second scope (type.Text text) (record { within = tt; over = covered.over }) true)
@@ -145,8 +145,10 @@ module _ (Fact : Declared → Type 0) where
   record_same same scope _ covered answer = refl
 
   pub function_same : {one other : Mapping} → SameAtArrows one other → Same (function_reader one) (function_reader other)
-  function_same same scope (type.Arrows (ATree is rest)) covered answer = same scope (kind_of is) (arrows_rest rest)
-      (covered_argument Fact scope is rest covered) (covered_arrows Fact scope is rest covered) answer
+  function_same same scope (type.Arrows (ATree is (ATree next rest))) covered answer =
+      same scope (kind_of is) (arrows_rest (ATree next rest))
+      (covered_argument Fact scope is (ATree next rest) covered)
+      (covered_arrows Fact scope is (ATree next rest) covered) answer
   function_same same scope _ covered answer = refl
 
   pub built_ins_same : (built_in : BuiltinName → Bool → Type 0) {one other : Answers} → Same one other

@@ -79,6 +79,10 @@ abbrev pub text_of : List ℕ → Element
 text_of [] = nil
 text_of (c ∷ text) = element.Pair (Character c) (text_of text)
 
+-- the function that maps this integer alone
+abbrev pub function_of : ℕ → Element → Element
+function_of argument result = element.Function (element.Maps (Integer (pos argument)) result element.NoPair)
+
 -- `{a=1}` and `{a=1; b=2}`
 abbrev pub one_field : Element
 one_field = element.Record (element.Field (codes "a") (Integer (pos 1)) element.NoField)

@@ -9,3 +9,4 @@ pub mod Examples
 pub mod Scope
 pub mod Written
 pub mod Guarded
+pub mod WrittenExamples

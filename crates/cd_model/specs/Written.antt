@@ -2,8 +2,8 @@
 --
 -- The rules of forms are those of the nodes of graphs. A name holds what the tree holds that it is declared as. Names may
 -- lead to names without end, so an answer is given with a number: each name uses up one, and where none is left a name holds
--- nothing. At each step into a part of an element that number begins anew.
-use Rattle.std.specs.Prelude.{◌≡◌, ℕ, suc, zero, ℤ, Bool, true, false, not, List, [], ◌∷◌, Option, Some, None, ◌⊎◌, ◌↔◌, length, codes, bytes_eq, if◌then◌else◌}
+-- nothing. It is the number of names that are declared there, and begins anew at each step into a part of an element.
+use Rattle.std.specs.Prelude.{◌≡◌, ℕ, suc, zero, ℤ, Bool, true, false, not, List, [], ◌∷◌, Option, Some, None, ◌⊎◌, ◌↔◌, ◌<◌, ◌++◌, length, codes, bytes_eq, if◌then◌else◌}
 use Rattle.std.specs.Option.{unwrap_or}
 use Rattle.cd_sets.specs.declared.node_id.NodeId.{NodeId}
 use Rattle.cd_intervals.specs.Characters.{is_among}
@@ -46,6 +46,10 @@ abbrev mutual
   kind_holds reader names scope (type.Meet first signs) false = tree_holds reader names scope first false ⊎ signs_hold reader names scope signs false
   kind_holds reader names scope (type.Named name) answer = names scope name answer
   kind_holds reader names scope (type.Where is declarations) answer = tree_holds reader names (declarations ∷ scope) is answer
+  -- sequences are not read yet, and the last two are forms of patterns, which stand in no type
+  kind_holds reader names scope (type.Sequence is) answer = answer ≡ false
+  kind_holds reader names scope (type.Variable name) answer = answer ≡ false
+  kind_holds reader names scope (type.Default name constant) answer = answer ≡ false
   kind_holds reader names scope kind answer = reader scope kind answer
 
   pub each_holds : Answers → (Scope → Name → Bool → Type 0) → Scope → Trees → Bool → Type 0
@@ -71,7 +75,7 @@ abbrev pub name_holds : Answers → ℕ → Scope → Name → Bool → Type 0
 name_holds reader zero scope name answer = answer ≡ false
 name_holds reader (suc left) scope name answer = declared_holds reader (name_holds reader left) (declared_as scope name) answer
 
--- what it answers at written types
+-- what a thing with this reader answers at every form, with so many names to use up
 abbrev pub at_types : ℕ → Answers → Answers
 at_types count reader = λ scope kind. kind_holds reader (name_holds reader count) scope kind
 
@@ -93,8 +97,8 @@ atom_reader name scope (type.Atom other) answer = bytes_eq name other ≡ answer
 atom_reader name scope (type.Text []) answer = bytes_eq name (codes "nil") ≡ answer
 atom_reader name scope kind answer = elsewhere scope kind answer
 
--- what is written after the first tree of a tuple, and of a chain of arrows: a tree where there is one, else the tuple, or the
--- chain, of those trees
+-- What is written after the first tree of a tuple, and of a chain of arrows: a tree where there is one, else the tuple, or the
+-- chain, of those trees. A tuple or a chain of fewer than two trees holds nothing, and no text writes one
 abbrev pub tuple_rest : Trees → Kind
 tuple_rest (ATree is NoTree) = kind_of is
 tuple_rest trees = type.Tuple trees
@@ -105,8 +109,10 @@ arrows_rest trees = type.Arrows trees
 
 -- a text is the pair of its first character and the text of the others
 abbrev pub pair_reader : Answers → Answers → Answers
-pair_reader first second scope (type.Tuple (ATree is rest)) true = first scope (kind_of is) true × second scope (tuple_rest rest) true
-pair_reader first second scope (type.Tuple (ATree is rest)) false = first scope (kind_of is) false ⊎ second scope (tuple_rest rest) false
+pair_reader first second scope (type.Tuple (ATree is (ATree next rest))) true =
+    first scope (kind_of is) true × second scope (tuple_rest (ATree next rest)) true
+pair_reader first second scope (type.Tuple (ATree is (ATree next rest))) false =
+    first scope (kind_of is) false ⊎ second scope (tuple_rest (ATree next rest)) false
 pair_reader first second scope (type.Text (c ∷ text)) true = first scope (type.Chars c c) true × second scope (type.Text text) true
 pair_reader first second scope (type.Text (c ∷ text)) false = first scope (type.Chars c c) false ⊎ second scope (type.Text text) false
 pair_reader first second scope kind answer = elsewhere scope kind answer
@@ -128,6 +134,7 @@ abbrev pub any_or_none : Bool → BuiltinName
 any_or_none true = builtin.Any
 any_or_none false = builtin.Empty
 
+-- labels of a sound type differ; of one that stands twice the first is meant
 abbrev pub field_of : type.Fields → Bool → Name → Field
 field_of type.NoField more label = record { optional = true; kind = type.Builtin (any_or_none more) }
 field_of (type.AField name at optional is rest) more label =
@@ -145,7 +152,8 @@ abbrev pub Mapping : Type 1
 Mapping = Scope → (argument result : Kind) → Bool → Type 0
 
 abbrev pub function_reader : Mapping → Answers
-function_reader mapping scope (type.Arrows (ATree is rest)) answer = mapping scope (kind_of is) (arrows_rest rest) answer
+function_reader mapping scope (type.Arrows (ATree is (ATree next rest))) answer =
+    mapping scope (kind_of is) (arrows_rest (ATree next rest)) answer
 function_reader mapping scope kind answer = elsewhere scope kind answer
 
 -- a built-in name holds what its node holds, and the other forms are read by this reader
@@ -156,7 +164,7 @@ with_built_ins built_in reader scope kind answer = reader scope kind answer
 abbrev pub built_in : Element → BuiltinName → Bool → Type 0
 built_in is name answer = answers built_ins is (node_named name) answer
 
--- what an element answers, where so many names are declared
+-- what an element answers, with so many names to use up at each part
 abbrev mutual
   pub reader : ℕ → Element → Answers
   reader count (element.Integer n) = with_built_ins (built_in (element.Integer n)) (integer_reader n)
@@ -198,26 +206,26 @@ abbrev pub closure_mapping : Graph → ℕ → List ArrowOf → Mapping
 closure_mapping graph count interface scope argument result true = AllMap graph count interface scope argument result
 closure_mapping graph count interface scope argument result false = AllMap graph count interface scope argument result → ⊥
 
-abbrev pub value_built_in : Graph → Value → BuiltinName → Bool → Type 0
-value_built_in graph is name answer = value_answers graph is (node_named name) answer
+abbrev pub value_built_in : Value → BuiltinName → Bool → Type 0
+value_built_in is name answer = value_answers built_ins is (node_named name) answer
 
--- what a value answers, whose closures have arrows of this graph, where so many names are declared
+-- what a value answers, whose closures have arrows of this graph, with so many names to use up at each part
 abbrev mutual
   pub value_reader : Graph → ℕ → Value → Answers
-  value_reader graph count (value.Integer n) = with_built_ins (value_built_in graph (value.Integer n)) (integer_reader n)
-  value_reader graph count (value.Character c) = with_built_ins (value_built_in graph (value.Character c)) (character_reader c)
-  value_reader graph count (value.Atom name) = with_built_ins (value_built_in graph (value.Atom name)) (atom_reader name)
+  value_reader graph count (value.Integer n) = with_built_ins (value_built_in (value.Integer n)) (integer_reader n)
+  value_reader graph count (value.Character c) = with_built_ins (value_built_in (value.Character c)) (character_reader c)
+  value_reader graph count (value.Atom name) = with_built_ins (value_built_in (value.Atom name)) (atom_reader name)
   value_reader graph count (value.Pair first second) =
-      with_built_ins (value_built_in graph (value.Pair first second))
+      with_built_ins (value_built_in (value.Pair first second))
       (pair_reader (at_types count (value_reader graph count first)) (at_types count (value_reader graph count second)))
   value_reader graph count (value.Xml tag attributes content) =
-      with_built_ins (value_built_in graph (value.Xml tag attributes content))
+      with_built_ins (value_built_in (value.Xml tag attributes content))
       (xml_reader (at_types count (value_reader graph count tag)) (at_types count (value_reader graph count attributes))
       (at_types count (value_reader graph count content)))
   value_reader graph count (value.Record fields) =
-      with_built_ins (value_built_in graph (value.Record fields)) (record_reader (value_labelled graph count fields))
+      with_built_ins (value_built_in (value.Record fields)) (record_reader (value_labelled graph count fields))
   value_reader graph count (value.Closure function interface environment) =
-      with_built_ins (value_built_in graph (value.Closure function interface environment))
+      with_built_ins (value_built_in (value.Closure function interface environment))
       (function_reader (closure_mapping graph count interface))
 
   pub value_labelled : Graph → ℕ → value.Fields → Labelled
@@ -231,7 +239,7 @@ pub record Written : Type 0 where
   pub scope : Scope
   pub tree : Tree
 
--- how many names are declared in its text and in the file that the text sees
+-- how many names are declared in its tree and in the lists that it stands under, each declaration counted
 abbrev pub number_of_names : Written → ℕ
 number_of_names type = length (names_seen type.scope type.tree)
 
@@ -251,6 +259,8 @@ written_value_answers graph is type = value_answers_with (number_of_names type) 
 
 -- a node of a graph stands for a written type where both hold the same elements and the same values
 pub record StandsFor (graph : Graph) (id : NodeId) (type : Written) : Type 0 where
+  pub is_node : id.0 < length graph
+  pub begins : (more : Graph) × (graph ≡ built_ins ++ more)
   pub elements : (is : Element) (answer : Bool) → IsElement is → answers graph is id answer ↔ written_answers is type answer
   pub values : (is : Value) (answer : Bool) → IsValue (length graph) is
       → value_answers graph is id answer ↔ written_value_answers graph is type answer

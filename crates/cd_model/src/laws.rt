@@ -6,11 +6,13 @@ ghost use Rattle.cd_syntax.specs.Element.{Element, IsElement, Integer, Character
 ghost use Rattle.cd_model.specs.BuiltIns.{built_ins, EMPTY, ANY, INT, CHAR, BYTE, ATOM, BOOL, STRING, ARROW, PAIR, RECORD, ANY_XML, DATA, NIL};
 ghost use Rattle.cd_model.specs.Canonical.{canonical};
 ghost use Rattle.cd_model.specs.Examples as example;
-ghost use Rattle.cd_model.specs.Examples.{text_of};
+ghost use Rattle.cd_model.specs.Examples.{text_of, function_of};
 ghost use Rattle.cd_syntax.specs.Integer.{LEAST};
 ghost use Rattle.cd_syntax.specs.Notation.{Prints};
 ghost use Rattle.cd_model.specs.Formula.{Graph, Formula, IsFormula, IsGraph};
-ghost use Rattle.cd_model.specs.Guarded.{NamesAreGuarded};
+ghost use Rattle.cd_model.specs.Guarded.{IsGuarded, NamesAreGuarded};
+ghost use Rattle.cd_model.specs.WrittenExamples as written;
+ghost use Rattle.cd_syntax.specs.TypeTree.{Text};
 ghost use Rattle.cd_model.specs.Written.{Written, number_of_names, answers_with, value_answers_with, written_answers, written_value_answers};
 ghost use Rattle.cd_model.specs.Kinds.{kind_of, kind_of_value, element_of, AnInteger, ACharacter, AnAtom, APair, AnXml, ARecord, AFunction, IsByte, IsBool, IsString, IsData, IsNil};
 ghost use Rattle.cd_model.specs.Membership.{holds, reader, value_reader, answers, value_answers, IsIn, IsOutside, IsValueIn};
@@ -22,6 +24,13 @@ pub fn membership_is_decided()
     ensures in_or_outside { (graph : Graph) (is : Element) (id : NodeId) → answers graph is id true ⊎ answers graph is id false }
     ensures not_both { (graph : Graph) (is : Element) (id : NodeId) → answers graph is id true → answers graph is id false → ⊥ }
     ensures no_value_both { (graph : Graph) (is : Value) (id : NodeId) → value_answers graph is id true → value_answers graph is id false → ⊥ }
+{}
+
+/// Each element is in a written type or outside it, and not both; no value is both.
+pub fn written_membership_is_decided()
+    ensures in_or_outside { (type : Written) (is : Element) → written_answers is type true ⊎ written_answers is type false }
+    ensures not_both { (type : Written) (is : Element) → written_answers is type true → written_answers is type false → ⊥ }
+    ensures no_value_both { (graph : Graph) (type : Written) (is : Value) → written_value_answers graph is type true → written_value_answers graph is type false → ⊥ }
 {}
 
 /// Where formulas are put after those of a graph, each old node, and each formula that names old nodes alone, holds the
@@ -160,4 +169,47 @@ pub fn names_are_enough()
         → written_answers is type answer ↔ answers_with more is type answer }
     ensures values { (type : Written) (more : ℕ) (graph : Graph) (is : Value) (answer : Bool) → NamesAreGuarded type → number_of_names type ≤ more
         → written_value_answers graph is type answer ↔ value_answers_with more graph is type answer }
+{}
+
+/// Membership in written types at some elements.
+pub fn written_examples()
+    ensures hides { written_answers (Character 99) written.hidden true }
+    ensures hidden { written_answers (Integer (pos 1)) written.hidden false }
+    ensures own_scope { written_answers (Integer (pos 1)) written.not_hidden true }
+    ensures first_declared { written_answers (Integer (pos 1)) written.declared_twice true }
+    ensures not_the_second { written_answers (Character 99) written.declared_twice false }
+    ensures no_text { written_answers example.nil (written.alone (Text [])) true }
+    ensures no_other_atom { written_answers (Atom (codes "a")) (written.alone (Text [])) false }
+    ensures text { written_answers (text_of (codes "ab")) written.text true }
+    ensures other_text { written_answers (text_of (codes "ba")) written.text false }
+    ensures three { written_answers (element.Pair (Integer (pos 1)) (element.Pair (Integer (pos 2)) (Integer (pos 3)))) written.three true }
+    ensures left_pairs { written_answers (element.Pair (element.Pair (Integer (pos 1)) (Integer (pos 2))) (Integer (pos 3))) written.three false }
+    ensures two_of_three { written_answers (element.Pair (Integer (pos 1)) (Integer (pos 2))) written.three false }
+    ensures curried { written_answers (function_of 0 (function_of 1 (Integer (pos 2)))) written.curried true }
+    ensures no_function { written_answers (function_of 0 (Integer (pos 2))) written.curried false }
+    ensures fails { written_answers (function_of 0 (element.Function (element.Fails (Integer (pos 1)) element.NoPair))) written.curried false }
+    ensures closed { written_answers example.one_field written.closed true }
+    ensures not_closed { written_answers example.two_fields written.closed false }
+    ensures opened { written_answers example.two_fields written.opened true }
+    ensures no_field { written_answers (element.Record element.NoField) written.opened false }
+    ensures absent { written_answers (element.Record element.NoField) written.optional true }
+    ensures least { written_answers (Integer LEAST) written.at_most true }
+    ensures above { written_answers (Integer (pos 6)) written.at_most false }
+    ensures falling { written_answers (Integer (pos 3)) written.falling false }
+    ensures kept { written_answers (Integer (pos 2)) written.signs true }
+    ensures taken_out { written_answers (Integer (pos 0)) written.signs false }
+    ensures outside_the_last { written_answers (Integer (pos 3)) written.signs false }
+    ensures circular { written_answers (Integer (pos 1)) written.circular false }
+    ensures not_circular { written_answers (Integer (pos 1)) written.not_circular true }
+    ensures list { written_answers (element.Pair (Integer (pos 0)) example.list) written.list true }
+    ensures no_list { written_answers example.pair written.list false }
+{}
+
+/// Names that are guarded, and names that are not.
+pub fn guarded_examples()
+    ensures under_constructor { IsGuarded written.under_constructor }
+    ensures in_declaration { IsGuarded written.in_declaration }
+    ensures in_union { IsGuarded written.in_union → ⊥ }
+    ensures in_difference { IsGuarded written.in_difference → ⊥ }
+    ensures through_where { IsGuarded written.through_where → ⊥ }
 {}

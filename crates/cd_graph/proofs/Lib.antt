@@ -1,0 +1,6 @@
+mod Same
+mod Sound
+mod OfQuestion
+pub mod Reading
+pub mod Members
+pub mod Labels

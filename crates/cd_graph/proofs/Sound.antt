@@ -1,0 +1,145 @@
+-- What a graph is known by: it is sound, it begins with the built-in nodes, and both stay so where formulas are added.
+use Rattle.std.proofs.Common.{◌≡◌, ℕ, ◌+◌, ◌<◌, ◌≤◌, List, [], ◌∷◌, ◌++◌, length, take, drop, Option, Some, None, Result, Ok, Err, OnOk, OnErr, IsTrue, false, codes, bytes_eq, refl, sym, ap, ◌∙◌, subst, arith, length-append, lit<, true≢false}
+use Rattle.std.proofs.Props.{props}
+use Rattle.std.proofs.lemmas.List.{take-append-le, take-append-drop, length-take}
+use Rattle.std.proofs.lemmas.Slice.Eq.{bytes_eq-Decides}
+use Rattle.std.specs.Coded.{×_prop, Unit-prop}
+use mathlib.Core.Logic.{∥∥₁_elim}
+use Rattle.cd_syntax.specs.Name.{Name, IsLabel, is_word}
+use Rattle.cd_syntax.specs.Element.{IsAbove}
+use Rattle.cd_model.specs.Each.{Each}
+use Rattle.cd_model.specs.Formula.{Formula, Formulas, Nothing, Everything, Ints, Chars, Atoms, Pair, Xml, Record, Arrow, And, Or, Not, NoFormula, AFormula, Field, Graph, AreRisingLabels, IsFormula, AreFormulas, IsGraph}
+use Rattle.cd_model.specs.BuiltIns.{built_ins}
+use Rattle.cd_graph.proofs.Same.{formulas_are_a_set}
+
+-- each of these facts has one proof at most
+each_in_one_way : {X : Type 0} → (fact : X → Type 0) → ((one : X) → IsProp (fact one)) → (list : List X)
+    → IsProp (Each fact list)
+each_in_one_way fact once [] = Unit-prop
+each_in_one_way fact once (one ∷ rest) = ×_prop (once one) (each_in_one_way fact once rest)
+
+label_in_one_way : (name : Name) → IsProp (IsLabel name)
+label_in_one_way name = hlevel props
+
+above_in_one_way : (before : Option Name) (label : Name) → IsProp (IsAbove before label)
+above_in_one_way None label = Unit-prop
+above_in_one_way (Some before) label = hlevel props
+
+labels_in_one_way : (before : Option Name) (named : List (Name × Field)) → IsProp (AreRisingLabels before named)
+labels_in_one_way before [] = Unit-prop
+labels_in_one_way before (field ∷ named) =
+    hlevel (label_in_one_way field.0, above_in_one_way before field.0, labels_in_one_way (Some field.0) named)
+
+mutual
+  formula_in_one_way : (nodes : ℕ) (is : Formula) → IsProp (IsFormula nodes is)
+  formula_in_one_way nodes Nothing = Unit-prop
+  formula_in_one_way nodes Everything = Unit-prop
+  formula_in_one_way nodes (Ints set) = Unit-prop
+  formula_in_one_way nodes (Chars set) = Unit-prop
+  formula_in_one_way nodes (Atoms set) = each_in_one_way IsLabel label_in_one_way set.names
+  formula_in_one_way nodes (Pair first second) = hlevel props
+  formula_in_one_way nodes (Xml tag attributes content) = hlevel props
+  formula_in_one_way nodes (Record named rest) =
+      let fields : IsProp (Each (λ field. field.1.node.0 < nodes) named) =
+      each_in_one_way (λ field. field.1.node.0 < nodes) (λ field. hlevel props) named in
+      hlevel (labels_in_one_way None named, fields, props)
+  formula_in_one_way nodes (Arrow argument result) = hlevel props
+  formula_in_one_way nodes (And formulas) = formulas_in_one_way nodes formulas
+  formula_in_one_way nodes (Or formulas) = formulas_in_one_way nodes formulas
+  formula_in_one_way nodes (Not is) = formula_in_one_way nodes is
+
+  formulas_in_one_way : (nodes : ℕ) (formulas : Formulas) → IsProp (AreFormulas nodes formulas)
+  formulas_in_one_way nodes NoFormula = Unit-prop
+  formulas_in_one_way nodes (AFormula is rest) = ×_prop (formula_in_one_way nodes is) (formulas_in_one_way nodes rest)
+
+-- so what a graph keeps in its ghost fields can be had
+pub sound : (graph : Graph) → ∥ IsGraph graph ∥₁ → IsGraph graph
+sound graph kept =
+    ∥∥₁_elim kept (each_in_one_way (IsFormula (length graph)) (formula_in_one_way (length graph)) graph) (λ is. is)
+
+graphs_are_a_set : IsSet Graph
+graphs_are_a_set = hlevel (formulas_are_a_set, props)
+
+pub begins : (graph : Graph) → ∥ take 14 graph ≡ built_ins ∥₁ → take 14 graph ≡ built_ins
+begins graph kept = ∥∥₁_elim kept (graphs_are_a_set (take 14 graph) built_ins) (λ is. is)
+
+-- a graph that begins with the built-in nodes is these and others after them, and the other way
+pub with_others : (graph : Graph) → take 14 graph ≡ built_ins → (more : Graph) × (graph ≡ built_ins ++ more)
+with_others graph begun = (drop 14 graph, sym (take-append-drop 14 graph) ∙ ap (λ first. first ++ drop 14 graph) begun)
+
+pub without_others : (graph : Graph) → ((more : Graph) × (graph ≡ built_ins ++ more)) → take 14 graph ≡ built_ins
+without_others graph all = ap (take 14) all.1
+
+-- a fact of each that follows from another
+each_also : {X : Type 0} → (fact other : X → Type 0) → ((one : X) → fact one → other one)
+    → (list : List X) → Each fact list → Each other list
+each_also fact other also [] each = tt
+each_also fact other also (one ∷ rest) each = (also one each.0, each_also fact other also rest each.1)
+
+each_of_both : {X : Type 0} → (fact : X → Type 0) → (list others : List X) → Each fact list → Each fact others
+    → Each fact (list ++ others)
+each_of_both fact [] others each more = more
+each_of_both fact (one ∷ rest) others each more = (each.0, each_of_both fact rest others each.1 more)
+
+-- a formula of a graph is one of a larger graph
+mutual
+  still_formula : (nodes more : ℕ) → nodes ≤ more → (is : Formula) → IsFormula nodes is → IsFormula more is
+  still_formula nodes more larger Nothing sound = tt
+  still_formula nodes more larger Everything sound = tt
+  still_formula nodes more larger (Ints set) sound = tt
+  still_formula nodes more larger (Chars set) sound = tt
+  still_formula nodes more larger (Atoms set) sound = sound
+  still_formula nodes more larger (Pair first second) sound = (omega arith, omega arith)
+  still_formula nodes more larger (Xml tag attributes content) sound = (omega arith, omega arith, omega arith)
+  still_formula nodes more larger (Record named rest) sound =
+      let below : (limit : ℕ) → Name × Field → Type 0 = λ limit field. field.1.node.0 < limit in
+      (sound.0, each_also (below nodes) (below more) (λ field small. omega arith) named sound.1, omega arith)
+  still_formula nodes more larger (Arrow argument result) sound = (omega arith, omega arith)
+  still_formula nodes more larger (And formulas) sound = still_formulas nodes more larger formulas sound
+  still_formula nodes more larger (Or formulas) sound = still_formulas nodes more larger formulas sound
+  still_formula nodes more larger (Not is) sound = still_formula nodes more larger is sound
+
+  still_formulas : (nodes more : ℕ) → nodes ≤ more → (formulas : Formulas) → AreFormulas nodes formulas
+      → AreFormulas more formulas
+  still_formulas nodes more larger NoFormula sound = tt
+  still_formulas nodes more larger (AFormula is rest) sound =
+      (still_formula nodes more larger is sound.0, still_formulas nodes more larger rest sound.1)
+
+-- a graph with more formulas
+pub still_sound : (graph batch : Graph) → IsGraph graph → Each (IsFormula (length graph + length batch)) batch
+    → IsGraph (graph ++ batch)
+still_sound graph batch sound more =
+    let all : ℕ = length graph + length batch in
+    let first : Each (IsFormula all) graph =
+    each_also (IsFormula (length graph)) (IsFormula all) (still_formula (length graph) all (omega arith)) graph sound in
+    rw (length-append graph batch) (each_of_both (IsFormula all) graph batch first more)
+
+pub still_begins : (graph batch : Graph) → take 14 graph ≡ built_ins → take 14 (graph ++ batch) ≡ built_ins
+still_begins graph batch begins =
+    let count : length (take 14 graph) ≡ 14 = ap length begins in
+    let enough : 14 ≤ length graph = omega (arith, count, length-take 14 graph) in
+    take-append-le 14 graph batch enough ∙ begins
+
+-- a fact of what a call left, which either added or kept
+pub either_way : {T E : Type 0} → (fact : Graph → Type 0) (graph both now : Graph) (result : Result T E)
+    → OnOk result (now ≡ both) → OnErr result (now ≡ graph) → fact graph → fact both → fact now
+either_way fact graph both now (Ok one) added kept was is = subst fact (sym added) is
+either_way fact graph both now (Err one) added kept was is = subst fact (sym kept) was
+
+-- a word other than `_` is the name of an atom
+a_label : (name : Name) → IsTrue (is_word name) → bytes_eq name (codes "_") ≡ false → IsLabel name
+a_label name word other = (word, λ same. true≢false (sym ((bytes_eq-Decides name (codes "_")).1 same) ∙ other))
+
+-- the graph of the built-in nodes
+pub built_ins_are_sound : IsGraph built_ins
+built_ins_are_sound =
+    let no : IsLabel (codes "false") = a_label (codes "false") refl refl in
+    let yes : IsLabel (codes "true") = a_label (codes "true") refl refl in
+    let nil : IsLabel (codes "nil") = a_label (codes "nil") refl refl in
+    let empty : 0 < 14 = lit< tt in
+    let any : 1 < 14 = lit< tt in
+    let char : 3 < 14 = lit< tt in
+    let atom : 5 < 14 = lit< tt in
+    let string : 7 < 14 = lit< tt in
+    let data_node : 12 < 14 = lit< tt in
+    assumption

@@ -1,0 +1,3 @@
+pub mod PlainFormula
+pub mod Questions
+pub mod Nodes

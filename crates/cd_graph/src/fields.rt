@@ -1,0 +1,88 @@
+ghost use Rattle.std.specs.Prelude.{◌≡◌, None, IfOk};
+ghost use Rattle.cd_model.specs.Formula.{AreRisingLabels};
+ghost use Rattle.cd_graph.specs.PlainFormula.{plain_named};
+
+use cd_sets::node_id::NodeId;
+use cd_syntax::name::Name;
+use std::alloc::AllocError;
+use std::marker::Model;
+
+/// What a record type says of one label.
+#[derive(Clone, Copy, Debug, PartialEq, Eq)]
+pub struct Field {
+    /// Whether the field may be absent.
+    pub optional: bool,
+    /// The node that its value is in.
+    pub node: NodeId,
+}
+
+/// Labels, which rise strictly, and what a record type says of each. A contract sees them in a list.
+#[derive(Debug, Drop)]
+pub struct FieldList {
+    items: Vec<(Name, Field)>,
+}
+
+impl Model for FieldList {
+    ghost use Rattle.std.specs.Prelude.{List, None};
+    ghost use Rattle.cd_syntax.specs.Name.{Name as ALabel};
+    ghost use Rattle.cd_model.specs.Formula.{AreRisingLabels};
+    ghost use Rattle.cd_graph.specs.declared.fields.Field.{Field as AField};
+
+    ghost Value = { List (ALabel × AField) };
+
+    ghost use Rattle.cd_graph.specs.PlainFormula.{plain_named};
+
+    ghost view = { λ list. list.items.items };
+
+    ghost invariant = { λ list. AreRisingLabels None (plain_named list.items.items) };
+}
+
+impl FieldList {
+    /// The list of these fields.
+    pub fn of(items: Vec<(Name, Field)>) -> FieldList
+        requires { AreRisingLabels None (plain_named items.items) }
+        ensures { result ≡ items.items }
+    {
+        FieldList { items }
+    }
+
+    /// The fields, by rising label.
+    pub fn items(&self) -> &[(Name, Field)]
+        ensures value { result.now ≡ self.now }
+        ensures rising { AreRisingLabels None (plain_named self.now) }
+    {
+        self.items.as_slice()
+    }
+
+    /// An equal list.
+    pub fn copy(&self) -> Result<FieldList, AllocError>
+        ensures { IfOk result (λ copy. copy ≡ self.now) }
+    {
+        let mut items = Vec::new(*self.items.allocator());
+        for (label, field) in self.items.iter() {
+            items.push((label.copy()?, *field))?;
+        }
+        Ok(FieldList { items })
+    }
+}
+
+/// A record type: its fields, and the node for all other labels, at which there is nothing or what is in that node.
+#[derive(Debug, Drop)]
+pub struct Fields {
+    /// What it says of the labels that it names.
+    pub named: FieldList,
+    /// The node of what may stand at each other label.
+    pub rest: NodeId,
+}
+
+impl Fields {
+    /// An equal record type.
+    pub fn copy(&self) -> Result<Fields, AllocError>
+        ensures { IfOk result (λ copy. copy ≡ self.now) }
+    {
+        Ok(Fields {
+            named: self.named.copy()?,
+            rest: self.rest,
+        })
+    }
+}

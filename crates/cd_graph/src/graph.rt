@@ -1,0 +1,123 @@
+ghost use Rattle.std.specs.Prelude.{◌≡◌, ◌+◌, ◌<◌, ◌++◌, ◌↔◌, Bool, List, map, take, length, IfOk, OnOk, OnErr};
+ghost use Rattle.cd_sets.specs.declared.node_id.NodeId.{NodeId as AnId};
+ghost use Rattle.cd_syntax.specs.Element.{Element};
+ghost use Rattle.cd_model.specs.Each.{Each};
+ghost use Rattle.cd_model.specs.Formula.{Graph as PlainGraph, IsFormula, IsGraph, formula_at};
+ghost use Rattle.cd_model.specs.BuiltIns.{built_ins as built_in_formulas};
+ghost use Rattle.cd_model.specs.Value.{Value, IsValue};
+ghost use Rattle.cd_model.specs.Membership.{asked, holds, reader, value_reader, answers, value_answers};
+ghost use Rattle.cd_graph.specs.PlainFormula.{plain, plain_list};
+ghost use Rattle.cd_graph.specs.Questions.{inside, outside, question_formula};
+
+use crate::built_in::built_ins;
+use crate::formula::{Formula, Formulas};
+use cd_sets::node_id::NodeId;
+use cd_sets::question::Question;
+use std::alloc::{AllocError, Global};
+
+/// A graph of types: a list of formulas, each under the number of its place, which begins with the built-in nodes.
+#[derive(Debug, Drop)]
+pub struct Graph {
+    formulas: Formulas,
+    ghost sound: { ∥ IsGraph (plain_list formulas) ∥₁ },
+    ghost built_in: { ∥ take 14 (plain_list formulas) ≡ built_in_formulas ∥₁ },
+}
+
+impl Graph {
+    ghost use Rattle.cd_graph.specs.Nodes.{nodes};
+
+    /// The graph of the built-in nodes alone.
+    pub fn new(alloc: Global) -> Result<Graph, AllocError>
+        ensures { IfOk result (λ graph. nodes graph ≡ built_in_formulas) }
+    {
+        Ok(Graph {
+            formulas: built_ins(alloc)?,
+        })
+    }
+
+    /// Puts formulas after those of the graph, and gives the number of the first. Each old node holds what it held. Where
+    /// memory runs out the graph stays as it was.
+    pub fn extend(&mut self, batch: Formulas) -> Result<NodeId, AllocError>
+        requires { Each (IsFormula (length (nodes self.old) + length (plain_list batch))) (plain_list batch) }
+        ensures first { IfOk result (λ first. first.0 ≡ length (nodes self.old)) }
+        ensures added { OnOk result (nodes self.new ≡ nodes self.old ++ plain_list batch) }
+        ensures elements { OnOk result ((is : Element) (id : AnId) (answer : Bool) → id.0 < length (nodes self.old)
+            → answers (nodes self.old) is id answer ↔ answers (nodes self.new) is id answer) }
+        ensures values { OnOk result ((is : Value) (id : AnId) (answer : Bool) → IsValue (length (nodes self.old)) is → id.0 < length (nodes self.old)
+            → value_answers (nodes self.old) is id answer ↔ value_answers (nodes self.new) is id answer) }
+        ensures kept { OnErr result (nodes self.new ≡ nodes self.old) }
+    {
+        let first = NodeId(self.len());
+        self.formulas.append(batch)?;
+        Ok(first)
+    }
+
+    /// The formula of a node.
+    pub fn formula(&self, id: NodeId) -> &Formula
+        requires { id.0 < length (nodes self.now) }
+        ensures { plain result.now ≡ formula_at (nodes self.now) id }
+    {
+        &self.formulas.items()[id.0]
+    }
+
+    /// The number of nodes.
+    pub fn len(&self) -> usize
+        ensures count { result ≡ length (nodes self.now) }
+        ensures sound { IsGraph (nodes self.now) }
+        ensures built_in { (more : PlainGraph) × (nodes self.now ≡ built_in_formulas ++ more) }
+    {
+        self.formulas.items().len()
+    }
+
+    /// A formula that holds just what is in each node of `pos` and in none of `neg`, made of copies of their formulas.
+    pub fn formula_of(&self, question: &Question) -> Result<Formula, AllocError>
+        requires pos { Each (λ id. id.0 < length (nodes self.now)) question.now.pos }
+        requires neg { Each (λ id. id.0 < length (nodes self.now)) question.now.neg }
+        ensures elements { IfOk result (λ formula. (is : Element) (answer : Bool)
+            → asked (answers (nodes self.now) is) question.now answer
+            ↔ holds (reader (nodes self.now) is) (plain formula) answer) }
+        ensures values { IfOk result (λ formula. (is : Value) (answer : Bool)
+            → asked (value_answers (nodes self.now) is) question.now answer
+            ↔ holds (value_reader (nodes self.now) is) (plain formula) answer) }
+        ensures sound { IfOk result (λ formula. IsFormula (length (nodes self.now)) (plain formula)) }
+    {
+        self.joined(question)
+    }
+
+    // The formula by its parts.
+    fn joined(&self, question: &Question) -> Result<Formula, AllocError>
+        requires pos { Each (λ id. id.0 < length (nodes self.now)) question.now.pos }
+        requires neg { Each (λ id. id.0 < length (nodes self.now)) question.now.neg }
+        ensures { IfOk result (λ is. plain is ≡ question_formula (nodes self.now) question.now) }
+    {
+        let mut formulas = self.copies(question.pos.ids())?;
+        formulas.append(self.complements(question.neg.ids())?)?;
+        Ok(Formula::and(formulas))
+    }
+
+    // Copies of the formulas of nodes.
+    fn copies(&self, ids: &[NodeId]) -> Result<Formulas, AllocError>
+        requires { Each (λ id. id.0 < length (nodes self.now)) ids.now }
+        ensures { IfOk result (λ formulas. plain_list formulas ≡ inside (nodes self.now) ids.now) }
+    {
+        let mut formulas = Vec::new(self.formulas.allocator());
+        for id in ids {
+            formulas.push(self.formula(*id).copy()?)?;
+        }
+        Ok(Formulas::of(formulas))
+    }
+
+    // For each of the nodes what is outside it, with a copy of its formula.
+    fn complements(&self, ids: &[NodeId]) -> Result<Formulas, AllocError>
+        requires { Each (λ id. id.0 < length (nodes self.now)) ids.now }
+        ensures { IfOk result (λ formulas. plain_list formulas ≡ outside (nodes self.now) ids.now) }
+    {
+        let alloc = self.formulas.allocator();
+        let mut formulas = Vec::new(alloc);
+        for id in ids {
+            let copy = self.formula(*id).copy()?;
+            formulas.push(Formula::not(Box::new(alloc, copy)?))?;
+        }
+        Ok(Formulas::of(formulas))
+    }
+}

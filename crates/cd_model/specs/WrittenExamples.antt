@@ -1,0 +1,110 @@
+-- Written types of which laws say what they hold, and which of their names are guarded.
+use Rattle.std.specs.Prelude.{ℕ, pos, true, false, List, [], ◌∷◌, Some, None, codes}
+use Rattle.cd_syntax.specs.declared.builtin.BuiltinName.TheVariants as builtin
+use Rattle.cd_syntax.specs.Name.{Name}
+use Rattle.cd_syntax.specs.TypeTree.{Tree, tree, Kind, Builtin, Ints, Text, Tuple, Arrows, Union, Meet, Record, Named, Where, trees_of, NoSign, ASign, NoField, AField, Declarations, NoDeclaration, ADeclaration}
+use Rattle.cd_model.specs.Scope.{Scope, Declared}
+use Rattle.cd_model.specs.Written.{Written}
+
+-- all trees stand at the same place
+abbrev pub here : Kind → Tree
+here kind = tree (record { from = 0; to = 0 }) kind
+
+abbrev pub number : ℕ → Tree
+number n = here (Ints (Some (pos n)) (Some (pos n)))
+
+abbrev pub int : Tree
+int = here (Builtin builtin.Int)
+
+abbrev pub char : Tree
+char = here (Builtin builtin.Char)
+
+abbrev pub named : List ℕ → Tree
+named name = here (Named name)
+
+-- one declaration, and two
+abbrev pub one : Name → Tree → Declarations
+one name is = ADeclaration name 0 is NoDeclaration
+
+abbrev pub two : Name → Tree → Name → Tree → Declarations
+two name is other then = ADeclaration name 0 is (ADeclaration other 1 then NoDeclaration)
+
+-- a type that sees these lists, and one that sees none
+abbrev pub seen : Scope → Tree → Written
+seen scope is = record { scope = scope; tree = is }
+
+abbrev pub alone : Kind → Written
+alone kind = seen [] (here kind)
+
+-- `A where A = Char` under `A = Int`; `A where B = Char` under `A = B` and `B = Int`; `A` declared as Int and then as Char
+abbrev pub hidden : Written
+hidden = seen (one (codes "A") int ∷ []) (here (Where (named (codes "A")) (one (codes "A") char)))
+
+abbrev pub not_hidden : Written
+not_hidden = seen (two (codes "A") (named (codes "B")) (codes "B") int ∷ []) (here (Where (named (codes "A")) (one (codes "B") char)))
+
+abbrev pub declared_twice : Written
+declared_twice = seen (two (codes "A") int (codes "A") char ∷ []) (named (codes "A"))
+
+-- `"ab"`, `(1,2,3)`, `0 -> 1 -> 2`, `{a=Int}`, `{a=Int ..}` and `{a=?Int}`
+abbrev pub text : Written
+text = alone (Text (codes "ab"))
+
+abbrev pub three : Written
+three = alone (Tuple (trees_of (number 1 ∷ number 2 ∷ number 3 ∷ [])))
+
+abbrev pub curried : Written
+curried = alone (Arrows (trees_of (number 0 ∷ number 1 ∷ number 2 ∷ [])))
+
+abbrev pub closed : Written
+closed = alone (Record (AField (codes "a") 0 false int NoField) false)
+
+abbrev pub opened : Written
+opened = alone (Record (AField (codes "a") 0 false int NoField) true)
+
+abbrev pub optional : Written
+optional = alone (Record (AField (codes "a") 0 true int NoField) false)
+
+-- `*--5`, `5--0`, `Int \ 0 & 1--2`, `X where X = X`, `Any \ X where X = X`, and `L where L = "" | (Int, L)`
+abbrev pub at_most : Written
+at_most = alone (Ints None (Some (pos 5)))
+
+abbrev pub falling : Written
+falling = alone (Ints (Some (pos 5)) (Some (pos 0)))
+
+abbrev pub signs : Written
+signs = alone (Meet int (ASign false (number 0) (ASign true (here (Ints (Some (pos 1)) (Some (pos 2)))) NoSign)))
+
+abbrev pub itself : Declarations
+itself = one (codes "X") (named (codes "X"))
+
+abbrev pub circular : Written
+circular = alone (Where (named (codes "X")) itself)
+
+abbrev pub not_circular : Written
+not_circular = alone (Where (here (Meet (here (Builtin builtin.Any)) (ASign false (named (codes "X")) NoSign))) itself)
+
+abbrev pub list_declared : Declarations
+list_declared = one (codes "L") (here (Union (trees_of (here (Text []) ∷ here (Tuple (trees_of (int ∷ named (codes "L") ∷ []))) ∷ []))))
+
+abbrev pub list : Written
+list = alone (Where (named (codes "L")) list_declared)
+
+-- the names of `X = (Int,X)`, `A = (Int where B = A)`, `X = X | Int`, `X = Int \ X` and `A = (B where B = A)`
+abbrev pub name_as : Name → Tree → Declared
+name_as name is = record { name = name; scope = one name is ∷ []; tree = is }
+
+abbrev pub under_constructor : Declared
+under_constructor = name_as (codes "X") (here (Tuple (trees_of (int ∷ named (codes "X") ∷ []))))
+
+abbrev pub in_declaration : Declared
+in_declaration = name_as (codes "A") (here (Where int (one (codes "B") (named (codes "A")))))
+
+abbrev pub in_union : Declared
+in_union = name_as (codes "X") (here (Union (trees_of (named (codes "X") ∷ int ∷ []))))
+
+abbrev pub in_difference : Declared
+in_difference = name_as (codes "X") (here (Meet int (ASign false (named (codes "X")) NoSign)))
+
+abbrev pub through_where : Declared
+through_where = name_as (codes "A") (here (Where (named (codes "B")) (one (codes "B") (named (codes "A")))))
