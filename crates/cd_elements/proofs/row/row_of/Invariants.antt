@@ -1,0 +1,20 @@
+use Rattle.std.proofs.Common.{◌≡◌, ◌++◌, map, length}
+use Rattle.cd_model.specs.Canonical.{written}
+use Rattle.cd_elements.specs.Elements.{table}
+use Rattle.cd_elements.specs.Table.{element_at}
+use Rattle.cd_elements.specs.Tasks.{part_in}
+use Rattle.cd_elements.proofs.row.row_of.Given as goal
+
+-- the first parts so far, and what stands along the right of the next element, are all of the row
+abbrev pub invariant-along : goal.invariant-along
+invariant-along l =
+    let all = table l.elements in
+    let left = (written (element_at all l.next)).row in
+    let whole = (written (element_at all l.fn.id)).row in
+    record {
+      parts : map (part_in all) l.firsts.items ++ left.parts ≡ whole.parts;
+      end : left.end ≡ whole.end;
+    }
+
+abbrev pub decreases-along : goal.decreases-along
+decreases-along l = length (written (element_at (table l.elements) l.next)).row.parts

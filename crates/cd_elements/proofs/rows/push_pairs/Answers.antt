@@ -1,0 +1,14 @@
+use Rattle.std.proofs.Common.{List, None, refl, arith}
+use Rattle.cd_syntax.specs.Element.{Element}
+use Rattle.cd_elements.specs.declared.task.Mark.TheVariants.{Semicolon}
+use Rattle.cd_elements.specs.Rows.{pair_text_in}
+use Rattle.cd_elements.proofs.WholeRows.{put_after}
+use Rattle.cd_elements.proofs.rows.push_pairs.Goals as goal
+
+-- one more is put
+pub loop-index-preserved : goal.loop-index-preserved
+loop-index-preserved c =
+    let more = λ (table : List Element). put_after (pair_text_in table) Semicolon c.args.pairs.now c.loop-index.index
+    _ (record { 0 = 0 }, None) _ _ _ _ c.loop-index-test.true c.loop-index.invariant.0 refl
+    (c.loop-index.invariant.1 table) (c.in_ok-push_pair.ensures table) (c.in_ok-push_mark.ensures table) in
+    (omega arith, more)

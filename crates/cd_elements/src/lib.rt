@@ -1,0 +1,18 @@
+//! A table of elements, to which elements are only added, and their texts.
+#![tactic(auto)]
+
+pub mod elements;
+mod look;
+mod output;
+mod quote;
+mod row;
+mod rows;
+mod sequence;
+pub mod shape;
+mod task;
+#[cfg(test)]
+mod tests;
+mod text;
+
+pub use elements::Elements;
+pub use shape::{ElementId, Pairs, Parts, Shape};
