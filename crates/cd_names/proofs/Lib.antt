@@ -1,0 +1,17 @@
+pub mod SameNames
+pub mod Sizes
+pub mod Views
+pub mod Declaring
+pub mod Lists
+pub mod Reaching
+pub mod Rich
+pub mod Growing
+pub mod Standing
+pub mod Visits
+pub mod Complete
+pub mod Paths
+pub mod BuiltIn
+pub mod Sound
+pub mod Exact
+pub mod LeastFault
+pub mod Checking

@@ -1,0 +1,7 @@
+use Rattle.std.proofs.Common.{◌≡◌, map, drop}
+use Rattle.cd_names.specs.Cycles.{is_held}
+use Rattle.cd_names.specs.PlainFound.{plain_id}
+use Rattle.cd_names.proofs.cycle.holds.Given as goal
+
+abbrev pub invariant-loop-other : goal.invariant-loop-other
+invariant-loop-other l = is_held (map plain_id (drop l.other-index l.ids)) (plain_id l.id) ≡ is_held (map plain_id l.ids) (plain_id l.id)

@@ -1,0 +1,7 @@
+pub mod Faults
+pub mod Errors
+pub mod BuiltinNames
+pub mod Walk
+pub mod Cycles
+pub mod PlainFound
+pub mod Check

@@ -1,0 +1,15 @@
+//! The naming faults of written types.
+#![tactic(auto)]
+
+mod check;
+mod cycle;
+pub mod error;
+pub mod fault;
+mod found;
+mod least;
+mod lookup;
+#[cfg(test)]
+mod tests;
+mod walk;
+
+pub use check::{check_declarations, check_type};
