@@ -6,10 +6,12 @@ use Rattle.cd_syntax.specs.TypeTree.{Declaration, Declarations, ADeclaration}
 use Rattle.cd_names.specs.BuiltinNames.{is_among, is_builtin}
 use Rattle.cd_names.specs.Walk.{Frames, State, innermost, told_if, start_of, walked, walked_declared}
 
-pub declared_more : (frames : Frames) (list : ℕ) (seen more : List Name) (one : Declaration) (rest : Declarations) (s after next : State Declarations) (again : Bool) (start : _)
+pub declared_more : (frames : Frames) (list : ℕ) (seen more : List Name) (one : Declaration) (rest : Declarations)
+    (s after next : State Declarations) (again : Bool) (start : _)
     → again ≡ is_among seen one.name → more ≡ seen ++ one.name ∷ [] → start ≡ start_of again list one.name
     → after ≡ told_if (again || is_builtin one.name) one.name one.at s
     → next ≡ walked innermost frames start one.tree after
-    → walked_declared innermost frames list more rest next ≡ walked_declared innermost frames list seen (ADeclaration one.name one.at one.tree rest) s
+    → walked_declared innermost frames list more rest next ≡ walked_declared innermost frames list seen
+    (ADeclaration one.name one.at one.tree rest) s
 declared_more frames list seen more one rest s after next again start is_again is_more is_start is_after is_next =
     rw (is_next, is_after, is_start, is_more, is_again) refl

@@ -15,3 +15,5 @@ pub mod Sound
 pub mod Exact
 pub mod LeastFault
 pub mod Checking
+pub mod OuterNames
+pub mod GuardedNames

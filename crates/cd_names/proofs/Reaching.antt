@@ -15,14 +15,16 @@ use Rattle.cd_names.proofs.Lists.{IsIn, in_front, in_last, in_more, nth_front, n
 -- a declared name leads to another one by links
 pub data Leads (links : List Link) : Id → Id → Type 0 where
   by_link : (start to : Id) (link : Link) → IsIn link links → link.start ≡ start → link.to ≡ to → Leads links start to
-  and_on : (start between to : Id) (link : Link) → Leads links start between → IsIn link links → link.start ≡ between → link.to ≡ to → Leads links start to
+  and_on : (start between to : Id) (link : Link) → Leads links start between → IsIn link links → link.start ≡ between
+      → link.to ≡ to → Leads links start to
 
 ids_same : (list : ℕ) (name : Name) (other_list : ℕ) (other_name : Name) → (list ≡ other_list) × (name ≡ other_name)
     → (let id : Id = record { list = list; name = name } in id) ≡ record { list = other_list; name = other_name }
 ids_same list name other_list other_name same = let first = same.0 in let second = same.1 in cc
 
 pub same_id_decides : (this other : Id) → Decides (same_id this other) (this ≡ other)
-same_id_decides this other = Decides-like (same_id this other) (ids_same this.list this.name other.list other.name) (λ same. (ap (λ id. id.list) same, ap (λ id. id.name) same))
+same_id_decides this other = Decides-like (same_id this other) (ids_same this.list this.name other.list other.name)
+    (λ same. (ap (λ id. id.list) same, ap (λ id. id.name) same))
     (Decides-and _ _ (Decides-eqb this.list other.list) (bytes_eq-Decides this.name other.name))
 
 pub held_is_in : (ids : List Id) (id : Id) → is_held ids id ≡ true → IsIn id ids
@@ -55,7 +57,8 @@ add_keeps : (b : Bool) (x id : Id) (seen : List Id) → IsIn x seen → IsIn x (
 add_keeps true x id seen is = in_front x seen (id ∷ []) is
 add_keeps false x id seen is = is
 
-add_keeps_place : (b : Bool) (x id : Id) (seen : List Id) (n : ℕ) → nth seen n ≡ Some x → nth (add_if b id seen) n ≡ Some x
+add_keeps_place : (b : Bool) (x id : Id) (seen : List Id) (n : ℕ) → nth seen n ≡ Some x
+    → nth (add_if b id seen) n ≡ Some x
 add_keeps_place true x id seen n is = nth_front x seen (id ∷ []) n is
 add_keeps_place false x id seen n is = is
 
@@ -64,21 +67,25 @@ pub next_keeps : (links : List Link) (id x : Id) (seen : List Id) → IsIn x see
 next_keeps [] id x seen is = is
 next_keeps (link ∷ rest) id x seen is = next_keeps rest id x _ (add_keeps _ x link.to seen is)
 
-next_keeps_place : (links : List Link) (id x : Id) (seen : List Id) (n : ℕ) → nth seen n ≡ Some x → nth (with_next links id seen) n ≡ Some x
+next_keeps_place : (links : List Link) (id x : Id) (seen : List Id) (n : ℕ) → nth seen n ≡ Some x
+    → nth (with_next links id seen) n ≡ Some x
 next_keeps_place [] id x seen n is = is
 next_keeps_place (link ∷ rest) id x seen n is = next_keeps_place rest id x _ n (add_keeps_place _ x link.to seen n is)
 
 -- all that the declared name leads to by one link are there
-added : (link : Link) (id : Id) (seen : List Id) → link.start ≡ id → IsIn link.to (add_if (same_id link.start id && not (is_held seen link.to)) link.to seen)
+added : (link : Link) (id : Id) (seen : List Id) → link.start ≡ id
+    → IsIn link.to (add_if (same_id link.start id && not (is_held seen link.to)) link.to seen)
 added link id seen is = rw ((same_id_decides link.start id).1 is) (by (is_held seen link.to) refl)
   where
     by : (b : Bool) → is_held seen link.to ≡ b → IsIn link.to (add_if (not b) link.to seen)
     by true held = held_is_in seen link.to held
     by false held = in_last link.to seen
 
-pub next_has : (links : List Link) (link : Link) (id : Id) (seen : List Id) → IsIn link links → link.start ≡ id → IsIn link.to (with_next links id seen)
+pub next_has : (links : List Link) (link : Link) (id : Id) (seen : List Id) → IsIn link links → link.start ≡ id
+    → IsIn link.to (with_next links id seen)
 next_has [] link id seen is starts = elim is [ ]
-next_has (first ∷ rest) link id seen (inl same) starts = next_keeps rest id link.to _ (rw same (added first id seen (rw same at starts)))
+next_has (first ∷ rest) link id seen (inl same) starts = next_keeps rest id link.to _
+    (rw same (added first id seen (rw same at starts)))
 next_has (first ∷ rest) link id seen (inr on) starts = next_has rest link id _ on starts
 
 -- and no others
@@ -92,15 +99,24 @@ and_is : (a b : Bool) → (a && b) ≡ true → a ≡ true
 and_is true b is = refl
 and_is false b is = absurd cc
 
-pub next_is : (links : List Link) (id x : Id) (seen : List Id) → IsIn x (with_next links id seen) → IsIn x seen ⊎ IsNext links id x
+pub next_is : (links : List Link) (id x : Id) (seen : List Id) → IsIn x (with_next links id seen)
+    → IsIn x seen ⊎ IsNext links id x
 next_is [] id x seen is = inl is
 next_is (link ∷ rest) id x seen is = by (next_is rest id x _ is)
   where
-    at : IsIn x seen ⊎ (((same_id link.start id && not (is_held seen link.to)) ≡ true) × (x ≡ link.to)) → IsIn x seen ⊎ IsNext (link ∷ rest) id x
+    at : IsIn x seen ⊎ (((same_id link.start id && not (is_held seen link.to)) ≡ true) × (x ≡ link.to))
+        → IsIn x seen ⊎ IsNext (link ∷ rest) id x
     at (inl old) = inl old
-    at (inr new) = inr (record { link = link; is_in = inl refl; starts = (same_id_decides link.start id).0 (and_is _ _ new.0); ends = sym new.1 })
+    at (inr new) = inr (record {
+      link = link;
+      is_in = inl refl;
+      starts = (same_id_decides link.start id).0 (and_is _ _
+          new.0);
+      ends = sym new.1;
+    })
 
-    by : IsIn x (add_if (same_id link.start id && not (is_held seen link.to)) link.to seen) ⊎ IsNext rest id x → IsIn x seen ⊎ IsNext (link ∷ rest) id x
+    by : IsIn x (add_if (same_id link.start id && not (is_held seen link.to)) link.to seen) ⊎ IsNext rest id x
+        → IsIn x seen ⊎ IsNext (link ∷ rest) id x
     by (inl old) = at (in_add _ x link.to seen old)
     by (inr new) = inr (record { link = new.link; is_in = inr new.is_in; starts = new.starts; ends = new.ends })
 
@@ -132,13 +148,16 @@ pub unseen_fewer : (links : List Link) (seen : List Id) (link : Link) → IsIn l
     → unseen links (seen ++ link.to ∷ []) < unseen links seen
 unseen_fewer [] seen link is new = elim is [ ]
 unseen_fewer (first ∷ rest) seen link (inl same) new =
-    let here : is_held (seen ++ link.to ∷ []) first.to ≡ true = rw (ap (λ one. one.to) (sym same)) (in_is_held _ link.to (in_last link.to seen)) in
+    let here : is_held (seen ++ link.to ∷ []) first.to ≡ true = rw (ap (λ one. one.to) (sym same))
+    (in_is_held _ link.to (in_last link.to seen)) in
     let before : is_held seen first.to ≡ false = rw (ap (λ one. one.to) same) at new in
     let less = unseen_less rest seen link.to in
     rw (here, before) (omega arith)
-unseen_fewer (first ∷ rest) seen link (inr on) new = by (is_held seen first.to) (is_held (seen ++ link.to ∷ []) first.to) (held_more seen link.to first.to) (unseen_fewer rest seen link on new)
+unseen_fewer (first ∷ rest) seen link (inr on) new = by (is_held seen first.to) (is_held (seen ++ link.to ∷ []) first.to)
+    (held_more seen link.to first.to) (unseen_fewer rest seen link on new)
   where
-    by : (b c : Bool) → (b ≡ true → c ≡ true) → unseen rest (seen ++ link.to ∷ []) < unseen rest seen → unseen_one c (unseen rest (seen ++ link.to ∷ [])) < unseen_one b (unseen rest seen)
+    by : (b c : Bool) → (b ≡ true → c ≡ true) → unseen rest (seen ++ link.to ∷ []) < unseen rest seen
+        → unseen_one c (unseen rest (seen ++ link.to ∷ [])) < unseen_one b (unseen rest seen)
     by true true kept less = less
     by true false kept less = let held = kept refl in absurd cc
     by false true kept less = omega arith
@@ -157,33 +176,41 @@ and_is_too : (a b : Bool) → (a && b) ≡ true → b ≡ true
 and_is_too true b is = is
 and_is_too false b is = absurd cc
 
-add_bound : (all : List Link) (b : Bool) (link : Link) (seen : List Id) → IsIn link all → (b ≡ true → is_held seen link.to ≡ false)
+add_bound : (all : List Link) (b : Bool) (link : Link) (seen : List Id) → IsIn link all
+    → (b ≡ true → is_held seen link.to ≡ false)
     → unseen all (add_if b link.to seen) + length (add_if b link.to seen) ≤ unseen all seen + length seen
-add_bound all true link seen is new = let fewer = unseen_fewer all seen link is (new refl) in let longer = length-append seen (link.to ∷ []) in omega arith
+add_bound all true link seen is new = let fewer = unseen_fewer all seen link is (new refl) in let longer = length-append
+    seen (link.to ∷ []) in omega arith
 add_bound all false link seen is new = omega arith
 
 next_bound : (all links : List Link) (id : Id) (seen : List Id) → ((link : Link) → IsIn link links → IsIn link all)
     → unseen all (with_next links id seen) + length (with_next links id seen) ≤ unseen all seen + length seen
 next_bound all [] id seen are = omega arith
 next_bound all (link ∷ rest) id seen are =
-    let on = next_bound all rest id (add_if (same_id link.start id && not (is_held seen link.to)) link.to seen) (λ one is. are one (inr is)) in
+    let on = next_bound all rest id (add_if (same_id link.start id && not (is_held seen link.to)) link.to seen)
+    (λ one is. are one (inr is)) in
     let here = add_bound all (same_id link.start id && not (is_held seen link.to)) link seen (are link (inl refl))
     (λ both. not_false (is_held seen link.to) (and_is_too (same_id link.start id) (not (is_held seen link.to)) both)) in
     omega arith
 
 next_of_bound : (links : List Link) (next : Option Id) (seen : List Id)
-    → unseen links (with_next_of links next seen) + length (with_next_of links next seen) ≤ unseen links seen + length seen
+    → unseen links (with_next_of links next seen) + length (with_next_of links next seen) ≤ unseen links seen + length
+    seen
 next_of_bound links None seen = omega arith
 next_of_bound links (Some id) seen = next_bound links links id seen (λ link is. is)
 
-reached_bound : (count : ℕ) (links : List Link) (id : Id) → unseen links (reached_after count links id) + length (reached_after count links id) ≤ length links
-reached_bound zero links id = let begun = next_bound links links id [] (λ link is. is) in let nothing = unseen_nothing links in omega arith
+reached_bound : (count : ℕ) (links : List Link) (id : Id)
+    → unseen links (reached_after count links id) + length (reached_after count links id) ≤ length links
+reached_bound zero links id = let begun = next_bound links links id [] (λ link is. is) in let nothing = unseen_nothing
+    links in omega arith
 reached_bound (suc count) links id =
     let on = reached_bound count links id in
-    let step = next_of_bound links (nth (reached_after count links id) count) (reached_after count links id) in omega arith
+    let step = next_of_bound links (nth (reached_after count links id) count) (reached_after count links id) in omega
+    arith
 
 -- all that is reached is led to
-next_led : (links : List Link) (start : Id) (next : Option Id) (seen : List Id) (x : Id) → ((y : Id) → IsIn y seen → Leads links start y)
+next_led : (links : List Link) (start : Id) (next : Option Id) (seen : List Id) (x : Id)
+    → ((y : Id) → IsIn y seen → Leads links start y)
     → ((y : Id) → next ≡ Some y → IsIn y seen) → IsIn x (with_next_of links next seen) → Leads links start x
 next_led links start None seen x are there is = are x is
 next_led links start (Some y) seen x are there is = by (next_is links y x seen is)
@@ -192,21 +219,25 @@ next_led links start (Some y) seen x are there is = by (next_is links y x seen i
     by (inl old) = are x old
     by (inr new) = and_on start y x new.link (are y (there y refl)) new.is_in new.starts new.ends
 
-reached_led : (count : ℕ) (links : List Link) (start x : Id) → IsIn x (reached_after count links start) → Leads links start x
+reached_led : (count : ℕ) (links : List Link) (start x : Id) → IsIn x (reached_after count links start)
+    → Leads links start x
 reached_led zero links start x is = by (next_is links start x [] is)
   where
     by : IsIn x [] ⊎ IsNext links start x → Leads links start x
     by (inl nothing) = elim nothing [ ]
     by (inr new) = by_link start x new.link new.is_in new.starts new.ends
-reached_led (suc count) links start x is = next_led links start (nth (reached_after count links start) count) (reached_after count links start) x
+reached_led (suc count) links start x is = next_led links start (nth (reached_after count links start) count)
+    (reached_after count links start) x
     (λ y there. reached_led count links start y there) (λ y at. in_nth y _ count at) is
 
 -- each that is reached before this place has all that it leads to among what is reached
-next_of_keeps : (links : List Link) (next : Option Id) (x : Id) (seen : List Id) → IsIn x seen → IsIn x (with_next_of links next seen)
+next_of_keeps : (links : List Link) (next : Option Id) (x : Id) (seen : List Id) → IsIn x seen
+    → IsIn x (with_next_of links next seen)
 next_of_keeps links None x seen is = is
 next_of_keeps links (Some id) x seen is = next_keeps links id x seen is
 
-next_of_keeps_place : (links : List Link) (next : Option Id) (x : Id) (seen : List Id) (n : ℕ) → nth seen n ≡ Some x → nth (with_next_of links next seen) n ≡ Some x
+next_of_keeps_place : (links : List Link) (next : Option Id) (x : Id) (seen : List Id) (n : ℕ) → nth seen n ≡ Some x
+    → nth (with_next_of links next seen) n ≡ Some x
 next_of_keeps_place links None x seen n is = is
 next_of_keeps_place links (Some id) x seen n is = next_keeps_place links id x seen n is
 
@@ -227,7 +258,8 @@ less_or_last (suc place) (suc count) less = by (less_or_last place count (omega 
     by (inl before) = inl (omega arith)
     by (inr last) = inr (ap suc last)
 
-closed_step : (links : List Link) (next : Option Id) (seen : List Id) (count place : ℕ) (x : Id) (link : Link) → nth seen count ≡ next
+closed_step : (links : List Link) (next : Option Id) (seen : List Id) (count place : ℕ) (x : Id) (link : Link)
+    → nth seen count ≡ next
     → ((n : ℕ) (y : Id) → n < count → nth seen n ≡ Some y → link.start ≡ y → IsIn link.to seen)
     → place < suc count → nth (with_next_of links next seen) place ≡ Some x → IsIn link links → link.start ≡ x
     → IsIn link.to (with_next_of links next seen)
@@ -250,20 +282,26 @@ closed_step links (Some y) seen count place x link some closed less at is starts
         let x_is : x ≡ y = cc in
         next_has links link y seen is (starts ∙ x_is)
 
-reached_closed : (count : ℕ) (links : List Link) (start : Id) (link : Link) (place : ℕ) (x : Id) → IsIn link links → place < count
-    → nth (reached_after count links start) place ≡ Some x → link.start ≡ x → IsIn link.to (reached_after count links start)
+reached_closed : (count : ℕ) (links : List Link) (start : Id) (link : Link) (place : ℕ) (x : Id) → IsIn link links
+    → place < count
+    → nth (reached_after count links start) place ≡ Some x → link.start ≡ x
+    → IsIn link.to (reached_after count links start)
 reached_closed zero links start link place x is less at starts = absurd (omega arith)
 reached_closed (suc count) links start link place x is less at starts =
-    closed_step links (nth (reached_after count links start) count) (reached_after count links start) count place x link refl
+    closed_step links (nth (reached_after count links start) count) (reached_after count links start) count place x link
+    refl
     (λ n y before here begins. reached_closed count links start link n y is before here begins) less at is starts
 
-first_reached : (count : ℕ) (links : List Link) (start : Id) (link : Link) → IsIn link links → link.start ≡ start → IsIn link.to (reached_after count links start)
+first_reached : (count : ℕ) (links : List Link) (start : Id) (link : Link) → IsIn link links → link.start ≡ start
+    → IsIn link.to (reached_after count links start)
 first_reached zero links start link is starts = next_has links link start [] is starts
-first_reached (suc count) links start link is starts = next_of_keeps links (nth (reached_after count links start) count) link.to (reached_after count links start) (first_reached count links start link is starts)
+first_reached (suc count) links start link is starts = next_of_keeps links (nth (reached_after count links start) count)
+    link.to (reached_after count links start) (first_reached count links start link is starts)
 
 -- what is led to is reached
 pub led_reached : (links : List Link) (start x : Id) → Leads links start x → IsIn x (reached links start)
-led_reached links _ _ (by_link start x link is starts ends) = rw (sym ends) (first_reached (length links) links start link is starts)
+led_reached links _ _ (by_link start x link is starts ends) = rw (sym ends)
+    (first_reached (length links) links start link is starts)
 led_reached links _ _ (and_on start between x link before is starts ends) =
     let there = nth_of between (reached links start) (led_reached links start between before) in
     let bound = reached_bound (length links) links start in
@@ -283,12 +321,16 @@ unfolding is_cyclic
 leads_cyclic links id leads = in_is_held (reached links id) id (led_reached links id id leads)
 
 -- links one after the other
-pub leads_on : (links : List Link) (start between to : Id) → Leads links start between → Leads links between to → Leads links start to
-leads_on links start _ _ before (by_link between to link is starts ends) = and_on start between to link before is starts ends
-leads_on links start _ _ before (and_on between later to link rest is starts ends) = and_on start later to link (leads_on links start between later before rest) is starts ends
+pub leads_on : (links : List Link) (start between to : Id) → Leads links start between → Leads links between to
+    → Leads links start to
+leads_on links start _ _ before (by_link between to link is starts ends) = and_on start between to link before is starts
+    ends
+leads_on links start _ _ before (and_on between later to link rest is starts ends) = and_on start later to link
+    (leads_on links start between later before rest) is starts ends
 
 -- the last link of those that lead to a declared name
-pub last_link : (links : List Link) (start to : Id) → Leads links start to → (link : Link) × IsIn link links × (link.to ≡ to)
+pub last_link : (links : List Link) (start to : Id) → Leads links start to
+    → (link : Link) × IsIn link links × (link.to ≡ to)
 last_link links _ _ (by_link start to link is starts ends) = (link, is, ends)
 last_link links _ _ (and_on start between to link before is starts ends) = (link, is, ends)
 
@@ -298,7 +340,8 @@ pub record Returns (links : List Link) (IsSuch : Id → Type 0) : Type 0 where
   pub is_such : IsSuch id
   pub returns : Leads links id id
 
-all_lead : (links : List Link) (seen : List Id) (id next x : Id) → ((y : Id) → IsIn y seen → Leads links y id) → Leads links id next
+all_lead : (links : List Link) (seen : List Id) (id next x : Id) → ((y : Id) → IsIn y seen → Leads links y id)
+    → Leads links id next
     → IsIn x (seen ++ id ∷ []) → Leads links x next
 all_lead links seen id next x led leads is = by (in_more x id seen is)
   where
@@ -306,16 +349,20 @@ all_lead links seen id next x led leads is = by (in_more x id seen is)
     by (inl old) = leads_on links x id next (led x old) leads
     by (inr same) = rw same leads
 
-fewer_left : (links : List Link) (seen : List Id) (id next : Id) → Leads links id next → is_held seen next ≡ false → unseen links (seen ++ next ∷ []) < unseen links seen
+fewer_left : (links : List Link) (seen : List Id) (id next : Id) → Leads links id next → is_held seen next ≡ false
+    → unseen links (seen ++ next ∷ []) < unseen links seen
 fewer_left links seen id next leads new =
     let last = last_link links id next leads in
     rw last.2 at (unseen_fewer links seen last.0 last.1 (rw last.2 new))
 
-orbit : (fuel : ℕ) (links : List Link) (IsSuch : Id → Type 0) → ((id : Id) → IsSuch id → (next : Id) × IsSuch next × Leads links id next)
-    → (seen : List Id) (id : Id) → IsSuch id → ((x : Id) → IsIn x seen → Leads links x id) → unseen links (seen ++ id ∷ []) < fuel → Returns links IsSuch
+orbit : (fuel : ℕ) (links : List Link) (IsSuch : Id → Type 0)
+    → ((id : Id) → IsSuch id → (next : Id) × IsSuch next × Leads links id next)
+    → (seen : List Id) (id : Id) → IsSuch id → ((x : Id) → IsIn x seen → Leads links x id)
+    → unseen links (seen ++ id ∷ []) < fuel → Returns links IsSuch
 orbit zero links IsSuch on seen id is led less = absurd (omega arith)
 orbit (suc fuel) links IsSuch on seen id is led less = by (cases_Bool (is_held (seen ++ id ∷ []) (on id is).0)) (λ new.
-    orbit fuel links IsSuch on (seen ++ id ∷ []) (on id is).0 (on id is).1 (λ x there. all_lead links seen id (on id is).0 x led (on id is).2 there)
+    orbit fuel links IsSuch on (seen ++ id ∷ []) (on id is).0 (on id is).1
+    (λ x there. all_lead links seen id (on id is).0 x led (on id is).2 there)
     (let fewer = fewer_left links (seen ++ id ∷ []) id (on id is).0 (on id is).2 new in omega arith))
   where
     by : (is_held (seen ++ id ∷ []) (on id is).0 ≡ true) ⊎ (is_held (seen ++ id ∷ []) (on id is).0 ≡ false)
@@ -323,10 +370,13 @@ orbit (suc fuel) links IsSuch on seen id is led less = by (cases_Bool (is_held (
     by (inl held) go = record {
       id = (on id is).0;
       is_such = (on id is).1;
-      returns = all_lead links seen id (on id is).0 (on id is).0 led (on id is).2 (held_is_in (seen ++ id ∷ []) (on id is).0 held);
+      returns = all_lead links seen id (on id is).0 (on id is).0 led (on id is).2
+          (held_is_in (seen ++ id ∷ []) (on id is).0 held);
     }
     by (inr new) go = go new
 
-pub returns : (links : List Link) (IsSuch : Id → Type 0) → ((id : Id) → IsSuch id → (next : Id) × IsSuch next × Leads links id next)
+pub returns : (links : List Link) (IsSuch : Id → Type 0)
+    → ((id : Id) → IsSuch id → (next : Id) × IsSuch next × Leads links id next)
     → (id : Id) → IsSuch id → Returns links IsSuch
-returns links IsSuch on id is = orbit (suc (unseen links (id ∷ []))) links IsSuch on [] id is (λ x nothing. elim nothing [ ]) (omega arith)
+returns links IsSuch on id is = orbit (suc (unseen links (id ∷ []))) links IsSuch on [] id is
+    (λ x nothing. elim nothing [ ]) (omega arith)

@@ -9,6 +9,9 @@ use Rattle.std.proofs.lemmas.Str.{encodes-chars}
 same_texts : (one other : List ℕ) → IsUtf8 one → IsUtf8 other → chars one ≡ chars other → one ≡ other
 same_texts one other is is_too same = cc (encodes-chars one is, encodes-chars other is_too)
 
-pub same_names : (one other : List ℕ) → IsUtf8 one → IsUtf8 other → bytes_eq one other ≡ bytes_eq (chars one) (chars other)
-same_names one other is is_too = same_from_decides (bytes_eq one other) (bytes_eq (chars one) (chars other)) (bytes_eq-Decides one other)
-    (Decides-like (bytes_eq (chars one) (chars other)) (same_texts one other is is_too) (ap chars) (bytes_eq-Decides (chars one) (chars other)))
+pub same_names : (one other : List ℕ) → IsUtf8 one → IsUtf8 other
+    → bytes_eq one other ≡ bytes_eq (chars one) (chars other)
+same_names one other is is_too = same_from_decides (bytes_eq one other) (bytes_eq (chars one) (chars other))
+    (bytes_eq-Decides one other)
+    (Decides-like (bytes_eq (chars one) (chars other)) (same_texts one other is is_too) (ap chars)
+    (bytes_eq-Decides (chars one) (chars other)))

@@ -55,32 +55,40 @@ abbrev mutual
   size_regulars (ARegular first rest) = suc (size_regular first + size_regulars rest)
 
 -- an item of a list is smaller than the list
-pub trees_fall : (items : List CodeTree) (index : ℕ) (item : CodeTree) → item ≡ get_or items index item → index < length items
+pub trees_fall : (items : List CodeTree) (index : ℕ) (item : CodeTree) → item ≡ get_or items index item
+    → index < length items
     → size (plain item) < size_trees (trees_of (map plain items))
 trees_fall [] index item is within = absurd (omega arith)
 trees_fall (first ∷ rest) zero item is within = rw is (omega arith)
 trees_fall (first ∷ rest) (suc index) item is within = let on = trees_fall rest index item is (omega arith) in omega arith
 
-pub signs_fall : (items : List CodeSigned) (index : ℕ) (item : CodeSigned) → item ≡ get_or items index item → index < length items
+pub signs_fall : (items : List CodeSigned) (index : ℕ) (item : CodeSigned) → item ≡ get_or items index item
+    → index < length items
     → size (plain_signed item).tree < size_signs (signs_of (map plain_signed items))
 signs_fall [] index item is within = absurd (omega arith)
 signs_fall (first ∷ rest) zero item is within = rw is (omega arith)
 signs_fall (first ∷ rest) (suc index) item is within = let on = signs_fall rest index item is (omega arith) in omega arith
 
-pub fields_fall : (items : List CodeField) (index : ℕ) (item : CodeField) → item ≡ get_or items index item → index < length items
+pub fields_fall : (items : List CodeField) (index : ℕ) (item : CodeField) → item ≡ get_or items index item
+    → index < length items
     → size (plain_field item).tree < size_fields (fields_of (map plain_field items))
 fields_fall [] index item is within = absurd (omega arith)
 fields_fall (first ∷ rest) zero item is within = rw is (omega arith)
-fields_fall (first ∷ rest) (suc index) item is within = let on = fields_fall rest index item is (omega arith) in omega arith
+fields_fall (first ∷ rest) (suc index) item is within = let on = fields_fall rest index item is (omega arith) in omega
+    arith
 
-pub declarations_fall : (items : List CodeDeclaration) (index : ℕ) (item : CodeDeclaration) → item ≡ get_or items index item → index < length items
+pub declarations_fall : (items : List CodeDeclaration) (index : ℕ) (item : CodeDeclaration)
+    → item ≡ get_or items index item → index < length items
     → size (plain_declaration item).tree < size_declarations (declarations_of (map plain_declaration items))
 declarations_fall [] index item is within = absurd (omega arith)
 declarations_fall (first ∷ rest) zero item is within = rw is (omega arith)
-declarations_fall (first ∷ rest) (suc index) item is within = let on = declarations_fall rest index item is (omega arith) in omega arith
+declarations_fall (first ∷ rest) (suc index) item is within = let on = declarations_fall rest index item is
+    (omega arith) in omega arith
 
-pub regulars_fall : (items : List CodeRegular) (index : ℕ) (item : CodeRegular) → item ≡ get_or items index item → index < length items
+pub regulars_fall : (items : List CodeRegular) (index : ℕ) (item : CodeRegular) → item ≡ get_or items index item
+    → index < length items
     → size_regular (plain_regular item) < size_regulars (regulars_of (map plain_regular items))
 regulars_fall [] index item is within = absurd (omega arith)
 regulars_fall (first ∷ rest) zero item is within = rw is (omega arith)
-regulars_fall (first ∷ rest) (suc index) item is within = let on = regulars_fall rest index item is (omega arith) in omega arith
+regulars_fall (first ∷ rest) (suc index) item is within = let on = regulars_fall rest index item is (omega arith) in omega
+    arith

@@ -19,12 +19,15 @@ field_tree one = ap (λ each. each.tree) (fold_out-FieldTree _ _ _ _ _ _ _ _ _ _
     regular_kind_layer kind_layer declaration_layer declarations_layer field_layer fields_layer
     regular_layer regulars_layer signs_layer signed_layer tree_layer trees_layer one)
 
-pub declaration_is : (one : CodeDeclaration) → plain_declaration one ≡ record { name = (out-Declaration one).name; at = (out-Declaration one).at; tree = plain (out-Declaration one).tree }
+pub declaration_is : (one : CodeDeclaration) → plain_declaration one ≡ record
+    { name = (out-Declaration one).name; at = (out-Declaration one).at; tree = plain (out-Declaration one).tree }
 declaration_is = fold_out-Declaration _ _ _ _ _ _ _ _ _ _ _ _
     regular_kind_layer kind_layer declaration_layer declarations_layer field_layer fields_layer
     regular_layer regulars_layer signs_layer signed_layer tree_layer trees_layer
 
 -- a function of what is left of a list, where the next item is known
-pub at_item : {X Y : Type 0} (F : List X → Y) (items : List X) (index : ℕ) (item : X) → item ≡ get_or items index item → index < length items
+pub at_item : {X Y : Type 0} (F : List X → Y) (items : List X) (index : ℕ) (item : X) → item ≡ get_or items index item
+    → index < length items
     → F (drop index items) ≡ F (item ∷ drop (index + 1) items)
-at_item F items index item is more = at_drop_more F items index item more ∙ ap (λ next. F (next ∷ drop (index + 1) items)) (sym is)
+at_item F items index item is more = at_drop_more F items index item more ∙ ap (λ next. F (next ∷ drop (index + 1) items))
+    (sym is)

@@ -18,7 +18,8 @@ add_if false id seen = seen
 
 abbrev pub with_next : List Link → Id → List Id → List Id
 with_next [] id seen = seen
-with_next (link ∷ rest) id seen = with_next rest id (add_if (same_id link.start id && not (is_held seen link.to)) link.to seen)
+with_next (link ∷ rest) id seen = with_next rest id
+    (add_if (same_id link.start id && not (is_held seen link.to)) link.to seen)
 
 abbrev pub with_next_of : List Link → Option Id → List Id → List Id
 with_next_of links None seen = seen
@@ -27,7 +28,8 @@ with_next_of links (Some id) seen = with_next links id seen
 -- what is seen once those that the first so many lead to are added
 abbrev pub reached_after : ℕ → List Link → Id → List Id
 reached_after zero links id = with_next links id []
-reached_after (suc count) links id = with_next_of links (slice_get (reached_after count links id) count) (reached_after count links id)
+reached_after (suc count) links id = with_next_of links (slice_get (reached_after count links id) count)
+    (reached_after count links id)
 
 -- no more are seen than there are links
 abbrev pub reached : List Link → Id → List Id

@@ -48,7 +48,12 @@ abbrev pub entered : {N : Type 0} → N → State N → State N
 entered list s = record { faults = s.faults; lists = s.lists ++ list ∷ []; links = s.links }
 
 abbrev pub linked : {N : Type 0} → Id → Id → ℕ → State N → State N
-linked start to at s = record { faults = s.faults; lists = s.lists; links = s.links ++ record { start = start; to = to; at = at } ∷ [] }
+linked start to at s = record {
+  faults = s.faults;
+  lists = s.lists;
+  links = s.links ++ record
+      { start = start; to = to; at = at } ∷ [];
+}
 
 -- where a name is first declared in a list, and in the innermost list that declares it
 abbrev pub place_in : Declarations → Name → Option ℕ
@@ -85,7 +90,8 @@ start_of false list name = Some (record { list = list; name = name })
 -- the labels of a record, after these
 abbrev pub labelled : {N : Type 0} → List Name → Fields → State N → State N
 labelled seen NoField s = s
-labelled seen (AField label at optional is rest) s = labelled (seen ++ label ∷ []) rest (told_if (is_among seen label) label at s)
+labelled seen (AField label at optional is rest) s = labelled (seen ++ label ∷ []) rest
+    (told_if (is_among seen label) label at s)
 
 -- the walk over a tree under these lists. `start` is the declared name that leads to the tree through no constructor, and
 -- `keep` is what is kept of a list
@@ -97,7 +103,8 @@ abbrev mutual
   walked_kind keep frames start at (Tuple trees) s = walked_trees keep frames None trees s
   walked_kind keep frames start at (Arrows trees) s = walked_trees keep frames None trees s
   walked_kind keep frames start at (Union trees) s = walked_trees keep frames start trees s
-  walked_kind keep frames start at (Meet first signs) s = walked_signs keep frames start signs (walked keep frames start first s)
+  walked_kind keep frames start at (Meet first signs) s = walked_signs keep frames start signs
+      (walked keep frames start first s)
   walked_kind keep frames start at (Sequence is) s = walked_regular keep frames is s
   walked_kind keep frames start at (Record fields more) s = walked_fields keep frames fields (labelled [] fields s)
   walked_kind keep frames start at (Xml tag attributes content) s =
@@ -105,28 +112,33 @@ abbrev mutual
   walked_kind keep frames start at (Named name) s = met start name at (place_of frames name) s
   walked_kind keep frames start at (Where is declarations) s =
       walked keep (record { declarations = declarations; list = length s.lists } ∷ frames) start is
-      (walked_declared keep (record { declarations = declarations; list = length s.lists } ∷ frames) (length s.lists) [] declarations
+      (walked_declared keep (record { declarations = declarations; list = length s.lists } ∷ frames) (length s.lists) []
+      declarations
       (entered (keep (record { declarations = declarations; list = length s.lists } ∷ frames)) s))
   walked_kind keep frames start at kind s = s
 
   pub walked_trees : {N : Type 0} → (Frames → N) → Frames → Option Id → Trees → State N → State N
   walked_trees keep frames start NoTree s = s
-  walked_trees keep frames start (ATree first rest) s = walked_trees keep frames start rest (walked keep frames start first s)
+  walked_trees keep frames start (ATree first rest) s = walked_trees keep frames start rest
+      (walked keep frames start first s)
 
   pub walked_signs : {N : Type 0} → (Frames → N) → Frames → Option Id → Signs → State N → State N
   walked_signs keep frames start NoSign s = s
-  walked_signs keep frames start (ASign kept is rest) s = walked_signs keep frames start rest (walked keep frames start is s)
+  walked_signs keep frames start (ASign kept is rest) s = walked_signs keep frames start rest
+      (walked keep frames start is s)
 
   pub walked_fields : {N : Type 0} → (Frames → N) → Frames → Fields → State N → State N
   walked_fields keep frames NoField s = s
-  walked_fields keep frames (AField label at optional is rest) s = walked_fields keep frames rest (walked keep frames None is s)
+  walked_fields keep frames (AField label at optional is rest) s = walked_fields keep frames rest
+      (walked keep frames None is s)
 
   -- the declarations of the innermost list after those of these names
   pub walked_declared : {N : Type 0} → (Frames → N) → Frames → ℕ → List Name → Declarations → State N → State N
   walked_declared keep frames list seen NoDeclaration s = s
   walked_declared keep frames list seen (ADeclaration name at is rest) s =
       walked_declared keep frames list (seen ++ name ∷ []) rest
-      (walked keep frames (start_of (is_among seen name) list name) is (told_if (is_among seen name || is_builtin name) name at s))
+      (walked keep frames (start_of (is_among seen name) list name) is
+      (told_if (is_among seen name || is_builtin name) name at s))
 
   pub walked_regular : {N : Type 0} → (Frames → N) → Frames → Regular → State N → State N
   walked_regular keep frames (regular span kind) s = walked_regular_kind keep frames kind s
@@ -141,10 +153,12 @@ abbrev mutual
 
   pub walked_regulars : {N : Type 0} → (Frames → N) → Frames → Regulars → State N → State N
   walked_regulars keep frames NoRegular s = s
-  walked_regulars keep frames (ARegular first rest) s = walked_regulars keep frames rest (walked_regular keep frames first s)
+  walked_regulars keep frames (ARegular first rest) s = walked_regulars keep frames rest
+      (walked_regular keep frames first s)
 
 -- the walk over a list of declarations that stands first in the scope, and over the trees in it
 abbrev pub walked_list : {N : Type 0} → (Frames → N) → Frames → Declarations → State N → State N
 walked_list keep outer declarations s =
-    walked_declared keep (record { declarations = declarations; list = length s.lists } ∷ outer) (length s.lists) [] declarations
+    walked_declared keep (record { declarations = declarations; list = length s.lists } ∷ outer) (length s.lists) []
+    declarations
     (entered (keep (record { declarations = declarations; list = length s.lists } ∷ outer)) s)

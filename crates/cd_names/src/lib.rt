@@ -6,6 +6,7 @@ mod cycle;
 pub mod error;
 pub mod fault;
 mod found;
+pub mod laws;
 mod least;
 mod lookup;
 #[cfg(test)]

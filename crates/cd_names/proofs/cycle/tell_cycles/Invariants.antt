@@ -4,5 +4,6 @@ use Rattle.cd_names.specs.PlainFound.{plain_told, plain_link}
 use Rattle.cd_names.proofs.cycle.tell_cycles.Given as goal
 
 abbrev pub invariant-loop-link : goal.invariant-loop-link
-invariant-loop-link l = cycles_told (map plain_link l.links) (map plain_link (drop l.link-index l.links)) (map plain_told l.faults.items)
+invariant-loop-link l = cycles_told (map plain_link l.links) (map plain_link (drop l.link-index l.links))
+    (map plain_told l.faults.items)
     ≡ cycles_told (map plain_link l.links) (map plain_link l.links) (map plain_told l.fn.faults.items)

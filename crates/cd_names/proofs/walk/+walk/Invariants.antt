@@ -38,23 +38,28 @@ decreases-walk_regulars l = size_regulars (plain_regulars l.all.now)
 
 -- to go on from here gives what the whole gives from the start
 abbrev pub invariant-walk_trees-loop-tree : goal.invariant-walk_trees-loop-tree
-invariant-walk_trees-loop-tree l = walked_trees innermost (plain_frames l.frames) (plain_start l.start) (trees_of (map plain (drop l.tree-index l.tree-items))) (plain_found l.found)
+invariant-walk_trees-loop-tree l = walked_trees innermost (plain_frames l.frames) (plain_start l.start)
+    (trees_of (map plain (drop l.tree-index l.tree-items))) (plain_found l.found)
     ≡ walked_trees innermost (plain_frames l.frames) (plain_start l.start) (plain_trees l.trees) (plain_found l.fn.found)
 
 abbrev pub invariant-walk_signs-loop-sign : goal.invariant-walk_signs-loop-sign
-invariant-walk_signs-loop-sign l = walked_signs innermost (plain_frames l.frames) (plain_start l.start) (signs_of (map plain_signed (drop l.sign-index l.sign-items))) (plain_found l.found)
+invariant-walk_signs-loop-sign l = walked_signs innermost (plain_frames l.frames) (plain_start l.start)
+    (signs_of (map plain_signed (drop l.sign-index l.sign-items))) (plain_found l.found)
     ≡ walked_signs innermost (plain_frames l.frames) (plain_start l.start) (plain_signs l.signs) (plain_found l.fn.found)
 
 abbrev pub invariant-walk_fields-loop-field : goal.invariant-walk_fields-loop-field
-invariant-walk_fields-loop-field l = walked_fields innermost (plain_frames l.frames) (fields_of (map plain_field (drop l.field-index l.field-items))) (plain_found l.found)
+invariant-walk_fields-loop-field l = walked_fields innermost (plain_frames l.frames)
+    (fields_of (map plain_field (drop l.field-index l.field-items))) (plain_found l.found)
     ≡ walked_fields innermost (plain_frames l.frames) (plain_fields l.fields) (plain_found l.fn.found)
 
 abbrev pub invariant-walk_declared-loop-declaration : goal.invariant-walk_declared-loop-declaration
 invariant-walk_declared-loop-declaration l =
     walked_declared innermost (plain_frames l.frames) l.list (map (λ one. one.now) l.seen.items)
     (declarations_of (map plain_declaration (drop l.declaration-index l.declaration-items))) (plain_found l.found)
-    ≡ walked_declared innermost (plain_frames l.frames) l.list [] (plain_declarations l.declarations) (plain_found l.fn.found)
+    ≡ walked_declared innermost (plain_frames l.frames) l.list [] (plain_declarations l.declarations)
+    (plain_found l.fn.found)
 
 abbrev pub invariant-walk_regulars-loop-expression : goal.invariant-walk_regulars-loop-expression
-invariant-walk_regulars-loop-expression l = walked_regulars innermost (plain_frames l.frames) (regulars_of (map plain_regular (drop l.expression-index l.expression-items))) (plain_found l.found)
+invariant-walk_regulars-loop-expression l = walked_regulars innermost (plain_frames l.frames)
+    (regulars_of (map plain_regular (drop l.expression-index l.expression-items))) (plain_found l.found)
     ≡ walked_regulars innermost (plain_frames l.frames) (plain_regulars l.all) (plain_found l.fn.found)
