@@ -257,10 +257,11 @@ written_answers is type = answers_with (number_of_names type) is type
 abbrev pub written_value_answers : Graph → Value → Written → Bool → Type 0
 written_value_answers graph is type = value_answers_with (number_of_names type) graph is type
 
--- a node of a graph stands for a written type where both hold the same elements and the same values
+-- A node of a graph stands for a written type where both hold the same elements, and the same values, whose closures may have
+-- arrows of any graph that begins with this one
 pub record StandsFor (graph : Graph) (id : NodeId) (type : Written) : Type 0 where
   pub is_node : id.0 < length graph
   pub begins : (more : Graph) × (graph ≡ built_ins ++ more)
   pub elements : (is : Element) (answer : Bool) → IsElement is → answers graph is id answer ↔ written_answers is type answer
-  pub values : (is : Value) (answer : Bool) → IsValue (length graph) is
-      → value_answers graph is id answer ↔ written_value_answers graph is type answer
+  pub values : (more : Graph) (is : Value) (answer : Bool) → IsValue (length (graph ++ more)) is
+      → value_answers (graph ++ more) is id answer ↔ written_value_answers (graph ++ more) is type answer

@@ -14,6 +14,7 @@ pub mod Faults
 pub mod Digits
 pub mod TypeTree
 pub mod PlainTree
+pub mod WellMade
 pub mod Built
 pub mod TypeGrammar
 pub mod SyntaxFaults
