@@ -5,3 +5,5 @@ pub mod DeclaringFronts
 pub mod DeclaringHeads
 pub mod DeclaringFaults
 pub mod DeclaringOn
+pub mod SpelledTokens
+pub mod MadeWell

@@ -4,6 +4,7 @@
 pub mod declarations;
 pub mod error;
 pub mod front;
+pub mod laws;
 #[cfg(test)]
 mod tests;
 pub mod types;

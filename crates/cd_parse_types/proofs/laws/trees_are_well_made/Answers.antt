@@ -1,0 +1,11 @@
+use Rattle.cd_parse_types.proofs.MadeWell.{text_makes_type, text_makes_front, text_makes_declarations}
+use Rattle.cd_parse_types.proofs.laws.trees_are_well_made.Goals as goal
+
+pub returns-clause-types : goal.returns-clause-types
+returns-clause-types c = text_makes_type
+
+pub returns-clause-fronts : goal.returns-clause-fronts
+returns-clause-fronts c = text_makes_front
+
+pub returns-clause-declarations : goal.returns-clause-declarations
+returns-clause-declarations c = text_makes_declarations
