@@ -1,0 +1,9 @@
+pub mod Names
+pub mod Shape
+pub mod Frames
+pub mod Leaves
+pub mod Walk
+pub mod Shaped
+pub mod Reading
+pub mod PlainTables
+pub mod PlainState

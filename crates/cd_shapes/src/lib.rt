@@ -1,0 +1,16 @@
+//! Written types as a table of shapes: each shape is a row of its own, which names the places of its parts.
+#![tactic(auto)]
+
+mod compare;
+mod frame;
+mod leaves;
+mod lists;
+mod lookup;
+pub mod names;
+pub mod place;
+pub mod read;
+pub mod shape;
+mod sort;
+mod state;
+pub mod tables;
+mod walk;
