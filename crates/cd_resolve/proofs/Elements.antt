@@ -1,0 +1,114 @@
+-- Each element answers the same at the nodes of tables and at the written types that they are of.
+use Rattle.std.proofs.Common.{ℕ, true, false, List}
+use Rattle.cd_sets.specs.declared.node_id.NodeId.{NodeId}
+use Rattle.cd_syntax.specs.Element as element
+use Rattle.cd_syntax.specs.Element.{Element, IsElement, AreFields, ArePairs}
+use Rattle.cd_syntax.specs.Name.{Name}
+use Rattle.cd_model.specs.Formula.{Graph}
+use Rattle.cd_model.specs.Membership as node
+use Rattle.cd_model.specs.Membership.{Reader, at_nodes}
+use Rattle.cd_model.specs.Scope.{Scope, Declared}
+use Rattle.cd_model.specs.Written as written
+use Rattle.cd_model.specs.Written.{Answers, at_types, built_in}
+use Rattle.cd_shapes.specs.Frames.{Frames}
+use Rattle.cd_shapes.specs.Shaped.{Tables}
+use Rattle.cd_resolve.specs.Closing.{Closes}
+use Rattle.cd_resolve.proofs.Agree.{Agrees, AgreesAtForms, AgreesAtNames}
+use Rattle.cd_resolve.proofs.BothWays.{itself, both_agree, one_agrees}
+use Rattle.cd_resolve.proofs.FormsBuiltIns.{Begins, element_at_name}
+use Rattle.cd_resolve.proofs.FormsOf.{AgreesAsForms, at_forms, at_part}
+use Rattle.cd_resolve.proofs.FormsAgreeSets.{AgreesAtBuiltIns, integers_agree, characters_agree, atoms_agree}
+use Rattle.cd_resolve.proofs.FormsAgreeParts as parts
+use Rattle.cd_resolve.proofs.FormsAgreeRecords.{AgreesAtLabels, records_agree, no_field_agrees, field_agrees}
+use Rattle.cd_resolve.proofs.FormsAgreeFunctions.{AgreesAtArrows, functions_agree}
+
+-- Connectives and names keep what is so of forms and of the names that the outermost lists declare
+module _ (graph : Graph) (first : ℕ) (names : List (Name × NodeId)) (lists : List Frames) (tables : Tables) (base : Scope)
+    (Fact : Declared → Type 0) (count : ℕ) (closes : Closes graph first tables) (begins : Begins graph)
+    (connectives : (reader : Reader) (answers : Answers)
+    → AgreesAtForms graph first names lists tables base Fact reader answers
+    → AgreesAtNames graph first names lists tables base Fact count reader answers
+    → Agrees graph first names lists tables base Fact reader (at_types count answers))
+    (old_elements : (is : Element) → IsElement is
+    → AgreesAtNames graph first names lists tables base Fact count (node.reader graph is) (written.reader count is)) where
+  abbrev Same : Element → Type 0
+  Same is = Agrees graph first names lists tables base Fact
+      (node.reader graph is) (at_types count (written.reader count is))
+
+  -- the nodes of built-in names
+  at_built_ins : (is : Element) → AgreesAtBuiltIns graph (node.reader graph is) (built_in is)
+  at_built_ins is = element_at_name graph begins is
+
+  -- what is the same at forms and at names is so at all places
+  as_read : (is : Element) → IsElement is
+      → AgreesAsForms graph first names lists tables base Fact (node.reader graph is) (written.reader count is) → Same is
+  as_read is sound agrees = connectives (node.reader graph is) (written.reader count is)
+      (at_forms graph first names lists tables base Fact closes begins
+      (node.reader graph is) (written.reader count is) agrees)
+      (old_elements is sound)
+
+  -- by recursion on the element
+  mutual
+    pub element_agrees : (is : Element) → IsElement is
+        → Agrees graph first names lists tables base Fact (node.reader graph is) (at_types count (written.reader count is))
+    element_agrees (element.Integer n) = λ sound. as_read (element.Integer n) sound
+        (integers_agree graph first names lists tables base Fact (built_in (element.Integer n)) n
+        (at_built_ins (element.Integer n)))
+    element_agrees (element.Character c) = λ sound. as_read (element.Character c) sound
+        (characters_agree graph first names lists tables base Fact (built_in (element.Character c)) c
+        (at_built_ins (element.Character c)))
+    element_agrees (element.Atom name) = λ sound. as_read (element.Atom name) sound
+        (atoms_agree graph first names lists tables base Fact (built_in (element.Atom name)) name
+        (at_built_ins (element.Atom name)))
+    element_agrees (element.Pair one other) = λ sound. as_read (element.Pair one other) sound
+        (parts.pairs_agree graph first names lists tables base Fact (built_in (element.Pair one other))
+        (node.reader graph one) (node.reader graph other)
+        (at_types count (written.reader count one)) (at_types count (written.reader count other))
+        (element_agrees one sound.0) (element_agrees other sound.1) (at_built_ins (element.Pair one other)))
+    element_agrees (element.Xml tag attributes content) = λ sound. as_read (element.Xml tag attributes content) sound
+        (parts.xml_agrees graph first names lists tables base Fact (built_in (element.Xml tag attributes content))
+        (node.reader graph tag) (node.reader graph attributes) (node.reader graph content)
+        (at_types count (written.reader count tag)) (at_types count (written.reader count attributes))
+        (at_types count (written.reader count content))
+        (element_agrees tag sound.2) (element_agrees attributes sound.3) (element_agrees content sound.4)
+        (at_built_ins (element.Xml tag attributes content)))
+    element_agrees (element.Record fields) = λ sound. as_read (element.Record fields) sound
+        (records_agree graph first names lists tables base Fact (built_in (element.Record fields))
+        (node.labelled graph fields) (written.labelled count fields)
+        (fields_agree fields sound.1) (at_built_ins (element.Record fields)))
+    element_agrees (element.Function pairs) = λ sound. as_read (element.Function pairs) sound
+        (functions_agree graph first names lists tables base Fact (built_in (element.Function pairs))
+        (node.mapping graph pairs) (written.mapping count pairs)
+        (pairs_agree pairs sound) (at_built_ins (element.Function pairs)))
+
+    fields_agree : (fields : element.Fields) → AreFields fields
+        → AgreesAtLabels graph first names lists tables base Fact
+        (node.labelled graph fields) (written.labelled count fields)
+    fields_agree element.NoField = λ sound. no_field_agrees graph first names lists tables base Fact
+    fields_agree (element.Field name is rest) = λ sound.
+        field_agrees graph first names lists tables base Fact name
+        (node.reader graph is) (at_types count (written.reader count is))
+        (node.labelled graph rest) (written.labelled count rest)
+        (element_agrees is sound.1) (fields_agree rest sound.2)
+
+    pub pairs_agree : (pairs : element.Pairs) → ArePairs pairs
+        → AgreesAtArrows graph first names lists tables base Fact (node.mapping graph pairs) (written.mapping count pairs)
+    pairs_agree element.NoPair = λ sound frames argument result from to is_from is_to answer. itself
+    pairs_agree (element.Maps one other rest) = λ sound frames argument result from to is_from is_to.
+        let at_one = at_part graph first names lists tables base Fact (node.reader graph one)
+        (at_types count (written.reader count one)) (element_agrees one sound.0) frames argument from is_from in
+        let at_other = at_part graph first names lists tables base Fact (node.reader graph other)
+        (at_types count (written.reader count other)) (element_agrees other sound.1) frames result to is_to in
+        let at_rest = pairs_agree rest sound.2 frames argument result from to is_from is_to in
+        elim [
+          | true ↦ both_agree (one_agrees (at_one false) (at_other true)) (at_rest true)
+          | false ↦ one_agrees (both_agree (at_one true) (at_other false)) (at_rest false)
+        ]
+    pairs_agree (element.Fails one rest) = λ sound frames argument result from to is_from is_to.
+        let at_one = at_part graph first names lists tables base Fact (node.reader graph one)
+        (at_types count (written.reader count one)) (element_agrees one sound.0) frames argument from is_from in
+        let at_rest = pairs_agree rest sound.1 frames argument result from to is_from is_to in
+        elim [
+          | true ↦ both_agree (at_one false) (at_rest true)
+          | false ↦ one_agrees (at_one true) (at_rest false)
+        ]

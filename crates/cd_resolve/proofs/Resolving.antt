@@ -1,0 +1,192 @@
+-- What is read of declarations, and of a type that sees them, stands for them in a graph that holds what the tables say.
+use Rattle.std.proofs.Common.{◌≡◌, ℕ, zero, suc, ◌+◌, ◌<◌, ◌≤◌, [], ◌∷◌, ◌++◌, List, Option, Some, None, ◌⊎◌, inl, inr, length, refl, sym, ap, subst, ◌∙◌, arith}
+use Rattle.std.proofs.lemmas.List.{append_assoc, length-append}
+use Rattle.std.proofs.lemmas.Option.{slice_get_within}
+use Rattle.cd_sets.specs.declared.node_id.NodeId.{NodeId}
+use Rattle.cd_syntax.specs.Element.{Element, IsElement}
+use Rattle.cd_syntax.specs.Name.{Name}
+use Rattle.cd_syntax.specs.TypeTree.{Tree, tree, Named, Declarations}
+use Rattle.cd_model.specs.BuiltIns.{built_ins, node}
+use Rattle.cd_model.specs.Formula.{Graph, IsGraph, formula_at}
+use Rattle.cd_model.specs.Membership as node_level
+use Rattle.cd_model.specs.Scope.{Declared, tree_in, names_in, names_over, names_seen}
+use Rattle.cd_model.specs.Value.{Value, IsValue}
+use Rattle.cd_model.specs.Written as written
+use Rattle.cd_model.specs.Written.{Written, StandsFor}
+use Rattle.cd_names.specs.Faults.{Fault, IsFault, IsFaultOfList}
+use Rattle.cd_names.proofs.GuardedNames.{names_are_guarded}
+use Rattle.cd_shapes.specs.declared.place.Place.{Place}
+use Rattle.cd_shapes.specs.declared.place.Place.TheVariants as place
+use Rattle.cd_shapes.specs.Frames.{Frames, index_in, given, declared_or, place_of}
+use Rattle.cd_shapes.specs.Shaped.{Tables, Shaped}
+use Rattle.cd_shapes.specs.Reading.{IsReading, AreSound, IsPlace, AreBelow, base_lists}
+use Rattle.cd_order.specs.Order.{Ends}
+use Rattle.cd_resolve.specs.Closing.{size_of, Closes, AgreesWith, node_at}
+use Rattle.cd_resolve.specs.Links.{links}
+use Rattle.cd_resolve.specs.Named.{numbered, type_named, IsNamed, AreNamed}
+use Rattle.cd_resolve.proofs.Agree.{AgreesAtNames}
+use Rattle.cd_resolve.proofs.Given.{given_elements, given_values}
+use Rattle.cd_resolve.proofs.Guards.{list_is_guarded}
+use Rattle.cd_resolve.proofs.LinksEnd.{ends}
+use Rattle.cd_resolve.proofs.NamesFound.{IsInside, IsOutside, found}
+use Rattle.cd_resolve.proofs.Numbered.{all_named}
+use Rattle.cd_resolve.proofs.Standing.{Fact, stands}
+
+-- the node of a place is one of the graph that has the tables' nodes after the first ones
+node_is_there : (nodes first : ℕ) (tables : Tables) (at : Place) → nodes ≤ first
+    → IsPlace nodes (length tables.roots) (length tables.shapes) at
+    → (node_at first (length tables.roots) at).0 < first + size_of tables
+node_is_there nodes first tables (place.Node id) fits is = omega arith
+node_is_there nodes first tables (place.Declared list index) fits is = omega arith
+node_is_there nodes first tables (place.Shape number) fits is = omega arith
+
+-- a graph that begins with another agrees with it
+kept : (graph more : Graph) (id : ℕ) → id < length graph → formula_at graph (node id) ≡ formula_at (graph ++ more) (node id)
+kept [] more id below = absurd (omega arith)
+kept (is ∷ graph) more zero below = refl
+kept (is ∷ graph) more (suc id) below = kept graph more id (omega arith)
+
+pub begins_agree : (old graph rest : Graph) → graph ≡ old ++ rest → AgreesWith old graph
+begins_agree old graph rest begins id below = rw begins (kept old rest id.0 below)
+
+-- and has as many nodes at least
+pub begins_with : (graph : Graph) → (rest : Graph) × (graph ≡ built_ins ++ rest) → 14 ≤ length graph
+begins_with graph begins = rw begins.1 (omega arith)
+
+pub itself_agrees : (graph : Graph) → AgreesWith graph graph
+itself_agrees graph id below = refl
+
+-- declarations that see no others
+module _ (declarations : Declarations) (none : (fault : Fault) → IsFaultOfList [] (declarations ∷ []) declarations fault → ⊥)
+    (more : List Frames) (tables : Tables)
+    (read : IsReading [] [] (names_over (declarations ∷ [])) (base_lists declarations more) tables)
+    (first : ℕ) where
+  -- all ways between their names and shapes end
+  pub declarations_end : AreSound 14 tables → (number : ℕ) → number < size_of tables → Ends (links tables) number
+  declarations_end sound = ends [] [] (names_over (declarations ∷ [])) (base_lists declarations more) tables 14 read sound
+      (list_is_guarded declarations none)
+
+  abbrev alone : Frames
+  alone = record { declarations = declarations; first = 0 } ∷ []
+
+  -- a name with a place in the list has a root
+  has_root : (name : Name) (index : ℕ) → index_in declarations name ≡ Some index
+      → IsPlace 14 (length tables.roots) (length tables.shapes) (place.Declared 0 index)
+  has_root name index at = by_place (found [] (base_lists declarations more) tables [] read.roots alone name (inl refl, tt))
+    where
+      place_is : place_of [] alone name ≡ place.Declared 0 index
+      place_is = ap (λ index. declared_or 0 index (given None)) at
+
+      by_place : IsInside [] (base_lists declarations more) tables [] alone name
+          ⊎ IsOutside [] (base_lists declarations more) tables [] alone name
+          → IsPlace 14 (length tables.roots) (length tables.shapes) (place.Declared 0 index)
+      by_place (inl inside) = subst (IsPlace 14 (length tables.roots) (length tables.shapes)) (sym inside.at ∙ place_is)
+          (slice_get_within tables.roots (inside.list + inside.index) inside.root.root inside.root.is_root)
+      by_place (inr outside) = absurd cc (sym place_is ∙ outside.at)
+
+  pub declarations_stand : (graph batch : Graph) → length graph ≡ first → (rest : Graph) × (graph ≡ built_ins ++ rest)
+      → 14 ≤ first → length batch ≡ size_of tables → ((more : Graph) → Closes (graph ++ batch ++ more) first tables)
+      → AreNamed (graph ++ batch) declarations (numbered first declarations)
+  declarations_stand graph batch long begins enough size closes =
+      all_named (graph ++ batch) declarations first each
+    where
+      begun : (rest : Graph) × (graph ++ batch ≡ built_ins ++ rest)
+      begun = (begins.0 ++ batch, ap (λ graph. graph ++ batch) begins.1 ∙ append_assoc built_ins begins.0 batch)
+
+      total : length (graph ++ batch) ≡ first + size_of tables
+      total = length-append graph batch ∙ ap (λ n. n + length batch) long ∙ ap (λ n. first + n) size
+
+      at_place : (name : Name) (index : ℕ) → index_in declarations name ≡ Some index
+          → StandsFor (graph ++ batch) (node_at first (length tables.roots) (place.Declared 0 index)) (type_named declarations name)
+      at_place name index at = stands first [] (base_lists declarations more) tables [] alone
+          (tree (record { from = 0; to = 0 }) (Named name)) (place.Declared 0 index) read.roots (inl refl, tt)
+          (sym (ap (λ index. declared_or 0 index (given None)) at)) (list_is_guarded declarations none)
+          (graph ++ batch) begun
+          (subst (λ total. (node_at first (length tables.roots) (place.Declared 0 index)).0 < total) (sym total)
+          (node_is_there 14 first tables (place.Declared 0 index) enough (has_root name index at)))
+          closes (λ more is element name. refl) (λ more is value name. refl)
+
+      each : (name : Name) (index : ℕ) → index_in declarations name ≡ Some index
+          → StandsFor (graph ++ batch) (node (first + index)) (type_named declarations name)
+      each name index at =
+          let same : first + (0 + index) ≡ first + index = omega arith in
+          subst (λ number. StandsFor (graph ++ batch) (node number) (type_named declarations name)) same
+          (at_place name index at)
+
+-- nodes that stand for types are nodes of the graph
+pub named_below : (graph : Graph) (declarations : Declarations) (names : List (Name × NodeId)) → AreNamed graph declarations names
+    → AreBelow (length graph) names
+named_below graph declarations names named name id there =
+    by_tree (tree_in declarations name) (subst (IsNamed graph declarations name (tree_in declarations name)) there (named name))
+  where
+    by_tree : (is : Option Tree) → IsNamed graph declarations name is (Some id) → id.0 < length graph
+    by_tree None is = elim is [ ]
+    by_tree (Some type) is = is.is_node
+
+-- a type that sees them
+module _ (declarations : Declarations) (none : (fault : Fault) → IsFaultOfList [] (declarations ∷ []) declarations fault → ⊥)
+    (is : Tree) (none_inside : (fault : Fault) → IsFault (declarations ∷ []) (declarations ∷ []) is fault → ⊥)
+    (old : Graph) (sound : IsGraph old) (begins : (rest : Graph) × (old ≡ built_ins ++ rest))
+    (names : List (Name × NodeId)) (named : AreNamed old declarations names)
+    (lists : List Frames) (tables : Tables) (root : Place)
+    (read : IsReading names (declarations ∷ []) (names_seen (declarations ∷ []) is) lists tables)
+    (shaped : Shaped names lists tables.shapes [] is root)
+    (there : IsPlace (length old) (length tables.roots) (length tables.shapes) root) where
+  abbrev count : ℕ
+  count = length (names_seen (declarations ∷ []) is)
+
+  fits : length (names_over (declarations ∷ [])) ≤ count
+  fits = let both : _ = length-append (names_in (declarations ∷ []) is) (names_over (declarations ∷ [])) in omega arith
+
+  -- all ways between its names and shapes end
+  pub type_ends : AreSound (length old) tables → (number : ℕ) → number < size_of tables → Ends (links tables) number
+  type_ends sound = ends names (declarations ∷ []) (names_seen (declarations ∷ []) is) lists tables (length old) read sound
+      (names_are_guarded declarations none is none_inside)
+
+  pub type_stands : (batch : Graph) → length batch ≡ size_of tables
+      → ((more : Graph) → Closes (old ++ batch ++ more) (length old) tables)
+      → StandsFor (old ++ batch) (node_at (length old) (length tables.roots) root)
+      (record { scope = declarations ∷ []; tree = is })
+  type_stands batch size closes = stands (length old) names lists tables (declarations ∷ []) [] is root read.roots tt shaped
+      (names_are_guarded declarations none is none_inside) (old ++ batch) begun
+      (subst (λ total. (node_at (length old) (length tables.roots) root).0 < total) (sym total)
+      (node_is_there (length old) (length old) tables root (omega arith) there))
+      closes old_elements old_values
+    where
+      begun : (rest : Graph) × (old ++ batch ≡ built_ins ++ rest)
+      begun = (begins.0 ++ batch, ap (λ graph. graph ++ batch) begins.1 ∙ append_assoc built_ins begins.0 batch)
+
+      total : length (old ++ batch) ≡ length old + size_of tables
+      total = length-append old batch ∙ ap (λ n. length old + n) size
+
+      TheFact : Declared → Type 0
+      TheFact = Fact (length old) names lists tables (declarations ∷ []) [] is root read.roots tt shaped
+
+      old_elements : (more : Graph) (e : Element) → IsElement e
+          → AgreesAtNames (old ++ batch ++ more) (length old) names lists tables (declarations ∷ []) TheFact count
+          (node_level.reader (old ++ batch ++ more) e) (written.reader count e)
+      old_elements more e element = subst (λ graph. AgreesAtNames graph (length old) names lists tables (declarations ∷ [])
+          TheFact count (node_level.reader graph e) (written.reader count e)) (sym (append_assoc old batch more))
+          (given_elements old sound declarations (list_is_guarded declarations none) names named count fits (length old)
+          lists tables TheFact (batch ++ more) e element)
+
+      old_values : (more : Graph) (v : Value) → IsValue (length (old ++ batch ++ more)) v
+          → AgreesAtNames (old ++ batch ++ more) (length old) names lists tables (declarations ∷ []) TheFact count
+          (node_level.value_reader (old ++ batch ++ more) v) (written.value_reader (old ++ batch ++ more) count v)
+      old_values more v value = subst (λ graph. IsValue (length graph) v → AgreesAtNames graph (length old) names lists tables
+          (declarations ∷ []) TheFact count (node_level.value_reader graph v) (written.value_reader graph count v))
+          (sym (append_assoc old batch more))
+          (given_values old sound declarations (list_is_guarded declarations none) names named count fits (length old)
+          lists tables TheFact (batch ++ more) v) value
+
+  -- where the number of nodes and the root are known by equations
+  pub type_stands_at : (first : ℕ) → first ≡ length old → (batch : Graph) → length batch ≡ size_of tables
+      → ((more : Graph) → Closes (old ++ batch ++ more) first tables)
+      → (id : NodeId) → id ≡ node_at first (length tables.roots) root
+      → StandsFor (old ++ batch) id (record { scope = declarations ∷ []; tree = is })
+  type_stands_at first same batch size closes id at = subst (λ id. StandsFor (old ++ batch) id the_type) (sym at)
+      (subst (λ first. ((more : Graph) → Closes (old ++ batch ++ more) first tables)
+      → StandsFor (old ++ batch) (node_at first (length tables.roots) root) the_type) (sym same) (type_stands batch size) closes)
+    where
+      the_type : Written
+      the_type = record { scope = declarations ∷ []; tree = is }

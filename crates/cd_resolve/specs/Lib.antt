@@ -1,0 +1,4 @@
+pub mod Closing
+pub mod Links
+pub mod Making
+pub mod Named

@@ -1,0 +1,121 @@
+//! Nodes of written types.
+ghost use Rattle.std.specs.Prelude.{◌≡◌, ℕ, ◌+◌, ◌≤◌, ◌++◌, [], ◌∷◌, length, IfOk, IfSome};
+ghost use Rattle.cd_syntax.specs.PlainTree.{plain, plain_declarations};
+ghost use Rattle.cd_syntax.specs.TypeTree.{Declarations as PlainDeclarations};
+ghost use Rattle.cd_syntax.specs.WellMade.{IsWellMade, AreWellMadeDeclarations};
+ghost use Rattle.cd_model.specs.Each.{Each};
+ghost use Rattle.cd_model.specs.BuiltIns.{built_ins};
+ghost use Rattle.cd_model.specs.Formula.{Graph as PlainGraph, IsFormula};
+ghost use Rattle.cd_model.specs.Written.{StandsFor};
+ghost use Rattle.cd_graph.specs.Nodes.{nodes};
+ghost use Rattle.cd_graph.specs.PlainFormula.{plain_list};
+ghost use Rattle.cd_names.specs.Faults.{Fault, IsFault, IsFaultOfList};
+ghost use Rattle.cd_resolve.specs.Closing.{node_at};
+ghost use Rattle.cd_resolve.specs.Named.{AreNamed, numbered};
+
+use crate::close::close;
+use cd_graph::{Formulas, Graph};
+use cd_sets::node_id::NodeId;
+use cd_shapes::names::Names;
+use cd_shapes::place::Place;
+use cd_shapes::read::{read_declarations, read_tree};
+use cd_syntax::type_tree::{Declarations, Tree};
+use std::alloc::{AllocError, Global};
+
+/// Formulas to be put after those of a graph, and the node of each declared name.
+#[derive(Debug, Drop)]
+pub struct Batch {
+    /// The formulas.
+    pub formulas: Formulas,
+    /// The names, in the order of their declarations.
+    pub names: Names,
+}
+
+/// Formulas to be put after those of a graph, and the node of a type.
+#[derive(Debug, Drop)]
+pub struct TypeBatch {
+    /// The formulas.
+    pub formulas: Formulas,
+    /// The node of the type.
+    pub root: NodeId,
+}
+
+/// Nodes for type declarations, which see one another and no others.
+///
+/// The declarations are well made and no naming fault stands in them. Where the formulas are put after those of a graph of
+/// `first` nodes that begins with the built-in ones, the node of each name stands for its type.
+///
+/// # Errors
+///
+/// Want of memory.
+pub fn resolve(alloc: Global, first: usize, declared: &Declarations) -> Result<Batch, AllocError>
+    requires well_made { AreWellMadeDeclarations (plain_declarations declared.now) }
+    requires sound { (fault : Fault) → IsFaultOfList [] (plain_declarations declared.now ∷ []) (plain_declarations declared.now) fault → ⊥ }
+    requires built_ins { 14 ≤ first }
+    ensures formulas { IfOk result (λ batch. Each (IsFormula (first + length (plain_list batch.formulas))) (plain_list batch.formulas)) }
+    ensures names { IfOk result (λ batch. batch.names ≡ numbered first (plain_declarations declared.now)) }
+    ensures stand { IfOk result (λ batch. (graph : PlainGraph) → length graph ≡ first → ((more : PlainGraph) × (graph ≡ built_ins ++ more))
+        → AreNamed (graph ++ plain_list batch.formulas) (plain_declarations declared.now) batch.names) }
+{
+    let tables = read_declarations(alloc, declared)?;
+    let formulas = close(alloc, &Graph::new(alloc)?, first, &tables)?;
+    let names = numbered_from(alloc, first, declared)?;
+    Ok(Batch { formulas, names })
+}
+
+// The names of declarations, with nodes that follow one another.
+fn numbered_from(alloc: Global, first: usize, declared: &Declarations) -> Result<Names, AllocError>
+    ensures { IfOk result (λ names. names ≡ numbered first (plain_declarations declared.now)) }
+{
+    let mut items = Vec::new(alloc);
+    let mut number = first;
+    for declaration in declared.items() {
+        items.push((declaration.name.copy()?, NodeId(number)))?;
+        // No graph is so long.
+        number = number.checked_add(1).ok_or(AllocError)?;
+    }
+    Ok(Names::of(items))
+}
+
+/// A node, for this graph, of a type that sees the declarations whose names have these nodes.
+///
+/// The type is well made, and no naming fault stands in it nor in the declarations. The names are just those that these declare,
+/// and the node of each stands for its type. Where the formulas are put after those of the graph, the root stands for the type.
+///
+/// # Errors
+///
+/// Want of memory.
+pub fn resolve_type(
+    alloc: Global,
+    graph: &Graph,
+    names: &Names,
+    tree: &Tree,
+) -> Result<TypeBatch, AllocError>
+    ghost declared: { PlainDeclarations }
+    requires well_made { IsWellMade (plain tree.now) }
+    requires sound_names { (fault : Fault) → IsFaultOfList [] (declared ∷ []) declared fault → ⊥ }
+    requires sound { (fault : Fault) → IsFault (declared ∷ []) (declared ∷ []) (plain tree.now) fault → ⊥ }
+    requires named { AreNamed (nodes graph.now) declared names.now }
+    ensures formulas { IfOk result (λ batch.
+        Each (IsFormula (length (nodes graph.now) + length (plain_list batch.formulas))) (plain_list batch.formulas)) }
+    ensures stands { IfOk result (λ batch.
+        StandsFor (nodes graph.now ++ plain_list batch.formulas) batch.root (record { scope = declared ∷ []; tree = plain tree.now })) }
+{
+    let (tables, place) = read_tree(alloc, names, tree)?;
+    let first = graph.len();
+    let root = node_of(first, tables.roots.len(), place).ok_or(AllocError)?;
+    let formulas = close(alloc, graph, first, &tables)?;
+    Ok(TypeBatch { formulas, root })
+}
+
+// The node of a place, after so many nodes and so many declared names. A number that is no word is that of no node.
+fn node_of(first: usize, names: usize, at: Place) -> Option<NodeId>
+    ensures { IfSome result (λ id. id ≡ node_at first names at) }
+{
+    let number = match at {
+        Place::Node(id) => return Some(id),
+        Place::Declared(list, index) => list.checked_add(index)?,
+        Place::Shape(number) => names.checked_add(number)?,
+    };
+    Some(NodeId(first.checked_add(number)?))
+}
