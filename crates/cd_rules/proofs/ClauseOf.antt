@@ -1,0 +1,231 @@
+-- A thing of a kind that meets a choice is in the choice's clause of that kind.
+use Rattle.std.proofs.Common.{◌≡◌, ℕ, ℤ, Bool, true, false, List, [], ◌∷◌, Option, Some, None, IfSome, refl, subst}
+use Rattle.std.proofs.lemmas.Bool.{true≢false}
+use Rattle.cd_syntax.specs.Name.{Name}
+use Rattle.cd_syntax.specs.Element as element
+use Rattle.cd_syntax.specs.Element.{Element}
+use Rattle.cd_model.specs.Each.{Each}
+use Rattle.cd_model.specs.Formula as formula
+use Rattle.cd_model.specs.Formula.{Formula, Graph}
+use Rattle.cd_model.specs.Kinds.{Kind, AnInteger, ACharacter, AnAtom, APair, AnXml, ARecord, AFunction}
+use Rattle.cd_model.specs.Kinds.{kind_of, kind_of_value}
+use Rattle.cd_model.specs.Membership as node
+use Rattle.cd_model.specs.Membership.{Reader, Answers, Labelled, Mapping, integer_reader, character_reader, atom_reader}
+use Rattle.cd_model.specs.Membership.{pair_reader, xml_reader, record_reader, function_reader, at_nodes}
+use Rattle.cd_model.specs.Value as value
+use Rattle.cd_model.specs.Value.{Value}
+use Rattle.cd_rules.specs.Choices.{Choice, Meets}
+use Rattle.cd_rules.specs.Clauses.{Clause, Ints, Chars, Atoms, Pairs, Xmls, Records, Arrows, kind_of_formula, AllOf}
+use Rattle.cd_rules.specs.Clauses.{integers_of, characters_of, atoms_of, pair_of, xml_of, record_of, arrow_of}
+use Rattle.cd_rules.specs.Clauses.{one_more, parts_in, IsClauseOf, IsInClause}
+
+-- a thing that is in formulas of one kind alone
+abbrev pub IsOfKind : Kind → Reader → Type 0
+IsOfKind kind reader = (is : Formula) → reader is true → kind_of_formula is ≡ Some kind
+
+-- the parts of a formula, where it has these, are read as the formula is
+abbrev ReadAlike : {X : Type 0} → Reader → (Formula → Option X) → (X → Formula) → Type 0
+ReadAlike reader parts_of formula_of =
+    (is : Formula) (answer : Bool) → reader is answer → IfSome (parts_of is) (λ parts. reader (formula_of parts) answer)
+
+module _ (reader : Reader) where
+  -- all wanted literals of a choice that is met are of the thing's kind
+  all_of : (kind : Kind) → IsOfKind kind reader → (choice : Choice) → Meets reader choice → AllOf kind choice
+  all_of kind of_kind [] meets = tt
+  all_of kind of_kind (literal ∷ rest) meets = (
+    λ wanted. of_kind literal.is (subst (λ (answer : Bool). reader literal.is answer) wanted meets.0),
+    all_of kind of_kind rest meets.1,
+  )
+
+  -- and the parts of its literals of a kind read as the choice asks
+  module _ {X : Type 0} (parts_of : Formula → Option X) (formula_of : X → Formula) where
+    read_one : (sign wanted : Bool) (is : Option X) (rest : List X) → IfSome is (λ parts. reader (formula_of parts) wanted)
+        → Each (λ parts. reader (formula_of parts) sign) rest
+        → Each (λ parts. reader (formula_of parts) sign) (one_more sign wanted is rest)
+    read_one true true (Some parts) rest is each = (is, each)
+    read_one false false (Some parts) rest is each = (is, each)
+    read_one true true None rest is each = each
+    read_one false false None rest is each = each
+    read_one true false is rest _ each = each
+    read_one false true is rest _ each = each
+
+    read_parts : ReadAlike reader parts_of formula_of → (sign : Bool) (choice : Choice) → Meets reader choice
+        → Each (λ parts. reader (formula_of parts) sign) (parts_in parts_of sign choice)
+    read_parts alike sign [] meets = tt
+    read_parts alike sign (literal ∷ rest) meets =
+        read_one sign literal.wanted (parts_of literal.is) (parts_in parts_of sign rest)
+        (alike literal.is literal.wanted meets.0) (read_parts alike sign rest meets.1)
+
+  integers_alike : ReadAlike reader integers_of formula.Ints
+  integers_alike (formula.Ints set) answer is = is
+  integers_alike _ answer is = tt
+
+  characters_alike : ReadAlike reader characters_of formula.Chars
+  characters_alike (formula.Chars set) answer is = is
+  characters_alike _ answer is = tt
+
+  atoms_alike : ReadAlike reader atoms_of formula.Atoms
+  atoms_alike (formula.Atoms set) answer is = is
+  atoms_alike _ answer is = tt
+
+  pairs_alike : ReadAlike reader pair_of (λ parts. formula.Pair parts.0 parts.1)
+  pairs_alike (formula.Pair first second) answer is = is
+  pairs_alike _ answer is = tt
+
+  xmls_alike : ReadAlike reader xml_of (λ parts. formula.Xml parts.0 parts.1 parts.2)
+  xmls_alike (formula.Xml tag attributes content) answer is = is
+  xmls_alike _ answer is = tt
+
+  records_alike : ReadAlike reader record_of (λ type. formula.Record type.named type.rest)
+  records_alike (formula.Record named rest) answer is = is
+  records_alike _ answer is = tt
+
+  arrows_alike : ReadAlike reader arrow_of (λ parts. formula.Arrow parts.0 parts.1)
+  arrows_alike (formula.Arrow argument result) answer is = is
+  arrows_alike _ answer is = tt
+
+  -- the clause of a choice for each kind, and that its wanted and its refused formulas are read so
+  pub in_integers : IsOfKind AnInteger reader → (choice : Choice) → Meets reader choice
+      → IsClauseOf choice (Ints (parts_in integers_of true choice) (parts_in integers_of false choice))
+      × Each (λ set. reader (formula.Ints set) true) (parts_in integers_of true choice)
+      × Each (λ set. reader (formula.Ints set) false) (parts_in integers_of false choice)
+  in_integers of_kind choice meets = (
+    (all_of AnInteger of_kind choice meets, refl, refl),
+    read_parts integers_of formula.Ints integers_alike true choice meets,
+    read_parts integers_of formula.Ints integers_alike false choice meets,
+  )
+
+  pub in_characters : IsOfKind ACharacter reader → (choice : Choice) → Meets reader choice
+      → IsClauseOf choice (Chars (parts_in characters_of true choice) (parts_in characters_of false choice))
+      × Each (λ set. reader (formula.Chars set) true) (parts_in characters_of true choice)
+      × Each (λ set. reader (formula.Chars set) false) (parts_in characters_of false choice)
+  in_characters of_kind choice meets = (
+    (all_of ACharacter of_kind choice meets, refl, refl),
+    read_parts characters_of formula.Chars characters_alike true choice meets,
+    read_parts characters_of formula.Chars characters_alike false choice meets,
+  )
+
+  pub in_atoms : IsOfKind AnAtom reader → (choice : Choice) → Meets reader choice
+      → IsClauseOf choice (Atoms (parts_in atoms_of true choice) (parts_in atoms_of false choice))
+      × Each (λ set. reader (formula.Atoms set) true) (parts_in atoms_of true choice)
+      × Each (λ set. reader (formula.Atoms set) false) (parts_in atoms_of false choice)
+  in_atoms of_kind choice meets = (
+    (all_of AnAtom of_kind choice meets, refl, refl),
+    read_parts atoms_of formula.Atoms atoms_alike true choice meets,
+    read_parts atoms_of formula.Atoms atoms_alike false choice meets,
+  )
+
+  pub in_pairs : IsOfKind APair reader → (choice : Choice) → Meets reader choice
+      → IsClauseOf choice (Pairs (parts_in pair_of true choice) (parts_in pair_of false choice))
+      × Each (λ parts. reader (formula.Pair parts.0 parts.1) true) (parts_in pair_of true choice)
+      × Each (λ parts. reader (formula.Pair parts.0 parts.1) false) (parts_in pair_of false choice)
+  in_pairs of_kind choice meets = (
+    (all_of APair of_kind choice meets, refl, refl),
+    read_parts pair_of (λ parts. formula.Pair parts.0 parts.1) pairs_alike true choice meets,
+    read_parts pair_of (λ parts. formula.Pair parts.0 parts.1) pairs_alike false choice meets,
+  )
+
+  pub in_xmls : IsOfKind AnXml reader → (choice : Choice) → Meets reader choice
+      → IsClauseOf choice (Xmls (parts_in xml_of true choice) (parts_in xml_of false choice))
+      × Each (λ parts. reader (formula.Xml parts.0 parts.1 parts.2) true) (parts_in xml_of true choice)
+      × Each (λ parts. reader (formula.Xml parts.0 parts.1 parts.2) false) (parts_in xml_of false choice)
+  in_xmls of_kind choice meets = (
+    (all_of AnXml of_kind choice meets, refl, refl),
+    read_parts xml_of (λ parts. formula.Xml parts.0 parts.1 parts.2) xmls_alike true choice meets,
+    read_parts xml_of (λ parts. formula.Xml parts.0 parts.1 parts.2) xmls_alike false choice meets,
+  )
+
+  pub in_records : IsOfKind ARecord reader → (choice : Choice) → Meets reader choice
+      → IsClauseOf choice (Records (parts_in record_of true choice) (parts_in record_of false choice))
+      × Each (λ type. reader (formula.Record type.named type.rest) true) (parts_in record_of true choice)
+      × Each (λ type. reader (formula.Record type.named type.rest) false) (parts_in record_of false choice)
+  in_records of_kind choice meets = (
+    (all_of ARecord of_kind choice meets, refl, refl),
+    read_parts record_of (λ type. formula.Record type.named type.rest) records_alike true choice meets,
+    read_parts record_of (λ type. formula.Record type.named type.rest) records_alike false choice meets,
+  )
+
+  pub in_arrows : IsOfKind AFunction reader → (choice : Choice) → Meets reader choice
+      → IsClauseOf choice (Arrows (parts_in arrow_of true choice) (parts_in arrow_of false choice))
+      × Each (λ parts. reader (formula.Arrow parts.0 parts.1) true) (parts_in arrow_of true choice)
+      × Each (λ parts. reader (formula.Arrow parts.0 parts.1) false) (parts_in arrow_of false choice)
+  in_arrows of_kind choice meets = (
+    (all_of AFunction of_kind choice meets, refl, refl),
+    read_parts arrow_of (λ parts. formula.Arrow parts.0 parts.1) arrows_alike true choice meets,
+    read_parts arrow_of (λ parts. formula.Arrow parts.0 parts.1) arrows_alike false choice meets,
+  )
+
+-- for any kind
+pub in_clause : (kind : Kind) (reader : Reader)
+    → ((is : Formula) → reader is true → kind_of_formula is ≡ Some kind)
+    → (choice : Choice) → Meets reader choice → (clause : Clause) × IsClauseOf choice clause × IsInClause kind reader clause
+in_clause AnInteger reader of_kind choice meets = let is = in_integers reader of_kind choice meets in
+    (Ints (parts_in integers_of true choice) (parts_in integers_of false choice), is.0, (refl, is.1, is.2))
+in_clause ACharacter reader of_kind choice meets = let is = in_characters reader of_kind choice meets in
+    (Chars (parts_in characters_of true choice) (parts_in characters_of false choice), is.0, (refl, is.1, is.2))
+in_clause AnAtom reader of_kind choice meets = let is = in_atoms reader of_kind choice meets in
+    (Atoms (parts_in atoms_of true choice) (parts_in atoms_of false choice), is.0, (refl, is.1, is.2))
+in_clause APair reader of_kind choice meets = let is = in_pairs reader of_kind choice meets in
+    (Pairs (parts_in pair_of true choice) (parts_in pair_of false choice), is.0, (refl, is.1, is.2))
+in_clause AnXml reader of_kind choice meets = let is = in_xmls reader of_kind choice meets in
+    (Xmls (parts_in xml_of true choice) (parts_in xml_of false choice), is.0, (refl, is.1, is.2))
+in_clause ARecord reader of_kind choice meets = let is = in_records reader of_kind choice meets in
+    (Records (parts_in record_of true choice) (parts_in record_of false choice), is.0, (refl, is.1, is.2))
+in_clause AFunction reader of_kind choice meets = let is = in_arrows reader of_kind choice meets in
+    (Arrows (parts_in arrow_of true choice) (parts_in arrow_of false choice), is.0, (refl, is.1, is.2))
+
+-- readers of things of one kind
+kind_of_integer : (n : ℤ) → IsOfKind AnInteger (integer_reader n)
+kind_of_integer n (formula.Ints set) is = refl
+kind_of_integer n _ is = absurd (true≢false is)
+
+kind_of_character : (c : ℕ) → IsOfKind ACharacter (character_reader c)
+kind_of_character c (formula.Chars set) is = refl
+kind_of_character c _ is = absurd (true≢false is)
+
+kind_of_atom : (name : Name) → IsOfKind AnAtom (atom_reader name)
+kind_of_atom name (formula.Atoms set) is = refl
+kind_of_atom name _ is = absurd (true≢false is)
+
+kind_of_pair : (first second : Answers) → IsOfKind APair (pair_reader first second)
+kind_of_pair first second (formula.Pair one other) is = refl
+kind_of_pair first second _ is = absurd (true≢false is)
+
+kind_of_xml : (tag attributes content : Answers) → IsOfKind AnXml (xml_reader tag attributes content)
+kind_of_xml tag attributes content (formula.Xml one other last) is = refl
+kind_of_xml tag attributes content _ is = absurd (true≢false is)
+
+kind_of_record : (labelled : Labelled) → IsOfKind ARecord (record_reader labelled)
+kind_of_record labelled (formula.Record named rest) is = refl
+kind_of_record labelled _ is = absurd (true≢false is)
+
+kind_of_function : (mapping : Mapping) → IsOfKind AFunction (function_reader mapping)
+kind_of_function mapping (formula.Arrow argument result) is = refl
+kind_of_function mapping _ is = absurd (true≢false is)
+
+module _ (graph : Graph) where
+  -- an element is in formulas of its kind alone
+  pub kind_of_element : (e : Element) (is : Formula) → node.reader graph e is true → kind_of_formula is ≡ Some (kind_of e)
+  kind_of_element (element.Integer n) = kind_of_integer n
+  kind_of_element (element.Character c) = kind_of_character c
+  kind_of_element (element.Atom name) = kind_of_atom name
+  kind_of_element (element.Pair first second) =
+      kind_of_pair (at_nodes graph (node.reader graph first)) (at_nodes graph (node.reader graph second))
+  kind_of_element (element.Xml tag attributes content) = kind_of_xml (at_nodes graph (node.reader graph tag))
+      (at_nodes graph (node.reader graph attributes)) (at_nodes graph (node.reader graph content))
+  kind_of_element (element.Record fields) = kind_of_record (node.labelled graph fields)
+  kind_of_element (element.Function pairs) = kind_of_function (node.mapping graph pairs)
+
+  -- and so is a value
+  pub kind_of_value_read : (v : Value) (is : Formula)
+      → node.value_reader graph v is true → kind_of_formula is ≡ Some (kind_of_value v)
+  kind_of_value_read (value.Integer n) = kind_of_integer n
+  kind_of_value_read (value.Character c) = kind_of_character c
+  kind_of_value_read (value.Atom name) = kind_of_atom name
+  kind_of_value_read (value.Pair first second) =
+      kind_of_pair (at_nodes graph (node.value_reader graph first)) (at_nodes graph (node.value_reader graph second))
+  kind_of_value_read (value.Xml tag attributes content) = kind_of_xml (at_nodes graph (node.value_reader graph tag))
+      (at_nodes graph (node.value_reader graph attributes)) (at_nodes graph (node.value_reader graph content))
+  kind_of_value_read (value.Record fields) = kind_of_record (node.value_labelled graph fields)
+  kind_of_value_read (value.Closure function interface environment) =
+      kind_of_function (node.closure_mapping graph interface)

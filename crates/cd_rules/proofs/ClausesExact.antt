@@ -1,0 +1,41 @@
+-- A thing is in a question just where it is in one of its clauses.
+use Rattle.std.proofs.Common.{true, List, [], ◌∷◌, inl, inr, ◌↔◌}
+use Rattle.cd_sets.specs.declared.question.Question.{Question}
+use Rattle.cd_model.specs.Each.{One}
+use Rattle.cd_model.specs.Formula.{Graph}
+use Rattle.cd_model.specs.Kinds.{Kind}
+use Rattle.cd_model.specs.Membership.{Reader, at_nodes, asked}
+use Rattle.cd_rules.specs.Choices.{Choice, Meets, choices_of}
+use Rattle.cd_rules.specs.Clauses.{Clause, IsClauseOf, IsClauseOfQuestion, IsInClause}
+use Rattle.cd_rules.proofs.ChoicesExact.{question_exact}
+use Rattle.cd_rules.proofs.ClauseBack.{clause_back}
+use Rattle.cd_rules.proofs.ClauseOf.{IsOfKind, in_clause}
+use Rattle.cd_rules.proofs.Elsewhere.{IsElsewhere}
+use Rattle.cd_rules.proofs.Ones.{one_weaker}
+
+module _ (kind : Kind) (reader : Reader) where
+  -- a clause of one of some choices, and the thing is in it
+  abbrev InOneOf : List Choice → Type 0
+  InOneOf choices = (clause : Clause) × One (λ choice. IsClauseOf choice clause) choices × IsInClause kind reader clause
+
+  -- what meets one of some choices is in a clause of one of them
+  clause_of_one : IsOfKind kind reader → (choices : List Choice) → One (Meets reader) choices → InOneOf choices
+  clause_of_one of_kind [] one = elim one [ ]
+  clause_of_one of_kind (choice ∷ choices) (inl meets) =
+      let is = in_clause kind reader of_kind choice meets in (is.0, inl is.1, is.2)
+  clause_of_one of_kind (choice ∷ choices) (inr later) =
+      let is = clause_of_one of_kind choices later in (is.0, inr is.1, is.2)
+
+  -- and what is in such a clause meets the choice
+  one_of_clause : IsElsewhere kind reader → (choices : List Choice) → InOneOf choices → One (Meets reader) choices
+  one_of_clause elsewhere choices is = one_weaker (λ choice. IsClauseOf choice is.0) (Meets reader)
+      (λ choice of. clause_back kind reader elsewhere choice is.0 of is.2) choices is.1
+
+  -- a thing of one kind is in a question just where it is in one of the question's clauses
+  pub clauses_exact : IsOfKind kind reader → IsElsewhere kind reader → (graph : Graph) (question : Question)
+      → asked (at_nodes graph reader) question true
+      ↔ ((clause : Clause) × IsClauseOfQuestion graph question clause × IsInClause kind reader clause)
+  clauses_exact of_kind elsewhere graph question = (
+    λ asking. clause_of_one of_kind (choices_of graph question) ((question_exact reader graph question).0 asking),
+    λ is. (question_exact reader graph question).1 (one_of_clause elsewhere (choices_of graph question) is),
+  )

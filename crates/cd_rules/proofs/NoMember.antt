@@ -1,0 +1,153 @@
+-- No element and no value is in a question of a closed family, by recursion on the element and on the value.
+use Rattle.std.proofs.Common.{◌≡◌, true, false, List, [], ◌∷◌, ◌++◌, map, length, inl, inr, refl, sym, subst}
+use Rattle.cd_sets.specs.declared.question.Question.{Question}
+use Rattle.cd_syntax.specs.Element as element
+use Rattle.cd_syntax.specs.Element.{Element, IsElement}
+use Rattle.cd_model.specs.BuiltIns.{built_ins, ATOM, RECORD}
+use Rattle.cd_model.specs.Each.{Each, One}
+use Rattle.cd_model.specs.Formula.{Graph}
+use Rattle.cd_model.specs.Kinds.{AFunction}
+use Rattle.cd_model.specs.Membership as node
+use Rattle.cd_model.specs.Membership.{Reader, Mapping, asked, answers, value_answers, at_nodes, function_reader}
+use Rattle.cd_model.specs.Value as value
+use Rattle.cd_model.specs.Value.{Value, IsValue}
+use Rattle.cd_model.proofs.BuiltIns as elements
+use Rattle.cd_model.proofs.BuiltInsOfValues as values
+use Rattle.cd_rules.specs.Choices.{choices_of}
+use Rattle.cd_rules.specs.Clauses.{Clause, Ints, Chars, Atoms, Arrows, Pair, IsClauseOfQuestion, parts_in, integers_of, characters_of, atoms_of, arrow_of}
+use Rattle.cd_rules.specs.Needs.{arrow_way, splits}
+use Rattle.cd_rules.specs.Family.{BreaksNeed, Breaks, IsClosed}
+use Rattle.cd_rules.proofs.ChoicesExact.{question_exact}
+use Rattle.cd_rules.proofs.ClauseOf.{IsOfKind, in_integers, in_characters, in_atoms, in_arrows, kind_of_element, kind_of_value_read}
+use Rattle.cd_rules.proofs.ArrowsForward.{PartsHave, arrows_forward, closure_forward}
+use Rattle.cd_rules.proofs.RecordsOfThings.{FieldsHave, ValuesHave, elements_have, values_have}
+use Rattle.cd_rules.proofs.Broken.{IsBroken, broken_one, of_family, IsOut, AskedOut, need_out, member_out, pair_out, xml_out, record_out}
+
+-- a function of whose refused arrows none is broken is in no question of the family
+arrows_out : (family : List Question) (mapping : Mapping)
+    → ((wanted : List Pair) (refused : Pair) → Each (λ parts. mapping parts.0 parts.1 true) wanted
+    → mapping refused.0 refused.1 false → BreaksNeed family (map (arrow_way refused) (splits wanted)) → ⊥)
+    → IsOfKind AFunction (function_reader mapping) → IsBroken family (function_reader mapping) → ⊥
+arrows_out family mapping none of_kind broken =
+    let in_clause = in_arrows (function_reader mapping) of_kind broken.choice broken.meets in
+    let wanted = parts_in arrow_of true broken.choice in
+    let refused = parts_in arrow_of false broken.choice in
+    let needs = broken.breaks (Arrows wanted refused) in_clause.0 in
+    by_refused wanted refused in_clause.1 in_clause.2 (subst (One (BreaksNeed family)) needs.1 needs.2)
+  where
+    by_refused : (wanted refused : List Pair) → Each (λ parts. mapping parts.0 parts.1 true) wanted
+        → Each (λ parts. mapping parts.0 parts.1 false) refused
+        → One (BreaksNeed family) (map (λ one. map (arrow_way one) (splits wanted)) refused) → ⊥
+    by_refused wanted [] inside outside one = elim one [ ]
+    by_refused wanted (one ∷ refused) inside outside (inl breaks) = none wanted one inside outside.0 breaks
+    by_refused wanted (one ∷ refused) inside outside (inr later) = by_refused wanted refused inside outside.1 later
+
+-- a tag is an atom, and attributes are a record
+pub tag_in : (graph : Graph) → (more : Graph) × (graph ≡ built_ins ++ more) → (e : Element) → element.IsAtom e → answers graph e ATOM true
+tag_in graph begins (element.Atom name) is = rw begins.1 refl
+tag_in graph begins _ is = absurd is
+
+pub attributes_in : (graph : Graph) → (more : Graph) × (graph ≡ built_ins ++ more) → (e : Element) → element.IsRecord e
+    → answers graph e RECORD true
+attributes_in graph begins (element.Record fields) is = subst (λ graph. answers graph (element.Record fields) RECORD true)
+    (sym begins.1) ((elements.records_are begins.0 (element.Record fields)).1 refl)
+attributes_in graph begins _ is = absurd is
+
+value_tag_in : (graph : Graph) → (more : Graph) × (graph ≡ built_ins ++ more) → (v : Value) → value.IsAtom v
+    → value_answers graph v ATOM true
+value_tag_in graph begins (value.Atom name) is = rw begins.1 refl
+value_tag_in graph begins _ is = absurd is
+
+value_attributes_in : (graph : Graph) → (more : Graph) × (graph ≡ built_ins ++ more) → (v : Value) → value.IsRecord v
+    → value_answers graph v RECORD true
+value_attributes_in graph begins (value.Record fields) is = subst (λ graph. value_answers graph (value.Record fields) RECORD true)
+    (sym begins.1) ((values.records_are begins.0 (value.Record fields)).1 refl)
+value_attributes_in graph begins _ is = absurd is
+
+module _ (graph : Graph) (begins : (more : Graph) × (graph ≡ built_ins ++ more)) (family : List Question)
+    (closed : IsClosed graph family) where
+  -- a thing in a question of the family meets a choice whose clauses are all broken
+  broken_of : (reader : Reader) → (IsBroken family reader → ⊥) → AskedOut family (at_nodes graph reader)
+  broken_of reader out question is there = out (broken_one family reader (choices_of graph question)
+      ((question_exact reader graph question).0 is)
+      (of_family (λ question. (clause : Clause) → IsClauseOfQuestion graph question clause → Breaks family clause)
+      family question closed there))
+
+  -- integers, characters and atoms, whose readers are those of elements and of values
+  integer_out : (n : _) → IsElement (element.Integer n) → IsBroken family (node.integer_reader n) → ⊥
+  integer_out n is broken =
+      let in_clause = in_integers (node.integer_reader n) (kind_of_element graph (element.Integer n)) broken.choice broken.meets in
+      let needs = broken.breaks (Ints (parts_in integers_of true broken.choice) (parts_in integers_of false broken.choice)) in_clause.0 in
+      member_out family _ n (is, in_clause.1, in_clause.2) needs.0 needs.1 needs.2
+
+  character_out : (c : _) → IsElement (element.Character c) → IsBroken family (node.character_reader c) → ⊥
+  character_out c is broken =
+      let in_clause = in_characters (node.character_reader c) (kind_of_element graph (element.Character c)) broken.choice broken.meets in
+      let needs = broken.breaks (Chars (parts_in characters_of true broken.choice) (parts_in characters_of false broken.choice)) in_clause.0 in
+      member_out family _ c (is, in_clause.1, in_clause.2) needs.0 needs.1 needs.2
+
+  atom_out : (name : _) → IsElement (element.Atom name) → IsBroken family (node.atom_reader name) → ⊥
+  atom_out name is broken =
+      let in_clause = in_atoms (node.atom_reader name) (kind_of_element graph (element.Atom name)) broken.choice broken.meets in
+      let needs = broken.breaks (Atoms (parts_in atoms_of true broken.choice) (parts_in atoms_of false broken.choice)) in_clause.0 in
+      member_out family _ name (is, in_clause.1, in_clause.2) needs.0 needs.1 needs.2
+
+  mutual
+    pub element_out : (e : Element) → IsElement e → AskedOut family (answers graph e)
+    element_out (element.Integer n) is = broken_of (node.integer_reader n) (integer_out n is)
+    element_out (element.Character c) is = broken_of (node.character_reader c) (character_out c is)
+    element_out (element.Atom name) is = broken_of (node.atom_reader name) (atom_out name is)
+    element_out (element.Pair first second) is = broken_of (node.reader graph (element.Pair first second))
+        (pair_out family (answers graph first) (answers graph second) (element_out first is.0) (element_out second is.1)
+        (kind_of_element graph (element.Pair first second)))
+    element_out (element.Xml tag attributes content) is = broken_of (node.reader graph (element.Xml tag attributes content))
+        (xml_out family (answers graph tag) (answers graph attributes) (answers graph content)
+        (element_out tag is.2) (element_out attributes is.3) (element_out content is.4)
+        (tag_in graph begins tag is.0) (attributes_in graph begins attributes is.1)
+        (kind_of_element graph (element.Xml tag attributes content)))
+    element_out (element.Record fields) is = broken_of (node.reader graph (element.Record fields))
+        (record_out family (node.labelled graph fields)
+        (elements_have graph (IsOut family) fields (fields_out fields is.1))
+        (kind_of_element graph (element.Record fields)))
+    element_out (element.Function pairs) is = broken_of (node.reader graph (element.Function pairs))
+        (arrows_out family (node.mapping graph pairs)
+        (λ wanted refused inside outside. need_out family (map (arrow_way refused) (splits wanted))
+        (arrows_forward graph pairs (IsOut family) (pairs_out pairs is) wanted refused inside outside))
+        (kind_of_element graph (element.Function pairs)))
+
+    fields_out : (fields : element.Fields) → element.AreFields fields → FieldsHave graph (IsOut family) fields
+    fields_out element.NoField are = tt
+    fields_out (element.Field name is rest) are = (element_out is are.1, fields_out rest are.2)
+
+    pairs_out : (pairs : element.Pairs) → element.ArePairs pairs → PartsHave graph (IsOut family) pairs
+    pairs_out element.NoPair are = tt
+    pairs_out (element.Maps from to rest) are = (element_out from are.0, element_out to are.1, pairs_out rest are.2)
+    pairs_out (element.Fails from rest) are = (element_out from are.0, pairs_out rest are.1)
+
+  mutual
+    pub value_out : (v : Value) → IsValue (length graph) v → AskedOut family (value_answers graph v)
+    value_out (value.Integer n) is = broken_of (node.integer_reader n) (integer_out n is)
+    value_out (value.Character c) is = broken_of (node.character_reader c) (character_out c is)
+    value_out (value.Atom name) is = broken_of (node.atom_reader name) (atom_out name is)
+    value_out (value.Pair first second) is = broken_of (node.value_reader graph (value.Pair first second))
+        (pair_out family (value_answers graph first) (value_answers graph second) (value_out first is.0) (value_out second is.1)
+        (kind_of_value_read graph (value.Pair first second)))
+    value_out (value.Xml tag attributes content) is = broken_of (node.value_reader graph (value.Xml tag attributes content))
+        (xml_out family (value_answers graph tag) (value_answers graph attributes) (value_answers graph content)
+        (value_out tag is.2) (value_out attributes is.3) (value_out content is.4)
+        (value_tag_in graph begins tag is.0) (value_attributes_in graph begins attributes is.1)
+        (kind_of_value_read graph (value.Xml tag attributes content)))
+    value_out (value.Record fields) is = broken_of (node.value_reader graph (value.Record fields))
+        (record_out family (node.value_labelled graph fields)
+        (values_have graph (IsOut family) fields (values_out fields is.1))
+        (kind_of_value_read graph (value.Record fields)))
+    value_out (value.Closure function interface environment) is =
+        broken_of (node.value_reader graph (value.Closure function interface environment))
+        (arrows_out family (node.closure_mapping graph interface)
+        (λ wanted refused inside outside breaks. closure_forward graph interface (IsOut family) element_out wanted refused inside outside
+        (λ way. need_out family (map (arrow_way refused) (splits wanted)) way breaks))
+        (kind_of_value_read graph (value.Closure function interface environment)))
+
+    values_out : (fields : value.Fields) → value.AreValues (length graph) fields → ValuesHave graph (IsOut family) fields
+    values_out value.NoField are = tt
+    values_out (value.Field name is rest) are = (value_out is are.0, values_out rest are.1)

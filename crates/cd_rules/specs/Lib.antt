@@ -1,0 +1,9 @@
+pub mod Choices
+pub mod Clauses
+pub mod Needs
+pub mod Rows
+pub mod InRow
+pub mod Family
+pub mod Members
+pub mod Settled
+pub mod Examples

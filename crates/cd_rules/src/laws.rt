@@ -1,0 +1,93 @@
+//! Laws of the definitions in `specs/`. Each is the contract of a function that does nothing.
+ghost use Rattle.std.specs.Prelude.{◌≡◌, ◌++◌, ◌↔◌, ◌⊎◌, true, false, List, [], ◌∷◌, length, map};
+ghost use Rattle.cd_sets.specs.declared.question.Question.{Question};
+ghost use Rattle.cd_syntax.specs.Element as element;
+ghost use Rattle.cd_syntax.specs.Element.{Element, IsElement};
+ghost use Rattle.cd_model.specs.Each.{Each, One};
+ghost use Rattle.cd_model.specs.Formula.{Graph};
+ghost use Rattle.cd_model.specs.Membership.{asked, answers, reader, value_answers, value_reader};
+ghost use Rattle.cd_model.specs.Value as value;
+ghost use Rattle.cd_model.specs.Value.{Value, IsValue};
+ghost use Rattle.cd_model.specs.BuiltIns.{built_ins, node};
+ghost use Rattle.cd_rules.specs.Settled.{IsSettledClause};
+ghost use Rattle.cd_rules.specs.Examples as example;
+ghost use Rattle.cd_rules.specs.Examples.{asks, both};
+ghost use Rattle.cd_rules.specs.Needs.{set_of, splits, splits_in_three, pair_way, xml_way, arrow_way};
+ghost use Rattle.cd_rules.specs.Rows.{rows_of};
+ghost use Rattle.cd_rules.specs.InRow.{element_at, value_at, IsInRow};
+ghost use Rattle.cd_model.specs.Kinds.{kind_of, kind_of_value, ARecord};
+ghost use Rattle.cd_rules.specs.Clauses.{Clause, RecordType, Records, IsClauseOfQuestion, IsInClause};
+ghost use Rattle.cd_rules.specs.Members.{HasElement, HasMember, IsSupplied, NamesLabels};
+ghost use Rattle.cd_rules.specs.Family.{IsOfFamily, Breaks, IsClosed, AsksNodes};
+ghost use Rattle.cd_rules.specs.Choices.{choices, choices_of, Meets};
+
+/// A question holds just what meets one of its choices.
+pub fn choices_are_exact()
+    ensures elements { (graph : Graph) (question : Question) (is : Element)
+        → asked (answers graph is) question true ↔ One (Meets (reader graph is)) (choices_of graph question) }
+    ensures values { (graph : Graph) (question : Question) (is : Value)
+        → asked (value_answers graph is) question true ↔ One (Meets (value_reader graph is)) (choices_of graph question) }
+{}
+
+/// A question holds just what is in one of its clauses.
+pub fn clauses_are_exact()
+    ensures elements { (graph : Graph) (question : Question) (is : Element) → asked (answers graph is) question true
+        ↔ ((clause : Clause) × IsClauseOfQuestion graph question clause × IsInClause (kind_of is) (reader graph is) clause) }
+    ensures values { (graph : Graph) (question : Question) (is : Value) → asked (value_answers graph is) question true
+        ↔ ((clause : Clause) × IsClauseOfQuestion graph question clause × IsInClause (kind_of_value is) (value_reader graph is) clause) }
+{}
+
+/// A record is in a clause just where it is in one of the clause's rows.
+pub fn rows_are_exact()
+    ensures elements { (graph : Graph) (wanted refused : List RecordType) (fields : element.Fields)
+        → IsInClause ARecord (reader graph (element.Record fields)) (Records wanted refused)
+        ↔ One (IsInRow (answers graph) (element_at fields)) (rows_of wanted refused) }
+    ensures values { (graph : Graph) (wanted refused : List RecordType) (fields : value.Fields)
+        → IsInClause ARecord (value_reader graph (value.Record fields)) (Records wanted refused)
+        ↔ One (IsInRow (value_answers graph) (value_at fields)) (rows_of wanted refused) }
+{}
+
+/// No element is in a question of a closed family, nor is a value, whatever arrows of the graph its closures have.
+pub fn closed_families_are_empty()
+    ensures elements { (graph more : Graph) (family : List Question) (question : Question) (is : Element) → graph ≡ built_ins ++ more
+        → IsClosed graph family → IsOfFamily question family → IsElement is → asked (answers graph is) question true → ⊥ }
+    ensures values { (graph more : Graph) (family : List Question) (question : Question) (is : Value) → graph ≡ built_ins ++ more
+        → IsClosed graph family → IsOfFamily question family → IsValue (length graph) is → asked (value_answers graph is) question true → ⊥ }
+{}
+
+/// A closed family whose questions ask nodes of a graph stays closed in each longer graph.
+pub fn closed_families_stay()
+    ensures { (graph more : Graph) (family : List Question) → Each (AsksNodes (length graph)) family → IsClosed graph family
+        → IsClosed (graph ++ more) family }
+{}
+
+/// A clause has a member just where each of its needs has a way all of whose questions have elements, or, of records, where one
+/// of its rows lives: where each label may be absent or its question has an element, and each of the other questions has one.
+pub fn needs_are_exact()
+    ensures needed { (graph more : Graph) (clause : Clause) → graph ≡ built_ins ++ more → HasMember graph clause → IsSupplied (HasElement graph) clause }
+    ensures enough { (graph more : Graph) (clause : Clause) → graph ≡ built_ins ++ more → NamesLabels clause → IsSupplied (HasElement graph) clause
+        → HasMember graph clause }
+{}
+
+/// A clause all of whose questions have elements or are in a family has all that it needs, or is broken.
+pub fn clauses_are_settled()
+    ensures { (graph : Graph) (family : List Question) (clause : Clause) → IsSettledClause (HasElement graph) family clause
+        → IsSupplied (HasElement graph) clause ⊎ Breaks family clause }
+{}
+
+/// Choices, ways and rows of small cases.
+pub fn worked_examples()
+    ensures sets { set_of (map node (3 ∷ 1 ∷ 3 ∷ [])) ≡ map node (1 ∷ 3 ∷ []) }
+    ensures choices { choices example.not_both true ≡ (record { wanted = false; is = example.integers } ∷ []) ∷ (record { wanted = false; is = example.characters } ∷ []) ∷ [] }
+    ensures both { choices example.not_both false ≡ (record { wanted = true; is = example.integers } ∷ record { wanted = true; is = example.characters } ∷ []) ∷ [] }
+    ensures pairs { map (pair_way (both 14 15 ∷ [])) (splits (both 16 17 ∷ []))
+        ≡ (asks (14 ∷ []) (16 ∷ []) ∷ asks (15 ∷ []) [] ∷ []) ∷ (asks (14 ∷ []) [] ∷ asks (15 ∷ []) (17 ∷ []) ∷ []) ∷ [] }
+    ensures xml { map (xml_way []) (splits_in_three []) ≡ (asks (5 ∷ []) [] ∷ asks (10 ∷ []) [] ∷ asks [] [] ∷ []) ∷ [] }
+    ensures arrows { map (arrow_way (both 20 21)) (splits (both 14 15 ∷ both 16 17 ∷ []))
+        ≡ (asks (20 ∷ []) (14 ∷ 16 ∷ []) ∷ []) ∷ (asks (20 ∷ []) (14 ∷ []) ∷ asks (17 ∷ []) (21 ∷ []) ∷ [])
+        ∷ (asks (20 ∷ []) (16 ∷ []) ∷ asks (15 ∷ []) (21 ∷ []) ∷ []) ∷ (asks (20 ∷ []) [] ∷ asks (15 ∷ 17 ∷ []) (21 ∷ []) ∷ []) ∷ [] }
+    ensures no_arrow { map (arrow_way (both 20 21)) (splits []) ≡ (asks (20 ∷ []) [] ∷ []) ∷ [] }
+    ensures rows { rows_of (example.with_a 14 1 ∷ []) (example.with_a 15 0 ∷ [])
+        ≡ example.row_at_a (asks (14 ∷ []) []) (asks (1 ∷ []) []) (asks (1 ∷ []) (0 ∷ []) ∷ [])
+        ∷ example.row_at_a (asks (14 ∷ []) (15 ∷ [])) (asks (1 ∷ []) []) [] ∷ [] }
+{}

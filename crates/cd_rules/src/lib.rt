@@ -1,0 +1,4 @@
+//! The rules that decide emptiness, as definitions and laws alone.
+#![tactic(auto)]
+
+pub mod laws;
