@@ -1,0 +1,9 @@
+mod WhatTestsTell
+mod Sizes
+mod HeldByParts
+mod Lists
+mod Telling
+mod ClausesByKind
+mod Keeping
+mod KeepingAll
+mod ToldOfQuestion

@@ -1,0 +1,13 @@
+use Rattle.std.proofs.Common.{◌≡◌, ◌≤◌, drop, length}
+use Rattle.cd_graph.specs.Nodes.{nodes}
+use Rattle.cd_normal.specs.PlainChoice.{plain_choices}
+use Rattle.cd_normal.specs.KeptChoices.{kept_at}
+use Rattle.cd_normal.proofs.choice.choices_at.Given as goal
+
+-- the choices are those of the nodes from the index on
+abbrev pub invariant-loop-index : goal.invariant-loop-index
+invariant-loop-index l =
+    (l.index ≤ length l.ids) × (plain_choices l.all.items ≡ kept_at (nodes l.graph) (drop l.index l.ids) l.wanted)
+
+abbrev pub decreases-loop-index : goal.decreases-loop-index
+decreases-loop-index l = l.index

@@ -1,0 +1,5 @@
+pub mod Standing
+pub mod PlainChoice
+pub mod KindsOfChoices
+pub mod KeptChoices
+pub mod ClausesOfChoices

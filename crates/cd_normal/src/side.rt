@@ -1,0 +1,109 @@
+//! The parts of the wanted literals of a choice, and of the refused ones.
+ghost use Rattle.std.specs.Prelude.{◌≡◌, ◌++◌, [], map, IfOk, OnOk};
+ghost use Rattle.std.specs.Option.{option_map};
+ghost use Rattle.cd_rules.specs.Clauses.{one_more, parts_in, pair_of, xml_of, record_of, arrow_of};
+ghost use Rattle.cd_normal.specs.Standing.{record_type};
+ghost use Rattle.cd_normal.specs.PlainChoice.{plain_choice};
+
+use crate::literal::Literal;
+use crate::part::{arrow, pair, record, xml};
+use cd_graph::fields::Fields;
+use cd_sets::node_id::NodeId;
+use std::alloc::{AllocError, Global};
+
+/// The parts of the pairs that are wanted, or of those that are refused.
+#[tactic(auto, using(crate::proofs::Lists::one_more_before))]
+pub(crate) fn pairs(
+    alloc: Global,
+    wanted: bool,
+    choice: &[Literal<'_>],
+) -> Result<Vec<(NodeId, NodeId)>, AllocError>
+    ensures { IfOk result (λ parts. parts.items ≡ parts_in pair_of wanted (plain_choice choice.now)) }
+{
+    let mut parts = Vec::new(alloc);
+    for literal in choice {
+        add(&mut parts, wanted, literal.wanted, pair(literal.formula))?;
+    }
+    Ok(parts)
+}
+
+/// The parts of the XML elements that are wanted, or of those that are refused.
+#[tactic(auto, using(crate::proofs::Lists::one_more_before))]
+pub(crate) fn xmls(
+    alloc: Global,
+    wanted: bool,
+    choice: &[Literal<'_>],
+) -> Result<Vec<(NodeId, NodeId, NodeId)>, AllocError>
+    ensures { IfOk result (λ parts. parts.items ≡ parts_in xml_of wanted (plain_choice choice.now)) }
+{
+    let mut parts = Vec::new(alloc);
+    for literal in choice {
+        add(&mut parts, wanted, literal.wanted, xml(literal.formula))?;
+    }
+    Ok(parts)
+}
+
+/// The fields of the records that are wanted, or of those that are refused.
+#[tactic(auto, using(crate::proofs::Lists::one_more_before))]
+pub(crate) fn records(
+    alloc: Global,
+    wanted: bool,
+    choice: &[Literal<'_>],
+) -> Result<Vec<Fields>, AllocError>
+    ensures { IfOk result (λ parts. map record_type parts.items ≡ parts_in record_of wanted (plain_choice choice.now)) }
+{
+    let mut parts = Vec::new(alloc);
+    for literal in choice {
+        add_fields(&mut parts, wanted, literal.wanted, record(literal.formula))?;
+    }
+    Ok(parts)
+}
+
+/// The parts of the functions that are wanted, or of those that are refused.
+#[tactic(auto, using(crate::proofs::Lists::one_more_before))]
+pub(crate) fn arrows(
+    alloc: Global,
+    wanted: bool,
+    choice: &[Literal<'_>],
+) -> Result<Vec<(NodeId, NodeId)>, AllocError>
+    ensures { IfOk result (λ parts. parts.items ≡ parts_in arrow_of wanted (plain_choice choice.now)) }
+{
+    let mut parts = Vec::new(alloc);
+    for literal in choice {
+        add(&mut parts, wanted, literal.wanted, arrow(literal.formula))?;
+    }
+    Ok(parts)
+}
+
+// Adds the part of a literal, if there is one, where the literal is on the side that is asked for.
+fn add<T: Copy>(
+    parts: &mut Vec<T>,
+    side: bool,
+    wanted: bool,
+    part: Option<T>,
+) -> Result<(), AllocError>
+    ensures { OnOk result (parts.new.items ≡ parts.old.items ++ one_more side wanted part []) }
+{
+    match part {
+        Some(part) if side == wanted => Ok(parts.push(part)?),
+        Some(_) => Ok(()),
+        None => Ok(()),
+    }
+}
+
+// Adds a copy of the fields of a literal likewise.
+fn add_fields(
+    parts: &mut Vec<Fields>,
+    side: bool,
+    wanted: bool,
+    part: Option<&Fields>,
+) -> Result<(), AllocError>
+    ensures { OnOk result (map record_type parts.new.items
+        ≡ map record_type parts.old.items ++ one_more side wanted (option_map (λ fields. record_type fields.now) part.entry) []) }
+{
+    match part {
+        Some(fields) if side == wanted => Ok(parts.push(fields.copy()?)?),
+        Some(_) => Ok(()),
+        None => Ok(()),
+    }
+}
