@@ -1,5 +1,5 @@
 -- What it is for a thing, an element or a value, to answer the same at nodes of tables and at the written types that they are of.
-use Rattle.std.proofs.Common.{◌≡◌, ℕ, Bool, List, Option, Some, None, length, ◌↔◌}
+use Rattle.std.proofs.Common.{◌≡◌, ℕ, Bool, List, [], Option, Some, None, length, ◌↔◌}
 use Rattle.cd_sets.specs.declared.node_id.NodeId.{NodeId}
 use Rattle.cd_syntax.specs.Name.{Name}
 use Rattle.cd_syntax.specs.TypeTree as type
@@ -15,6 +15,7 @@ use Rattle.cd_shapes.specs.Frames.{Frames, scope_of}
 use Rattle.cd_shapes.specs.Shaped.{Tables, ShapedKind}
 use Rattle.cd_shapes.specs.Reading.{AreMet}
 use Rattle.cd_resolve.specs.Closing.{formula_of}
+use Rattle.cd_resolve.proofs.FreeNames.{Uses}
 
 -- a form that is neither a connective nor a name
 abbrev pub IsForm : Kind → Type 0
@@ -28,12 +29,14 @@ IsForm (type.Default name constant) = ⊥
 IsForm kind = Unit {0}
 
 module _ (graph : Graph) (first : ℕ) (names : List (Name × NodeId)) (lists : List Frames) (tables : Tables) (base : Scope)
-    (Fact : Declared → Type 0) where
-  -- a place that has the shapes of a form, under lists that were met, and whose names all have the fact
+    (Fact : Declared → Type 0) (Used : Name → Type 0) where
+  -- a place that has the shapes of a form, under lists that were met, where each declared name has the fact and each free
+  -- one is used
   pub record IsOf (frames : Frames) (kind : Kind) (at : Place) : Type 0 where
     pub met : AreMet lists frames
     pub shaped : ShapedKind names lists tables.shapes frames kind at
     pub covered : Covered Fact (scope_of base frames) kind
+    pub uses : Uses Used (scope_of [] frames) kind
 
   -- the same is answered at each place and at the form that it is of
   abbrev pub Agrees : Reader → Answers → Type 0
@@ -45,11 +48,13 @@ module _ (graph : Graph) (first : ℕ) (names : List (Name × NodeId)) (lists : 
   AgreesAtForms reader written = (frames : Frames) (kind : Kind) (at : Place) → IsForm kind → IsOf frames kind at → (answer : Bool)
       → holds reader (formula_of graph first (length tables.roots) at) answer ↔ written (scope_of base frames) kind answer
 
-  -- the same at the node that a name was given; the names that have one are just those that the outermost lists declare
+  -- the same at the node that a name was given; one without a node is declared by no outermost list
   abbrev pub AgreesAtNode : ℕ → Reader → Answers → Name → Option NodeId → Type 0
   AgreesAtNode count reader written name None = declared_as base name ≡ None
   AgreesAtNode count reader written name (Some id) = (answer : Bool)
       → holds reader (formula_at graph id) answer ↔ name_holds written count base name answer
 
+  -- the same at the nodes of all names that are used
   abbrev pub AgreesAtNames : ℕ → Reader → Answers → Type 0
-  AgreesAtNames count reader written = (name : Name) → AgreesAtNode count reader written name (node_of names name)
+  AgreesAtNames count reader written = (name : Name) → Used name
+      → AgreesAtNode count reader written name (node_of names name)

@@ -4,7 +4,7 @@ use Rattle.std.proofs.lemmas.Bool.{false≢true}
 use Rattle.cd_sets.specs.declared.node_id.NodeId.{NodeId}
 use Rattle.cd_syntax.specs.Name.{Name}
 use Rattle.cd_syntax.specs.TypeTree as type
-use Rattle.cd_syntax.specs.TypeTree.{Tree, tree, Kind, Trees, NoTree, ATree, Signs, NoSign, ASign}
+use Rattle.cd_syntax.specs.TypeTree.{Tree, tree, Kind, Trees, NoTree, ATree, Signs, NoSign, ASign, Declarations}
 use Rattle.cd_model.specs.BuiltIns.{EMPTY}
 use Rattle.cd_model.specs.Formula as formula
 use Rattle.cd_model.specs.Formula.{Graph, formula_at, formulas_of}
@@ -15,7 +15,6 @@ use Rattle.cd_model.specs.Membership.{Reader, holds}
 use Rattle.cd_model.specs.Scope.{Scope}
 use Rattle.cd_model.specs.Written.{Answers, kind_of, tree_holds, kind_holds, each_holds, one_holds, signs_hold}
 use Rattle.cd_model.proofs.SameAnswers.{both_ways}
-use Rattle.cd_model.proofs.SameWritten.{AreClosed}
 use Rattle.cd_shapes.specs.declared.place.Place.{Place}
 use Rattle.cd_shapes.specs.declared.place.Place.TheVariants as place
 use Rattle.cd_shapes.specs.Shape.{Shape, And, Or}
@@ -27,6 +26,18 @@ use Rattle.cd_resolve.proofs.Agree.{IsForm}
 use Rattle.cd_resolve.proofs.BothWays.{itself, through, both_agree, one_agrees}
 use Rattle.cd_resolve.proofs.SignedFormulas.{kept_or_not, outside_or_not}
 
+-- where a place is chosen, under these lists, so are the places that connectives and `where` stand round
+pub record AreClosed (Chosen : Frames → Kind → Type 0) : Type 0 where
+  pub in_union : (frames : Frames) (trees : Trees) (is : Tree) → IsOneOf is trees → Chosen frames (type.Union trees)
+      → Chosen frames (kind_of is)
+  pub in_first : (frames : Frames) (is : Tree) (signs : Signs) → Chosen frames (type.Meet is signs)
+      → Chosen frames (kind_of is)
+  pub in_signed : (frames : Frames) (first is : Tree) (signs : Signs) → IsSigned is signs
+      → Chosen frames (type.Meet first signs) → Chosen frames (kind_of is)
+  pub under_where : (frames : Frames) (number : ℕ) (is : Tree) (declarations : Declarations)
+      → Chosen frames (type.Where is declarations)
+      → Chosen (record { declarations = declarations; first = number } ∷ frames) (kind_of is)
+
 module _ (graph : Graph) (first : ℕ) (names : List (Name × NodeId)) (lists : List Frames) (tables : Tables)
     (base : Scope) where
   -- what is answered at a place
@@ -34,14 +45,14 @@ module _ (graph : Graph) (first : ℕ) (names : List (Name × NodeId)) (lists : 
   PlaceHolds reader at answer = holds reader (formula_of graph first (length tables.roots) at) answer
 
   -- the same at forms, and at names, that are chosen
-  abbrev pub ChosenForms : (Scope → Kind → Type 0) → Reader → Answers → Type 0
+  abbrev pub ChosenForms : (Frames → Kind → Type 0) → Reader → Answers → Type 0
   ChosenForms Chosen reader written = (frames : Frames) (kind : Kind) (at : Place) → IsForm kind → AreMet lists frames
-      → ShapedKind names lists tables.shapes frames kind at → Chosen (scope_of base frames) kind → (answer : Bool)
+      → ShapedKind names lists tables.shapes frames kind at → Chosen frames kind → (answer : Bool)
       → PlaceHolds reader at answer ↔ written (scope_of base frames) kind answer
 
-  abbrev pub ChosenNames : (Scope → Kind → Type 0) → Reader → (Scope → Name → Bool → Type 0) → Type 0
+  abbrev pub ChosenNames : (Frames → Kind → Type 0) → Reader → (Scope → Name → Bool → Type 0) → Type 0
   ChosenNames Chosen reader named = (frames : Frames) (name : Name) (at : Place) → AreMet lists frames
-      → at ≡ place_of names frames name → Chosen (scope_of base frames) (type.Named name) → (answer : Bool)
+      → at ≡ place_of names frames name → Chosen frames (type.Named name) → (answer : Bool)
       → PlaceHolds reader at answer ↔ named (scope_of base frames) name answer
 
   module _ (closes : Closes graph first tables) (empty : formula_at graph EMPTY ≡ formula.Nothing) where
@@ -59,18 +70,18 @@ module _ (graph : Graph) (first : ℕ) (names : List (Name × NodeId)) (lists : 
     at_shape reader at shape is answer = both_ways (ap (λ is. holds reader is answer)
         (ap (formula_of graph first (length tables.roots)) is.there ∙ closes.shapes is.number shape is.is))
 
-    module _ (Chosen : Scope → Kind → Type 0) (closed : AreClosed Chosen) (reader : Reader) (written : Answers)
+    module _ (Chosen : Frames → Kind → Type 0) (closed : AreClosed Chosen) (reader : Reader) (written : Answers)
         (forms : ChosenForms Chosen reader written)
         (named : Scope → Name → Bool → Type 0) (names_agree : ChosenNames Chosen reader named) where
       mutual
         pub tree_agrees : (frames : Frames) (is : Tree) (at : Place) → AreMet lists frames
-            → Shaped names lists tables.shapes frames is at → Chosen (scope_of base frames) (kind_of is) → (answer : Bool)
+            → Shaped names lists tables.shapes frames is at → Chosen frames (kind_of is) → (answer : Bool)
             → PlaceHolds reader at answer ↔ tree_holds written named (scope_of base frames) is answer
         tree_agrees frames (tree span kind) at met shaped chosen answer =
             kind_agrees frames kind at met shaped chosen answer
 
         pub kind_agrees : (frames : Frames) (kind : Kind) (at : Place) → AreMet lists frames
-            → ShapedKind names lists tables.shapes frames kind at → Chosen (scope_of base frames) kind → (answer : Bool)
+            → ShapedKind names lists tables.shapes frames kind at → Chosen frames kind → (answer : Bool)
             → PlaceHolds reader at answer ↔ kind_holds written named (scope_of base frames) kind answer
         kind_agrees frames (type.Builtin name) at met shaped chosen answer =
             forms frames (type.Builtin name) at tt met shaped chosen answer
@@ -89,23 +100,23 @@ module _ (graph : Graph) (first : ℕ) (names : List (Name × NodeId)) (lists : 
         kind_agrees frames (type.Union trees) at met shaped chosen true = through
             (at_shape reader at (Or shaped.0) shaped.1 true)
             (some_agree frames trees shaped.0 met shaped.2
-            (λ is among. closed.in_union (scope_of base frames) trees is among chosen) true)
+            (λ is among. closed.in_union frames trees is among chosen) true)
         kind_agrees frames (type.Union trees) at met shaped chosen false = through
             (at_shape reader at (Or shaped.0) shaped.1 false)
             (each_agree frames trees shaped.0 met shaped.2
-            (λ is among. closed.in_union (scope_of base frames) trees is among chosen) false)
+            (λ is among. closed.in_union frames trees is among chosen) false)
         kind_agrees frames (type.Meet one signs) at met shaped chosen true = through
             (at_shape reader at (And ((true, shaped.0) ∷ shaped.1)) shaped.2 true)
             (both_agree
-            (tree_agrees frames one shaped.0 met shaped.3 (closed.in_first (scope_of base frames) one signs chosen) true)
+            (tree_agrees frames one shaped.0 met shaped.3 (closed.in_first frames one signs chosen) true)
             (signs_agree frames signs shaped.1 met shaped.4
-            (λ is among. closed.in_signed (scope_of base frames) one is signs among chosen)))
+            (λ is among. closed.in_signed frames one is signs among chosen)))
         kind_agrees frames (type.Meet one signs) at met shaped chosen false = through
             (at_shape reader at (And ((true, shaped.0) ∷ shaped.1)) shaped.2 false)
             (one_agrees
-            (tree_agrees frames one shaped.0 met shaped.3 (closed.in_first (scope_of base frames) one signs chosen) false)
+            (tree_agrees frames one shaped.0 met shaped.3 (closed.in_first frames one signs chosen) false)
             (signs_fail frames signs shaped.1 met shaped.4
-            (λ is among. closed.in_signed (scope_of base frames) one is signs among chosen)))
+            (λ is among. closed.in_signed frames one is signs among chosen)))
         kind_agrees frames (type.Sequence is) at met shaped chosen answer = at_empty reader at shaped answer
         kind_agrees frames (type.Record fields more) at met shaped chosen answer =
             forms frames (type.Record fields more) at tt met shaped chosen answer
@@ -115,14 +126,14 @@ module _ (graph : Graph) (first : ℕ) (names : List (Name × NodeId)) (lists : 
             names_agree frames name at met shaped chosen answer
         kind_agrees frames (type.Where is declarations) at met shaped chosen answer = tree_agrees
             (record { declarations = declarations; first = shaped.0 } ∷ frames) is at (shaped.1, met) shaped.2
-            (closed.under_where (scope_of base frames) is declarations chosen) answer
+            (closed.under_where frames shaped.0 is declarations chosen) answer
         kind_agrees frames (type.Variable name) at met shaped chosen answer = at_empty reader at shaped answer
         kind_agrees frames (type.Default name constant) at met shaped chosen answer = at_empty reader at shaped answer
 
         -- at each of some trees, and at one of them
         each_agree : (frames : Frames) (trees : Trees) (places : List Place) → AreMet lists frames
             → ShapedEach names lists tables.shapes frames trees places
-            → ((is : Tree) → IsOneOf is trees → Chosen (scope_of base frames) (kind_of is)) → (answer : Bool)
+            → ((is : Tree) → IsOneOf is trees → Chosen frames (kind_of is)) → (answer : Bool)
             → node.each_holds reader (formulas_of (map (formula_of graph first (length tables.roots)) places)) answer
             ↔ each_holds written named (scope_of base frames) trees answer
         each_agree frames NoTree [] met shaped chosen answer = itself
@@ -135,7 +146,7 @@ module _ (graph : Graph) (first : ℕ) (names : List (Name × NodeId)) (lists : 
 
         some_agree : (frames : Frames) (trees : Trees) (places : List Place) → AreMet lists frames
             → ShapedEach names lists tables.shapes frames trees places
-            → ((is : Tree) → IsOneOf is trees → Chosen (scope_of base frames) (kind_of is)) → (answer : Bool)
+            → ((is : Tree) → IsOneOf is trees → Chosen frames (kind_of is)) → (answer : Bool)
             → node.one_holds reader (formulas_of (map (formula_of graph first (length tables.roots)) places)) answer
             ↔ one_holds written named (scope_of base frames) trees answer
         some_agree frames NoTree [] met shaped chosen answer = itself
@@ -149,7 +160,7 @@ module _ (graph : Graph) (first : ℕ) (names : List (Name × NodeId)) (lists : 
         -- at the trees after signs: in each that is kept and in none that is left out, or not so at one of them
         signs_agree : (frames : Frames) (signs : Signs) (places : List (Bool × Place)) → AreMet lists frames
             → ShapedSigns names lists tables.shapes frames signs places
-            → ((is : Tree) → IsSigned is signs → Chosen (scope_of base frames) (kind_of is))
+            → ((is : Tree) → IsSigned is signs → Chosen frames (kind_of is))
             → node.each_holds reader
             (formulas_of (map (λ sign. signed sign.0 (formula_of graph first (length tables.roots) sign.1)) places)) true
             ↔ signs_hold written named (scope_of base frames) signs true
@@ -168,7 +179,7 @@ module _ (graph : Graph) (first : ℕ) (names : List (Name × NodeId)) (lists : 
 
         signs_fail : (frames : Frames) (signs : Signs) (places : List (Bool × Place)) → AreMet lists frames
             → ShapedSigns names lists tables.shapes frames signs places
-            → ((is : Tree) → IsSigned is signs → Chosen (scope_of base frames) (kind_of is))
+            → ((is : Tree) → IsSigned is signs → Chosen frames (kind_of is))
             → node.one_holds reader
             (formulas_of (map (λ sign. signed sign.0 (formula_of graph first (length tables.roots) sign.1)) places)) false
             ↔ signs_hold written named (scope_of base frames) signs false

@@ -22,17 +22,19 @@ use Rattle.cd_resolve.proofs.FormsAgreeParts as parts
 use Rattle.cd_resolve.proofs.FormsAgreeRecords.{AgreesAtLabels, records_agree, no_field_agrees, field_agrees}
 use Rattle.cd_resolve.proofs.FormsAgreeFunctions.{AgreesAtArrows, functions_agree}
 
--- Connectives and names keep what is so of forms and of the names that the outermost lists declare
+-- Connectives and names keep what is so of forms and of the free names that are used
 module _ (graph : Graph) (first : ℕ) (names : List (Name × NodeId)) (lists : List Frames) (tables : Tables) (base : Scope)
-    (Fact : Declared → Type 0) (count : ℕ) (closes : Closes graph first tables) (begins : Begins graph)
+    (Fact : Declared → Type 0) (Used : Name → Type 0) (count : ℕ) (closes : Closes graph first tables)
+    (begins : Begins graph)
     (connectives : (reader : Reader) (answers : Answers)
-    → AgreesAtForms graph first names lists tables base Fact reader answers
-    → AgreesAtNames graph first names lists tables base Fact count reader answers
-    → Agrees graph first names lists tables base Fact reader (at_types count answers))
+    → AgreesAtForms graph first names lists tables base Fact Used reader answers
+    → AgreesAtNames graph first names lists tables base Fact Used count reader answers
+    → Agrees graph first names lists tables base Fact Used reader (at_types count answers))
     (old_elements : (is : Element) → IsElement is
-    → AgreesAtNames graph first names lists tables base Fact count (node.reader graph is) (written.reader count is)) where
+    → AgreesAtNames graph first names lists tables base Fact Used count
+    (node.reader graph is) (written.reader count is)) where
   abbrev Same : Element → Type 0
-  Same is = Agrees graph first names lists tables base Fact
+  Same is = Agrees graph first names lists tables base Fact Used
       (node.reader graph is) (at_types count (written.reader count is))
 
   -- the nodes of built-in names
@@ -41,63 +43,66 @@ module _ (graph : Graph) (first : ℕ) (names : List (Name × NodeId)) (lists : 
 
   -- what is the same at forms and at names is so at all places
   as_read : (is : Element) → IsElement is
-      → AgreesAsForms graph first names lists tables base Fact (node.reader graph is) (written.reader count is) → Same is
+      → AgreesAsForms graph first names lists tables base Fact Used (node.reader graph is) (written.reader count is)
+      → Same is
   as_read is sound agrees = connectives (node.reader graph is) (written.reader count is)
-      (at_forms graph first names lists tables base Fact closes begins
+      (at_forms graph first names lists tables base Fact Used closes begins
       (node.reader graph is) (written.reader count is) agrees)
       (old_elements is sound)
 
   -- by recursion on the element
   mutual
     pub element_agrees : (is : Element) → IsElement is
-        → Agrees graph first names lists tables base Fact (node.reader graph is) (at_types count (written.reader count is))
+        → Agrees graph first names lists tables base Fact Used
+        (node.reader graph is) (at_types count (written.reader count is))
     element_agrees (element.Integer n) = λ sound. as_read (element.Integer n) sound
-        (integers_agree graph first names lists tables base Fact (built_in (element.Integer n)) n
+        (integers_agree graph first names lists tables base Fact Used (built_in (element.Integer n)) n
         (at_built_ins (element.Integer n)))
     element_agrees (element.Character c) = λ sound. as_read (element.Character c) sound
-        (characters_agree graph first names lists tables base Fact (built_in (element.Character c)) c
+        (characters_agree graph first names lists tables base Fact Used (built_in (element.Character c)) c
         (at_built_ins (element.Character c)))
     element_agrees (element.Atom name) = λ sound. as_read (element.Atom name) sound
-        (atoms_agree graph first names lists tables base Fact (built_in (element.Atom name)) name
+        (atoms_agree graph first names lists tables base Fact Used (built_in (element.Atom name)) name
         (at_built_ins (element.Atom name)))
     element_agrees (element.Pair one other) = λ sound. as_read (element.Pair one other) sound
-        (parts.pairs_agree graph first names lists tables base Fact (built_in (element.Pair one other))
+        (parts.pairs_agree graph first names lists tables base Fact Used (built_in (element.Pair one other))
         (node.reader graph one) (node.reader graph other)
         (at_types count (written.reader count one)) (at_types count (written.reader count other))
         (element_agrees one sound.0) (element_agrees other sound.1) (at_built_ins (element.Pair one other)))
     element_agrees (element.Xml tag attributes content) = λ sound. as_read (element.Xml tag attributes content) sound
-        (parts.xml_agrees graph first names lists tables base Fact (built_in (element.Xml tag attributes content))
+        (parts.xml_agrees graph first names lists tables base Fact Used (built_in (element.Xml tag attributes content))
         (node.reader graph tag) (node.reader graph attributes) (node.reader graph content)
         (at_types count (written.reader count tag)) (at_types count (written.reader count attributes))
         (at_types count (written.reader count content))
         (element_agrees tag sound.2) (element_agrees attributes sound.3) (element_agrees content sound.4)
         (at_built_ins (element.Xml tag attributes content)))
     element_agrees (element.Record fields) = λ sound. as_read (element.Record fields) sound
-        (records_agree graph first names lists tables base Fact (built_in (element.Record fields))
+        (records_agree graph first names lists tables base Fact Used (built_in (element.Record fields))
         (node.labelled graph fields) (written.labelled count fields)
         (fields_agree fields sound.1) (at_built_ins (element.Record fields)))
     element_agrees (element.Function pairs) = λ sound. as_read (element.Function pairs) sound
-        (functions_agree graph first names lists tables base Fact (built_in (element.Function pairs))
+        (functions_agree graph first names lists tables base Fact Used (built_in (element.Function pairs))
         (node.mapping graph pairs) (written.mapping count pairs)
         (pairs_agree pairs sound) (at_built_ins (element.Function pairs)))
 
     fields_agree : (fields : element.Fields) → AreFields fields
-        → AgreesAtLabels graph first names lists tables base Fact
+        → AgreesAtLabels graph first names lists tables base Fact Used
         (node.labelled graph fields) (written.labelled count fields)
-    fields_agree element.NoField = λ sound. no_field_agrees graph first names lists tables base Fact
+    fields_agree element.NoField = λ sound. no_field_agrees graph first names lists tables base Fact Used
     fields_agree (element.Field name is rest) = λ sound.
-        field_agrees graph first names lists tables base Fact name
+        field_agrees graph first names lists tables base Fact Used name
         (node.reader graph is) (at_types count (written.reader count is))
         (node.labelled graph rest) (written.labelled count rest)
         (element_agrees is sound.1) (fields_agree rest sound.2)
 
     pub pairs_agree : (pairs : element.Pairs) → ArePairs pairs
-        → AgreesAtArrows graph first names lists tables base Fact (node.mapping graph pairs) (written.mapping count pairs)
+        → AgreesAtArrows graph first names lists tables base Fact Used
+        (node.mapping graph pairs) (written.mapping count pairs)
     pairs_agree element.NoPair = λ sound frames argument result from to is_from is_to answer. itself
     pairs_agree (element.Maps one other rest) = λ sound frames argument result from to is_from is_to.
-        let at_one = at_part graph first names lists tables base Fact (node.reader graph one)
+        let at_one = at_part graph first names lists tables base Fact Used (node.reader graph one)
         (at_types count (written.reader count one)) (element_agrees one sound.0) frames argument from is_from in
-        let at_other = at_part graph first names lists tables base Fact (node.reader graph other)
+        let at_other = at_part graph first names lists tables base Fact Used (node.reader graph other)
         (at_types count (written.reader count other)) (element_agrees other sound.1) frames result to is_to in
         let at_rest = pairs_agree rest sound.2 frames argument result from to is_from is_to in
         elim [
@@ -105,7 +110,7 @@ module _ (graph : Graph) (first : ℕ) (names : List (Name × NodeId)) (lists : 
           | false ↦ one_agrees (both_agree (at_one true) (at_other false)) (at_rest false)
         ]
     pairs_agree (element.Fails one rest) = λ sound frames argument result from to is_from is_to.
-        let at_one = at_part graph first names lists tables base Fact (node.reader graph one)
+        let at_one = at_part graph first names lists tables base Fact Used (node.reader graph one)
         (at_types count (written.reader count one)) (element_agrees one sound.0) frames argument from is_from in
         let at_rest = pairs_agree rest sound.1 frames argument result from to is_from is_to in
         elim [

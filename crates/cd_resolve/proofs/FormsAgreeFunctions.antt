@@ -18,17 +18,17 @@ use Rattle.cd_resolve.proofs.FormsOf.{AgreesAsForms, IsPart}
 use Rattle.cd_resolve.proofs.FormsAgreeSets.{AgreesAtBuiltIns}
 
 module _ (graph : Graph) (first : ℕ) (names : List (Name × NodeId)) (lists : List Frames) (tables : Tables) (base : Scope)
-    (Fact : Declared → Type 0) where
+    (Fact : Declared → Type 0) (Used : Name → Type 0) where
   -- the same at each argument and result
   abbrev pub AgreesAtArrows : node.Mapping → written.Mapping → Type 0
   AgreesAtArrows one other = (frames : Frames) (argument result : Kind) (from to : NodeId)
-      → IsPart graph first names lists tables base Fact frames argument from
-      → IsPart graph first names lists tables base Fact frames result to → (answer : Bool)
+      → IsPart graph first names lists tables base Fact Used frames argument from
+      → IsPart graph first names lists tables base Fact Used frames result to → (answer : Bool)
       → one from to answer ↔ other (scope_of base frames) argument result answer
 
   pub functions_agree : (built_in : BuiltinName → Bool → Type 0) (one : node.Mapping) (other : written.Mapping)
       → AgreesAtArrows one other → AgreesAtBuiltIns graph (node.function_reader one) built_in
-      → AgreesAsForms graph first names lists tables base Fact (node.function_reader one)
+      → AgreesAsForms graph first names lists tables base Fact Used (node.function_reader one)
       (with_built_ins built_in (written.function_reader other))
   functions_agree built_in one other same named frames _ _ (form.built_in name) answer = named name answer
   functions_agree built_in one other same named frames _ _ (form.arrows is next rest from to is_from is_to) answer =

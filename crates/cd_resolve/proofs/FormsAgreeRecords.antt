@@ -19,16 +19,16 @@ use Rattle.cd_resolve.proofs.FormsOf.{AgreesAsForms, SaysOf, at_part}
 use Rattle.cd_resolve.proofs.FormsAgreeSets.{AgreesAtBuiltIns}
 
 module _ (graph : Graph) (first : ℕ) (names : List (Name × NodeId)) (lists : List Frames) (tables : Tables) (base : Scope)
-    (Fact : Declared → Type 0) where
+    (Fact : Declared → Type 0) (Used : Name → Type 0) where
   -- the same at each label and what record types say of it
   abbrev pub AgreesAtLabels : node.Labelled → written.Labelled → Type 0
   AgreesAtLabels one other = (frames : Frames) (label : Name) (field : formula.Field) (of : written.Field)
-      → SaysOf graph first names lists tables base Fact frames field of → (answer : Bool)
+      → SaysOf graph first names lists tables base Fact Used frames field of → (answer : Bool)
       → one label field answer ↔ other (scope_of base frames) label of answer
 
   pub records_agree : (built_in : BuiltinName → Bool → Type 0) (one : node.Labelled) (other : written.Labelled)
       → AgreesAtLabels one other → AgreesAtBuiltIns graph (node.record_reader one) built_in
-      → AgreesAsForms graph first names lists tables base Fact (node.record_reader one)
+      → AgreesAsForms graph first names lists tables base Fact Used (node.record_reader one)
       (with_built_ins built_in (written.record_reader other))
   records_agree built_in one other same named frames _ _ (form.built_in name) answer = named name answer
   records_agree built_in one other same named frames _ _ (form.fields all more fields rest says) true = each_agrees _ _
@@ -42,7 +42,7 @@ module _ (graph : Graph) (first : ℕ) (names : List (Name × NodeId)) (lists : 
   no_field_agrees frames label field of says answer = same_as answer says.same_optional
 
   pub field_agrees : (name : Name) (reader : Reader) (answers : Answers) (one : node.Labelled) (other : written.Labelled)
-      → Agrees graph first names lists tables base Fact reader answers → AgreesAtLabels one other
+      → Agrees graph first names lists tables base Fact Used reader answers → AgreesAtLabels one other
       → AgreesAtLabels
       (λ label field answer.
       either (bytes_eq name label) (holds reader (formula_at graph field.node) answer) (one label field answer))
@@ -50,5 +50,5 @@ module _ (graph : Graph) (first : ℕ) (names : List (Name × NodeId)) (lists : 
       either (bytes_eq name label) (answers scope of.kind answer) (other scope label of answer))
   field_agrees name reader answers one other is rest frames label field of says answer =
       chosen_agree (bytes_eq name label)
-      (at_part graph first names lists tables base Fact reader answers is frames of.kind field.node says.part answer)
+      (at_part graph first names lists tables base Fact Used reader answers is frames of.kind field.node says.part answer)
       (rest frames label field of says answer)

@@ -39,9 +39,9 @@ none_among : (low high c : ℕ) → nat_le low high ≡ false → is_among low h
 none_among low high c fails = grind (arith, nat_tests)
 
 module _ (graph : Graph) (first : ℕ) (names : List (Name × NodeId)) (lists : List Frames) (tables : Tables) (base : Scope)
-    (Fact : Declared → Type 0) (built_in : BuiltinName → Bool → Type 0) where
+    (Fact : Declared → Type 0) (Used : Name → Type 0) (built_in : BuiltinName → Bool → Type 0) where
   pub integers_agree : (n : ℤ) → AgreesAtBuiltIns graph (node.integer_reader n) built_in
-      → AgreesAsForms graph first names lists tables base Fact (node.integer_reader n)
+      → AgreesAsForms graph first names lists tables base Fact Used (node.integer_reader n)
       (with_built_ins built_in (written.integer_reader n))
   integers_agree n named frames _ _ (form.built_in name) answer = named name answer
   integers_agree n named frames _ _ (form.ints low high) answer = same_as answer (or-false _)
@@ -50,7 +50,7 @@ module _ (graph : Graph) (first : ℕ) (names : List (Name × NodeId)) (lists : 
   integers_agree n named frames _ _ _ answer = itself
 
   pub characters_agree : (c : ℕ) → AgreesAtBuiltIns graph (node.character_reader c) built_in
-      → AgreesAsForms graph first names lists tables base Fact (node.character_reader c)
+      → AgreesAsForms graph first names lists tables base Fact Used (node.character_reader c)
       (with_built_ins built_in (written.character_reader c))
   characters_agree c named frames _ _ (form.built_in name) answer = named name answer
   characters_agree c named frames _ _ (form.chars low high) answer = same_as answer (or-false _)
@@ -59,7 +59,7 @@ module _ (graph : Graph) (first : ℕ) (names : List (Name × NodeId)) (lists : 
   characters_agree c named frames _ _ _ answer = itself
 
   pub atoms_agree : (name : Name) → AgreesAtBuiltIns graph (node.atom_reader name) built_in
-      → AgreesAsForms graph first names lists tables base Fact (node.atom_reader name)
+      → AgreesAsForms graph first names lists tables base Fact Used (node.atom_reader name)
       (with_built_ins built_in (written.atom_reader name))
   atoms_agree name named frames _ _ (form.built_in other) answer = named other answer
   atoms_agree name named frames _ _ (form.atom other) answer = same_as answer (or-false _)

@@ -27,17 +27,18 @@ use Rattle.cd_shapes.specs.Leaves.{Pairs, Arrows}
 use Rattle.cd_shapes.specs.Shape.{Shape}
 use Rattle.cd_shapes.specs.Shaped.{Tables, IsAt, Shaped, ShapedKind, ShapedChain, ShapedFields}
 use Rattle.cd_resolve.specs.Closing.{Closes, formula_of, made, node_at}
+use Rattle.cd_resolve.proofs.FreeNames.{uses_first, uses_tuple, uses_argument, uses_arrows, uses_xml, uses_field}
 use Rattle.cd_resolve.proofs.Agree.{IsForm, IsOf, Agrees, AgreesAtForms}
 use Rattle.cd_resolve.proofs.FormsBuiltIns.{Begins, formula_of_empty, formula_of_nil}
 use Rattle.cd_resolve.proofs.FormsFields.{Named, found, field_found, field_is_found}
 
 module _ (graph : Graph) (first : ℕ) (names : List (Name × NodeId)) (lists : List Frames) (tables : Tables) (base : Scope)
-    (Fact : Declared → Type 0) where
+    (Fact : Declared → Type 0) (Used : Name → Type 0) where
   -- a node at a place of a kind
   pub record IsPart (frames : Frames) (kind : Kind) (id : NodeId) : Type 0 where
     pub at : Place
     pub there : id ≡ node_at first (length tables.roots) at
-    pub is_of : IsOf graph first names lists tables base Fact frames kind at
+    pub is_of : IsOf graph first names lists tables base Fact Used frames kind at
 
   -- what a record type of the graph says of a label is what a written one says of it
   pub record SaysOf (frames : Frames) (field : formula.Field) (of : written.Field) : Type 0 where
@@ -81,7 +82,7 @@ module _ (graph : Graph) (first : ℕ) (names : List (Name × NodeId)) (lists : 
       → holds reader is answer ↔ answers (scope_of base frames) kind answer
 
   -- what is answered the same at each place is so at each part
-  pub at_part : (reader : Reader) (answers : Answers) → Agrees graph first names lists tables base Fact reader answers
+  pub at_part : (reader : Reader) (answers : Answers) → Agrees graph first names lists tables base Fact Used reader answers
       → (frames : Frames) (kind : Kind) (id : NodeId) → IsPart frames kind id → (answer : Bool)
       → holds reader (formula_at graph id) answer ↔ answers (scope_of base frames) kind answer
   at_part reader answers agrees frames kind id part answer =
@@ -112,7 +113,8 @@ module _ (graph : Graph) (first : ℕ) (names : List (Name × NodeId)) (lists : 
         as_node frames kind at EMPTY formula.Nothing there (formula_of_empty graph begins) form
 
     -- the place of a part
-    part_at : (frames : Frames) (kind : Kind) (at : Place) → IsOf graph first names lists tables base Fact frames kind at
+    part_at : (frames : Frames) (kind : Kind) (at : Place)
+        → IsOf graph first names lists tables base Fact Used frames kind at
         → IsPart frames kind (node_at first N at)
     part_at frames kind at is = record { at = at; there = refl; is_of = is }
 
@@ -159,7 +161,7 @@ module _ (graph : Graph) (first : ℕ) (names : List (Name × NodeId)) (lists : 
     -- so the made record type says of the label what is written of it
     says_found : (frames : Frames) (more : Bool) (place : Option FieldPlace) (of : written.Field)
         → ((at : Place) → ShapedKind names lists tables.shapes frames of.kind at
-        → IsOf graph first names lists tables base Fact frames of.kind at)
+        → IsOf graph first names lists tables base Fact Used frames of.kind at)
         → FoundIs frames more place of
         → SaysOf frames (field_found (node_at first N) (node_named (any_or_none more)) place) of
     says_found frames more None of whole is = record {
@@ -173,7 +175,7 @@ module _ (graph : Graph) (first : ℕ) (names : List (Name × NodeId)) (lists : 
 
     -- the form at a place
     form_at : (frames : Frames) (kind : Kind) (at : Place) → IsForm kind
-        → IsOf graph first names lists tables base Fact frames kind at → FormAt frames kind at
+        → IsOf graph first names lists tables base Fact Used frames kind at → FormAt frames kind at
     form_at frames (type.Builtin name) at form is =
         as_node frames (type.Builtin name) at (node_named name) _ is.shaped refl (built_in name)
     form_at frames (type.Ints low high) at form is =
@@ -198,9 +200,19 @@ module _ (graph : Graph) (first : ℕ) (names : List (Name × NodeId)) (lists : 
     form_at frames (type.Text (c ∷ later)) at form is = as_shape frames (type.Text (c ∷ later)) at _ is.shaped.2
         (text c later _ _
         (part_at frames (type.Chars c c) is.shaped.0
-        (record { met = is.met; shaped = is.shaped.3; covered = record { within = tt; over = is.covered.over } }))
+        (record {
+          met = is.met;
+          shaped = is.shaped.3;
+          covered = record { within = tt; over = is.covered.over };
+          uses = record { within = tt; over = is.uses.over };
+        }))
         (part_at frames (type.Text later) is.shaped.1
-        (record { met = is.met; shaped = is.shaped.4; covered = record { within = tt; over = is.covered.over } })))
+        (record {
+          met = is.met;
+          shaped = is.shaped.4;
+          covered = record { within = tt; over = is.covered.over };
+          uses = record { within = tt; over = is.uses.over };
+        })))
     form_at frames (type.Tuple NoTree) at form is = as_nothing frames (type.Tuple NoTree) at is.shaped no_tuple
     form_at frames (type.Tuple (ATree one NoTree)) at form is =
         as_nothing frames (type.Tuple (ATree one NoTree)) at is.shaped (one_tuple one)
@@ -211,11 +223,13 @@ module _ (graph : Graph) (first : ℕ) (names : List (Name × NodeId)) (lists : 
           met = is.met;
           shaped = shaped_kind frames one is.shaped.0 is.shaped.3;
           covered = covered_first Fact (scope_of base frames) one (ATree next rest) is.covered;
+          uses = uses_first Used (scope_of [] frames) one (ATree next rest) is.uses;
         }))
         (part_at frames (tuple_rest (ATree next rest)) is.shaped.1 (record {
           met = is.met;
           shaped = tuple_shaped frames next rest is.shaped.1 is.shaped.4;
           covered = covered_tuple Fact (scope_of base frames) one (ATree next rest) is.covered;
+          uses = uses_tuple Used (scope_of [] frames) one (ATree next rest) is.uses;
         })))
     form_at frames (type.Arrows NoTree) at form is = as_nothing frames (type.Arrows NoTree) at is.shaped no_arrow
     form_at frames (type.Arrows (ATree one NoTree)) at form is =
@@ -227,11 +241,13 @@ module _ (graph : Graph) (first : ℕ) (names : List (Name × NodeId)) (lists : 
           met = is.met;
           shaped = shaped_kind frames one is.shaped.0 is.shaped.3;
           covered = covered_argument Fact (scope_of base frames) one (ATree next rest) is.covered;
+          uses = uses_argument Used (scope_of [] frames) one (ATree next rest) is.uses;
         }))
         (part_at frames (arrows_rest (ATree next rest)) is.shaped.1 (record {
           met = is.met;
           shaped = arrows_shaped frames next rest is.shaped.1 is.shaped.4;
           covered = covered_arrows Fact (scope_of base frames) one (ATree next rest) is.covered;
+          uses = uses_arrows Used (scope_of [] frames) one (ATree next rest) is.uses;
         })))
     form_at frames (type.Record all more) at form is = as_shape frames (type.Record all more) at _ is.shaped.1
         (fields all more _ (node_named (any_or_none more)) (λ label.
@@ -242,6 +258,7 @@ module _ (graph : Graph) (first : ℕ) (names : List (Name × NodeId)) (lists : 
           met = is.met;
           shaped = shaped;
           covered = covered_field Fact (scope_of base frames) all more label is.covered.within is.covered.over;
+          uses = uses_field Used (scope_of [] frames) all more label is.uses.within is.uses.over;
         })
         (found_is frames all more is.shaped.0 label is.shaped.2))))
     form_at frames (type.Xml tag attributes content) at form is =
@@ -250,21 +267,24 @@ module _ (graph : Graph) (first : ℕ) (names : List (Name × NodeId)) (lists : 
           met = is.met;
           shaped = shaped_kind frames tag is.shaped.0 is.shaped.4;
           covered = (covered_xml Fact (scope_of base frames) tag attributes content is.covered).tag_is;
+          uses = (uses_xml Used (scope_of [] frames) tag attributes content is.uses).tag_is;
         }))
         (part_at frames (kind_of attributes) is.shaped.1 (record {
           met = is.met;
           shaped = shaped_kind frames attributes is.shaped.1 is.shaped.5;
           covered = (covered_xml Fact (scope_of base frames) tag attributes content is.covered).attributes_are;
+          uses = (uses_xml Used (scope_of [] frames) tag attributes content is.uses).attributes_are;
         }))
         (part_at frames (kind_of content) is.shaped.2 (record {
           met = is.met;
           shaped = shaped_kind frames content is.shaped.2 is.shaped.6;
           covered = (covered_xml Fact (scope_of base frames) tag attributes content is.covered).content_is;
+          uses = (uses_xml Used (scope_of [] frames) tag attributes content is.uses).content_is;
         })))
     form_at frames _ at form is = absurd form
 
     -- what is answered the same at each form and its formula is so at the places of forms
     pub at_forms : (reader : Reader) (answers : Answers) → AgreesAsForms reader answers
-        → AgreesAtForms graph first names lists tables base Fact reader answers
+        → AgreesAtForms graph first names lists tables base Fact Used reader answers
     at_forms reader answers agrees frames kind at form is answer =
         agrees frames kind (formula_of graph first N at) (form_at frames kind at form is) answer

@@ -1,3 +1,4 @@
+pub mod FreeNames
 pub mod Agree
 pub mod Guards
 pub mod Numbered
@@ -26,6 +27,7 @@ pub mod Elements
 pub mod Values
 pub mod Standing
 pub mod Resolving
+pub mod NamedKnown
 pub mod Places
 pub mod Filling
 pub mod SoundParts

@@ -79,6 +79,8 @@ module _ (names : List (Name × NodeId)) (lists : List Frames) (tables : Tables)
       pub at : place_of names sees name ≡ place.Declared list index
       pub declared : declared_as (scope_of base sees) name
           ≡ Some (record { name = name; scope = scope_of base inner; tree = is })
+      pub bound : declared_as (scope_of [] sees) name
+          ≡ Some (record { name = name; scope = scope_of [] inner; tree = is })
       pub met : AreMet lists inner
       pub root : IsRoot inner (list + index) is
 
@@ -86,11 +88,12 @@ module _ (names : List (Name × NodeId)) (lists : List Frames) (tables : Tables)
     pub record IsOutside (sees : Frames) (name : Name) : Type 0 where
       pub at : place_of names sees name ≡ given (node_of names name)
       pub declared : declared_as (scope_of base sees) name ≡ declared_as base name
+      pub free : declared_as (scope_of [] sees) name ≡ None
 
     module _ (roots : HaveRoots names lists tables 0 lists) where
       -- a name is one of these
       pub found : (sees : Frames) (name : Name) → AreMet lists sees → IsInside sees name ⊎ IsOutside sees name
-      found [] name met = inr (record { at = refl; declared = refl })
+      found [] name met = inr (record { at = refl; declared = refl; free = refl })
       found (frame ∷ outer) name met = by_list
           (index_in frame.declarations name) (tree_in frame.declarations name) refl refl
           (in_list (frame ∷ outer) frame.first frame.declarations name (met_roots 0 lists frame outer roots met.0))
@@ -102,8 +105,9 @@ module _ (names : List (Name × NodeId)) (lists : List Frames) (tables : Tables)
           at_place : Option ℕ → Place
           at_place index = frames.declared_or frame.first index (place_of names outer name)
 
-          declared_there : Option Tree → Option Declared
-          declared_there is = declared_or is name (scope_of base (frame ∷ outer)) (declared_as (scope_of base outer) name)
+          declared_there : Scope → Option Tree → Option Declared
+          declared_there base is =
+              declared_or is name (scope_of base (frame ∷ outer)) (declared_as (scope_of base outer) name)
 
           by_outer : index_in frame.declarations name ≡ None → tree_in frame.declarations name ≡ None
               → IsInside outer name ⊎ IsOutside outer name → IsInside here name ⊎ IsOutside here name
@@ -113,13 +117,15 @@ module _ (names : List (Name × NodeId)) (lists : List Frames) (tables : Tables)
             index = inside.index;
             is = inside.is;
             at = ap at_place no_index ∙ inside.at;
-            declared = ap declared_there no_tree ∙ inside.declared;
+            declared = ap (declared_there base) no_tree ∙ inside.declared;
+            bound = ap (declared_there []) no_tree ∙ inside.bound;
             met = inside.met;
             root = inside.root;
           })
           by_outer no_index no_tree (inr outside) = inr (record {
             at = ap at_place no_index ∙ outside.at;
-            declared = ap declared_there no_tree ∙ outside.declared;
+            declared = ap (declared_there base) no_tree ∙ outside.declared;
+            free = ap (declared_there []) no_tree ∙ outside.free;
           })
 
           by_list : (index : Option ℕ) (is : Option Tree) → index_in frame.declarations name ≡ index
@@ -134,7 +140,8 @@ module _ (names : List (Name × NodeId)) (lists : List Frames) (tables : Tables)
             index = index;
             is = is;
             at = ap at_place index_is;
-            declared = ap declared_there tree_is;
+            declared = ap (declared_there base) tree_is;
+            bound = ap (declared_there []) tree_is;
             met = met;
             root = root;
           })

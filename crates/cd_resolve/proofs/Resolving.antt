@@ -1,29 +1,33 @@
 -- What is read of declarations, and of a type that sees them, stands for them in a graph that holds what the tables say.
-use Rattle.std.proofs.Common.{◌≡◌, ℕ, zero, suc, ◌+◌, ◌<◌, ◌≤◌, [], ◌∷◌, ◌++◌, List, Option, Some, None, ◌⊎◌, inl, inr, length, refl, sym, ap, subst, ◌∙◌, arith}
+use Rattle.std.proofs.Common.{◌≡◌, ℕ, zero, suc, ◌+◌, ◌<◌, ◌≤◌, [], ◌∷◌, ◌++◌, List, Some, None, ◌⊎◌, inl, inr, length, refl, sym, ap, subst, ◌∙◌, arith}
 use Rattle.std.proofs.lemmas.List.{append_assoc, length-append}
 use Rattle.std.proofs.lemmas.Option.{slice_get_within}
 use Rattle.cd_sets.specs.declared.node_id.NodeId.{NodeId}
 use Rattle.cd_syntax.specs.Element.{Element, IsElement}
 use Rattle.cd_syntax.specs.Name.{Name}
-use Rattle.cd_syntax.specs.TypeTree.{Tree, tree, Named, Declarations}
+use Rattle.cd_syntax.specs.TypeTree.{Tree, tree, Kind, Named, Declarations}
 use Rattle.cd_model.specs.BuiltIns.{built_ins, node}
+use Rattle.cd_model.specs.Each.{One}
 use Rattle.cd_model.specs.Formula.{Graph, IsGraph, formula_at}
 use Rattle.cd_model.specs.Membership as node_level
-use Rattle.cd_model.specs.Scope.{Declared, tree_in, names_in, names_over, names_seen}
+use Rattle.cd_model.specs.Scope.{Declared, names_in, names_over, names_seen}
 use Rattle.cd_model.specs.Value.{Value, IsValue}
 use Rattle.cd_model.specs.Written as written
-use Rattle.cd_model.specs.Written.{Written, StandsFor}
+use Rattle.cd_model.specs.Written.{Written, StandsFor, kind_of}
 use Rattle.cd_names.specs.Faults.{Fault, IsFault, IsFaultOfList}
 use Rattle.cd_names.proofs.GuardedNames.{names_are_guarded}
 use Rattle.cd_shapes.specs.declared.place.Place.{Place}
 use Rattle.cd_shapes.specs.declared.place.Place.TheVariants as place
+use Rattle.cd_shapes.specs.Names.{node_of}
 use Rattle.cd_shapes.specs.Frames.{Frames, index_in, given, declared_or, place_of}
 use Rattle.cd_shapes.specs.Shaped.{Tables, Shaped}
-use Rattle.cd_shapes.specs.Reading.{IsReading, AreSound, IsPlace, AreBelow, base_lists}
+use Rattle.cd_shapes.specs.Reading.{IsReading, AreSound, IsPlace, base_lists}
 use Rattle.cd_order.specs.Order.{Ends}
 use Rattle.cd_resolve.specs.Closing.{size_of, Closes, AgreesWith, node_at}
 use Rattle.cd_resolve.specs.Links.{links}
-use Rattle.cd_resolve.specs.Named.{numbered, type_named, IsNamed, AreNamed}
+use Rattle.cd_resolve.specs.Free.{free_names}
+use Rattle.cd_resolve.specs.Named.{numbered, type_named, AreNamed, AreKnown}
+use Rattle.cd_resolve.proofs.FreeNames.{Uses, every_name, one_name, each_name, uses_tree}
 use Rattle.cd_resolve.proofs.Agree.{AgreesAtNames}
 use Rattle.cd_resolve.proofs.Given.{given_elements, given_values}
 use Rattle.cd_resolve.proofs.Guards.{list_is_guarded}
@@ -96,15 +100,19 @@ module _ (declarations : Declarations) (none : (fault : Fault) → IsFaultOfList
       total : length (graph ++ batch) ≡ first + size_of tables
       total = length-append graph batch ∙ ap (λ n. n + length batch) long ∙ ap (λ n. first + n) size
 
+      -- nothing is asked of free names
+      all_used : {kind : Kind} → Uses (λ name. Unit {0}) (declarations ∷ []) kind
+      all_used = record { within = every_name _ _ (λ name. tt); over = every_name _ _ (λ name. tt) }
+
       at_place : (name : Name) (index : ℕ) → index_in declarations name ≡ Some index
           → StandsFor (graph ++ batch) (node_at first (length tables.roots) (place.Declared 0 index)) (type_named declarations name)
       at_place name index at = stands first [] (base_lists declarations more) tables [] alone
           (tree (record { from = 0; to = 0 }) (Named name)) (place.Declared 0 index) read.roots (inl refl, tt)
           (sym (ap (λ index. declared_or 0 index (given None)) at)) (list_is_guarded declarations none)
-          (graph ++ batch) begun
+          (λ name. Unit {0}) all_used (graph ++ batch) begun
           (subst (λ total. (node_at first (length tables.roots) (place.Declared 0 index)).0 < total) (sym total)
           (node_is_there 14 first tables (place.Declared 0 index) enough (has_root name index at)))
-          closes (λ more is element name. refl) (λ more is value name. refl)
+          closes (λ more is element name used. refl) (λ more is value name used. refl)
 
       each : (name : Name) (index : ℕ) → index_in declarations name ≡ Some index
           → StandsFor (graph ++ batch) (node (first + index)) (type_named declarations name)
@@ -113,27 +121,30 @@ module _ (declarations : Declarations) (none : (fault : Fault) → IsFaultOfList
           subst (λ number. StandsFor (graph ++ batch) (node number) (type_named declarations name)) same
           (at_place name index at)
 
--- nodes that stand for types are nodes of the graph
-pub named_below : (graph : Graph) (declarations : Declarations) (names : List (Name × NodeId)) → AreNamed graph declarations names
-    → AreBelow (length graph) names
-named_below graph declarations names named name id there =
-    by_tree (tree_in declarations name) (subst (IsNamed graph declarations name (tree_in declarations name)) there (named name))
-  where
-    by_tree : (is : Option Tree) → IsNamed graph declarations name is (Some id) → id.0 < length graph
-    by_tree None is = elim is [ ]
-    by_tree (Some type) is = is.is_node
-
 -- a type that sees them
 module _ (declarations : Declarations) (none : (fault : Fault) → IsFaultOfList [] (declarations ∷ []) declarations fault → ⊥)
     (is : Tree) (none_inside : (fault : Fault) → IsFault (declarations ∷ []) (declarations ∷ []) is fault → ⊥)
     (old : Graph) (sound : IsGraph old) (begins : (rest : Graph) × (old ≡ built_ins ++ rest))
-    (names : List (Name × NodeId)) (named : AreNamed old declarations names)
+    (names : List (Name × NodeId)) (known : AreKnown old declarations names (free_names [] is))
     (lists : List Frames) (tables : Tables) (root : Place)
     (read : IsReading names (declarations ∷ []) (names_seen (declarations ∷ []) is) lists tables)
     (shaped : Shaped names lists tables.shapes [] is root)
     (there : IsPlace (length old) (length tables.roots) (length tables.shapes) root) where
   abbrev count : ℕ
   count = length (names_seen (declarations ∷ []) is)
+
+  -- the names that are free in it
+  abbrev IsUsed : Name → Type 0
+  IsUsed name = One (λ other. other ≡ name) (free_names [] is)
+
+  uses : Uses IsUsed [] (kind_of is)
+  uses = uses_tree IsUsed [] is (each_name IsUsed (free_names [] is) (λ name used. used)) tt
+
+  is_known : (name : Name) → IsUsed name
+      → (id : NodeId) × (node_of names name ≡ Some id) × StandsFor old id (type_named declarations name)
+  is_known name used = one_name
+      (λ name. (id : NodeId) × (node_of names name ≡ Some id) × StandsFor old id (type_named declarations name))
+      (free_names [] is) name known used
 
   fits : length (names_over (declarations ∷ [])) ≤ count
   fits = let both : _ = length-append (names_in (declarations ∷ []) is) (names_over (declarations ∷ [])) in omega arith
@@ -148,7 +159,7 @@ module _ (declarations : Declarations) (none : (fault : Fault) → IsFaultOfList
       → StandsFor (old ++ batch) (node_at (length old) (length tables.roots) root)
       (record { scope = declarations ∷ []; tree = is })
   type_stands batch size closes = stands (length old) names lists tables (declarations ∷ []) [] is root read.roots tt shaped
-      (names_are_guarded declarations none is none_inside) (old ++ batch) begun
+      (names_are_guarded declarations none is none_inside) IsUsed uses (old ++ batch) begun
       (subst (λ total. (node_at (length old) (length tables.roots) root).0 < total) (sym total)
       (node_is_there (length old) (length old) tables root (omega arith) there))
       closes old_elements old_values
@@ -163,21 +174,21 @@ module _ (declarations : Declarations) (none : (fault : Fault) → IsFaultOfList
       TheFact = Fact (length old) names lists tables (declarations ∷ []) [] is root read.roots tt shaped
 
       old_elements : (more : Graph) (e : Element) → IsElement e
-          → AgreesAtNames (old ++ batch ++ more) (length old) names lists tables (declarations ∷ []) TheFact count
+          → AgreesAtNames (old ++ batch ++ more) (length old) names lists tables (declarations ∷ []) TheFact IsUsed count
           (node_level.reader (old ++ batch ++ more) e) (written.reader count e)
       old_elements more e element = subst (λ graph. AgreesAtNames graph (length old) names lists tables (declarations ∷ [])
-          TheFact count (node_level.reader graph e) (written.reader count e)) (sym (append_assoc old batch more))
-          (given_elements old sound declarations (list_is_guarded declarations none) names named count fits (length old)
-          lists tables TheFact (batch ++ more) e element)
+          TheFact IsUsed count (node_level.reader graph e) (written.reader count e)) (sym (append_assoc old batch more))
+          (given_elements old sound declarations (list_is_guarded declarations none) names IsUsed is_known count fits
+          (length old) lists tables TheFact (batch ++ more) e element)
 
       old_values : (more : Graph) (v : Value) → IsValue (length (old ++ batch ++ more)) v
-          → AgreesAtNames (old ++ batch ++ more) (length old) names lists tables (declarations ∷ []) TheFact count
+          → AgreesAtNames (old ++ batch ++ more) (length old) names lists tables (declarations ∷ []) TheFact IsUsed count
           (node_level.value_reader (old ++ batch ++ more) v) (written.value_reader (old ++ batch ++ more) count v)
       old_values more v value = subst (λ graph. IsValue (length graph) v → AgreesAtNames graph (length old) names lists tables
-          (declarations ∷ []) TheFact count (node_level.value_reader graph v) (written.value_reader graph count v))
+          (declarations ∷ []) TheFact IsUsed count (node_level.value_reader graph v) (written.value_reader graph count v))
           (sym (append_assoc old batch more))
-          (given_values old sound declarations (list_is_guarded declarations none) names named count fits (length old)
-          lists tables TheFact (batch ++ more) v) value
+          (given_values old sound declarations (list_is_guarded declarations none) names IsUsed is_known count fits
+          (length old) lists tables TheFact (batch ++ more) v) value
 
   -- where the number of nodes and the root are known by equations
   pub type_stands_at : (first : ℕ) → first ≡ length old → (batch : Graph) → length batch ≡ size_of tables

@@ -22,6 +22,7 @@ use Rattle.cd_shapes.specs.Frames.{Frames, scope_of}
 use Rattle.cd_shapes.specs.Shaped.{Tables, Shaped, ShapedKind}
 use Rattle.cd_shapes.specs.Reading.{HaveRoots, AreMet}
 use Rattle.cd_resolve.specs.Closing.{Closes, node_at}
+use Rattle.cd_resolve.proofs.FreeNames.{Uses}
 use Rattle.cd_resolve.proofs.Agree.{IsOf, Agrees, AgreesAtForms, AgreesAtNames}
 use Rattle.cd_resolve.proofs.Elements as elements
 use Rattle.cd_resolve.proofs.Values as values
@@ -59,42 +60,45 @@ module _ (first : ℕ) (names : List (Name × NodeId)) (lists : List Frames) (ta
   shaped_kind : (is : Tree) → Shaped names lists tables.shapes frames is root → ShapedKind names lists tables.shapes frames (kind_of is) root
   shaped_kind (tree span kind) shaped = shaped
 
-  module _ (guarded : NamesAreGuarded type) where
-    of_root : (graph : Graph) → IsOf graph first names lists tables base Fact frames (kind_of is) root
-    of_root graph = record { met = met; shaped = shaped_kind is shaped; covered = all_seen type guarded }
+  -- its free names are used
+  module _ (guarded : NamesAreGuarded type) (Used : Name → Type 0)
+      (uses : Uses Used (scope_of [] frames) (kind_of is)) where
+    of_root : (graph : Graph) → IsOf graph first names lists tables base Fact Used frames (kind_of is) root
+    of_root graph = record { met = met; shaped = shaped_kind is shaped; covered = all_seen type guarded; uses = uses }
 
     -- in a graph whose nodes hold what the tables say
     module _ (graph : Graph) (begins : (more : Graph) × (graph ≡ built_ins ++ more)) (closes : Closes graph first tables)
         (old_elements : (is : Element) → IsElement is
-        → AgreesAtNames graph first names lists tables base Fact (number_of_names type) (node.reader graph is) (written.reader (number_of_names type) is))
+        → AgreesAtNames graph first names lists tables base Fact Used (number_of_names type)
+        (node.reader graph is) (written.reader (number_of_names type) is))
       where
         connectives : (reader : Reader) (written : Answers)
-            → AgreesAtForms graph first names lists tables base Fact reader written
-            → AgreesAtNames graph first names lists tables base Fact (number_of_names type) reader written
-            → Agrees graph first names lists tables base Fact reader (at_types (number_of_names type) written)
-        connectives = agrees graph first names lists tables base Fact (λ is seen. seen.0) (names_seen type.scope type.tree)
-            (λ is seen. seen.1) (number_of_names type) (omega arith) roots closes (empty_is graph begins.0 begins.1)
+            → AgreesAtForms graph first names lists tables base Fact Used reader written
+            → AgreesAtNames graph first names lists tables base Fact Used (number_of_names type) reader written
+            → Agrees graph first names lists tables base Fact Used reader (at_types (number_of_names type) written)
+        connectives = agrees graph first names lists tables base Fact Used (λ is seen. seen.0)
+            (names_seen type.scope type.tree) (λ is seen. seen.1) (number_of_names type) (omega arith) roots closes (empty_is graph begins.0 begins.1)
 
         element_stands : (e : Element) → IsElement e → (answer : Bool)
             → node.answers graph e id answer ↔ written.written_answers e type answer
-        element_stands e element answer = elements.element_agrees graph first names lists tables base Fact (number_of_names type)
-            closes begins connectives old_elements e element frames (kind_of is) root (of_root graph) answer
+        element_stands e element answer = elements.element_agrees graph first names lists tables base Fact Used
+            (number_of_names type) closes begins connectives old_elements e element frames (kind_of is) root (of_root graph) answer
 
         value_stands : ((is : Value) → IsValue (length graph) is
-            → AgreesAtNames graph first names lists tables base Fact (number_of_names type) (node.value_reader graph is)
+            → AgreesAtNames graph first names lists tables base Fact Used (number_of_names type) (node.value_reader graph is)
             (written.value_reader graph (number_of_names type) is))
             → (v : Value) → IsValue (length graph) v → (answer : Bool)
             → node.value_answers graph v id answer ↔ written.written_value_answers graph v type answer
-        value_stands old_values v value answer = values.value_agrees graph first names lists tables base Fact (number_of_names type)
-            closes begins connectives old_elements old_values v value frames (kind_of is) root (of_root graph) answer
+        value_stands old_values v value answer = values.value_agrees graph first names lists tables base Fact Used
+            (number_of_names type) closes begins connectives old_elements old_values v value frames (kind_of is) root (of_root graph) answer
 
     -- the node stands for the type, where the longer graphs hold what the tables say too
     pub stands : (graph : Graph) → (more : Graph) × (graph ≡ built_ins ++ more) → id.0 < length graph
         → ((more : Graph) → Closes (graph ++ more) first tables)
-        → ((more : Graph) (is : Element) → IsElement is → AgreesAtNames (graph ++ more) first names lists tables base Fact
-        (number_of_names type) (node.reader (graph ++ more) is) (written.reader (number_of_names type) is))
+        → ((more : Graph) (is : Element) → IsElement is
+        → AgreesAtNames (graph ++ more) first names lists tables base Fact Used (number_of_names type) (node.reader (graph ++ more) is) (written.reader (number_of_names type) is))
         → ((more : Graph) (is : Value) → IsValue (length (graph ++ more)) is
-        → AgreesAtNames (graph ++ more) first names lists tables base Fact (number_of_names type)
+        → AgreesAtNames (graph ++ more) first names lists tables base Fact Used (number_of_names type)
         (node.value_reader (graph ++ more) is) (written.value_reader (graph ++ more) (number_of_names type) is))
         → StandsFor graph id type
     stands graph begins is_node closes old_elements old_values = record {

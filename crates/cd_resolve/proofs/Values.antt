@@ -24,20 +24,21 @@ use Rattle.cd_resolve.proofs.FormsAgreeRecords.{AgreesAtLabels, records_agree, n
 use Rattle.cd_resolve.proofs.FormsAgreeFunctions.{AgreesAtArrows, functions_agree}
 use Rattle.cd_resolve.proofs.Elements.{pairs_agree}
 
--- Connectives and names keep what is so of forms and of the names that the outermost lists declare
+-- Connectives and names keep what is so of forms and of the free names that are used
 module _ (graph : Graph) (first : ℕ) (names : List (Name × NodeId)) (lists : List Frames) (tables : Tables) (base : Scope)
-    (Fact : Declared → Type 0) (count : ℕ) (closes : Closes graph first tables) (begins : Begins graph)
+    (Fact : Declared → Type 0) (Used : Name → Type 0) (count : ℕ) (closes : Closes graph first tables)
+    (begins : Begins graph)
     (connectives : (reader : Reader) (answers : Answers)
-    → AgreesAtForms graph first names lists tables base Fact reader answers
-    → AgreesAtNames graph first names lists tables base Fact count reader answers
-    → Agrees graph first names lists tables base Fact reader (at_types count answers))
+    → AgreesAtForms graph first names lists tables base Fact Used reader answers
+    → AgreesAtNames graph first names lists tables base Fact Used count reader answers
+    → Agrees graph first names lists tables base Fact Used reader (at_types count answers))
     (old_elements : (is : Element) → IsElement is
-    → AgreesAtNames graph first names lists tables base Fact count (node.reader graph is) (written.reader count is))
+    → AgreesAtNames graph first names lists tables base Fact Used count (node.reader graph is) (written.reader count is))
     (old_values : (is : Value) → IsValue (length graph) is
-    → AgreesAtNames graph first names lists tables base Fact count
+    → AgreesAtNames graph first names lists tables base Fact Used count
     (node.value_reader graph is) (written.value_reader graph count is)) where
   abbrev Same : Value → Type 0
-  Same is = Agrees graph first names lists tables base Fact
+  Same is = Agrees graph first names lists tables base Fact Used
       (node.value_reader graph is) (at_types count (written.value_reader graph count is))
 
   -- the nodes of built-in names
@@ -46,15 +47,15 @@ module _ (graph : Graph) (first : ℕ) (names : List (Name × NodeId)) (lists : 
 
   -- what is the same at forms and at names is so at all places
   as_read : (is : Value) → IsValue (length graph) is
-      → AgreesAsForms graph first names lists tables base Fact
+      → AgreesAsForms graph first names lists tables base Fact Used
       (node.value_reader graph is) (written.value_reader graph count is) → Same is
   as_read is sound agrees = connectives (node.value_reader graph is) (written.value_reader graph count is)
-      (at_forms graph first names lists tables base Fact closes begins
+      (at_forms graph first names lists tables base Fact Used closes begins
       (node.value_reader graph is) (written.value_reader graph count is) agrees)
       (old_values is sound)
 
   -- a closure maps what it maps by the function elements in its interface
-  closure_agrees : (interface : List ArrowOf) → AgreesAtArrows graph first names lists tables base Fact
+  closure_agrees : (interface : List ArrowOf) → AgreesAtArrows graph first names lists tables base Fact Used
       (node.closure_mapping graph interface) (written.closure_mapping graph count interface)
   closure_agrees interface frames argument result from to is_from is_to =
       elim [ true ↦ all | false ↦ none_agrees all ]
@@ -62,30 +63,30 @@ module _ (graph : Graph) (first : ℕ) (names : List (Name × NodeId)) (lists : 
       all : node.closure_mapping graph interface from to true
           ↔ written.closure_mapping graph count interface (scope_of base frames) argument result true
       all = each_agrees _ _ (λ pairs. each_agrees _ _ (λ sound. follows (λ each.
-          pairs_agree graph first names lists tables base Fact count closes begins connectives old_elements pairs sound
+          pairs_agree graph first names lists tables base Fact Used count closes begins connectives old_elements pairs sound
           frames argument result from to is_from is_to true)))
 
   -- by recursion on the value
   mutual
     pub value_agrees : (is : Value) → IsValue (length graph) is
-        → Agrees graph first names lists tables base Fact
+        → Agrees graph first names lists tables base Fact Used
         (node.value_reader graph is) (at_types count (written.value_reader graph count is))
     value_agrees (value.Integer n) = λ sound. as_read (value.Integer n) sound
-        (integers_agree graph first names lists tables base Fact (value_built_in (value.Integer n)) n
+        (integers_agree graph first names lists tables base Fact Used (value_built_in (value.Integer n)) n
         (at_built_ins (value.Integer n)))
     value_agrees (value.Character c) = λ sound. as_read (value.Character c) sound
-        (characters_agree graph first names lists tables base Fact (value_built_in (value.Character c)) c
+        (characters_agree graph first names lists tables base Fact Used (value_built_in (value.Character c)) c
         (at_built_ins (value.Character c)))
     value_agrees (value.Atom name) = λ sound. as_read (value.Atom name) sound
-        (atoms_agree graph first names lists tables base Fact (value_built_in (value.Atom name)) name
+        (atoms_agree graph first names lists tables base Fact Used (value_built_in (value.Atom name)) name
         (at_built_ins (value.Atom name)))
     value_agrees (value.Pair one other) = λ sound. as_read (value.Pair one other) sound
-        (parts.pairs_agree graph first names lists tables base Fact (value_built_in (value.Pair one other))
+        (parts.pairs_agree graph first names lists tables base Fact Used (value_built_in (value.Pair one other))
         (node.value_reader graph one) (node.value_reader graph other)
         (at_types count (written.value_reader graph count one)) (at_types count (written.value_reader graph count other))
         (value_agrees one sound.0) (value_agrees other sound.1) (at_built_ins (value.Pair one other)))
     value_agrees (value.Xml tag attributes content) = λ sound. as_read (value.Xml tag attributes content) sound
-        (parts.xml_agrees graph first names lists tables base Fact (value_built_in (value.Xml tag attributes content))
+        (parts.xml_agrees graph first names lists tables base Fact Used (value_built_in (value.Xml tag attributes content))
         (node.value_reader graph tag) (node.value_reader graph attributes) (node.value_reader graph content)
         (at_types count (written.value_reader graph count tag))
         (at_types count (written.value_reader graph count attributes))
@@ -93,22 +94,22 @@ module _ (graph : Graph) (first : ℕ) (names : List (Name × NodeId)) (lists : 
         (value_agrees tag sound.2) (value_agrees attributes sound.3) (value_agrees content sound.4)
         (at_built_ins (value.Xml tag attributes content)))
     value_agrees (value.Record fields) = λ sound. as_read (value.Record fields) sound
-        (records_agree graph first names lists tables base Fact (value_built_in (value.Record fields))
+        (records_agree graph first names lists tables base Fact Used (value_built_in (value.Record fields))
         (node.value_labelled graph fields) (written.value_labelled graph count fields)
         (fields_agree fields sound.1) (at_built_ins (value.Record fields)))
     value_agrees (value.Closure function interface environment) = λ sound.
         as_read (value.Closure function interface environment) sound
-        (functions_agree graph first names lists tables base Fact
+        (functions_agree graph first names lists tables base Fact Used
         (value_built_in (value.Closure function interface environment))
         (node.closure_mapping graph interface) (written.closure_mapping graph count interface)
         (closure_agrees interface) (at_built_ins (value.Closure function interface environment)))
 
     fields_agree : (fields : value.Fields) → AreValues (length graph) fields
-        → AgreesAtLabels graph first names lists tables base Fact
+        → AgreesAtLabels graph first names lists tables base Fact Used
         (node.value_labelled graph fields) (written.value_labelled graph count fields)
-    fields_agree value.NoField = λ sound. no_field_agrees graph first names lists tables base Fact
+    fields_agree value.NoField = λ sound. no_field_agrees graph first names lists tables base Fact Used
     fields_agree (value.Field name is rest) = λ sound.
-        field_agrees graph first names lists tables base Fact name
+        field_agrees graph first names lists tables base Fact Used name
         (node.value_reader graph is) (at_types count (written.value_reader graph count is))
         (node.value_labelled graph rest) (written.value_labelled graph count rest)
         (value_agrees is sound.0) (fields_agree rest sound.1)

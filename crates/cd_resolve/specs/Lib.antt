@@ -1,4 +1,5 @@
 pub mod Closing
+pub mod Free
 pub mod Links
 pub mod Making
 pub mod Named

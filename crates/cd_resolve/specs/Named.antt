@@ -1,9 +1,10 @@
 -- Names whose nodes stand for what a list of declarations says of them.
-use Rattle.std.specs.Prelude.{ℕ, ◌+◌, [], ◌∷◌, List, Option, Some, None}
+use Rattle.std.specs.Prelude.{◌≡◌, ℕ, ◌+◌, [], ◌∷◌, List, Option, Some, None}
 use Rattle.cd_sets.specs.declared.node_id.NodeId.{NodeId}
 use Rattle.cd_syntax.specs.Name.{Name}
 use Rattle.cd_syntax.specs.TypeTree.{Tree, tree, Named, Declarations, NoDeclaration, ADeclaration}
 use Rattle.cd_model.specs.BuiltIns.{node}
+use Rattle.cd_model.specs.Each.{Each}
 use Rattle.cd_model.specs.Formula.{Graph}
 use Rattle.cd_model.specs.Scope.{tree_in}
 use Rattle.cd_model.specs.Written.{Written, StandsFor}
@@ -21,6 +22,11 @@ IsNamed graph declarations name _ _ = ⊥
 
 abbrev pub AreNamed : Graph → Declarations → List (Name × NodeId) → Type 0
 AreNamed graph declarations names = (name : Name) → IsNamed graph declarations name (tree_in declarations name) (node_of names name)
+
+-- each of these names has a node, which stands for what the list says of it
+abbrev pub AreKnown : Graph → Declarations → List (Name × NodeId) → List Name → Type 0
+AreKnown graph declarations names used =
+    Each (λ name. (id : NodeId) × (node_of names name ≡ Some id) × StandsFor graph id (type_named declarations name)) used
 
 -- the declared names with nodes that follow one another
 abbrev pub numbered : ℕ → Declarations → List (Name × NodeId)

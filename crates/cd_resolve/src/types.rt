@@ -10,8 +10,10 @@ ghost use Rattle.cd_model.specs.Written.{StandsFor};
 ghost use Rattle.cd_graph.specs.Nodes.{nodes};
 ghost use Rattle.cd_graph.specs.PlainFormula.{plain_list};
 ghost use Rattle.cd_names.specs.Faults.{Fault, IsFault, IsFaultOfList};
+ghost use Rattle.cd_shapes.specs.Reading.{AreBelow};
 ghost use Rattle.cd_resolve.specs.Closing.{node_at};
-ghost use Rattle.cd_resolve.specs.Named.{AreNamed, numbered};
+ghost use Rattle.cd_resolve.specs.Free.{free_names};
+ghost use Rattle.cd_resolve.specs.Named.{AreKnown, AreNamed, numbered};
 
 use crate::close::close;
 use cd_graph::{Formulas, Graph};
@@ -79,8 +81,9 @@ fn numbered_from(alloc: Global, first: usize, declared: &Declarations) -> Result
 
 /// A node, for this graph, of a type that sees the declarations whose names have these nodes.
 ///
-/// The type is well made, and no naming fault stands in it nor in the declarations. The names are just those that these declare,
-/// and the node of each stands for its type. Where the formulas are put after those of the graph, the root stands for the type.
+/// The type is well made, and no naming fault stands in it nor in the declarations. Each name that occurs in it and that no
+/// `where` declares there has a node in `names`, which stands for what `declared` says of it; all nodes in `names` are nodes of
+/// the graph. Where the formulas are put after those of the graph, the root stands for the type.
 ///
 /// # Errors
 ///
@@ -95,7 +98,8 @@ pub fn resolve_type(
     requires well_made { IsWellMade (plain tree.now) }
     requires sound_names { (fault : Fault) → IsFaultOfList [] (declared ∷ []) declared fault → ⊥ }
     requires sound { (fault : Fault) → IsFault (declared ∷ []) (declared ∷ []) (plain tree.now) fault → ⊥ }
-    requires named { AreNamed (nodes graph.now) declared names.now }
+    requires known { AreKnown (nodes graph.now) declared names.now (free_names [] (plain tree.now)) }
+    requires below { AreBelow (length (nodes graph.now)) names.now }
     ensures formulas { IfOk result (λ batch.
         Each (IsFormula (length (nodes graph.now) + length (plain_list batch.formulas))) (plain_list batch.formulas)) }
     ensures stands { IfOk result (λ batch.

@@ -4,21 +4,21 @@ use Rattle.cd_graph.specs.PlainFormula.{plain_list}
 use Rattle.cd_graph.specs.Nodes.{nodes}
 use Rattle.cd_shapes.specs.PlainTables.{plain_tables}
 use Rattle.cd_resolve.specs.Closing.{node_at}
-use Rattle.cd_resolve.proofs.Resolving.{type_ends, type_stands_at, named_below, itself_agrees, begins_with}
+use Rattle.cd_resolve.proofs.Resolving.{type_ends, type_stands_at, itself_agrees, begins_with}
 use Rattle.cd_resolve.proofs.types.resolve_type.Goals as goal
 
 pub close-requires-clause-sound : goal.close-requires-clause-sound
 close-requires-clause-sound g c = (c.in_ok-tables.ensures.sound (length (nodes c.args.graph.now))
     (begins_with (nodes c.args.graph.now) c.len-first.ensures.built_in)
-    (named_below (nodes c.args.graph.now) g.declared c.args.names.now c.requires.1.1.1)).0
+    c.requires.1.1.1.1).0
 
 pub close-requires-clause-ends : goal.close-requires-clause-ends
 close-requires-clause-ends g c =
     let bounds = c.in_ok-tables.ensures.sound (length (nodes c.args.graph.now))
     (begins_with (nodes c.args.graph.now) c.len-first.ensures.built_in)
-    (named_below (nodes c.args.graph.now) g.declared c.args.names.now c.requires.1.1.1) in
+    c.requires.1.1.1.1 in
     type_ends g.declared c.requires.1.0 (plain c.args.tree.now) c.requires.1.1.0 (nodes c.args.graph.now)
-    c.len-first.ensures.sound c.len-first.ensures.built_in c.args.names.now c.requires.1.1.1
+    c.len-first.ensures.sound c.len-first.ensures.built_in c.args.names.now c.requires.1.1.1.0
     c.in_ok-tables.ensures.read.0 (plain_tables c.in_ok-tables.tables) c.in_ok-tables.place
     (c.in_ok-tables.ensures.read.1 (g.declared ∷ [])) c.in_ok-tables.ensures.read.2 bounds.1 bounds.0
 
@@ -26,11 +26,11 @@ pub returns-clause-stands : goal.returns-clause-stands
 returns-clause-stands g c =
     let bounds = c.in_ok-tables.ensures.sound (length (nodes c.args.graph.now))
     (begins_with (nodes c.args.graph.now) c.len-first.ensures.built_in)
-    (named_below (nodes c.args.graph.now) g.declared c.args.names.now c.requires.1.1.1) in
+    c.requires.1.1.1.1 in
     let at : c.in_ok-root.root ≡ node_at c.len-first.result (length c.in_ok-tables.tables.roots.items) c.in_ok-tables.place
     = search rules in
     type_stands_at g.declared c.requires.1.0 (plain c.args.tree.now) c.requires.1.1.0 (nodes c.args.graph.now)
-    c.len-first.ensures.sound c.len-first.ensures.built_in c.args.names.now c.requires.1.1.1
+    c.len-first.ensures.sound c.len-first.ensures.built_in c.args.names.now c.requires.1.1.1.0
     c.in_ok-tables.ensures.read.0 (plain_tables c.in_ok-tables.tables) c.in_ok-tables.place
     (c.in_ok-tables.ensures.read.1 (g.declared ∷ [])) c.in_ok-tables.ensures.read.2 bounds.1
     c.len-first.result c.len-first.ensures.count
