@@ -1,0 +1,10 @@
+//! What clauses need to have members.
+#![tactic(auto)]
+
+pub mod asking;
+pub mod parts;
+mod parts_of;
+mod split;
+mod split_in_three;
+#[cfg(test)]
+mod tests;

@@ -1,0 +1,4 @@
+pub mod LabelsOfTypes
+pub mod LeftOfLists
+pub mod SameNames
+pub mod LettersOfTests

@@ -1,0 +1,3 @@
+pub mod PlainCells
+pub mod PlainReasons
+pub mod RecordTypes
