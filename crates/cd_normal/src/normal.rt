@@ -2,9 +2,8 @@
 ghost use Rattle.std.specs.Prelude.{◌<◌, ◌⊎◌, length, IfOk};
 ghost use Rattle.cd_model.specs.Each.{Each, One};
 ghost use Rattle.cd_graph.specs.Nodes.{nodes};
-ghost use Rattle.cd_rules.specs.Clauses.{Clause as PlainClause};
+ghost use Rattle.cd_rules.specs.Clauses.{Clause as PlainClause, IsClauseOfQuestion};
 ghost use Rattle.cd_normal.specs.Standing.{Stands, HoldsNothing};
-ghost use Rattle.cd_rules.specs.Clauses.{IsClauseOfQuestion};
 ghost use Rattle.cd_normal.specs.declared.clause.Clause.{Clause as CodeClause};
 
 use crate::choice::choices_of;

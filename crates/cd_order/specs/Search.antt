@@ -22,7 +22,7 @@ abbrev pub AllLead : List (List ℕ) → List Frame → ℕ → Type 0
 AllLead links [] next = Unit {0}
 AllLead links (frame ∷ rest) next = Leads links frame.number next × AllLead links rest next
 
--- the frames, the last opened first: each number is seen and not yet put, what was looked at of its row is put, and the
+-- the frames, the last opened first: each number is seen and is not put, what was looked at of its row is put, and the
 -- numbers opened before it lead to it
 abbrev pub AreOpen : List (List ℕ) → List Bool → List ℕ → List Frame → Type 0
 AreOpen links seen order [] = Unit {0}

@@ -36,6 +36,13 @@ use Rattle.cd_resolve.proofs.NamesFound.{IsInside, IsOutside, found}
 use Rattle.cd_resolve.proofs.Numbered.{all_named}
 use Rattle.cd_resolve.proofs.Standing.{Fact, stands}
 
+-- a place is within counts that are the same
+pub place_counted : (nodes names shapes nodes' names' shapes' : ℕ) (at : Place) → nodes ≡ nodes' → names ≡ names' → shapes ≡ shapes'
+    → IsPlace nodes' names' shapes' at → IsPlace nodes names shapes at
+place_counted nodes names shapes nodes' names' shapes' (place.Node id) same_nodes same_names same_shapes is = omega arith
+place_counted nodes names shapes nodes' names' shapes' (place.Declared list index) same_nodes same_names same_shapes is = omega arith
+place_counted nodes names shapes nodes' names' shapes' (place.Shape number) same_nodes same_names same_shapes is = omega arith
+
 -- the node of a place is one of the graph that has the tables' nodes after the first ones
 node_is_there : (nodes first : ℕ) (tables : Tables) (at : Place) → nodes ≤ first
     → IsPlace nodes (length tables.roots) (length tables.shapes) at

@@ -1,5 +1,5 @@
 //! Formulas of tables.
-ghost use Rattle.std.specs.Prelude.{◌≡◌, ℕ, ◌+◌, ◌<◌, ◌≤◌, ◌++◌, map, length, IfOk};
+ghost use Rattle.std.specs.Prelude.{◌≡◌, ℕ, ◌+◌, ◌^◌, ◌<◌, ◌≤◌, ◌++◌, map, length, IfOk};
 ghost use Rattle.std.specs.Bool.{OnTrue};
 ghost use Rattle.cd_model.specs.Each.{Each};
 ghost use Rattle.cd_model.specs.Formula.{Graph as PlainGraph, IsFormula};
@@ -63,6 +63,7 @@ pub(crate) fn close(
     requires sound { AreSound (length (nodes old.now)) (plain_tables tables.now) }
     requires ends { (number : ℕ) → number < size_of (plain_tables tables.now) → Ends (links (plain_tables tables.now)) number }
     requires old { length (nodes old.now) ≤ first }
+    ensures counted { IfOk result (λ _. first + size_of (plain_tables tables.now) < 2 ^ 64) }
     ensures number { IfOk result (λ batch. length (plain_list batch) ≡ size_of (plain_tables tables.now)) }
     ensures formulas { IfOk result (λ batch. Each (IsFormula (first + length (plain_list batch))) (plain_list batch)) }
     ensures closes { IfOk result (λ batch. (graph more : PlainGraph) → length graph ≡ first → AgreesWith (nodes old.now) graph

@@ -22,8 +22,8 @@ use cd_shapes::tables::Tables;
 use cd_syntax::name::Name;
 use std::alloc::{AllocError, Global};
 
-// The node of a place.
-fn node_of(counts: Counts, at: Place) -> NodeId
+/// The node of a place.
+pub(crate) fn node_of(counts: Counts, at: Place) -> NodeId
     requires place { IsPlace counts.nodes counts.names counts.shapes at }
     requires fit { Fit counts }
     ensures { result ≡ node_at counts.before counts.names at }

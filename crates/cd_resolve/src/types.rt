@@ -1,5 +1,5 @@
 //! Nodes of written types.
-ghost use Rattle.std.specs.Prelude.{◌≡◌, ℕ, ◌+◌, ◌≤◌, ◌++◌, [], ◌∷◌, length, IfOk, IfSome};
+ghost use Rattle.std.specs.Prelude.{◌≡◌, ℕ, ◌+◌, ◌≤◌, ◌++◌, [], ◌∷◌, length, IfOk};
 ghost use Rattle.cd_syntax.specs.PlainTree.{plain, plain_declarations};
 ghost use Rattle.cd_syntax.specs.TypeTree.{Declarations as PlainDeclarations};
 ghost use Rattle.cd_syntax.specs.WellMade.{IsWellMade, AreWellMadeDeclarations};
@@ -11,15 +11,15 @@ ghost use Rattle.cd_graph.specs.Nodes.{nodes};
 ghost use Rattle.cd_graph.specs.PlainFormula.{plain_list};
 ghost use Rattle.cd_names.specs.Faults.{Fault, IsFault, IsFaultOfList};
 ghost use Rattle.cd_shapes.specs.Reading.{AreBelow};
-ghost use Rattle.cd_resolve.specs.Closing.{node_at};
 ghost use Rattle.cd_resolve.specs.Free.{free_names};
 ghost use Rattle.cd_resolve.specs.Named.{AreKnown, AreNamed, numbered};
 
 use crate::close::close;
+use crate::counts::Counts;
+use crate::make::node_of;
 use cd_graph::{Formulas, Graph};
 use cd_sets::node_id::NodeId;
 use cd_shapes::names::Names;
-use cd_shapes::place::Place;
 use cd_shapes::read::{read_declarations, read_tree};
 use cd_syntax::type_tree::{Declarations, Tree};
 use std::alloc::{AllocError, Global};
@@ -45,7 +45,8 @@ pub struct TypeBatch {
 /// Nodes for type declarations, which see one another and no others.
 ///
 /// The declarations are well made and no naming fault stands in them. Where the formulas are put after those of a graph of
-/// `first` nodes that begins with the built-in ones, the node of each name stands for its type.
+/// `first` nodes that begins with the built-in ones, the node of each name stands for its type. A sequence, which no text writes
+/// so far, holds nothing.
 ///
 /// # Errors
 ///
@@ -83,7 +84,8 @@ fn numbered_from(alloc: Global, first: usize, declared: &Declarations) -> Result
 ///
 /// The type is well made, and no naming fault stands in it nor in the declarations. Each name that occurs in it and that no
 /// `where` declares there has a node in `names`, which stands for what `declared` says of it; all nodes in `names` are nodes of
-/// the graph. Where the formulas are put after those of the graph, the root stands for the type.
+/// the graph. Where the formulas are put after those of the graph, the root stands for the type. A sequence, which no text writes
+/// so far, holds nothing.
 ///
 /// # Errors
 ///
@@ -107,19 +109,13 @@ pub fn resolve_type(
 {
     let (tables, place) = read_tree(alloc, names, tree)?;
     let first = graph.len();
-    let root = node_of(first, tables.roots.len(), place).ok_or(AllocError)?;
     let formulas = close(alloc, graph, first, &tables)?;
-    Ok(TypeBatch { formulas, root })
-}
-
-// The node of a place, after so many nodes and so many declared names. A number that is no word is that of no node.
-fn node_of(first: usize, names: usize, at: Place) -> Option<NodeId>
-    ensures { IfSome result (λ id. id ≡ node_at first names at) }
-{
-    let number = match at {
-        Place::Node(id) => return Some(id),
-        Place::Declared(list, index) => list.checked_add(index)?,
-        Place::Shape(number) => names.checked_add(number)?,
+    let counts = Counts {
+        nodes: first,
+        before: first,
+        names: tables.roots.len(),
+        shapes: tables.shapes.len(),
     };
-    Some(NodeId(first.checked_add(number)?))
+    let root = node_of(counts, place);
+    Ok(TypeBatch { formulas, root })
 }

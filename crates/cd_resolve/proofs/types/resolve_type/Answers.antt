@@ -1,10 +1,12 @@
-use Rattle.std.proofs.Common.{◌≡◌, sym, [], ◌∷◌, length, rules}
+use Rattle.std.proofs.Common.{◌≡◌, sym, [], ◌∷◌, length, rules, arith}
+use Rattle.std.proofs.lemmas.List.{length-map}
 use Rattle.cd_syntax.specs.PlainTree.{plain}
 use Rattle.cd_graph.specs.PlainFormula.{plain_list}
 use Rattle.cd_graph.specs.Nodes.{nodes}
+use Rattle.cd_shapes.specs.Shape.{plain_shape}
 use Rattle.cd_shapes.specs.PlainTables.{plain_tables}
 use Rattle.cd_resolve.specs.Closing.{node_at}
-use Rattle.cd_resolve.proofs.Resolving.{type_ends, type_stands_at, itself_agrees, begins_with}
+use Rattle.cd_resolve.proofs.Resolving.{place_counted, type_ends, type_stands_at, itself_agrees, begins_with}
 use Rattle.cd_resolve.proofs.types.resolve_type.Goals as goal
 
 pub close-requires-clause-sound : goal.close-requires-clause-sound
@@ -22,12 +24,20 @@ close-requires-clause-ends g c =
     c.in_ok-tables.ensures.read.0 (plain_tables c.in_ok-tables.tables) c.in_ok-tables.place
     (c.in_ok-tables.ensures.read.1 (g.declared ∷ [])) c.in_ok-tables.ensures.read.2 bounds.1 bounds.0
 
+pub node_of-root-requires-clause-place : goal.node_of-root-requires-clause-place
+node_of-root-requires-clause-place g c =
+    let bounds = c.in_ok-tables.ensures.sound (length (nodes c.args.graph.now))
+    (begins_with (nodes c.args.graph.now) c.len-first.ensures.built_in)
+    c.requires.1.1.1.1 in
+    place_counted _ _ _ _ _ _ c.in_ok-tables.place c.len-first.ensures.count (search rules)
+    (omega (arith, length-map c.in_ok-tables.tables.shapes.items plain_shape)) bounds.1
+
 pub returns-clause-stands : goal.returns-clause-stands
 returns-clause-stands g c =
     let bounds = c.in_ok-tables.ensures.sound (length (nodes c.args.graph.now))
     (begins_with (nodes c.args.graph.now) c.len-first.ensures.built_in)
     c.requires.1.1.1.1 in
-    let at : c.in_ok-root.root ≡ node_at c.len-first.result (length c.in_ok-tables.tables.roots.items) c.in_ok-tables.place
+    let at : c.node_of-root.result ≡ node_at c.len-first.result (length c.in_ok-tables.tables.roots.items) c.in_ok-tables.place
     = search rules in
     type_stands_at g.declared c.requires.1.0 (plain c.args.tree.now) c.requires.1.1.0 (nodes c.args.graph.now)
     c.len-first.ensures.sound c.len-first.ensures.built_in c.args.names.now c.requires.1.1.1.0
@@ -37,4 +47,4 @@ returns-clause-stands g c =
     (plain_list c.in_ok-formulas.formulas) c.in_ok-formulas.ensures.number
     (λ more. c.in_ok-formulas.ensures.closes (nodes c.args.graph.now) more (sym c.len-first.ensures.count)
     (itself_agrees (nodes c.args.graph.now)))
-    c.in_ok-root.root at
+    c.node_of-root.result at
