@@ -3,7 +3,9 @@ pub mod Sizes
 pub mod Views
 pub mod Declaring
 pub mod Lists
+pub mod Placing
 pub mod Reaching
+pub mod Falling
 pub mod Rich
 pub mod Growing
 pub mod Standing

@@ -4,4 +4,5 @@ pub mod BuiltinNames
 pub mod Walk
 pub mod Cycles
 pub mod PlainFound
+pub mod Ranks
 pub mod Check

@@ -7,7 +7,7 @@ use Rattle.cd_names.specs.Faults.{Fault}
 use Rattle.cd_names.specs.Walk as walk
 use Rattle.cd_names.specs.Walk.{State}
 use Rattle.cd_names.specs.declared.found.Told.{Told}
-use Rattle.cd_names.specs.declared.found.Frame.{Frame}
+use Rattle.cd_names.specs.declared.frame.Frame.{Frame}
 use Rattle.cd_names.specs.declared.found.Id.{Id}
 use Rattle.cd_names.specs.declared.found.Link.{Link}
 use Rattle.cd_names.specs.declared.found.Place.{Place}

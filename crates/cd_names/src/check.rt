@@ -9,9 +9,11 @@ ghost use Rattle.cd_names.specs.PlainFound.{plain_told, plain_found};
 
 use crate::cycle::tell_cycles;
 use crate::error::NameError;
-use crate::found::{Found, Frame, Told};
+use crate::found::{Found, Told};
+use crate::frame::Frame;
 use crate::least::least;
 use crate::walk::{walk, walk_list};
+use cd_lookup::declared_names;
 use cd_syntax::type_tree::{Declarations, Tree};
 use std::alloc::{AllocError, Global};
 
@@ -52,11 +54,9 @@ fn walk_type<'t>(
 {
     let mut found = Found::new(alloc);
     let list = found.enter(declared)?;
+    let names = declared_names(alloc, &*declared)?;
     let mut frames = Vec::new(alloc);
-    frames.push(Frame {
-        declarations: declared,
-        list,
-    })?;
+    frames.push(Frame::of(&*declared, &names, list))?;
     walk(alloc, tree, frames.as_slice(), None, &mut found)?;
     Ok(found)
 }

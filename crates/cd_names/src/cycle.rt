@@ -1,11 +1,13 @@
 //! Declared names that lead back to themselves by links.
-ghost use Rattle.std.specs.Prelude.{◌≡◌, IfOk, map, ◌&&◌, not, slice_get};
+ghost use Rattle.std.specs.Prelude.{◌≡◌, IfOk, map, true, ◌&&◌, not, slice_get};
 ghost use Rattle.cd_names.specs.Cycles.{same_id, is_held, with_next, with_next_of, reached as reached_by, is_cyclic as is_cyclic_id, told_cycle, cycles_told};
+ghost use Rattle.cd_names.specs.Ranks.{all_fall};
 ghost use Rattle.cd_names.specs.PlainFound.{plain_id, plain_link, plain_told};
 
 use crate::fault::NameFault;
 use crate::found::{Id, Link, Told};
 use crate::lookup::is_same;
+use crate::ranks::Ranks;
 use std::alloc::{AllocError, Global};
 
 // Whether both are one declared name.
@@ -73,16 +75,28 @@ fn add_next_of<'t>(
     Ok(())
 }
 
-/// Whether a declared name leads back to itself.
-pub(crate) fn is_cyclic<'t>(
-    alloc: Global,
-    links: &[Link<'t>],
-    id: &Id<'t>,
-) -> Result<bool, AllocError>
+// Whether a declared name leads back to itself.
+fn is_cyclic<'t>(alloc: Global, links: &[Link<'t>], id: &Id<'t>) -> Result<bool, AllocError>
     ensures { IfOk result (λ found. found ≡ is_cyclic_id (map plain_link links.now) (plain_id id.now)) }
 {
     let seen = reached(alloc, links, id)?;
     Ok(holds(seen.as_slice(), id))
+}
+
+// The same, found at once for a name that has a rank.
+fn leads_back<'t>(
+    alloc: Global,
+    links: &[Link<'t>],
+    ranks: &Ranks<'_>,
+    id: &Id<'t>,
+) -> Result<bool, AllocError>
+    requires { all_fall ranks.now (map plain_link links.now) ≡ true }
+    ensures { IfOk result (λ found. found ≡ is_cyclic_id (map plain_link links.now) (plain_id id.now)) }
+{
+    if ranks.rank(id.name).is_some() {
+        return Ok(false);
+    }
+    is_cyclic(alloc, links, id)
 }
 
 /// Tells the names that lead back to themselves.
@@ -93,8 +107,9 @@ pub(crate) fn tell_cycles<'t>(
 ) -> Result<(), AllocError>
     ensures { IfOk result (λ _. map plain_told faults.new.items ≡ cycles_told (map plain_link links.now) (map plain_link links.now) (map plain_told faults.old.items)) }
 {
+    let ranks = Ranks::of(alloc, links)?;
     for link in links {
-        let found = is_cyclic(alloc, links, &link.to)?;
+        let found = leads_back(alloc, links, &ranks, &link.to)?;
         tell_cycle(found, link, faults)?;
     }
     Ok(())

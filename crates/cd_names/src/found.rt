@@ -17,13 +17,6 @@ pub(crate) struct Told<'t> {
     pub(crate) at: usize,
 }
 
-/// A list of declarations that a tree stands under, and its number.
-#[derive(Clone, Copy, Debug)]
-pub(crate) struct Frame<'t> {
-    pub(crate) declarations: &'t Declarations,
-    pub(crate) list: usize,
-}
-
 /// A declared name: the first of its name in the list of this number.
 #[derive(Clone, Copy, Debug)]
 pub(crate) struct Id<'t> {

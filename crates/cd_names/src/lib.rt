@@ -6,9 +6,12 @@ mod cycle;
 pub mod error;
 pub mod fault;
 mod found;
+mod frame;
 pub mod laws;
 mod least;
 mod lookup;
+mod order;
+mod ranks;
 #[cfg(test)]
 mod tests;
 mod walk;

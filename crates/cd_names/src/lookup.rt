@@ -1,31 +1,18 @@
 //! Names among others.
 ghost use Rattle.std.specs.Prelude.{◌≡◌, ◌||◌, map, bytes_eq};
-ghost use Rattle.cd_syntax.specs.PlainTree.{plain_declarations};
 ghost use Rattle.cd_names.specs.BuiltinNames.{is_among as is_one_of, is_builtin as is_builtin_name, builtin_names};
-ghost use Rattle.cd_names.specs.Walk.{place_in as place_in_list, place_of as place_in_frames};
+ghost use Rattle.cd_names.specs.Walk.{place_of as place_in_frames};
 ghost use Rattle.cd_names.specs.PlainFound.{plain_frames, plain_place};
 
-use crate::found::{Frame, Place};
+use crate::found::Place;
+use crate::frame::Frame;
 use cd_syntax::name::Name;
-use cd_syntax::type_tree::Declarations;
 
 /// Whether two names are equal.
 pub(crate) fn is_same(one: &Name, other: &Name) -> bool
     ensures { result ≡ bytes_eq one.now other.now }
 {
     one.as_str() == other.as_str()
-}
-
-/// Whether the name is one of these.
-pub(crate) fn is_among(names: &[&Name], name: &Name) -> bool
-    ensures { result ≡ is_one_of (map (λ one. one.now) names.now) name.now }
-{
-    for other in names {
-        if is_same(name, other) {
-            return true;
-        }
-    }
-    false
 }
 
 // Whether a built-in type has this name.
@@ -76,24 +63,12 @@ fn builtins() -> &'static [&'static [char]]
     ]
 }
 
-// Where a name is first declared in a list.
-fn place_in(declarations: &Declarations, name: &Name) -> Option<usize>
-    ensures { result ≡ place_in_list (plain_declarations declarations.now) name.now }
-{
-    for declaration in declarations.items() {
-        if is_same(&declaration.name, name) {
-            return Some(declaration.at);
-        }
-    }
-    None
-}
-
 /// Where a name is declared, in the innermost list that declares it.
-pub(crate) fn place_of(frames: &[Frame<'_>], name: &Name) -> Option<Place>
+pub(crate) fn place_of(frames: &[Frame<'_, '_>], name: &Name) -> Option<Place>
     ensures { plain_place result ≡ place_in_frames (plain_frames frames.now) name.now }
 {
     for frame in frames {
-        if let Some(at) = place_in(frame.declarations, name) {
+        if let Some(at) = frame.place_in(name) {
             return Some(Place {
                 list: frame.list,
                 at,

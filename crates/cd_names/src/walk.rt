@@ -5,8 +5,10 @@ ghost use Rattle.cd_syntax.specs.PlainTree.{plain, plain_kind, plain_trees, plai
 ghost use Rattle.cd_names.specs.Walk.{innermost, labelled, walked, walked_kind, walked_trees, walked_signs, walked_fields, walked_declared, walked_list, walked_regular, walked_regular_kind, walked_regulars};
 ghost use Rattle.cd_names.specs.PlainFound.{plain_frame, plain_frames, plain_start, plain_found};
 
-use crate::found::{Found, Frame, Id, start_of};
-use crate::lookup::{is_among, is_taken, place_of};
+use crate::found::{Found, Id, start_of};
+use crate::frame::Frame;
+use crate::lookup::{is_taken, place_of};
+use cd_lookup::{NameIndex, declared_names};
 use cd_syntax::type_tree::{
     Declarations, FieldTrees, RegKind, RegTree, RegTrees, Signed, Tree, TreeKind, Trees,
 };
@@ -18,7 +20,7 @@ use std::alloc::{AllocError, Global};
 pub(crate) fn walk<'t>(
     alloc: Global,
     tree: &'t Tree,
-    frames: &[Frame<'t>],
+    frames: &[Frame<'_, '_>],
     start: Option<Id<'t>>,
     found: &mut Found<'t>,
 ) -> Result<(), AllocError>
@@ -32,7 +34,7 @@ fn walk_kind<'t>(
     alloc: Global,
     kind: &'t TreeKind,
     at: usize,
-    frames: &[Frame<'t>],
+    frames: &[Frame<'_, '_>],
     start: Option<Id<'t>>,
     found: &mut Found<'t>,
 ) -> Result<(), AllocError>
@@ -74,7 +76,7 @@ fn walk_kind<'t>(
 fn walk_trees<'t>(
     alloc: Global,
     trees: &'t Trees,
-    frames: &[Frame<'t>],
+    frames: &[Frame<'_, '_>],
     start: Option<Id<'t>>,
     found: &mut Found<'t>,
 ) -> Result<(), AllocError>
@@ -90,7 +92,7 @@ fn walk_trees<'t>(
 fn walk_signs<'t>(
     alloc: Global,
     signs: &'t Signed,
-    frames: &[Frame<'t>],
+    frames: &[Frame<'_, '_>],
     start: Option<Id<'t>>,
     found: &mut Found<'t>,
 ) -> Result<(), AllocError>
@@ -106,7 +108,7 @@ fn walk_signs<'t>(
 fn walk_fields<'t>(
     alloc: Global,
     fields: &'t FieldTrees,
-    frames: &[Frame<'t>],
+    frames: &[Frame<'_, '_>],
     found: &mut Found<'t>,
 ) -> Result<(), AllocError>
     ensures { IfOk result (λ _. plain_found found.new ≡ walked_fields innermost (plain_frames frames.now) (plain_fields fields.now) (plain_found found.old)) }
@@ -125,11 +127,10 @@ fn tell_labels<'t>(
 ) -> Result<(), AllocError>
     ensures { IfOk result (λ _. plain_found found.new ≡ labelled [] (plain_fields fields.now) (plain_found found.old)) }
 {
-    let mut seen = Vec::new(alloc);
+    let mut seen = NameIndex::new(alloc);
     for field in fields.items() {
-        let again = is_among(seen.as_slice(), &field.label);
+        let again = seen.add(&field.label)?;
         found.tell_twice(again, &field.label, field.at)?;
-        seen.push(&field.label)?;
     }
     Ok(())
 }
@@ -139,24 +140,25 @@ fn walk_where<'t>(
     alloc: Global,
     body: &'t Tree,
     declarations: &'t Declarations,
-    outer: &[Frame<'t>],
+    outer: &[Frame<'_, '_>],
     start: Option<Id<'t>>,
     found: &mut Found<'t>,
 ) -> Result<(), AllocError>
     ensures { IfOk result (λ _. plain_found found.new ≡ walked_kind innermost (plain_frames outer.now) (plain_start start.entry) 0 (Where (plain body.now) (plain_declarations declarations.now)) (plain_found found.old)) }
 {
     let list = found.enter(declarations)?;
-    let frames = under(alloc, Frame { declarations, list }, outer)?;
+    let names = declared_names(alloc, &*declarations)?;
+    let frames = under(alloc, Frame::of(&*declarations, &names, list), &*outer)?;
     walk_declared(alloc, declarations, frames.as_slice(), list, found)?;
     walk(alloc, body, frames.as_slice(), start, found)
 }
 
 // The lists of declarations with one more, which is the innermost.
-fn under<'t>(
+fn under<'t, 'n>(
     alloc: Global,
-    frame: Frame<'t>,
-    outer: &[Frame<'t>],
-) -> Result<Vec<Frame<'t>>, AllocError>
+    frame: Frame<'t, 'n>,
+    outer: &[Frame<'t, 'n>],
+) -> Result<Vec<Frame<'t, 'n>>, AllocError>
     ensures { IfOk result (λ frames. plain_frames frames.items ≡ plain_frame frame.entry ∷ plain_frames outer.now) }
 {
     let mut frames = Vec::new(alloc);
@@ -170,16 +172,16 @@ fn under<'t>(
 fn walk_declared<'t>(
     alloc: Global,
     declarations: &'t Declarations,
-    frames: &[Frame<'t>],
+    frames: &[Frame<'_, '_>],
     list: usize,
     found: &mut Found<'t>,
 ) -> Result<(), AllocError>
     ensures { IfOk result (λ _. plain_found found.new ≡ walked_declared innermost (plain_frames frames.now) list [] (plain_declarations declarations.now) (plain_found found.old)) }
 {
-    let mut seen = Vec::new(alloc);
+    let mut seen = NameIndex::new(alloc);
     for declaration in declarations.items() {
         let name = &declaration.name;
-        let again = is_among(seen.as_slice(), name);
+        let again = seen.add(name)?;
         found.tell_twice(is_taken(again, name), name, declaration.at)?;
         walk(
             alloc,
@@ -188,7 +190,6 @@ fn walk_declared<'t>(
             start_of(again, list, name),
             found,
         )?;
-        seen.push(name)?;
     }
     Ok(())
 }
@@ -197,7 +198,7 @@ fn walk_declared<'t>(
 fn walk_regular<'t>(
     alloc: Global,
     expression: &'t RegTree,
-    frames: &[Frame<'t>],
+    frames: &[Frame<'_, '_>],
     found: &mut Found<'t>,
 ) -> Result<(), AllocError>
     ensures { IfOk result (λ _. plain_found found.new ≡ walked_regular innermost (plain_frames frames.now) (plain_regular expression.now) (plain_found found.old)) }
@@ -209,7 +210,7 @@ fn walk_regular<'t>(
 fn walk_regular_kind<'t>(
     alloc: Global,
     kind: &'t RegKind,
-    frames: &[Frame<'t>],
+    frames: &[Frame<'_, '_>],
     found: &mut Found<'t>,
 ) -> Result<(), AllocError>
     ensures { IfOk result (λ _. plain_found found.new ≡ walked_regular_kind innermost (plain_frames frames.now) (plain_regular_kind kind.now) (plain_found found.old)) }
@@ -228,7 +229,7 @@ fn walk_regular_kind<'t>(
 fn walk_regulars<'t>(
     alloc: Global,
     all: &'t RegTrees,
-    frames: &[Frame<'t>],
+    frames: &[Frame<'_, '_>],
     found: &mut Found<'t>,
 ) -> Result<(), AllocError>
     ensures { IfOk result (λ _. plain_found found.new ≡ walked_regulars innermost (plain_frames frames.now) (plain_regulars all.now) (plain_found found.old)) }
@@ -248,7 +249,8 @@ pub(crate) fn walk_list<'t>(
     ensures { IfOk result (λ _. plain_found found.new ≡ walked_list innermost [] (plain_declarations declarations.now) (plain_found found.old)) }
 {
     let list = found.enter(declarations)?;
+    let names = declared_names(alloc, &*declarations)?;
     let mut frames = Vec::new(alloc);
-    frames.push(Frame { declarations, list })?;
+    frames.push(Frame::of(&*declarations, &names, list))?;
     walk_declared(alloc, declarations, frames.as_slice(), list, found)
 }

@@ -16,6 +16,7 @@ pub mod Bounds
 pub mod SameNames
 pub mod Comparing
 pub mod Counting
+pub mod Noded
 pub mod Views
 pub mod Sizes
 pub mod States

@@ -3,12 +3,14 @@
 
 mod compare;
 mod frame;
+mod given;
 mod leaves;
 mod lists;
 mod lookup;
 pub mod names;
 pub mod place;
 pub mod read;
+mod scope;
 pub mod shape;
 mod sort;
 mod state;

@@ -6,7 +6,7 @@ ghost use Rattle.cd_shapes.specs.Walk.{walked_declared, walked_list, Ran};
 ghost use Rattle.cd_shapes.specs.PlainState.{plain_frames, plain_state};
 
 use crate::frame::Frame;
-use crate::names::Names;
+use crate::given::Given;
 use crate::place::Place;
 use crate::state::State;
 use crate::walk::walk;
@@ -16,7 +16,7 @@ use std::alloc::{AllocError, Global};
 // Walks over a list of declarations under these lists, and puts the places of their types after those that are there.
 fn walk_declared<'t>(
     alloc: Global,
-    names: &Names,
+    names: &Given<'_>,
     declarations: &'t Declarations,
     frames: &[Frame<'t>],
     roots: &mut Vec<Place>,
@@ -35,7 +35,7 @@ fn walk_declared<'t>(
 // Walks over the innermost of these lists.
 fn walk_list<'t>(
     alloc: Global,
-    names: &Names,
+    names: &Given<'_>,
     frames: &[Frame<'t>],
     roots: &mut Vec<Place>,
     state: &mut State<'t>,
@@ -53,7 +53,7 @@ fn walk_list<'t>(
 /// name.
 pub(crate) fn walk_lists<'t>(
     alloc: Global,
-    names: &Names,
+    names: &Given<'_>,
     state: &mut State<'t>,
 ) -> Result<Vec<Place>, AllocError>
     ensures { IfOk result (λ roots. Ran names.now (plain_state state.old) (length (plain_state state.new).lists) roots.items (plain_state state.new)) }

@@ -11,6 +11,7 @@ ghost use Rattle.cd_shapes.specs.PlainState.{plain_state};
 ghost use Rattle.cd_shapes.specs.PlainTables.{plain_tables};
 
 use crate::frame::Frame;
+use crate::given::Given;
 use crate::lists::walk_lists;
 use crate::names::Names;
 use crate::place::Place;
@@ -61,8 +62,9 @@ fn ran_declarations(alloc: Global, declared: &Declarations) -> Result<Tables, Al
         × (final.shapes ≡ (plain_tables tables).shapes)) }
 {
     let names = Names::of(Vec::new(alloc));
+    let given = Given::of(alloc, &names)?;
     let mut state = begun(alloc, declared)?;
-    let roots = walk_lists(alloc, &names, &mut state)?;
+    let roots = walk_lists(alloc, &given, &mut state)?;
     Ok(Tables {
         roots,
         shapes: state.into_shapes(),
@@ -75,12 +77,26 @@ fn begun(alloc: Global, declared: &Declarations) -> Result<State<'_>, AllocError
     ensures { IfOk result (λ state. plain_state state ≡ start_of (plain_declarations declared.now)) }
 {
     let mut state = State::new(alloc);
-    state.enter(alloc, &[Frame::of(declared, 0)], declared)?;
+    let mut frames = Vec::new(alloc);
+    frames.push(Frame::of(alloc, declared, 0)?)?;
+    state.enter(alloc, frames.as_slice(), declared)?;
     Ok(state)
 }
 
 // What is made where the walk begins with a tree, and the place of its type.
 fn ran_tree(alloc: Global, names: &Names, tree: &Tree) -> Result<(Tables, Place), AllocError>
+    requires { IsWellMade (plain tree.now) }
+    ensures { IfOk result (λ (tables, root). (final : AState)
+        × Ran names.now (walked names.now [] (plain tree.now) nowhere).1 (length final.lists) (plain_tables tables).roots final
+        × (final.shapes ≡ (plain_tables tables).shapes)
+        × (root ≡ (walked names.now [] (plain tree.now) nowhere).0)) }
+{
+    let given = Given::of(alloc, names)?;
+    ran_given(alloc, &given, tree)
+}
+
+// The same, where an index of the names is made.
+fn ran_given(alloc: Global, names: &Given<'_>, tree: &Tree) -> Result<(Tables, Place), AllocError>
     requires { IsWellMade (plain tree.now) }
     ensures { IfOk result (λ (tables, root). (final : AState)
         × Ran names.now (walked names.now [] (plain tree.now) nowhere).1 (length final.lists) (plain_tables tables).roots final

@@ -13,6 +13,7 @@ use crate::compare::characters_of;
 use crate::frame::Frame;
 use crate::leaves::characters;
 use crate::place::{FieldPlace, Place};
+use crate::scope::add_all;
 use crate::shape::Shape;
 use crate::sort::sort;
 use cd_graph::Formula;
@@ -68,7 +69,7 @@ impl<'t> State<'t> {
             return Ok(None);
         };
         let mut list = Vec::new(alloc);
-        list.extend_from_slice(frames.as_slice())?;
+        add_all(&mut list, frames.as_slice())?;
         Ok(Some(list))
     }
 
@@ -105,7 +106,7 @@ impl<'t> State<'t> {
             return Err(AllocError);
         };
         let mut list = Vec::new(alloc);
-        list.extend_from_slice(frames)?;
+        add_all(&mut list, frames)?;
         self.lists.push(list)?;
         self.names = names;
         Ok(())

@@ -4,13 +4,14 @@ ghost use Rattle.cd_syntax.specs.TypeTree.{Meet, Xml, Where};
 ghost use Rattle.cd_syntax.specs.PlainTree.{plain, plain_kind, plain_trees, plain_signs, plain_fields, plain_declarations};
 ghost use Rattle.cd_syntax.specs.WellMade.{IsWellMade, IsWellMadeKind, AreWellMade, AreWellMadeSigns, AreWellMadeFields, AreWellMadeDeclarations};
 ghost use Rattle.cd_shapes.specs.Walk.{walked, walked_kind, walked_trees, walked_signs, walked_fields};
-ghost use Rattle.cd_shapes.specs.PlainState.{plain_frame, plain_frames, plain_state, chain_of};
+ghost use Rattle.cd_shapes.specs.PlainState.{plain_frames, plain_state, chain_of};
 
 use crate::frame::Frame;
+use crate::given::Given;
 use crate::leaves::{atom, characters, integers};
 use crate::lookup::place_of;
-use crate::names::Names;
 use crate::place::{FieldPlace, Place};
+use crate::scope::under;
 use crate::shape::Shape;
 use crate::state::{Joint, State};
 use cd_graph::built_in::{EMPTY, node_of};
@@ -22,7 +23,7 @@ use std::alloc::{AllocError, Global};
 #[cycle(walk)]
 pub(crate) fn walk<'t>(
     alloc: Global,
-    names: &Names,
+    names: &Given<'_>,
     tree: &'t Tree,
     frames: &[Frame<'t>],
     state: &mut State<'t>,
@@ -37,7 +38,7 @@ pub(crate) fn walk<'t>(
 #[cycle(walk)]
 fn walk_kind<'t>(
     alloc: Global,
-    names: &Names,
+    names: &Given<'_>,
     kind: &'t TreeKind,
     frames: &[Frame<'t>],
     state: &mut State<'t>,
@@ -80,7 +81,7 @@ fn walk_kind<'t>(
 #[cycle(walk)]
 fn walk_chain<'t>(
     alloc: Global,
-    names: &Names,
+    names: &Given<'_>,
     joint: Joint,
     trees: &'t Trees,
     frames: &[Frame<'t>],
@@ -100,7 +101,7 @@ fn walk_chain<'t>(
 #[cycle(walk)]
 fn walk_trees<'t>(
     alloc: Global,
-    names: &Names,
+    names: &Given<'_>,
     trees: &'t Trees,
     frames: &[Frame<'t>],
     state: &mut State<'t>,
@@ -119,7 +120,7 @@ fn walk_trees<'t>(
 #[cycle(walk)]
 fn walk_meet<'t>(
     alloc: Global,
-    names: &Names,
+    names: &Given<'_>,
     first: &'t Tree,
     signs: &'t Signed,
     frames: &[Frame<'t>],
@@ -139,7 +140,7 @@ fn walk_meet<'t>(
 #[cycle(walk)]
 fn walk_signs<'t>(
     alloc: Global,
-    names: &Names,
+    names: &Given<'_>,
     first: Place,
     signs: &'t Signed,
     frames: &[Frame<'t>],
@@ -160,7 +161,7 @@ fn walk_signs<'t>(
 #[cycle(walk)]
 fn walk_xml<'t>(
     alloc: Global,
-    names: &Names,
+    names: &Given<'_>,
     tag: &'t Tree,
     attributes: &'t Tree,
     content: &'t Tree,
@@ -183,7 +184,7 @@ fn walk_xml<'t>(
 #[cycle(walk)]
 fn walk_fields<'t>(
     alloc: Global,
-    names: &Names,
+    names: &Given<'_>,
     fields: &'t FieldTrees,
     frames: &[Frame<'t>],
     state: &mut State<'t>,
@@ -204,7 +205,7 @@ fn walk_fields<'t>(
 #[cycle(walk)]
 fn walk_where<'t>(
     alloc: Global,
-    names: &Names,
+    names: &Given<'_>,
     body: &'t Tree,
     declarations: &'t Declarations,
     outer: &[Frame<'t>],
@@ -214,21 +215,8 @@ fn walk_where<'t>(
     requires declarations { AreWellMadeDeclarations (plain_declarations declarations.now) }
     ensures { IfOk result (λ place. (place, plain_state state.new) ≡ walked_kind names.now (plain_frames outer.now) (Where (plain body.now) (plain_declarations declarations.now)) (plain_state state.old)) }
 {
-    let frames = under(alloc, Frame::of(declarations, state.names), outer)?;
+    let frame = Frame::of(alloc, declarations, state.names)?;
+    let frames = under(alloc, frame, outer)?;
     state.enter(alloc, frames.as_slice(), declarations)?;
     walk(alloc, names, body, frames.as_slice(), state)
-}
-
-// The lists of declarations with one more, which is the innermost.
-fn under<'t>(
-    alloc: Global,
-    frame: Frame<'t>,
-    outer: &[Frame<'t>],
-) -> Result<Vec<Frame<'t>>, AllocError>
-    ensures { IfOk result (λ frames. plain_frames frames.items ≡ plain_frame frame.entry ∷ plain_frames outer.now) }
-{
-    let mut frames = Vec::new(alloc);
-    frames.push(frame)?;
-    frames.extend_from_slice(outer)?;
-    Ok(frames)
 }

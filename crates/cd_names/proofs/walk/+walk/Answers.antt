@@ -1,5 +1,4 @@
-use Rattle.std.proofs.Common.{◌+◌, map, drop, ap, sym, ◌∙◌, rules}
-use Rattle.std.proofs.lemmas.List.{map_push}
+use Rattle.std.proofs.Common.{◌+◌, map, drop, sym, ◌∙◌, rules}
 use Rattle.cd_syntax.specs.TypeTree.{signs_of, fields_of, declarations_of}
 use Rattle.cd_syntax.specs.PlainTree.{plain, plain_signed, plain_field, plain_declaration}
 use Rattle.cd_names.specs.Walk.{innermost, walked_signs, walked_fields, walked_declared}
@@ -64,20 +63,17 @@ walk_fields-loop-field-preserved t c =
 pub walk_declared-loop-declaration-preserved : goal.walk_declared-loop-declaration-preserved
 walk_declared-loop-declaration-preserved t c =
     let left = at_item (λ left. walked_declared innermost (plain_frames c.args.frames.now) c.args.list
-    (map (λ one. one.now) c.loop-declaration.seen.items) (declarations_of (map plain_declaration left))
+    c.loop-declaration.seen (declarations_of (map plain_declaration left))
     (plain_found c.loop-declaration.found))
     c.items-declaration-items.result.now c.loop-declaration.declaration-index c.declaration-item.result
     c.declaration-item.is c.loop-declaration-test.true in
     let one = rw (declaration_is c.declaration-item.result) at left in
     let rest = declarations_of (map plain_declaration
     (drop (c.loop-declaration.declaration-index + 1) c.items-declaration-items.result.now)) in
-    let more = ap (map (λ one. one.now)) c.in_ok-push.ensures.items ∙ map_push (λ one. one.now)
-    c.loop-declaration.seen.items _ in
     let taken = c.is_taken.ensures in
     let told = rw taken at c.in_ok-tell_twice.ensures in
-    let among = rw c.as_slice.ensures.value at c.is_among-again.ensures in
     let step = declared_more (plain_frames c.args.frames.now) c.args.list
-    (map (λ one. one.now) c.loop-declaration.seen.items) _
+    c.loop-declaration.seen _
     (record {
       name = c.declaration-item.result.name;
       at = c.declaration-item.result.at;
@@ -85,5 +81,5 @@ walk_declared-loop-declaration-preserved t c =
           c.declaration-item.result.tree;
     }) rest
     (plain_found c.loop-declaration.found) (plain_found c.tell_twice.new.self) (plain_found c.walk.new.found)
-    c.is_among-again.result (plain_start c.start_of.result) among more c.start_of.ensures told c.in_ok-walk.ensures in
+    c.in_ok-again.again (plain_start c.start_of.result) c.in_ok-again.ensures.again c.in_ok-again.ensures.added c.start_of.ensures told c.in_ok-walk.ensures in
     step ∙ sym one ∙ c.loop-declaration.invariant

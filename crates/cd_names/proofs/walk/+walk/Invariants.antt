@@ -54,7 +54,7 @@ invariant-walk_fields-loop-field l = walked_fields innermost (plain_frames l.fra
 
 abbrev pub invariant-walk_declared-loop-declaration : goal.invariant-walk_declared-loop-declaration
 invariant-walk_declared-loop-declaration l =
-    walked_declared innermost (plain_frames l.frames) l.list (map (λ one. one.now) l.seen.items)
+    walked_declared innermost (plain_frames l.frames) l.list l.seen
     (declarations_of (map plain_declaration (drop l.declaration-index l.declaration-items))) (plain_found l.found)
     ≡ walked_declared innermost (plain_frames l.frames) l.list [] (plain_declarations l.declarations)
     (plain_found l.fn.found)

@@ -7,6 +7,6 @@ use Rattle.cd_names.proofs.walk.tell_labels.Given as goal
 
 -- to go on from here gives what the whole gives from the start
 abbrev pub invariant-loop-field : goal.invariant-loop-field
-invariant-loop-field l = labelled (map (λ one. one.now) l.seen.items)
+invariant-loop-field l = labelled l.seen
     (fields_of (map plain_field (drop l.field-index l.field-items))) (plain_found l.found)
     ≡ labelled [] (plain_fields l.fn.fields) (plain_found l.fn.found)

@@ -12,10 +12,10 @@ pub returns : goal.returns
 returns c =
     let count = ap number_in (sym c.items.ensures) ∙ number_is (map plain_declaration c.items.result.now)
     ∙ length-map c.items.result.now plain_declaration in
-    let list = c.in_ok-extend_from_slice.ensures.items in
     let lists = ap (map (λ list. plain_frames list.items)) c.in_ok-push.ensures.items
-    ∙ map_push (λ list. plain_frames list.items) c.args.self.now.lists.items c.extend_from_slice.new.self in
-    let frames = list ∙ ap (λ before. before ++ c.args.frames.now) c.new-list.ensures.items in
+    ∙ map_push (λ list. plain_frames list.items) c.args.self.now.lists.items c.add_all.new.frames in
+    let frames = c.in_ok-add_all.ensures ∙ ap (λ before. plain_frames before ++ plain_frames c.args.frames.now)
+    c.new-list.ensures.items in
     same_state _ _ _ _ _
-    (lists ∙ ap (λ one. map (λ list. plain_frames list.items) c.args.self.now.lists.items ++ plain_frames one ∷ []) frames)
+    (lists ∙ ap (λ one. map (λ list. plain_frames list.items) c.args.self.now.lists.items ++ one ∷ []) frames)
     (c.in-Some.ensures.1 ∙ ap (λ more. c.args.self.now.names + more) (sym count))

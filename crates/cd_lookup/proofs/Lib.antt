@@ -1,0 +1,3 @@
+pub mod FirstPlaces
+mod SameNames
+mod Views

@@ -1,0 +1,47 @@
+//! A list of declarations that a tree stands under.
+ghost use Rattle.std.specs.Prelude.{◌≡◌};
+ghost use Rattle.cd_syntax.specs.PlainTree.{plain_declarations};
+ghost use Rattle.cd_lookup.specs.NamesDeclared.{names_in};
+
+use cd_lookup::NameIndex;
+use cd_syntax::name::Name;
+use cd_syntax::type_tree::Declarations;
+
+/// A list of declarations, its names in their order, and its number.
+#[derive(Clone, Copy, Debug)]
+pub(crate) struct Frame<'t, 'n> {
+    pub(crate) declarations: &'t Declarations,
+    pub(crate) names: &'n NameIndex<'t>,
+    pub(crate) list: usize,
+    ghost indexed: { names.now ≡ names_in (plain_declarations declarations.now) },
+}
+
+impl<'t, 'n> Frame<'t, 'n> {
+    ghost use Rattle.cd_names.specs.Walk.{place_in as place_in_list};
+    ghost use Rattle.cd_names.specs.PlainFound.{plain_frame};
+
+    /// This list, with its names and its number.
+    pub(crate) fn of(
+        declarations: &'t Declarations,
+        names: &'n NameIndex<'t>,
+        list: usize,
+    ) -> Frame<'t, 'n>
+        requires { names.now ≡ names_in (plain_declarations declarations.now) }
+        ensures { plain_frame result ≡ record { declarations = plain_declarations declarations.now; list = list } }
+    {
+        Frame {
+            declarations,
+            names,
+            list,
+        }
+    }
+
+    /// Where a name is first declared in the list.
+    pub(crate) fn place_in(&self, name: &Name) -> Option<usize>
+        ensures { result ≡ place_in_list (plain_frame self.now).declarations name.now }
+    {
+        let index = self.names.find(name)?;
+        let declaration = self.declarations.items().get(index)?;
+        Some(declaration.at)
+    }
+}
