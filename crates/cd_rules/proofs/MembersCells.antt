@@ -53,7 +53,7 @@ module _ (graph : Graph) (cell_of : Name → Cell) where
       inr (not_first first labels label differ other, same ∙ none)
 
   -- a label with nothing, which may be
-  with_nothing : (first : Name) (labels : List Name) (fields : Fields) → (cell_of first).absent ≡ true
+  pub with_nothing : (first : Name) (labels : List Name) (fields : Fields) → (cell_of first).absent ≡ true
       → (label : Name) → AtLabel labels fields label → AtLabel (first ∷ labels) fields label
   with_nothing first labels fields free label at = by_name (cases_Bool (bytes_eq first label)) at
     where
@@ -67,7 +67,7 @@ module _ (graph : Graph) (cell_of : Name → Cell) where
       by_name (inr differ) at = at_other first labels fields fields label differ refl at
 
   -- a label with an element of its cell
-  with_value : (first : Name) (labels : List Name) (fields : Fields) (is : Element)
+  pub with_value : (first : Name) (labels : List Name) (fields : Fields) (is : Element)
       → asked (answers graph is) (cell_of first).value true
       → (label : Name) → AtLabel labels fields label → AtLabel (first ∷ labels) (put first is fields) label
   with_value first labels fields is asked_so label at = by_name (cases_Bool (bytes_eq first label))
@@ -127,12 +127,12 @@ module _ (Inside : Element → Type 0) (Has : RecordType → Element → Type 0)
         found_elsewhere (row_of_a n) is fields label (lengths_differ (row_of_a n) label (omega arith))
 
     -- so a type that has its element at one keeps it
-    keeps_its : (type : RecordType) → HasIts (suc n) fields type → HasIts n (put (row_of_a n) is fields) type
+    pub keeps_its : (type : RecordType) → HasIts (suc n) fields type → HasIts n (put (row_of_a n) is fields) type
     keeps_its type (label, long, (other, there, has_it)) =
         (label, omega arith, (other, longer label long ∙ there, has_it))
 
     -- with an element more at this label, at each there is what may be there
-    one_more : Inside is → (label : Name) → IsMore (suc n) fields label → IsMore n (put (row_of_a n) is fields) label
+    pub one_more : Inside is → (label : Name) → IsMore (suc n) fields label → IsMore n (put (row_of_a n) is fields) label
     one_more is_inside label more = by_name (cases_Bool (bytes_eq (row_of_a n) label)) more
       where
         by_name : (bytes_eq (row_of_a n) label ≡ true) ⊎ (bytes_eq (row_of_a n) label ≡ false)

@@ -15,23 +15,23 @@ use Rattle.cd_rules.proofs.PairsBack.{both_of_each}
 use Rattle.cd_rules.proofs.Sides.{splits_back}
 
 -- a function is outside an arrow
-abbrev IsOutsideArrow : Graph → element.Pairs → Pair → Type 0
+abbrev pub IsOutsideArrow : Graph → element.Pairs → Pair → Type 0
 IsOutsideArrow graph pairs parts = mapping graph pairs parts.0 parts.1 false
 
 -- a function is in each wanted arrow and outside each refused one
-abbrev IsInArrows : Graph → (wanted refused : List Pair) → element.Pairs → Type 0
+abbrev pub IsInArrows : Graph → (wanted refused : List Pair) → element.Pairs → Type 0
 IsInArrows graph wanted refused pairs =
     ArePairs pairs × Each (IsInArrow graph pairs) wanted × Each (IsOutsideArrow graph pairs) refused
 
 -- a function without pairs is in all arrows
-none_in_arrows : (graph : Graph) (wanted : List Pair) → Each (IsInArrow graph element.NoPair) wanted
+pub none_in_arrows : (graph : Graph) (wanted : List Pair) → Each (IsInArrow graph element.NoPair) wanted
 none_in_arrows graph [] = tt
 none_in_arrows graph (parts ∷ wanted) = (refl, none_in_arrows graph wanted)
 
 module _ (graph : Graph) (wanted refused : List Pair) (one : Pair) (pairs : element.Pairs)
     (rest : IsInArrows graph wanted refused pairs) where
   -- a pair that maps an argument of one more arrow out of its result, and is right for the wanted ones
-  with_maps : (from to : Element) → IsElement from → IsElement to
+  pub with_maps : (from to : Element) → IsElement from → IsElement to
       → answers graph from one.0 true → answers graph to one.1 false
       → Each (λ parts. ArgumentIsOutside graph from parts ⊎ ResultIsInside graph to parts) wanted
       → IsInArrows graph wanted (one ∷ refused) (element.Maps from to pairs)
@@ -47,7 +47,7 @@ module _ (graph : Graph) (wanted refused : List Pair) (one : Pair) (pairs : elem
   )
 
   -- a pair that fails at an argument of one more arrow, and is right for the wanted ones
-  with_fails : (from : Element) → IsElement from → answers graph from one.0 true
+  pub with_fails : (from : Element) → IsElement from → answers graph from one.0 true
       → Each (ArgumentIsOutside graph from) wanted
       → IsInArrows graph wanted (one ∷ refused) (element.Fails from pairs)
   with_fails from from_is inside right = (

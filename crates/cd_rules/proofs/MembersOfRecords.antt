@@ -34,13 +34,13 @@ labels_after_are [] labels are each = each
 labels_after_are (label ∷ these) labels are each =
     with_label_is label (labels_after these labels) are.0 (labels_after_are these labels are.1 each)
 
-labels_are : (types : List RecordType) → HaveLabels types → Each IsLabel (labels_of types)
+pub labels_are : (types : List RecordType) → HaveLabels types → Each IsLabel (labels_of types)
 labels_are [] have = tt
 labels_are (type ∷ types) have = labels_after_are (names_of type.named) (labels_of types)
     (each_of_map (λ (field : Name × Field). field.0) IsLabel type.named have.0) (labels_are types have.1)
 
 -- each of two lists together
-each_of_both : {X : Type 0} (Is : X → Type 0) (xs ys : List X) → Each Is xs → Each Is ys → Each Is (xs ++ ys)
+pub each_of_both : {X : Type 0} (Is : X → Type 0) (xs ys : List X) → Each Is xs → Each Is ys → Each Is (xs ++ ys)
 each_of_both Is [] ys each others = others
 each_of_both Is (x ∷ xs) ys each others = (each.0, each_of_both Is xs ys each.1 others)
 

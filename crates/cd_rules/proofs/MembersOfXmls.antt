@@ -13,12 +13,12 @@ use Rattle.cd_rules.proofs.PairsBack.{xmls_back}
 use Rattle.cd_rules.proofs.MembersOfPairs.{way_picked}
 
 -- an element that is in the node of the atoms is an atom
-atom_of_answer : (more : Graph) (is : Element) → answers (built_ins ++ more) is ATOM true → IsAtom is
+pub atom_of_answer : (more : Graph) (is : Element) → answers (built_ins ++ more) is ATOM true → IsAtom is
 atom_of_answer more (element.Atom name) there = tt
 atom_of_answer more _ there = absurd (true≢false there)
 
 -- an element that is in the node of the records is a record
-record_of_answer : (more : Graph) (is : Element) → answers (built_ins ++ more) is RECORD true → IsRecord is
+pub record_of_answer : (more : Graph) (is : Element) → answers (built_ins ++ more) is RECORD true → IsRecord is
 record_of_answer more (element.Record fields) there = tt
 record_of_answer more _ there = absurd (true≢false there)
 

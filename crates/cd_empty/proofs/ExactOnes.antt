@@ -1,0 +1,121 @@
+-- Verdicts are exact where the marks are elements of their questions and the questions without one are a closed family.
+use Rattle.std.proofs.Common.{◌≡◌, ℕ, zero, suc, ◌<◌, true, false, List, [], ◌∷◌, ◌++◌, ◌⊎◌, inl, inr, refl, ap, subst, arith, length, get_or}
+use Rattle.std.proofs.Common.{Option, Some, None}
+use Rattle.std.proofs.Props.{props}
+use Rattle.std.proofs.Math.Logic.{∥∥₁_elim, ∥∥₁_map}
+use Rattle.cd_sets.specs.declared.node_id.NodeId.{NodeId}
+use Rattle.cd_sets.specs.declared.question.Question.{Question}
+use Rattle.cd_syntax.specs.Element as element
+use Rattle.cd_syntax.specs.Element.{Element, IsElement}
+use Rattle.cd_model.specs.BuiltIns.{built_ins}
+use Rattle.cd_model.specs.Each.{Each}
+use Rattle.cd_model.specs.Formula.{Graph}
+use Rattle.cd_model.specs.Membership.{asked, answers}
+use Rattle.cd_model.proofs.Apart.{not_both}
+use Rattle.cd_model.proofs.Decided.{in_or_outside}
+use Rattle.cd_elements.specs.declared.shape.ElementId.{ElementId}
+use Rattle.cd_elements.specs.Table.{element_at}
+use Rattle.cd_rules.specs.Family.{IsOfFamily, IsClosed}
+use Rattle.cd_rules.proofs.NoMember.{element_out, value_out}
+use Rattle.cd_members.specs.Marks.{IsMarked, AreMarked, unmarked}
+use Rattle.cd_empty.specs.declared.verdict.Verdict.{Verdict}
+use Rattle.cd_empty.specs.Kept.{with_verdicts}
+use Rattle.cd_empty.specs.Verdicts.{HasNoElement, HasNoValue, IsExact, IsKept, family}
+
+-- what cannot be is so in no two ways
+never_in_two_ways : IsProp ⊥
+never_in_two_ways one other = absurd one
+
+-- a fact that can be had of each where it is known to hold can be had of all
+pub each_had : {X : Type 0} (fact : X → Type 0) → ((one : X) → ∥ fact one ∥₁ → fact one) → (list : List X) → ∥ Each fact list ∥₁
+    → Each fact list
+each_had fact had [] known = tt
+each_had fact had (one ∷ rest) known =
+    (had one (∥∥₁_map known (λ each. each.0)), each_had fact had rest (∥∥₁_map known (λ each. each.1)))
+
+-- an element is in a node, or outside it, where that is known
+inside_had : (graph : Graph) (is : Element) (id : NodeId) → ∥ answers graph is id true ∥₁ → answers graph is id true
+inside_had graph is id known = by_side (in_or_outside graph is id)
+  where
+    by_side : answers graph is id true ⊎ answers graph is id false → answers graph is id true
+    by_side (inl inside) = inside
+    by_side (inr outside) = absurd (∥∥₁_elim known never_in_two_ways (λ inside. not_both graph is id inside outside))
+
+outside_had : (graph : Graph) (is : Element) (id : NodeId) → ∥ answers graph is id false ∥₁ → answers graph is id false
+outside_had graph is id known = by_side (in_or_outside graph is id)
+  where
+    by_side : answers graph is id true ⊎ answers graph is id false → answers graph is id false
+    by_side (inl inside) = absurd (∥∥₁_elim known never_in_two_ways (λ outside. not_both graph is id inside outside))
+    by_side (inr outside) = outside
+
+-- and in a question
+asked_had : (graph : Graph) (is : Element) (question : Question) → ∥ asked (answers graph is) question true ∥₁
+    → asked (answers graph is) question true
+asked_had graph is question known = (
+  each_had (λ id. answers graph is id true) (inside_had graph is) question.pos (∥∥₁_map known (λ both. both.0)),
+  each_had (λ id. answers graph is id false) (outside_had graph is) question.neg (∥∥₁_map known (λ both. both.1)),
+)
+
+-- so what a mark says can be had
+mark_had : (graph : Graph) (table : List Element) (question : Question) (mark : Option ElementId)
+    → ∥ IsMarked graph table question mark ∥₁ → IsMarked graph table question mark
+mark_had graph table question None known = tt
+mark_had graph table question (Some id) known = (
+  ∥∥₁_elim known (hlevel props) (λ both. both.0),
+  asked_had graph (element_at table id) question (∥∥₁_map known (λ both. both.1)),
+)
+
+-- each that a number names has the fact of all
+each_at : {X : Type 0} (fact : X → Type 0) (list : List X) (number : ℕ) (other : X) → number < length list → Each fact list
+    → fact (get_or list number other)
+each_at fact [] number other below each = absurd (omega arith)
+each_at fact (one ∷ list) zero other below each = each.0
+each_at fact (one ∷ list) (suc number) other below each = each_at fact list number other (omega arith) each.1
+
+module _ (graph : Graph) (begins : (more : Graph) × (graph ≡ built_ins ++ more)) (table : List Element) (sound : Each IsElement table) where
+  -- no element and no value is in a question of a family that is known to be closed
+  none_in : (family : List Question) → ∥ IsClosed graph family ∥₁ → (question : Question) → IsOfFamily question family
+      → HasNoElement graph question × HasNoValue graph question
+  none_in family closed question there = (
+    λ is element asking. ∥∥₁_elim closed never_in_two_ways
+        (λ closed. element_out graph begins family closed is element question asking there),
+    λ is value asking. ∥∥₁_elim closed never_in_two_ways
+        (λ closed. value_out graph begins family closed is value question asking there),
+  )
+
+  marked_exact : (questions : List Question) (marks : List (Option ElementId)) → ∥ AreMarked graph table questions marks ∥₁
+      → ((question : Question) → IsOfFamily question (unmarked questions marks) → HasNoElement graph question × HasNoValue graph question)
+      → Each (λ one. IsExact graph table one.0 one.1) (with_verdicts questions marks)
+  marked_exact [] marks known none = tt
+  marked_exact (question ∷ questions) [] known none = tt
+  marked_exact (question ∷ questions) (None ∷ marks) known none = (
+    none question (inl refl),
+    marked_exact questions marks (∥∥₁_map known (λ both. both.1)) (λ other there. none other (inr there)),
+  )
+  marked_exact (question ∷ questions) (Some id ∷ marks) known none =
+      let mark = mark_had graph table question (Some id) (∥∥₁_map known (λ both. both.0)) in (
+        (mark.0, each_at IsElement table id.0 (element.Atom []) mark.0 sound, mark.1),
+        marked_exact questions marks (∥∥₁_map known (λ both. both.1)) none,
+      )
+
+  -- all verdicts are exact
+  pub all_exact : (questions : List Question) (marks : List (Option ElementId)) → ∥ AreMarked graph table questions marks ∥₁
+      → ∥ IsClosed graph (unmarked questions marks) ∥₁ → Each (λ one. IsExact graph table one.0 one.1) (with_verdicts questions marks)
+  all_exact questions marks known closed = marked_exact questions marks known (none_in (unmarked questions marks) closed)
+
+-- a verdict that is kept among exact ones is exact
+pub kept_exact : (graph : Graph) (table : List Element) (kept : List (Question × Verdict)) (question : Question) (verdict : Verdict)
+    → Each (λ one. IsExact graph table one.0 one.1) kept → IsKept kept question verdict → IsExact graph table question verdict
+kept_exact graph table [] question verdict exact is = elim is [ ]
+kept_exact graph table (one ∷ kept) question verdict exact (inl same) =
+    subst (λ (one : Question × Verdict). IsExact graph table one.0 one.1) same exact.0
+kept_exact graph table (one ∷ kept) question verdict exact (inr later) = kept_exact graph table kept question verdict exact.1 later
+
+-- the questions that are kept as empty are those without a mark
+pub family_unmarked : (graph : Graph) (table : List Element) (questions : List Question) (marks : List (Option ElementId))
+    → AreMarked graph table questions marks → family (with_verdicts questions marks) ≡ unmarked questions marks
+family_unmarked graph table [] marks are = refl
+family_unmarked graph table (question ∷ questions) [] are = absurd are
+family_unmarked graph table (question ∷ questions) (None ∷ marks) are =
+    ap (λ (rest : List Question). question ∷ rest) (family_unmarked graph table questions marks are.1)
+family_unmarked graph table (question ∷ questions) (Some id ∷ marks) are = family_unmarked graph table questions marks are.1

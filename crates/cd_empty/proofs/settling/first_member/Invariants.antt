@@ -1,0 +1,13 @@
+-- Nothing could be made for those that were tried.
+use Rattle.std.proofs.Common.{◌≡◌, ◌++◌, List, take}
+use Rattle.cd_syntax.specs.Element.{Element}
+use Rattle.cd_model.specs.Each.{Each}
+use Rattle.cd_elements.specs.Elements.{table}
+use Rattle.cd_members.specs.Making.{IsStuck}
+use Rattle.cd_empty.proofs.settling.first_member.Given as goal
+
+abbrev pub invariant-loop-needs : goal.invariant-loop-needs
+invariant-loop-needs l = record {
+  grown : (more : List Element) × (table l.elements ≡ table l.initial.elements ++ more);
+  stuck : Each (IsStuck l.marks) (take l.needs-index l.all);
+}

@@ -1,0 +1,22 @@
+use Rattle.std.proofs.Common.{sym, subst}
+use Rattle.std.proofs.Math.Logic.{∥∥₁_map}
+use Rattle.cd_rules.specs.Family.{IsClosed}
+use Rattle.cd_empty.specs.Kept.{settled_questions, settled_marks}
+use Rattle.cd_empty.specs.Seen.{graph_of, table_of}
+use Rattle.cd_empty.proofs.ExactOnes.{all_exact, family_unmarked}
+use Rattle.cd_empty.proofs.world.World.know.Goals as goal
+
+pub returns-clause-exact : goal.returns-clause-exact
+returns-clause-exact c =
+    let world = c.args.self.now in
+    all_exact (graph_of world) c.len-nodes.ensures.built_in (table_of world) c.len-elements.ensures.sound
+    (settled_questions world.decider) (settled_marks world.decider)
+    (∥∥₁_map world.fits (λ fits. fits.marked)) (∥∥₁_map world.fits (λ fits. fits.closed))
+
+pub returns-clause-closed : goal.returns-clause-closed
+returns-clause-closed c =
+    let world = c.args.self.now in
+    let decider = world.decider in
+    ∥∥₁_map world.fits (λ fits.
+    let same = family_unmarked (graph_of world) (table_of world) (settled_questions decider) (settled_marks decider) fits.marked in
+    subst (IsClosed (graph_of world)) (sym same) fits.closed)

@@ -1,0 +1,19 @@
+use Rattle.std.proofs.lemmas.Result.{IfOk-weaker}
+use Rattle.cd_empty.specs.Seen.{graph_of}
+use Rattle.cd_empty.proofs.Subtypes.{each_element_within, each_value_within}
+use Rattle.cd_empty.proofs.world.World.subtype.Goals as goal
+
+pub returns-clause-elements : goal.returns-clause-elements
+returns-clause-elements c =
+    let graph = graph_of c.args.self.now in
+    IfOk-weaker c.decide.result _ _
+    (λ verdict exact empty. each_element_within graph c.args.first c.args.second _ _ c.in_ok-question.ensures verdict exact empty)
+    c.decide.ensures.exact
+
+pub returns-clause-values : goal.returns-clause-values
+returns-clause-values c =
+    let graph = graph_of c.args.self.now in
+    let nodes = c.len-nodes.ensures in
+    IfOk-weaker c.decide.result _ _
+    (λ verdict exact empty. each_value_within graph c.args.first c.args.second _ _ c.in_ok-question.ensures verdict exact empty
+    nodes.built_in nodes.sound c.requires.second) c.decide.ensures.exact

@@ -1,0 +1,34 @@
+-- Questions with their verdicts.
+use Rattle.std.specs.Prelude.{◌≡◌, true, List, [], ◌∷◌, length}
+use Rattle.cd_sets.specs.declared.question.Question.{Question}
+use Rattle.cd_syntax.specs.Element.{Element, IsElement}
+use Rattle.cd_model.specs.Each.{One}
+use Rattle.cd_model.specs.Formula.{Graph}
+use Rattle.cd_model.specs.Membership.{asked, answers, value_answers}
+use Rattle.cd_model.specs.Value.{Value, IsValue}
+use Rattle.cd_elements.specs.Table.{Names, element_at}
+use Rattle.cd_empty.specs.declared.verdict.Verdict.{Verdict}
+use Rattle.cd_empty.specs.declared.verdict.Verdict.TheVariants.{Empty, Inhabited}
+
+-- no element is in a question, nor is a value whose closures have arrows of the graph
+abbrev pub HasNoElement : Graph → Question → Type 0
+HasNoElement graph question = (is : Element) → IsElement is → asked (answers graph is) question true → ⊥
+
+abbrev pub HasNoValue : Graph → Question → Type 0
+HasNoValue graph question = (is : Value) → IsValue (length graph) is → asked (value_answers graph is) question true → ⊥
+
+-- a verdict is exact: the question has no element, or it has this one of the table
+abbrev pub IsExact : Graph → List Element → Question → Verdict → Type 0
+IsExact graph table question Empty = HasNoElement graph question × HasNoValue graph question
+IsExact graph table question (Inhabited id) =
+    Names table id × IsElement (element_at table id) × asked (answers graph (element_at table id)) question true
+
+-- a verdict is kept for a question
+abbrev pub IsKept : List (Question × Verdict) → Question → Verdict → Type 0
+IsKept kept question verdict = One (λ one. one ≡ (question, verdict)) kept
+
+-- the questions that have no element
+abbrev pub family : List (Question × Verdict) → List Question
+family [] = []
+family ((question, Empty) ∷ kept) = question ∷ family kept
+family ((question, Inhabited id) ∷ kept) = family kept

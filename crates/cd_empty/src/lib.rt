@@ -1,0 +1,11 @@
+//! Whether there is an element in some nodes of a graph and outside some others.
+#![tactic(auto)]
+
+mod collecting;
+mod decider;
+mod settling;
+pub mod verdict;
+pub mod world;
+
+pub use verdict::Verdict;
+pub use world::World;

@@ -1,0 +1,151 @@
+ghost use Rattle.cd_graph.specs.Nodes.{nodes};
+ghost use Rattle.cd_elements.specs.Elements.{table};
+ghost use Rattle.cd_empty.specs.Kept.{Fits};
+
+use crate::decider::Decider;
+use crate::verdict::Verdict;
+use cd_elements::Elements;
+use cd_graph::{Formulas, Graph};
+use cd_needs::asking::question;
+use cd_sets::node_id::NodeId;
+use cd_sets::question::Question;
+use std::alloc::{AllocError, Global};
+
+/// A graph of types, a table of elements, and what is settled of questions: whether there is an element in some nodes and outside some
+/// others. What is settled stays so.
+#[derive(Drop)]
+pub struct World {
+    graph: Graph,
+    elements: Elements,
+    decider: Decider,
+    ghost fits: { ∥ Fits (nodes graph) (table elements) decider ∥₁ },
+}
+
+impl World {
+    ghost use Rattle.std.specs.Prelude.{◌≡◌, ◌+◌, ◌<◌, ◌++◌, [], ◌∷◌, true, List, length, IfOk, OnOk, OnErr, MatchOption};
+    ghost use Rattle.cd_sets.specs.declared.node_id.NodeId.{NodeId as AnId};
+    ghost use Rattle.cd_sets.specs.declared.question.Question.{Question as AQuestion};
+    ghost use Rattle.cd_syntax.specs.Element.{Element as AnElement, IsElement};
+    ghost use Rattle.cd_model.specs.BuiltIns.{built_ins};
+    ghost use Rattle.cd_model.specs.Each.{Each};
+    ghost use Rattle.cd_model.specs.Formula.{IsFormula};
+    ghost use Rattle.cd_model.specs.Membership.{answers, value_answers};
+    ghost use Rattle.cd_model.specs.Value.{Value as AValue, IsValue};
+    ghost use Rattle.cd_graph.specs.PlainFormula.{plain_list};
+    ghost use Rattle.cd_rules.specs.Family.{AsksNodes, IsClosed};
+    ghost use Rattle.cd_rules.specs.Needs.{question};
+    ghost use Rattle.cd_empty.specs.declared.verdict.Verdict.{Verdict as AVerdict};
+    ghost use Rattle.cd_empty.specs.declared.verdict.Verdict.TheVariants.{Empty};
+    ghost use Rattle.cd_empty.specs.Verdicts.{IsExact, IsKept, family};
+    ghost use Rattle.cd_empty.specs.Seen.{graph_of, table_of, kept};
+
+    /// The graph of the built-in nodes alone, of which nothing is settled.
+    pub fn new(alloc: Global) -> Result<World, AllocError>
+        ensures graph { IfOk result (λ world. graph_of world ≡ built_ins) }
+        ensures elements { IfOk result (λ world. table_of world ≡ []) }
+        ensures settled { IfOk result (λ world. kept world ≡ []) }
+    {
+        Ok(World {
+            graph: Graph::new(alloc)?,
+            elements: Elements::new(alloc),
+            decider: Decider::new(alloc),
+        })
+    }
+
+    /// Puts formulas after those of the graph, and gives the number of the first. What is settled stays so. Where memory runs out the graph
+    /// stays as it was.
+    pub fn extend(&mut self, batch: Formulas) -> Result<NodeId, AllocError>
+        requires { Each (IsFormula (length (graph_of self.old) + length (plain_list batch))) (plain_list batch) }
+        ensures first { IfOk result (λ first. first.0 ≡ length (graph_of self.old)) }
+        ensures added { OnOk result (graph_of self.new ≡ graph_of self.old ++ plain_list batch) }
+        ensures unchanged { OnErr result (graph_of self.new ≡ graph_of self.old) }
+        ensures settled { kept self.new ≡ kept self.old }
+        ensures elements { table_of self.new ≡ table_of self.old }
+    {
+        self.graph.extend(batch)
+    }
+
+    /// Settles whether there is an element in each node of `pos` and in none of `neg`: Empty where there is none, nor a value, and else one.
+    ///
+    /// # Errors
+    ///
+    /// Want of memory. What was settled before stays so.
+    pub fn decide(&mut self, question: &Question) -> Result<Verdict, AllocError>
+        requires { AsksNodes (length (graph_of self.old)) question.now }
+        ensures exact { IfOk result (λ verdict. IsExact (graph_of self.old) (table_of self.new) question.now verdict) }
+        ensures settled { IfOk result (λ verdict. IsKept (kept self.new) question.now verdict) }
+        ensures stays { (more : List (AQuestion × AVerdict)) × (kept self.new ≡ kept self.old ++ more) }
+        ensures graph { graph_of self.new ≡ graph_of self.old }
+        ensures grows { (more : List AnElement) × (table_of self.new ≡ table_of self.old ++ more) }
+    {
+        let verdict = self
+            .decider
+            .decide(&self.graph, &mut self.elements, question)?;
+        self.know();
+        Ok(verdict)
+    }
+
+    /// Settles whether what is in the first node is in the second: Empty where it is, and else an element that is in the first alone.
+    ///
+    /// # Errors
+    ///
+    /// Want of memory. What was settled before stays so.
+    pub fn subtype(&mut self, first: NodeId, second: NodeId) -> Result<Verdict, AllocError>
+        requires first { first.0 < length (graph_of self.old) }
+        requires second { second.0 < length (graph_of self.old) }
+        ensures elements { IfOk result (λ verdict. verdict ≡ Empty → (is : AnElement) → IsElement is
+            → answers (graph_of self.old) is first true → answers (graph_of self.old) is second true) }
+        ensures values { IfOk result (λ verdict. verdict ≡ Empty → (is : AValue) → IsValue (length (graph_of self.old)) is
+            → value_answers (graph_of self.old) is first true → value_answers (graph_of self.old) is second true) }
+        ensures exact { IfOk result (λ verdict. IsExact (graph_of self.old) (table_of self.new) (question (first ∷ []) (second ∷ [])) verdict) }
+        ensures settled { IfOk result (λ verdict. IsKept (kept self.new) (question (first ∷ []) (second ∷ [])) verdict) }
+        ensures stays { (more : List (AQuestion × AVerdict)) × (kept self.new ≡ kept self.old ++ more) }
+        ensures graph { graph_of self.new ≡ graph_of self.old }
+        ensures grows { (more : List AnElement) × (table_of self.new ≡ table_of self.old ++ more) }
+    {
+        // The contract of this call says that the graph is sound and begins with the built-in nodes.
+        let _nodes = self.graph.len();
+        let question = question(self.decider.allocator(), &[first], &[second])?;
+        self.decide(&question)
+    }
+
+    /// The verdict that is kept for a question. All that are kept are exact, one for each question, and the questions without elements are
+    /// a closed family.
+    pub fn settled(&self, question: &Question) -> Option<Verdict>
+        ensures found { MatchOption result ((verdict : AVerdict) → IsKept (kept self.now) question.now verdict → ⊥)
+            (λ verdict. IsKept (kept self.now) question.now verdict) }
+        ensures exact { Each (λ one. IsExact (graph_of self.now) (table_of self.now) one.0 one.1) (kept self.now) }
+        ensures once { (asked : AQuestion) (one other : AVerdict) → IsKept (kept self.now) asked one → IsKept (kept self.now) asked other → one ≡ other }
+        ensures closed { ∥ IsClosed (graph_of self.now) (family (kept self.now)) ∥₁ }
+    {
+        self.know();
+        self.decider.settled(question)
+    }
+
+    // All verdicts that are kept are exact, and the questions without elements are a closed family. It does nothing.
+    fn know(&self)
+        ensures exact { Each (λ one. IsExact (graph_of self.now) (table_of self.now) one.0 one.1) (kept self.now) }
+        ensures closed { ∥ IsClosed (graph_of self.now) (family (kept self.now)) ∥₁ }
+    {
+        // The contract of this call says that the graph begins with the built-in nodes, and that of the next that the table is sound.
+        let _nodes = self.graph.len();
+        let _elements = self.elements.len();
+    }
+
+    /// The graph.
+    pub fn graph(&self) -> &Graph
+        ensures { nodes result.now ≡ graph_of self.now }
+    {
+        &self.graph
+    }
+
+    /// The table of elements.
+    pub fn elements(&self) -> &Elements
+        ensures table { table result.now ≡ table_of self.now }
+        ensures sound { Each IsElement (table_of self.now) }
+    {
+        // The contract of this call says that the table is sound.
+        let _count = self.elements.len();
+        &self.elements
+    }
+}

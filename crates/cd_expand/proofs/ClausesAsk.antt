@@ -1,0 +1,57 @@
+-- What the clauses of a question need asks nodes of the graph.
+use Rattle.std.proofs.Common.{◌≡◌, ℕ, ◌≤◌, List, ◌++◌, length, sym, ap, ◌∙◌, subst, arith, length-append}
+use Rattle.cd_sets.specs.declared.question.Question.{Question}
+use Rattle.cd_model.specs.BuiltIns.{built_ins}
+use Rattle.cd_model.specs.Each.{Each}
+use Rattle.cd_model.specs.Formula.{Graph, IsGraph}
+use Rattle.cd_rules.specs.Clauses as rules
+use Rattle.cd_rules.specs.Family.{AsksNodes}
+use Rattle.cd_rules.proofs.Ones.{each_weaker}
+use Rattle.cd_normal.specs.declared.clause.Clause.{Clause}
+use Rattle.cd_normal.specs.declared.clause.Clause.TheVariants as code
+use Rattle.cd_normal.specs.Standing.{Stands}
+use Rattle.cd_records.specs.RecordTypes.{record_types}
+use Rattle.cd_expand.specs.Added.{Adds}
+use Rattle.cd_expand.specs.OfClauses.{ClauseAsks}
+use Rattle.cd_expand.proofs.Expanding.{IsToldOf, AreTold}
+use Rattle.cd_expand.proofs.PartsAsk.{IsWithin, clause_is_within, pair_ways_ask, xml_ways_ask, arrow_ways_ask, rows_ask}
+
+-- parts that are the same are within the same bound
+within_both : {X : Type 0} (Within : List X → List X → Type 0) {pos neg wanted refused : List X} → (pos ≡ wanted) × (neg ≡ refused)
+    → Within wanted refused → Within pos neg
+within_both {X} Within {pos} {neg} {wanted} {refused} same within =
+    subst (λ (lists : List X × List X). Within lists.0 lists.1) (λ i. (sym same.0 i, sym same.1 i)) within
+
+-- what a clause needs asks nodes of the graph
+clause_asks : (nodes : ℕ) → 14 ≤ nodes → (clause : Clause) (is : rules.Clause) → Stands clause is → IsWithin nodes is
+    → ClauseAsks nodes clause
+clause_asks nodes least (code.Pairs pos neg) (rules.Pairs wanted refused) stands within =
+    pair_ways_ask nodes pos.items neg.items (within_both (λ wanted refused. IsWithin nodes (rules.Pairs wanted refused)) stands within)
+clause_asks nodes least (code.Xmls pos neg) (rules.Xmls wanted refused) stands within =
+    xml_ways_ask nodes least pos.items neg.items (within_both (λ wanted refused. IsWithin nodes (rules.Xmls wanted refused)) stands within)
+clause_asks nodes least (code.Records pos neg) (rules.Records wanted refused) stands within =
+    rows_ask nodes (record_types pos.items) (record_types neg.items)
+    (within_both (λ wanted refused. IsWithin nodes (rules.Records wanted refused)) stands within)
+clause_asks nodes least (code.Arrows pos neg) (rules.Arrows wanted refused) stands within =
+    arrow_ways_ask nodes pos.items neg.items (within_both (λ wanted refused. IsWithin nodes (rules.Arrows wanted refused)) stands within)
+clause_asks nodes least (code.Ints set) _ stands within = tt
+clause_asks nodes least (code.Chars set) _ stands within = tt
+clause_asks nodes least (code.Atoms set) _ stands within = tt
+clause_asks nodes least _ _ stands within = absurd stands
+
+-- and so does each question that is added
+pub added_asks : (graph : Graph) → IsGraph graph → (more : Graph) × (graph ≡ built_ins ++ more) → (question : Question)
+    → AsksNodes (length graph) question → (clauses : List Clause) → AreTold graph question clauses → (old new : List Question)
+    → Adds (λ nodes. Each (ClauseAsks nodes) clauses) old new
+    → (more : List Question) × (new ≡ old ++ more) × Each (AsksNodes (length graph)) more
+added_asks graph sound begins question asks clauses told old new adds = (
+  adds.more,
+  adds.grown,
+  adds.asking (length graph)
+      (each_weaker (IsToldOf graph question) (ClauseAsks (length graph))
+      (λ clause of. clause_asks (length graph) least clause of.0 of.2 (clause_is_within graph sound question asks of.0 of.1))
+      clauses told.sound),
+)
+  where
+    least : 14 ≤ length graph
+    least = let long = ap length begins.1 ∙ length-append built_ins begins.0 in omega arith

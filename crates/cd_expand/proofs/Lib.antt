@@ -1,0 +1,13 @@
+pub mod Adding
+pub mod AtomTexts
+pub mod Basics
+pub mod ClausesAsk
+pub mod ClausesSoFar
+pub mod Expanding
+pub mod FirstOfList
+pub mod Naming
+pub mod OneClause
+pub mod PartsAsk
+pub mod PlainNeeds
+pub mod RowParts
+pub mod SoFar

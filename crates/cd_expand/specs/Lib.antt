@@ -1,0 +1,6 @@
+pub mod Added
+pub mod Basic
+pub mod Named
+pub mod Numbered
+pub mod OfClauses
+pub mod Expansion

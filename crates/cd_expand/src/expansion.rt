@@ -1,0 +1,97 @@
+ghost use Rattle.std.specs.Prelude.{◌≡◌, ◌++◌, List, length, IfOk, OnOk, MatchOption};
+ghost use Rattle.std.specs.Option.{option_to_list};
+ghost use Rattle.cd_sets.specs.declared.question.Question.{Question as AQuestion};
+ghost use Rattle.cd_model.specs.Each.{Each, One};
+ghost use Rattle.cd_graph.specs.Nodes.{nodes};
+ghost use Rattle.cd_rules.specs.Family.{AsksNodes};
+ghost use Rattle.cd_expand.specs.Added.{Adds};
+ghost use Rattle.cd_expand.specs.Basic.{IsNoSet, IsIn};
+ghost use Rattle.cd_expand.specs.OfClauses.{ClauseAsks, NamesEach};
+ghost use Rattle.cd_expand.specs.Expansion.{IsExpansion};
+
+use crate::basic::some_element;
+use crate::needs::Needs;
+use crate::of_clause::needs_of;
+use cd_asked::Asked;
+use cd_elements::Shape;
+use cd_graph::Graph;
+use cd_normal::clause::Clause;
+use cd_normal::clauses;
+use cd_sets::question::Question;
+use std::alloc::{AllocError, Global};
+
+/// What is known of a question by its clauses alone.
+#[derive(Debug, Drop)]
+pub enum Expansion {
+    /// It has this element.
+    Element(Shape),
+    /// For each clause that can have elements, what it needs.
+    Clauses(Vec<Needs>),
+}
+
+/// Looks at the clauses of a question. Where one of them is a set of integers, characters or atoms that is not empty the question
+/// has an element. Else what the clauses need is given, and the questions of the needs are added to those that are asked.
+///
+/// # Errors
+///
+/// Want of memory. Some questions of the needs may have been added.
+pub fn expand(
+    alloc: Global,
+    graph: &Graph,
+    asked: &mut Asked,
+    question: &Question,
+) -> Result<Expansion, AllocError>
+    requires { AsksNodes (length (nodes graph.now)) question.now }
+    ensures exact { IfOk result (λ expansion. IsExpansion (nodes graph.now) asked.new question.now expansion) }
+    ensures grows { (more : List AQuestion) × (asked.new ≡ asked.old ++ more) × Each (AsksNodes (length (nodes graph.now))) more }
+{
+    // The contract of this call says that the graph is sound, and that it has the built-in nodes.
+    let _sound = graph.len();
+    let clauses = clauses(alloc, graph, question)?;
+    let clauses = clauses.as_slice();
+    match element_of_one(alloc, clauses)? {
+        Some(shape) => Ok(Expansion::Element(shape)),
+        None => {
+            let needs = needs_of_each(alloc, asked, clauses)?;
+            Ok(Expansion::Clauses(needs))
+        }
+    }
+}
+
+// An element of the first clause of a set that is not empty.
+fn element_of_one(alloc: Global, clauses: &[Clause]) -> Result<Option<Shape>, AllocError>
+    ensures { IfOk result (λ found. MatchOption found (Each IsNoSet clauses.now) (λ shape. One (λ clause. IsIn clause shape) clauses.now)) }
+{
+    for clause in clauses {
+        if let Some(shape) = some_element(alloc, clause)? {
+            return Ok(Some(shape));
+        }
+    }
+    Ok(None)
+}
+
+// What each clause needs that is not of a set.
+fn needs_of_each(
+    alloc: Global,
+    asked: &mut Asked,
+    clauses: &[Clause],
+) -> Result<Vec<Needs>, AllocError>
+    ensures names { IfOk result (λ all. NamesEach asked.new clauses.now all.items) }
+    ensures grows { Adds (λ nodes. Each (ClauseAsks nodes) clauses.now) asked.old asked.new }
+{
+    let mut all = Vec::new(alloc);
+    for clause in clauses {
+        add(&mut all, needs_of(alloc, asked, clause)?)?;
+    }
+    Ok(all)
+}
+
+// Adds the needs, if there are some.
+fn add(all: &mut Vec<Needs>, needs: Option<Needs>) -> Result<(), AllocError>
+    ensures { OnOk result (all.new.items ≡ all.old.items ++ option_to_list needs) }
+{
+    match needs {
+        Some(needs) => Ok(all.push(needs)?),
+        None => Ok(()),
+    }
+}

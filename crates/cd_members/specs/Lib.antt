@@ -1,0 +1,4 @@
+pub mod Marks
+pub mod Making
+pub mod Living
+pub mod Shapes
