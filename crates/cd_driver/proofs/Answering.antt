@@ -1,24 +1,21 @@
 -- Messages that tell an answer.
-use Rattle.std.proofs.Common.{◌≡◌, List, ◌++◌, Some, None, Result, Ok, Err, refl, sym, ap, subst}
-use Rattle.std.specs.Prelude.{IfOk, codes, String, string_bytes}
+use Rattle.std.proofs.Common.{◌≡◌, List, Some, None, Result, Ok, Err, refl, sym, ap, subst}
+use Rattle.std.specs.Prelude.{IfOk, String, string_bytes}
 use Rattle.std.specs.Global.{Global}
 use Rattle.std.specs.declared.alloc.AllocError.{AllocError}
-use Rattle.cd_base.specs.declared.status.Status.TheVariants.{No}
-use Rattle.cd_syntax.specs.Element.{Element}
-use Rattle.cd_syntax.specs.Written.{Written}
+use Rattle.cd_syntax.specs.TypeTree.{Declarations, NoDeclaration}
+use Rattle.cd_model.specs.Written.{Written}
 use Rattle.cd_driver.specs.Command.{Bytes, Sub, SubTypes, Give}
-use Rattle.cd_driver.specs.Reply.{Reply, says, not_built, cannot_read, too_large, not_utf8}
-use Rattle.cd_driver.specs.Texts.{ReadsAs, DeclaresNothing}
-use Rattle.cd_driver.specs.Answer.{SubAnswer, SubTypesAnswer, no, Disk, Has, HasText, FileRefusal, unread, large, encoding, file_refused, on_texts, Answer, sub, sub_types, command_not_built}
+use Rattle.cd_driver.specs.Reply.{Reply, not_built, cannot_read, too_large, not_utf8}
+use Rattle.cd_driver.specs.Texts.{ReadsAs, Declares}
+use Rattle.cd_driver.specs.Comparing.{ComparesTypes, within, outside}
+use Rattle.cd_driver.specs.Answer.{SubAnswer, SubTypesAnswer, yes, no, Disk, Has, HasText, FileRefusal, unread, large, encoding, file_refused, on_texts, Answer, sub, sub_types, command_not_built}
 use Rattle.cd_driver.specs.Ending.{Met, unmarked, marked}
 use Rattle.cd_driver.specs.Answering.{IsAnswer}
 use Rattle.cd_driver.specs.File.{Tells, IsFileRead, said_of}
 use Rattle.cd_driver.specs.declared.file.FileFault.{FileFault}
 use Rattle.cd_driver.specs.declared.file.FileFault.TheVariants.{Unread, TooLarge, NotUtf8}
 use Rattle.cd_base.specs.FilesState.{FilesState}
-use Rattle.cd_driver.specs.Decision.{Separates}
-use Rattle.cd_driver.specs.Witness.{AreIntegers, text_of}
-use Rattle.cd_driver.proofs.Printing.{encodes_text, prints_text, is_element}
 use Rattle.cd_driver.specs.Request.{GiveNotBuilt}
 use Rattle.cd_driver.specs.declared.message.Message.{Message}
 use Rattle.cd_driver.specs.Message.{reply_of}
@@ -28,12 +25,16 @@ pub replies : (r : Result Message AllocError) (reply : Reply) (P : Reply → Typ
 replies (Ok message) reply P is has = subst P (sym is) has
 replies (Err error) reply P is has = tt
 
--- no, with an element that separates the types
-pub no_with : (text1 text2 : Bytes) (first second : Written) → ReadsAs text1 first → ReadsAs text2 second
-    → (found : Element) → AreIntegers found → Separates found first second → SubAnswer text1 text2 (says No (codes "no: " ++ text_of found))
-no_with text1 text2 first second is1 is2 found sized separates =
-    subst (λ text. SubAnswer text1 text2 (says No (codes "no: " ++ text))) (encodes_text found sized)
-    (no first second is1 is2 found (is_element found sized) separates.inside separates.outside (text_of found) (prints_text found sized))
+-- what is told of two types that texts read as is the answer
+pub compared : (declared : Declarations) (text1 text2 : Bytes) (first second : Written) → ReadsAs declared text1 first → ReadsAs declared text2 second
+    → (r : Result Message AllocError) → IfOk r (λ message. ComparesTypes first second (reply_of message))
+    → IfOk r (λ message. SubAnswer declared text1 text2 (reply_of message))
+compared declared text1 text2 first second is1 is2 (Ok message) compares = by_reply (reply_of message) compares
+  where
+    by_reply : (reply : Reply) → ComparesTypes first second reply → SubAnswer declared text1 text2 reply
+    by_reply _ (within all) = yes first second is1 is2 all
+    by_reply _ (outside element is is_in is_out) = no first second is1 is2 element is is_in is_out
+compared declared text1 text2 first second is1 is2 (Err error) compares = tt
 
 -- an answer that no file is read for is one for the files that are told
 pub answers_unread : (files : FilesState) (answers : Disk → Reply → Type 0) (r : Result Message AllocError) → IfOk r (λ message. (disk : Disk) → answers disk (reply_of message))
@@ -42,7 +43,7 @@ answers_unread files answers (Ok message) is = (record { told = files.told; mark
 answers_unread files answers (Err error) is = (record { told = files.told; marked = None }, unmarked refl, tt)
 
 -- where `sub` is asked, what it answers is the answer
-pub answers_sub : (words : List Bytes) (text1 text2 : Bytes) → Give words (Sub text1 text2) → (r : Result Message AllocError) → IfOk r (λ message. SubAnswer text1 text2 (reply_of message))
+pub answers_sub : (words : List Bytes) (text1 text2 : Bytes) → Give words (Sub text1 text2) → (r : Result Message AllocError) → IfOk r (λ message. SubAnswer NoDeclaration text1 text2 (reply_of message))
     → IfOk r (λ message. (disk : Disk) → Answer words disk (reply_of message))
 answers_sub words text1 text2 give (Ok message) answers = λ disk. sub text1 text2 give (reply_of message) answers
 answers_sub words text1 text2 give (Err error) answers = tt
@@ -101,11 +102,13 @@ answers_text old new name text1 text2 text is (Ok message) said = (
 )
 answers_text old new name text1 text2 text is (Err error) said = (told_disk old, met_same old new is.0, tt)
 
--- what is said of a file that declares nothing is what `sub` answers, and else what stands against it
-pub on_file : (name text text1 text2 : Bytes) → DeclaresNothing text → (r : Result Message AllocError) → IfOk r (λ message. SubAnswer text1 text2 (reply_of message))
+-- what is said of a file with these declarations is what `sub` answers, and else what stands against it
+pub on_file : (name text text1 text2 : Bytes) (declared : Declarations) → Declares text declared
+    → (r : Result Message AllocError) → IfOk r (λ message. SubAnswer declared text1 text2 (reply_of message))
     → IfOk r (λ message. (disk : Disk) → HasText disk name text → SubTypesAnswer disk name text1 text2 (reply_of message))
-on_file name text text1 text2 declares (Ok message) answers = λ disk has. on_texts text has declares (reply_of message) answers
-on_file name text text1 text2 declares (Err error) answers = tt
+on_file name text text1 text2 declared declares (Ok message) answers =
+    λ disk has. on_texts text has declared declares (reply_of message) answers
+on_file name text text1 text2 declared declares (Err error) answers = tt
 
 pub answers_nothing : (old new : FilesState) (name text1 text2 : Bytes) (error : AllocError) → IsFileRead old new name (Err error)
     → IsAnswer (λ disk. SubTypesAnswer disk name text1 text2) old new (Err error)

@@ -6,13 +6,14 @@ use Rattle.cd_base.specs.Faults.{Rose}
 use Rattle.cd_base.specs.FilesState.{FilesState}
 use Rattle.cd_syntax.specs.declared.tokens.LexError.TheVariants.{BadChar, OpenText, OpenComment, TooWide, Memory}
 use Rattle.cd_syntax.specs.SyntaxFaults.{AType, SomeDeclarations}
+use Rattle.cd_syntax.specs.TypeTree.{Declarations, NoDeclaration}
 use Rattle.cd_driver.specs.Command.{Bytes, SubTypes, Give}
-use Rattle.cd_driver.specs.Texts.{Against, Lexical, Syntax, TooDeep, NotBuilt, WriteUnbuiltType, DeclareSome}
+use Rattle.cd_driver.specs.Texts.{Against, Lexical, Syntax, TooDeep, Naming, NotBuilt, IsToldOfType, IsToldOfDeclarations}
 use Rattle.cd_driver.specs.Reply.{Reply, refusal}
 use Rattle.cd_driver.specs.World.{World}
 use Rattle.cd_driver.specs.Answer.{Disk, Answer, SubAnswer, SubTypesAnswer, FileRefusal, no_form, sub, sub_types, command_not_built, yes, no, first_refused, second_refused, file_refused, on_texts, unread, large, encoding, refused}
 use Rattle.cd_driver.specs.Ending.{Met, unmarked, marked, Delivered, whole, out_refused, err_refused, out_cut, err_cut, Ending, answered, no_memory, Completes}
-use Rattle.cd_driver.specs.Causes.{GiveTexts, StandsAgainst, in_file, in_first, in_second, by_command, by_text, Cause}
+use Rattle.cd_driver.specs.Causes.{GiveTexts, alone, with_file, StandsAgainst, in_file, in_first, in_second, by_command, by_text, Cause}
 use Rattle.cd_driver.proofs.OneRefusal.{no_memory as memory_stands_not}
 
 -- a file that is marked is the latest whose read failed
@@ -23,9 +24,9 @@ read_failed before after _ name (marked other rose last) is = (rose, subst (λ m
 
 -- want of memory stands against no text
 stands_no_memory : (words : List Bytes) (disk : Disk) → StandsAgainst words disk (Lexical Memory) → ⊥
-stands_no_memory words disk (in_file file text1 text2 give text has refuses) = memory_stands_not SomeDeclarations DeclareSome text refuses
-stands_no_memory words disk (in_first text1 text2 give refuses) = memory_stands_not AType WriteUnbuiltType text1 refuses
-stands_no_memory words disk (in_second text1 text2 give refuses) = memory_stands_not AType WriteUnbuiltType text2 refuses
+stands_no_memory words disk (in_file file text1 text2 give text has refuses) = memory_stands_not SomeDeclarations IsToldOfDeclarations text refuses
+stands_no_memory words disk (in_first declared text1 text2 give refuses) = memory_stands_not AType (IsToldOfType declared) text1 refuses
+stands_no_memory words disk (in_second declared text1 text2 give first is refuses) = memory_stands_not AType (IsToldOfType declared) text2 refuses
 
 module _ (words : List Bytes) (disk : Disk) (before after : World) (met : Met before.files after.files disk) where
   -- what stands against a text is the cause of what is said of it
@@ -37,6 +38,7 @@ module _ (words : List Bytes) (disk : Disk) (before after : World) (met : Met be
   refused_cause origin text (Lexical Memory) stands = absurd (stands_no_memory words disk stands)
   refused_cause origin text (Syntax place) stands = record { disk = disk; met = met; against = _; kind = (_, refl); stands = stands }
   refused_cause origin text (TooDeep place) stands = record { disk = disk; met = met; against = _; kind = (_, refl); stands = stands }
+  refused_cause origin text (Naming fault) stands = record { disk = disk; met = met; against = _; kind = (_, refl); stands = stands }
   refused_cause origin text NotBuilt stands = by_text (record { disk = disk; met = met; against = _; kind = refl; stands = stands })
 
   file_cause : (file text1 text2 : Bytes) → Give words (SubTypes file text1 text2) → (reply : Reply) → FileRefusal disk file reply → Cause words before after reply.status
@@ -49,19 +51,22 @@ module _ (words : List Bytes) (disk : Disk) (before after : World) (met : Met be
       record { disk = disk; met = met; file = file; text1 = text1; text2 = text2; give = give; bytes = bytes; has = has; is = (size, is) }
   file_cause file text1 text2 give _ (refused text has against stands) = refused_cause file text against (in_file file text1 text2 give text has stands)
 
-  sub_cause : (text1 text2 : Bytes) → GiveTexts words text1 text2 → (reply : Reply) → SubAnswer text1 text2 reply → Cause words before after reply.status
-  sub_cause text1 text2 give _ (first_refused against stands) = refused_cause (codes "T1") text1 against (in_first text1 text2 give stands)
-  sub_cause text1 text2 give _ (second_refused first is1 against stands) = refused_cause (codes "T2") text2 against (in_second text1 text2 give stands)
-  sub_cause text1 text2 give _ (yes first second is1 is2 within) = record {
+  sub_cause : (declared : Declarations) (text1 text2 : Bytes) → GiveTexts words disk declared text1 text2
+      → (reply : Reply) → SubAnswer declared text1 text2 reply → Cause words before after reply.status
+  sub_cause declared text1 text2 give _ (first_refused against stands) =
+      refused_cause (codes "T1") text1 against (in_first declared text1 text2 give stands)
+  sub_cause declared text1 text2 give _ (second_refused first is1 against stands) =
+      refused_cause (codes "T2") text2 against (in_second declared text1 text2 give first is1 stands)
+  sub_cause declared text1 text2 give _ (yes first second is1 is2 within) = record {
     first = first;
     second = second;
-    ask = record { text1 = text1; text2 = text2; give = give; first_is = is1; second_is = is2 };
+    ask = record { disk = disk; met = met; declared = declared; text1 = text1; text2 = text2; give = give; first_is = is1; second_is = is2 };
     within = within;
   }
-  sub_cause text1 text2 give _ (no first second is1 is2 element is inside outside text prints) = record {
+  sub_cause declared text1 text2 give _ (no first second is1 is2 element is inside outside) = record {
     first = first;
     second = second;
-    ask = record { text1 = text1; text2 = text2; give = give; first_is = is1; second_is = is2 };
+    ask = record { disk = disk; met = met; declared = declared; text1 = text1; text2 = text2; give = give; first_is = is1; second_is = is2 };
     element = element;
     exists = is;
     inside = inside;
@@ -70,11 +75,12 @@ module _ (words : List Bytes) (disk : Disk) (before after : World) (met : Met be
 
   sub_types_cause : (file text1 text2 : Bytes) → Give words (SubTypes file text1 text2) → (reply : Reply) → SubTypesAnswer disk file text1 text2 reply → Cause words before after reply.status
   sub_types_cause file text1 text2 give _ (file_refused reply refusal) = file_cause file text1 text2 give reply refusal
-  sub_types_cause file text1 text2 give _ (on_texts text has declares reply answers) = sub_cause text1 text2 (inr (file, give)) reply answers
+  sub_types_cause file text1 text2 give _ (on_texts text has declared declares reply answers) =
+      sub_cause declared text1 text2 (with_file file text1 text2 give text has declared declares) reply answers
 
   answer_cause : (reply : Reply) → Answer words disk reply → Cause words before after reply.status
   answer_cause _ (no_form none) = none
-  answer_cause _ (sub text1 text2 give reply answers) = sub_cause text1 text2 (inl give) reply answers
+  answer_cause _ (sub text1 text2 give reply answers) = sub_cause NoDeclaration text1 text2 (alone text1 text2 give) reply answers
   answer_cause _ (sub_types file text1 text2 give reply answers) = sub_types_cause file text1 text2 give reply answers
   answer_cause _ (command_not_built command give is) = by_command command give is
 

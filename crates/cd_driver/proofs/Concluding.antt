@@ -10,7 +10,8 @@ use Rattle.cd_syntax.specs.declared.tokens.LexError.TheVariants.{BadChar, OpenTe
 use Rattle.cd_driver.specs.Command.{Bytes, name_of}
 use Rattle.cd_driver.specs.Reply.{Reply, line, refusal}
 use Rattle.cd_driver.specs.World.{World, world}
-use Rattle.cd_driver.specs.Texts.{Against, Lexical, Syntax, TooDeep, NotBuilt}
+use Rattle.cd_syntax.specs.TypeTree.{Declarations, NoDeclaration}
+use Rattle.cd_driver.specs.Texts.{Against, Lexical, Syntax, TooDeep, Naming, NotBuilt}
 use Rattle.cd_driver.specs.Answer.{Disk, Answer, SubAnswer, SubTypesAnswer, FileRefusal, no_form, sub, sub_types, command_not_built, yes, no, first_refused, second_refused, file_refused, on_texts, unread, large, encoding, refused}
 use Rattle.cd_driver.specs.Ending.{Met, unmarked, marked, Delivered, whole, out_refused, err_refused, out_cut, err_cut, Ending, answered, no_memory, Completes}
 use Rattle.cd_driver.specs.Headline.{NothingFailed, IsAnswered, Headline, told_files}
@@ -32,6 +33,7 @@ refusal_speaks origin text (Lexical (TooWide place)) out err = line_some _ err
 refusal_speaks origin text (Lexical Memory) out err = line_some _ err
 refusal_speaks origin text (Syntax place) out err = line_some _ err
 refusal_speaks origin text (TooDeep place) out err = line_some _ err
+refusal_speaks origin text (Naming fault) out err = line_some _ err
 refusal_speaks origin text NotBuilt out err = line_some _ err
 
 file_speaks : (disk : Disk) (name : Bytes) (reply : Reply) → FileRefusal disk name reply → reply.out ≡ [] → reply.err ≡ [] → ⊥
@@ -40,19 +42,19 @@ file_speaks disk name _ (large bytes has is) out err = line_some (name ++ codes 
 file_speaks disk name _ (encoding bytes has size is) out err = line_some _ err
 file_speaks disk name _ (refused text has against stands) out err = refusal_speaks name text against out err
 
-sub_speaks : (text1 text2 : Bytes) (reply : Reply) → SubAnswer text1 text2 reply → reply.out ≡ [] → reply.err ≡ [] → ⊥
-sub_speaks text1 text2 _ (yes first second is1 is2 within) out err = cc
-sub_speaks text1 text2 _ (no first second is1 is2 element is inside outside text prints) out err = cc
-sub_speaks text1 text2 _ (first_refused against stands) out err = refusal_speaks (codes "T1") text1 against out err
-sub_speaks text1 text2 _ (second_refused first is1 against stands) out err = refusal_speaks (codes "T2") text2 against out err
+sub_speaks : (declared : Declarations) (text1 text2 : Bytes) (reply : Reply) → SubAnswer declared text1 text2 reply → reply.out ≡ [] → reply.err ≡ [] → ⊥
+sub_speaks declared text1 text2 _ (yes first second is1 is2 within) out err = cc
+sub_speaks declared text1 text2 _ (no first second is1 is2 element is inside outside) out err = cc
+sub_speaks declared text1 text2 _ (first_refused against stands) out err = refusal_speaks (codes "T1") text1 against out err
+sub_speaks declared text1 text2 _ (second_refused first is1 against stands) out err = refusal_speaks (codes "T2") text2 against out err
 
 sub_types_speaks : (disk : Disk) (file text1 text2 : Bytes) (reply : Reply) → SubTypesAnswer disk file text1 text2 reply → reply.out ≡ [] → reply.err ≡ [] → ⊥
 sub_types_speaks disk file text1 text2 _ (file_refused reply refusal) out err = file_speaks disk file reply refusal out err
-sub_types_speaks disk file text1 text2 _ (on_texts text has declares reply answers) out err = sub_speaks text1 text2 reply answers out err
+sub_types_speaks disk file text1 text2 _ (on_texts text has declared declares reply answers) out err = sub_speaks declared text1 text2 reply answers out err
 
 speaks : (words : List Bytes) (disk : Disk) (reply : Reply) → Answer words disk reply → reply.out ≡ [] → reply.err ≡ [] → ⊥
 speaks words disk _ (no_form none) out err = cc
-speaks words disk _ (sub text1 text2 give reply answers) out err = sub_speaks text1 text2 reply answers out err
+speaks words disk _ (sub text1 text2 give reply answers) out err = sub_speaks NoDeclaration text1 text2 reply answers out err
 speaks words disk _ (sub_types file text1 text2 give reply answers) out err = sub_types_speaks disk file text1 text2 reply answers out err
 speaks words disk _ (command_not_built command give is) out err = line_some (name_of command ++ codes ": not built") err
 

@@ -1,14 +1,10 @@
-pub mod Deciding
-pub mod Looking
 pub mod Asking
 pub mod Answering
+pub mod Comparing
 pub mod Concluding
 pub mod Causing
 pub mod OneStatus
-pub mod Printing
-pub mod WaysExact
-pub mod WaysShallower
-pub mod ClauseLaws
+pub mod OneDeclarations
 pub mod OneFault
 pub mod OneRefusal
 pub mod Positions

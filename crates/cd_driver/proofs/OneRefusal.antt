@@ -1,21 +1,23 @@
--- At most one thing stands against a text, and none against a text that reads.
-use Rattle.std.proofs.Common.{◌≡◌, ℕ, true, List, [], Some, None, length, refl, sym, ap, subst, ◌∙◌}
+-- At most one thing stands against a text, but for the name that is told of a naming fault, and none against a text that reads.
+use Rattle.std.proofs.Common.{◌≡◌, ℕ, true, List, length, refl, sym, ap, subst, ◌∙◌}
 use Rattle.std.specs.Str.{chars}
 use Rattle.std.proofs.lemmas.Bool.{true≢false}
 use Rattle.cd_syntax.specs.declared.tokens.Token.{Token}
 use Rattle.cd_syntax.specs.declared.tokens.LexError.TheVariants.{Memory}
-use Rattle.cd_syntax.specs.TypeTree.{Declarations, NoDeclaration}
-use Rattle.cd_syntax.specs.TypeGrammar.{IsTree, AreDeclared, nothing}
+use Rattle.cd_syntax.specs.TypeTree.{Tree, Declarations}
+use Rattle.cd_syntax.specs.TypeGrammar.{IsTree, AreDeclared}
 use Rattle.cd_syntax.specs.SyntaxFaults.{Form, AType, SomeDeclarations, IsSyntaxFault, IsDepthFault}
 use Rattle.cd_syntax.specs.Faults.{Fails, here, after_dropped, after_token}
-use Rattle.cd_syntax.specs.Built.{built}
-use Rattle.cd_syntax.specs.Tree as type
-use Rattle.cd_syntax.specs.Written.{Written}
+use Rattle.cd_model.specs.Written.{Written}
+use Rattle.cd_names.specs.Faults.{Fault}
 use Rattle.cd_lex.proofs.ReadingIsOne.{one_list, one_fault, not_both as spelled_or_not}
 use Rattle.cd_type_reader.proofs.OneTree.{one_tree}
 use Rattle.cd_driver.specs.Command.{Bytes}
-use Rattle.cd_driver.specs.Texts.{holds_unbuilt, HasTokens, HasBuiltTokens, ReadsAs, DeclaresNothing, Against, Lexical, Syntax, TooDeep, Refuses, lexical, unbuilt_sign, syntax, too_deep, unbuilt, WriteUnbuiltType, DeclareSome, RefusesType, RefusesDeclarations}
+use Rattle.cd_driver.specs.Reply.{refusal}
+use Rattle.cd_driver.specs.Texts.{Against, Lexical, Syntax, TooDeep, Naming, HasTokens, HasBuiltTokens, holds_unbuilt, Refuses, lexical, unbuilt_sign, syntax, too_deep, naming}
+use Rattle.cd_driver.specs.Texts.{ReadsAs, Declares, RefusesType, RefusesDeclarations, IsToldOfType, IsToldOfDeclarations, IsFaultOfType, IsFaultOfDeclarations, type_of}
 use Rattle.cd_driver.proofs.OneFault.{syntax_one, depth_one, not_both, written_no_syntax, written_no_depth}
+use Rattle.cd_driver.proofs.OneDeclarations.{one_declared}
 
 -- want of memory is no fault of a text
 memory_is_none : (joined : _) (at : ℕ) (text : List ℕ) → Fails joined at text Memory → ⊥
@@ -23,122 +25,149 @@ memory_is_none _ _ _ (here joined at text _ breaks) = elim breaks [ ]
 memory_is_none _ _ _ (after_dropped joined at written text _ dropped fails) = memory_is_none _ _ _ fails
 memory_is_none _ _ _ (after_token joined at written text kind _ writes fails) = memory_is_none _ _ _ fails
 
-pub no_memory : (form : Form) (unbuilts : List Token → Type 0) (text : Bytes) → Refuses form unbuilts text (Lexical Memory) → ⊥
-no_memory form unbuilts text (lexical _ fails) = memory_is_none _ _ _ fails
+pub no_memory : (form : Form) (told : List Token → Fault → Type 0) (text : Bytes) → Refuses form told text (Lexical Memory) → ⊥
+no_memory form told text (lexical _ fails) = memory_is_none _ _ _ fails
 
-module _ (form : Form) (unbuilts : List Token → Type 0) (writes : (tokens : List Token) → unbuilts tokens → form 1000 tokens) (text : Bytes) where
+-- the same thing stands against a text, or a naming fault in each case
+data IsAlike : (a b : Against) → Type 0 where
+  same : (a b : Against) → a ≡ b → IsAlike a b
+  both_naming : (a b : Fault) → IsAlike (Naming a) (Naming b)
+
+one_status : (origin text : Bytes) (a b : Against) → IsAlike a b → (refusal origin text a).status ≡ (refusal origin text b).status
+one_status origin text a b (same _ _ is) = ap (λ against. (refusal origin text against).status) is
+one_status origin text _ _ (both_naming a b) = refl
+
+module _ (form : Form) (told : List Token → Fault → Type 0) (writes : (tokens : List Token) (fault : Fault) → told tokens fault → form 1000 tokens) (text : Bytes) where
+  -- the text is spelled by the same tokens
+  same_tokens : (first second : List Token) → HasBuiltTokens text first → HasBuiltTokens text second → second ≡ first
+  same_tokens first second spelled other = one_list (chars text) second first other.spells spelled.spells
+
   -- tokens that hold a sign that isn't built, and tokens that don't
   signs_or_not : (first second : List Token) → HasTokens text first → holds_unbuilt first ≡ true → HasBuiltTokens text second → ⊥
   signs_or_not first second spelled holds built =
       true≢false (sym holds ∙ ap holds_unbuilt (one_list (chars text) first second spelled built.spells) ∙ built.signs)
 
-  pub one_refusal : (a b : Against) → Refuses form unbuilts text a → Refuses form unbuilts text b → a ≡ b
+  one_refusal : (a b : Against) → Refuses form told text a → Refuses form told text b → IsAlike a b
   one_refusal _ _ (lexical a_f a_fails) (lexical b_f b_fails) =
-      ap Lexical (one_fault (chars text) a_f b_f a_fails b_fails)
+      same _ _ (ap Lexical (one_fault (chars text) a_f b_f a_fails b_fails))
   one_refusal _ _ (lexical a_f a_fails) (unbuilt_sign b_ts b_spelled b_holds) =
       absurd (spelled_or_not (chars text) b_ts a_f b_spelled a_fails)
   one_refusal _ _ (lexical a_f a_fails) (syntax b_ts b_spelled b_p b_fault) =
       absurd (spelled_or_not (chars text) b_ts a_f b_spelled.spells a_fails)
   one_refusal _ _ (lexical a_f a_fails) (too_deep b_ts b_spelled b_p b_fault) =
       absurd (spelled_or_not (chars text) b_ts a_f b_spelled.spells a_fails)
-  one_refusal _ _ (lexical a_f a_fails) (unbuilt b_ts b_spelled b_is) =
+  one_refusal _ _ (lexical a_f a_fails) (naming b_ts b_spelled b_fault b_told) =
       absurd (spelled_or_not (chars text) b_ts a_f b_spelled.spells a_fails)
   one_refusal _ _ (unbuilt_sign a_ts a_spelled a_holds) (lexical b_f b_fails) =
       absurd (spelled_or_not (chars text) a_ts b_f a_spelled b_fails)
   one_refusal _ _ (unbuilt_sign a_ts a_spelled a_holds) (unbuilt_sign b_ts b_spelled b_holds) =
-      refl
+      same _ _ refl
   one_refusal _ _ (unbuilt_sign a_ts a_spelled a_holds) (syntax b_ts b_spelled b_p b_fault) =
       absurd (signs_or_not a_ts b_ts a_spelled a_holds b_spelled)
   one_refusal _ _ (unbuilt_sign a_ts a_spelled a_holds) (too_deep b_ts b_spelled b_p b_fault) =
       absurd (signs_or_not a_ts b_ts a_spelled a_holds b_spelled)
-  one_refusal _ _ (unbuilt_sign a_ts a_spelled a_holds) (unbuilt b_ts b_spelled b_is) =
+  one_refusal _ _ (unbuilt_sign a_ts a_spelled a_holds) (naming b_ts b_spelled b_fault b_told) =
       absurd (signs_or_not a_ts b_ts a_spelled a_holds b_spelled)
   one_refusal _ _ (syntax a_ts a_spelled a_p a_fault) (lexical b_f b_fails) =
       absurd (spelled_or_not (chars text) a_ts b_f a_spelled.spells b_fails)
   one_refusal _ _ (syntax a_ts a_spelled a_p a_fault) (unbuilt_sign b_ts b_spelled b_holds) =
       absurd (signs_or_not b_ts a_ts b_spelled b_holds a_spelled)
   one_refusal _ _ (syntax a_ts a_spelled a_p a_fault) (syntax b_ts b_spelled b_p b_fault) =
-      ap Syntax (syntax_one form 1000 a_ts (length text) a_p b_p a_fault (subst (λ ts. IsSyntaxFault form 1000 ts (length text) b_p) (one_list (chars text) b_ts a_ts b_spelled.spells a_spelled.spells) b_fault))
+      same _ _ (ap Syntax (syntax_one form 1000 a_ts (length text) a_p b_p a_fault
+      (subst (λ ts. IsSyntaxFault form 1000 ts (length text) b_p) (same_tokens a_ts b_ts a_spelled b_spelled) b_fault)))
   one_refusal _ _ (syntax a_ts a_spelled a_p a_fault) (too_deep b_ts b_spelled b_p b_fault) =
-      absurd (not_both form 1000 a_ts (length text) a_p b_p a_fault (subst (λ ts. IsDepthFault form 1000 ts (length text) b_p) (one_list (chars text) b_ts a_ts b_spelled.spells a_spelled.spells) b_fault))
-  one_refusal _ _ (syntax a_ts a_spelled a_p a_fault) (unbuilt b_ts b_spelled b_is) =
-      absurd (written_no_syntax form 1000 a_ts (length text) a_p (writes a_ts (subst unbuilts (one_list (chars text) b_ts a_ts b_spelled.spells a_spelled.spells) b_is)) a_fault)
+      absurd (not_both form 1000 a_ts (length text) a_p b_p a_fault
+      (subst (λ ts. IsDepthFault form 1000 ts (length text) b_p) (same_tokens a_ts b_ts a_spelled b_spelled) b_fault))
+  one_refusal _ _ (syntax a_ts a_spelled a_p a_fault) (naming b_ts b_spelled b_fault b_told) =
+      absurd (written_no_syntax form 1000 a_ts (length text) a_p
+      (subst (form 1000) (same_tokens a_ts b_ts a_spelled b_spelled) (writes b_ts b_fault b_told)) a_fault)
   one_refusal _ _ (too_deep a_ts a_spelled a_p a_fault) (lexical b_f b_fails) =
       absurd (spelled_or_not (chars text) a_ts b_f a_spelled.spells b_fails)
   one_refusal _ _ (too_deep a_ts a_spelled a_p a_fault) (unbuilt_sign b_ts b_spelled b_holds) =
       absurd (signs_or_not b_ts a_ts b_spelled b_holds a_spelled)
   one_refusal _ _ (too_deep a_ts a_spelled a_p a_fault) (syntax b_ts b_spelled b_p b_fault) =
-      absurd (not_both form 1000 a_ts (length text) b_p a_p (subst (λ ts. IsSyntaxFault form 1000 ts (length text) b_p) (one_list (chars text) b_ts a_ts b_spelled.spells a_spelled.spells) b_fault) a_fault)
+      absurd (not_both form 1000 a_ts (length text) b_p a_p
+      (subst (λ ts. IsSyntaxFault form 1000 ts (length text) b_p) (same_tokens a_ts b_ts a_spelled b_spelled) b_fault) a_fault)
   one_refusal _ _ (too_deep a_ts a_spelled a_p a_fault) (too_deep b_ts b_spelled b_p b_fault) =
-      ap TooDeep (depth_one form 1000 a_ts (length text) a_p b_p a_fault (subst (λ ts. IsDepthFault form 1000 ts (length text) b_p) (one_list (chars text) b_ts a_ts b_spelled.spells a_spelled.spells) b_fault))
-  one_refusal _ _ (too_deep a_ts a_spelled a_p a_fault) (unbuilt b_ts b_spelled b_is) =
-      absurd (written_no_depth form 1000 a_ts (length text) a_p (writes a_ts (subst unbuilts (one_list (chars text) b_ts a_ts b_spelled.spells a_spelled.spells) b_is)) a_fault)
-  one_refusal _ _ (unbuilt a_ts a_spelled a_is) (lexical b_f b_fails) =
+      same _ _ (ap TooDeep (depth_one form 1000 a_ts (length text) a_p b_p a_fault
+      (subst (λ ts. IsDepthFault form 1000 ts (length text) b_p) (same_tokens a_ts b_ts a_spelled b_spelled) b_fault)))
+  one_refusal _ _ (too_deep a_ts a_spelled a_p a_fault) (naming b_ts b_spelled b_fault b_told) =
+      absurd (written_no_depth form 1000 a_ts (length text) a_p
+      (subst (form 1000) (same_tokens a_ts b_ts a_spelled b_spelled) (writes b_ts b_fault b_told)) a_fault)
+  one_refusal _ _ (naming a_ts a_spelled a_fault a_told) (lexical b_f b_fails) =
       absurd (spelled_or_not (chars text) a_ts b_f a_spelled.spells b_fails)
-  one_refusal _ _ (unbuilt a_ts a_spelled a_is) (unbuilt_sign b_ts b_spelled b_holds) =
+  one_refusal _ _ (naming a_ts a_spelled a_fault a_told) (unbuilt_sign b_ts b_spelled b_holds) =
       absurd (signs_or_not b_ts a_ts b_spelled b_holds a_spelled)
-  one_refusal _ _ (unbuilt a_ts a_spelled a_is) (syntax b_ts b_spelled b_p b_fault) =
-      absurd (written_no_syntax form 1000 a_ts (length text) b_p (writes a_ts a_is) (subst (λ ts. IsSyntaxFault form 1000 ts (length text) b_p) (one_list (chars text) b_ts a_ts b_spelled.spells a_spelled.spells) b_fault))
-  one_refusal _ _ (unbuilt a_ts a_spelled a_is) (too_deep b_ts b_spelled b_p b_fault) =
-      absurd (written_no_depth form 1000 a_ts (length text) b_p (writes a_ts a_is) (subst (λ ts. IsDepthFault form 1000 ts (length text) b_p) (one_list (chars text) b_ts a_ts b_spelled.spells a_spelled.spells) b_fault))
-  one_refusal _ _ (unbuilt a_ts a_spelled a_is) (unbuilt b_ts b_spelled b_is) =
-      refl
+  one_refusal _ _ (naming a_ts a_spelled a_fault a_told) (syntax b_ts b_spelled b_p b_fault) =
+      absurd (written_no_syntax form 1000 a_ts (length text) b_p (writes a_ts a_fault a_told)
+      (subst (λ ts. IsSyntaxFault form 1000 ts (length text) b_p) (same_tokens a_ts b_ts a_spelled b_spelled) b_fault))
+  one_refusal _ _ (naming a_ts a_spelled a_fault a_told) (too_deep b_ts b_spelled b_p b_fault) =
+      absurd (written_no_depth form 1000 a_ts (length text) b_p (writes a_ts a_fault a_told)
+      (subst (λ ts. IsDepthFault form 1000 ts (length text) b_p) (same_tokens a_ts b_ts a_spelled b_spelled) b_fault))
+  one_refusal _ _ (naming a_ts a_spelled a_fault a_told) (naming b_ts b_spelled b_fault b_told) =
+      both_naming a_fault b_fault
 
-  -- nothing stands against tokens that are of the form, but that they are not built
-  pub stands_not : (tokens : List Token) → HasBuiltTokens text tokens → form 1000 tokens → (unbuilts tokens → ⊥) → (against : Against) → Refuses form unbuilts text against → ⊥
-  stands_not tokens spelled written is_built _ (lexical f fails) = spelled_or_not (chars text) tokens f spelled.spells fails
-  stands_not tokens spelled written is_built _ (unbuilt_sign ts other holds) = signs_or_not ts tokens other holds spelled
-  stands_not tokens spelled written is_built _ (syntax ts other p fault) =
+  -- nothing stands against tokens that are of the form, where no naming fault is told of what they write
+  stands_not : (tokens : List Token) → HasBuiltTokens text tokens → form 1000 tokens → ((fault : Fault) → told tokens fault → ⊥)
+      → (against : Against) → Refuses form told text against → ⊥
+  stands_not tokens spelled written sound _ (lexical f fails) = spelled_or_not (chars text) tokens f spelled.spells fails
+  stands_not tokens spelled written sound _ (unbuilt_sign ts other holds) = signs_or_not ts tokens other holds spelled
+  stands_not tokens spelled written sound _ (syntax ts other p fault) =
       written_no_syntax form 1000 tokens (length text) p written
-      (subst (λ ts. IsSyntaxFault form 1000 ts (length text) p) (one_list (chars text) ts tokens other.spells spelled.spells) fault)
-  stands_not tokens spelled written is_built _ (too_deep ts other p fault) =
+      (subst (λ ts. IsSyntaxFault form 1000 ts (length text) p) (same_tokens tokens ts spelled other) fault)
+  stands_not tokens spelled written sound _ (too_deep ts other p fault) =
       written_no_depth form 1000 tokens (length text) p written
-      (subst (λ ts. IsDepthFault form 1000 ts (length text) p) (one_list (chars text) ts tokens other.spells spelled.spells) fault)
-  stands_not tokens spelled written is_built _ (unbuilt ts other is) = is_built (subst unbuilts (one_list (chars text) ts tokens other.spells spelled.spells) is)
+      (subst (λ ts. IsDepthFault form 1000 ts (length text) p) (same_tokens tokens ts spelled other) fault)
+  stands_not tokens spelled written sound _ (naming ts other fault is) =
+      sound fault (subst (λ ts. told ts fault) (same_tokens tokens ts spelled other) is)
 
-writes_type : (tokens : List Token) → WriteUnbuiltType tokens → AType 1000 tokens
-writes_type tokens is = (is.0, is.1)
+writes_type : (declared : Declarations) (tokens : List Token) (fault : Fault) → IsToldOfType declared tokens fault → AType 1000 tokens
+writes_type declared tokens fault is = (is.0, is.1)
 
-writes_declarations : (tokens : List Token) → DeclareSome tokens → SomeDeclarations 1000 tokens
-writes_declarations tokens is = (is.0, is.1)
+writes_declarations : (tokens : List Token) (fault : Fault) → IsToldOfDeclarations tokens fault → SomeDeclarations 1000 tokens
+writes_declarations tokens fault is = (is.0, is.1)
 
-pub one_type_refusal : (text : Bytes) (a b : Against) → RefusesType text a → RefusesType text b → a ≡ b
-one_type_refusal text = one_refusal AType WriteUnbuiltType writes_type text
+-- what is said of what stands against a text has one status
+pub one_type_refusal : (declared : Declarations) (origin text : Bytes) (a b : Against) → RefusesType declared text a → RefusesType declared text b
+    → (refusal origin text a).status ≡ (refusal origin text b).status
+one_type_refusal declared origin text a b first second = one_status origin text a b
+    (one_refusal AType (IsToldOfType declared) (writes_type declared) text a b first second)
 
-pub one_declarations_refusal : (text : Bytes) (a b : Against) → RefusesDeclarations text a → RefusesDeclarations text b → a ≡ b
-one_declarations_refusal text = one_refusal SomeDeclarations DeclareSome writes_declarations text
+pub one_declarations_refusal : (origin text : Bytes) (a b : Against) → RefusesDeclarations text a → RefusesDeclarations text b
+    → (refusal origin text a).status ≡ (refusal origin text b).status
+one_declarations_refusal origin text a b first second = one_status origin text a b
+    (one_refusal SomeDeclarations IsToldOfDeclarations writes_declarations text a b first second)
 
--- a text that reads as a type is not refused
-pub reads_unrefused : (text : Bytes) (is : Written) → ReadsAs text is → (against : Against) → RefusesType text against → ⊥
-reads_unrefused text is reads against refuses =
-    stands_not AType WriteUnbuiltType writes_type text reads.tokens reads.spelled (reads.tree, reads.written)
-    (λ unbuilt.
-    let same = one_tree 1000 1000 reads.tokens unbuilt.0 reads.tree unbuilt.1 reads.written in
-    some_or_none (sym unbuilt.2 ∙ ap built same ∙ reads.means))
-    against refuses
-  where
-    some_or_none : {is : type.Tree} → None ≡ Some is → ⊥
-    some_or_none is = cc
-
--- declarations of nothing have no tokens, and these declare nothing
-no_tokens : (depth : ℕ) (tokens : List Token) → AreDeclared depth tokens NoDeclaration → tokens ≡ []
-no_tokens _ _ (nothing depth) = refl
-
-no_declaration : (depth : ℕ) (tokens : List Token) (declarations : Declarations) → tokens ≡ [] → AreDeclared depth tokens declarations → declarations ≡ NoDeclaration
-no_declaration _ _ _ none (nothing depth) = refl
-no_declaration _ _ _ none are = absurd cc
-
-pub nothing_unrefused : (text : Bytes) → DeclaresNothing text → (against : Against) → RefusesDeclarations text against → ⊥
-nothing_unrefused text declares against refuses =
-    stands_not SomeDeclarations DeclareSome writes_declarations text declares.tokens declares.spelled (NoDeclaration, declares.declared)
-    (λ some. some.2 (no_declaration 1000 declares.tokens some.0 (no_tokens 1000 declares.tokens declares.declared) some.1))
+-- a text that reads as a type is not refused, nor is one that reads as declarations
+pub reads_unrefused : (declared : Declarations) (text : Bytes) (is : Written) → ReadsAs declared text is
+    → (against : Against) → RefusesType declared text against → ⊥
+reads_unrefused declared text is reads against refuses =
+    stands_not AType (IsToldOfType declared) (writes_type declared) text reads.tokens reads.spelled (reads.tree, reads.written)
+    (λ fault told.
+    let same = one_tree 1000 1000 reads.tokens told.0 reads.tree told.1 reads.written in
+    reads.sound fault (subst (λ tree. IsFaultOfType declared tree fault) same told.2.is))
     against refuses
 
--- a text reads as one type at most
-pub reads_one : (text : Bytes) (first second : Written) → ReadsAs text first → ReadsAs text second → first ≡ second
-reads_one text first second one other =
+pub declares_unrefused : (text : Bytes) (declared : Declarations) → Declares text declared
+    → (against : Against) → RefusesDeclarations text against → ⊥
+declares_unrefused text declared declares against refuses =
+    stands_not SomeDeclarations IsToldOfDeclarations writes_declarations text declares.tokens declares.spelled (declared, declares.written)
+    (λ fault told.
+    let same = one_declared 1000 1000 declares.tokens told.0 declared told.1 declares.written in
+    declares.sound fault (subst (λ list. IsFaultOfDeclarations list fault) same told.2.is))
+    against refuses
+
+-- a text reads as one type at most, and as one list of declarations
+pub reads_one : (declared : Declarations) (text : Bytes) (first second : Written) → ReadsAs declared text first → ReadsAs declared text second
+    → first ≡ second
+reads_one declared text first second one other =
     let same_tokens = one_list (chars text) other.tokens one.tokens other.spelled.spells one.spelled.spells in
-    let same_tree = one_tree 1000 1000 one.tokens one.tree other.tree one.written (subst (λ ts. IsTree 1000 ts other.tree) same_tokens other.written) in
-    let same : Some first.tree ≡ Some second.tree = sym one.means ∙ ap built same_tree ∙ other.means in
-    let same_type : first.tree ≡ second.tree = cc in
-    ap (λ tree. record { tree = tree }) same_type
+    let same_tree = one_tree 1000 1000 one.tokens one.tree other.tree one.written
+    (subst (λ ts. IsTree 1000 ts other.tree) same_tokens other.written) in
+    one.means ∙ ap (type_of declared) same_tree ∙ sym other.means
+
+pub declares_one : (text : Bytes) (first second : Declarations) → Declares text first → Declares text second → first ≡ second
+declares_one text first second one other =
+    let same_tokens = one_list (chars text) other.tokens one.tokens other.spelled.spells one.spelled.spells in
+    one_declared 1000 1000 one.tokens first second one.written
+    (subst (λ ts. AreDeclared 1000 ts second) same_tokens other.written)

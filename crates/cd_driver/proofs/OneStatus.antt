@@ -4,45 +4,48 @@ use Rattle.std.specs.Prelude.{codes}
 use Rattle.std.specs.Str.{bytes_eq, IsUtf8}
 use Rattle.std.proofs.lemmas.Bool.{true≢false}
 use Rattle.cd_syntax.specs.Element.{Element, IsElement}
-use Rattle.cd_syntax.specs.Written.{Written}
-use Rattle.cd_syntax.specs.Membership.{IsIn, IsOutside}
-use Rattle.cd_syntax.specs.Subtype.{IsWithin}
+use Rattle.cd_syntax.specs.TypeTree.{Declarations, NoDeclaration}
+use Rattle.cd_model.specs.Written.{Written}
+use Rattle.cd_model.proofs.WrittenApart.{not_both}
 use Rattle.cd_driver.specs.Command.{Bytes, Command, Sub, SubTypes, Member, Check, Run, RunSteps, Work, Give}
-use Rattle.cd_driver.specs.Texts.{DeclaresNothing, RefusesDeclarations}
+use Rattle.cd_driver.specs.Texts.{ReadsAs, Declares, RefusesDeclarations}
+use Rattle.cd_driver.specs.Within.{IsIn, IsOutside, IsWithin}
 use Rattle.cd_driver.specs.Reply.{Reply, refusal}
 use Rattle.cd_driver.specs.Answer.{Disk, Has, HasText, LARGEST, AreTold, Answer, SubAnswer, SubTypesAnswer, FileRefusal, CommandIsNotBuilt, no_form, sub, sub_types, command_not_built, yes, no, first_refused, second_refused, file_refused, on_texts, unread, large, encoding, refused}
-use Rattle.cd_syntax.proofs.Membership.{not_both}
-use Rattle.cd_driver.proofs.OneRefusal.{one_type_refusal, one_declarations_refusal, reads_unrefused, nothing_unrefused, reads_one}
+use Rattle.cd_driver.proofs.OneRefusal.{one_type_refusal, one_declarations_refusal, reads_unrefused, declares_unrefused, reads_one, declares_one}
 
 -- no types are within each other and separated by an element
 not_within : (first second : Written) → IsWithin first second → (element : Element) → IsElement element → IsIn element first → IsOutside element second → ⊥
-not_within first second within element is inside outside = not_both element second (within element is inside) outside
+not_within first second within element is inside outside = not_both second element (within element is inside) outside
 
--- the texts of `sub` decide the status
-module _ (text1 text2 : Bytes) where
-  sub_one : (r s : Reply) → SubAnswer text1 text2 r → SubAnswer text1 text2 s → r.status ≡ s.status
+-- the texts of `sub`, and the declarations that they see, decide the status
+module _ (declared : Declarations) (text1 text2 : Bytes) where
+  apart : {A : Type 0} (a b c d : Written) → ReadsAs declared text1 a → ReadsAs declared text2 b → ReadsAs declared text1 c → ReadsAs declared text2 d
+      → IsWithin a b → (element : Element) → IsElement element → IsIn element c → IsOutside element d → A
+  apart a b c d a_is b_is c_is d_is within element is inside outside =
+      let first = reads_one declared text1 c a c_is a_is in
+      let second = reads_one declared text2 d b d_is b_is in
+      absurd (not_within a b within element is (subst (IsIn element) first inside) (subst (IsOutside element) second outside))
+
+  sub_one : (r s : Reply) → SubAnswer declared text1 text2 r → SubAnswer declared text1 text2 s → r.status ≡ s.status
   sub_one _ _ (yes a b a_is b_is within) (yes c d c_is d_is within') = refl
-  sub_one _ _ (yes a b a_is b_is within) (no c d c_is d_is element is inside outside text prints) =
-      let first = reads_one text1 c a c_is a_is in
-      let second = reads_one text2 d b d_is b_is in
-      absurd (not_within a b within element is (subst (IsIn element) first inside) (subst (IsOutside element) second outside))
-  sub_one _ _ (yes a b a_is b_is within) (first_refused against stands) = absurd (reads_unrefused text1 a a_is against stands)
-  sub_one _ _ (yes a b a_is b_is within) (second_refused c c_is against stands) = absurd (reads_unrefused text2 b b_is against stands)
-  sub_one _ _ (no c d c_is d_is element is inside outside text prints) (yes a b a_is b_is within) =
-      let first = reads_one text1 c a c_is a_is in
-      let second = reads_one text2 d b d_is b_is in
-      absurd (not_within a b within element is (subst (IsIn element) first inside) (subst (IsOutside element) second outside))
-  sub_one _ _ (no a b a_is b_is element is inside outside text prints) (no c d c_is d_is element' is' inside' outside' text' prints') = refl
-  sub_one _ _ (no a b a_is b_is element is inside outside text prints) (first_refused against stands) = absurd (reads_unrefused text1 a a_is against stands)
-  sub_one _ _ (no a b a_is b_is element is inside outside text prints) (second_refused c c_is against stands) = absurd (reads_unrefused text2 b b_is against stands)
-  sub_one _ _ (first_refused against stands) (yes a b a_is b_is within) = absurd (reads_unrefused text1 a a_is against stands)
-  sub_one _ _ (first_refused against stands) (no a b a_is b_is element is inside outside text prints) = absurd (reads_unrefused text1 a a_is against stands)
-  sub_one _ _ (first_refused against stands) (first_refused other stands') = ap (λ a. (refusal (codes "T1") text1 a).status) (one_type_refusal text1 against other stands stands')
-  sub_one _ _ (first_refused against stands) (second_refused a a_is other stands') = absurd (reads_unrefused text1 a a_is against stands)
-  sub_one _ _ (second_refused c c_is against stands) (yes a b a_is b_is within) = absurd (reads_unrefused text2 b b_is against stands)
-  sub_one _ _ (second_refused c c_is against stands) (no a b a_is b_is element is inside outside text prints) = absurd (reads_unrefused text2 b b_is against stands)
-  sub_one _ _ (second_refused c c_is against stands) (first_refused other stands') = absurd (reads_unrefused text1 c c_is other stands')
-  sub_one _ _ (second_refused c c_is against stands) (second_refused a a_is other stands') = ap (λ a. (refusal (codes "T2") text2 a).status) (one_type_refusal text2 against other stands stands')
+  sub_one _ _ (yes a b a_is b_is within) (no c d c_is d_is element is inside outside) =
+      apart a b c d a_is b_is c_is d_is within element is inside outside
+  sub_one _ _ (yes a b a_is b_is within) (first_refused against stands) = absurd (reads_unrefused declared text1 a a_is against stands)
+  sub_one _ _ (yes a b a_is b_is within) (second_refused c c_is against stands) = absurd (reads_unrefused declared text2 b b_is against stands)
+  sub_one _ _ (no c d c_is d_is element is inside outside) (yes a b a_is b_is within) =
+      apart a b c d a_is b_is c_is d_is within element is inside outside
+  sub_one _ _ (no a b a_is b_is element is inside outside) (no c d c_is d_is element' is' inside' outside') = refl
+  sub_one _ _ (no a b a_is b_is element is inside outside) (first_refused against stands) = absurd (reads_unrefused declared text1 a a_is against stands)
+  sub_one _ _ (no a b a_is b_is element is inside outside) (second_refused c c_is against stands) = absurd (reads_unrefused declared text2 b b_is against stands)
+  sub_one _ _ (first_refused against stands) (yes a b a_is b_is within) = absurd (reads_unrefused declared text1 a a_is against stands)
+  sub_one _ _ (first_refused against stands) (no a b a_is b_is element is inside outside) = absurd (reads_unrefused declared text1 a a_is against stands)
+  sub_one _ _ (first_refused against stands) (first_refused other stands') = one_type_refusal declared (codes "T1") text1 against other stands stands'
+  sub_one _ _ (first_refused against stands) (second_refused a a_is other stands') = absurd (reads_unrefused declared text1 a a_is against stands)
+  sub_one _ _ (second_refused c c_is against stands) (yes a b a_is b_is within) = absurd (reads_unrefused declared text2 b b_is against stands)
+  sub_one _ _ (second_refused c c_is against stands) (no a b a_is b_is element is inside outside) = absurd (reads_unrefused declared text2 b b_is against stands)
+  sub_one _ _ (second_refused c c_is against stands) (first_refused other stands') = absurd (reads_unrefused declared text1 c c_is other stands')
+  sub_one _ _ (second_refused c c_is against stands) (second_refused a a_is other stands') = one_type_refusal declared (codes "T2") text2 against other stands stands'
 
 -- the file and its bytes, which are told, decide it too
 module _ (disk : Disk) (file all : Bytes) (told : disk.told file ≡ Some all) where
@@ -87,22 +90,32 @@ module _ (disk : Disk) (file all : Bytes) (told : disk.told file ≡ Some all) w
   file_one _ _ (refused text has against stands) (encoding bytes has' size is) = absurd (text_or_not text bytes has has' is)
   file_one _ _ (refused text has against stands) (refused text' has' against' stands') =
       let same = same_two text' text has'.has has.has in
-      let one = one_declarations_refusal text against against' stands (subst (λ t. RefusesDeclarations t against') same stands') in
-      ap (λ a. (refusal file text a).status) one ∙ ap (λ t. (refusal file t against').status) (sym same)
+      one_declarations_refusal file text against against' stands (subst (λ t. RefusesDeclarations t against') same stands')
+      ∙ ap (λ t. (refusal file t against').status) (sym same)
 
-  -- a file that is refused has no text that declares nothing
-  refused_or_not : (reply : Reply) (text : Bytes) → FileRefusal disk file reply → HasText disk file text → DeclaresNothing text → ⊥
-  refused_or_not _ text (unread marked) has declares = has.has.read marked
-  refused_or_not _ text (large bytes other is) has declares = text_or_large text bytes has other is
-  refused_or_not _ text (encoding bytes other size is) has declares = text_or_not text bytes has other is
-  refused_or_not _ text (refused text' other against stands) has declares =
-      nothing_unrefused text declares against (subst (λ t. RefusesDeclarations t against) (same_two text' text other.has has.has) stands)
+  -- a file that is refused has no text that reads as declarations
+  refused_or_not : (reply : Reply) (text : Bytes) (declared : Declarations) → FileRefusal disk file reply → HasText disk file text → Declares text declared → ⊥
+  refused_or_not _ text declared (unread marked) has declares = has.has.read marked
+  refused_or_not _ text declared (large bytes other is) has declares = text_or_large text bytes has other is
+  refused_or_not _ text declared (encoding bytes other size is) has declares = text_or_not text bytes has other is
+  refused_or_not _ text declared (refused text' other against stands) has declares =
+      declares_unrefused text declared declares against (subst (λ t. RefusesDeclarations t against) (same_two text' text other.has has.has) stands)
+
+  -- and it declares one list
+  one_list : (text text' : Bytes) (declared declared' : Declarations) → HasText disk file text → HasText disk file text'
+      → Declares text declared → Declares text' declared' → declared' ≡ declared
+  one_list text text' declared declared' has has' declares declares' =
+      declares_one text declared' declared (subst (λ t. Declares t declared') (same_two text' text has'.has has.has) declares') declares
 
   sub_types_one : (text1 text2 : Bytes) (r s : Reply) → SubTypesAnswer disk file text1 text2 r → SubTypesAnswer disk file text1 text2 s → r.status ≡ s.status
   sub_types_one text1 text2 _ _ (file_refused r refusal) (file_refused s refusal') = file_one r s refusal refusal'
-  sub_types_one text1 text2 _ _ (file_refused r refusal) (on_texts text has declares s answers) = absurd (refused_or_not r text refusal has declares)
-  sub_types_one text1 text2 _ _ (on_texts text has declares r answers) (file_refused s refusal) = absurd (refused_or_not s text refusal has declares)
-  sub_types_one text1 text2 _ _ (on_texts text has declares r answers) (on_texts text' has' declares' s answers') = sub_one text1 text2 r s answers answers'
+  sub_types_one text1 text2 _ _ (file_refused r refusal) (on_texts text has declared declares s answers) =
+      absurd (refused_or_not r text declared refusal has declares)
+  sub_types_one text1 text2 _ _ (on_texts text has declared declares r answers) (file_refused s refusal) =
+      absurd (refused_or_not s text declared refusal has declares)
+  sub_types_one text1 text2 _ _ (on_texts text has declared declares r answers) (on_texts text' has' declared' declares' s answers') =
+      sub_one declared text1 text2 r s answers
+      (subst (λ list. SubAnswer list text1 text2 s) (one_list text text' declared declared' has has' declares declares') answers')
 
 -- the first word
 abbrev first_of : List Bytes → Bytes
@@ -150,7 +163,8 @@ module _ (words : List Bytes) (disk : Disk) (told : AreTold words disk) where
   one_status _ _ (sub a b give r answers) (sub c d give' s answers') =
       let first : c ≡ a = cc in
       let second : d ≡ b = cc in
-      sub_one a b r s answers (subst (λ x. SubAnswer a x s) second (subst (λ x. SubAnswer x d s) first answers'))
+      sub_one NoDeclaration a b r s answers
+      (subst (λ x. SubAnswer NoDeclaration a x s) second (subst (λ x. SubAnswer NoDeclaration x d s) first answers'))
   one_status _ _ (sub a b give r answers) (sub_types file c d give' s answers') = absurd (sub_or_types words a b file c d give give')
   one_status _ _ (sub text1 text2 give reply answers) (command_not_built command give' is) = absurd (sub_is_built words text1 text2 give command give' is)
   one_status _ _ (sub_types file text1 text2 give reply answers) (no_form none) = absurd (none (SubTypes file text1 text2) give)

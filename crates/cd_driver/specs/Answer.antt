@@ -4,13 +4,13 @@ use Rattle.std.specs.Str.{IsUtf8}
 use Rattle.std.specs.Str.Lossy.{utf8_valid_len}
 use Rattle.cd_base.specs.declared.status.Status.TheVariants.{Done, No}
 use Rattle.cd_syntax.specs.Element.{Element, IsElement}
-use Rattle.cd_syntax.specs.Written.{Written}
-use Rattle.cd_syntax.specs.Membership.{IsIn, IsOutside}
-use Rattle.cd_syntax.specs.Subtype.{IsWithin}
-use Rattle.cd_syntax.specs.Notation.{Prints}
+use Rattle.cd_syntax.specs.TypeTree.{Declarations, NoDeclaration}
+use Rattle.cd_model.specs.Canonical.{canonical}
+use Rattle.cd_model.specs.Written.{Written}
 use Rattle.cd_driver.specs.Command.{Bytes, Command, Sub, SubTypes, Member, Check, Run, RunSteps, Work, Give, HaveNoForm, name_of}
 use Rattle.cd_driver.specs.Reply.{Reply, says, usage, not_built, cannot_read, too_large, not_utf8, refusal}
-use Rattle.cd_driver.specs.Texts.{Against, ReadsAs, DeclaresNothing, RefusesType, RefusesDeclarations}
+use Rattle.cd_driver.specs.Texts.{Against, ReadsAs, Declares, RefusesType, RefusesDeclarations}
+use Rattle.cd_driver.specs.Within.{IsIn, IsOutside, IsWithin}
 
 -- the files that a call meets: the bytes of each name that are told, and the one name, if there is one, that can't be read
 pub record Disk : Type 0 where
@@ -42,26 +42,26 @@ pub data FileRefusal (disk : Disk) (name : Bytes) : Reply → Type 0 where
   refused : (text : Bytes) → HasText disk name text → (against : Against) → RefusesDeclarations text against
       → FileRefusal disk name (refusal name text against)
 
--- the answers of `sub` on two texts; the first is taken first
-pub data SubAnswer (text1 text2 : Bytes) : Reply → Type 0 where
-  first_refused : (against : Against) → RefusesType text1 against → SubAnswer text1 text2 (refusal (codes "T1") text1 against)
-  second_refused : (first : Written) → ReadsAs text1 first
-      → (against : Against) → RefusesType text2 against → SubAnswer text1 text2 (refusal (codes "T2") text2 against)
+-- the answers of `sub` on two texts, which see these declarations; the first text is taken first
+pub data SubAnswer (declared : Declarations) (text1 text2 : Bytes) : Reply → Type 0 where
+  first_refused : (against : Against) → RefusesType declared text1 against
+      → SubAnswer declared text1 text2 (refusal (codes "T1") text1 against)
+  second_refused : (first : Written) → ReadsAs declared text1 first → (against : Against) → RefusesType declared text2 against
+      → SubAnswer declared text1 text2 (refusal (codes "T2") text2 against)
   -- yes: each element of the first type is in the second
-  yes : (first second : Written) → ReadsAs text1 first → ReadsAs text2 second
+  yes : (first second : Written) → ReadsAs declared text1 first → ReadsAs declared text2 second
       → IsWithin first second
-      → SubAnswer text1 text2 (says Done (codes "yes"))
+      → SubAnswer declared text1 text2 (says Done (codes "yes"))
   -- no, with the canonical text of an element that is in the first type and outside the second
-  no : (first second : Written) → ReadsAs text1 first → ReadsAs text2 second
+  no : (first second : Written) → ReadsAs declared text1 first → ReadsAs declared text2 second
       → (element : Element) → IsElement element → IsIn element first → IsOutside element second
-      → (text : List ℕ) → Prints element text
-      → SubAnswer text1 text2 (says No (codes "no: " ++ encode_utf8_all text))
+      → SubAnswer declared text1 text2 (says No (codes "no: " ++ encode_utf8_all (canonical element)))
 
--- the answers of `sub` with a file of declarations, which is taken first. None that declares a type is built yet
+-- the answers of `sub` with a file of declarations, which is taken first
 pub data SubTypesAnswer (disk : Disk) (file text1 text2 : Bytes) : Reply → Type 0 where
   file_refused : (reply : Reply) → FileRefusal disk file reply → SubTypesAnswer disk file text1 text2 reply
-  on_texts : (text : Bytes) → HasText disk file text → DeclaresNothing text
-      → (reply : Reply) → SubAnswer text1 text2 reply → SubTypesAnswer disk file text1 text2 reply
+  on_texts : (text : Bytes) → HasText disk file text → (declared : Declarations) → Declares text declared
+      → (reply : Reply) → SubAnswer declared text1 text2 reply → SubTypesAnswer disk file text1 text2 reply
 
 -- the commands that aren't built
 abbrev pub CommandIsNotBuilt : Command → Type 0
@@ -80,7 +80,7 @@ pub data Answer (words : List Bytes) (disk : Disk) : Reply → Type 0 where
   command_not_built : (command : Command) → Give words command → CommandIsNotBuilt command
       → Answer words disk (not_built (name_of command))
   sub : (text1 text2 : Bytes) → Give words (Sub text1 text2)
-      → (reply : Reply) → SubAnswer text1 text2 reply → Answer words disk reply
+      → (reply : Reply) → SubAnswer NoDeclaration text1 text2 reply → Answer words disk reply
   sub_types : (file text1 text2 : Bytes) → Give words (SubTypes file text1 text2)
       → (reply : Reply) → SubTypesAnswer disk file text1 text2 reply → Answer words disk reply
 

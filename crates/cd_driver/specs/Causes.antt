@@ -6,40 +6,46 @@ use Rattle.cd_base.specs.declared.status.Status.TheVariants as status
 use Rattle.cd_base.specs.Faults.{Rose}
 use Rattle.cd_syntax.specs.declared.tokens.LexError.{LexError}
 use Rattle.cd_syntax.specs.Element.{Element, IsElement}
-use Rattle.cd_syntax.specs.Written.{Written}
-use Rattle.cd_syntax.specs.Membership.{IsIn, IsOutside}
-use Rattle.cd_syntax.specs.Subtype.{IsWithin}
+use Rattle.cd_syntax.specs.TypeTree.{Declarations, NoDeclaration}
+use Rattle.cd_model.specs.Written.{Written}
+use Rattle.cd_names.specs.Faults.{Fault}
 use Rattle.cd_driver.specs.Command.{Bytes, Command, Sub, SubTypes, Give, HaveNoForm}
-use Rattle.cd_driver.specs.Texts.{Against, Lexical, Syntax, TooDeep, NotBuilt, ReadsAs, RefusesType, RefusesDeclarations}
+use Rattle.cd_driver.specs.Texts.{Against, Lexical, Syntax, TooDeep, Naming, NotBuilt, ReadsAs, Declares, RefusesType, RefusesDeclarations}
+use Rattle.cd_driver.specs.Within.{IsIn, IsOutside, IsWithin}
 use Rattle.cd_driver.specs.Reply.{Reply}
 use Rattle.cd_driver.specs.World.{World}
 use Rattle.cd_driver.specs.Answer.{Disk, Has, HasText, LARGEST, Answer, CommandIsNotBuilt}
 use Rattle.cd_driver.specs.Ending.{Met}
 
--- the words ask about two type texts, with a file of declarations or without
-abbrev pub GiveTexts : List Bytes → (text1 text2 : Bytes) → Type 0
-GiveTexts words text1 text2 = Give words (Sub text1 text2) ⊎ ((file : Bytes) × Give words (SubTypes file text1 text2))
+-- the words ask about two type texts, which see these declarations: none, or those of a file
+pub data GiveTexts (words : List Bytes) (disk : Disk) : Declarations → (text1 text2 : Bytes) → Type 0 where
+  alone : (text1 text2 : Bytes) → Give words (Sub text1 text2) → GiveTexts words disk NoDeclaration text1 text2
+  with_file : (file text1 text2 : Bytes) → Give words (SubTypes file text1 text2) → (text : Bytes) → HasText disk file text
+      → (declared : Declarations) → Declares text declared → GiveTexts words disk declared text1 text2
 
--- the words ask whether the first type is within the second
-pub record Ask (words : List Bytes) (first second : Written) : Type 0 where
+-- the words ask whether the first type is within the second, for the files that were met
+pub record Ask (words : List Bytes) (before after : World) (first second : Written) : Type 0 where
+  pub disk : Disk
+  pub met : Met before.files after.files disk
+  pub declared : Declarations
   pub text1 : Bytes
   pub text2 : Bytes
-  pub give : GiveTexts words text1 text2
-  pub first_is : ReadsAs text1 first
-  pub second_is : ReadsAs text2 second
+  pub give : GiveTexts words disk declared text1 text2
+  pub first_is : ReadsAs declared text1 first
+  pub second_is : ReadsAs declared text2 second
 
 -- each element of the first type is in the second
-pub record IsYes (words : List Bytes) : Type 0 where
+pub record IsYes (words : List Bytes) (before after : World) : Type 0 where
   pub first : Written
   pub second : Written
-  pub ask : Ask words first second
+  pub ask : Ask words before after first second
   pub within : IsWithin first second
 
 -- an element of the first type is outside the second
-pub record IsNo (words : List Bytes) : Type 0 where
+pub record IsNo (words : List Bytes) (before after : World) : Type 0 where
   pub first : Written
   pub second : Written
-  pub ask : Ask words first second
+  pub ask : Ask words before after first second
   pub element : Element
   pub exists : IsElement element
   pub inside : IsIn element first
@@ -49,8 +55,10 @@ pub record IsNo (words : List Bytes) : Type 0 where
 pub data StandsAgainst (words : List Bytes) (disk : Disk) (against : Against) : Type 0 where
   in_file : (file text1 text2 : Bytes) → Give words (SubTypes file text1 text2) → (text : Bytes) → HasText disk file text
       → RefusesDeclarations text against → StandsAgainst words disk against
-  in_first : (text1 text2 : Bytes) → GiveTexts words text1 text2 → RefusesType text1 against → StandsAgainst words disk against
-  in_second : (text1 text2 : Bytes) → GiveTexts words text1 text2 → RefusesType text2 against → StandsAgainst words disk against
+  in_first : (declared : Declarations) (text1 text2 : Bytes) → GiveTexts words disk declared text1 text2
+      → RefusesType declared text1 against → StandsAgainst words disk against
+  in_second : (declared : Declarations) (text1 text2 : Bytes) → GiveTexts words disk declared text1 text2
+      → (first : Written) → ReadsAs declared text1 first → RefusesType declared text2 against → StandsAgainst words disk against
 
 -- and it is of this kind
 pub record IsRefused (words : List Bytes) (before after : World) (is : Against → Type 0) : Type 0 where
@@ -68,6 +76,9 @@ IsSyntax against = (place : _) × (against ≡ Syntax place)
 
 abbrev pub IsTooDeep : Against → Type 0
 IsTooDeep against = (place : _) × (against ≡ TooDeep place)
+
+abbrev pub IsNaming : Against → Type 0
+IsNaming against = (fault : Fault) × (against ≡ Naming fault)
 
 -- a read of the file that the words name failed
 pub record IsUnread (words : List Bytes) (before after : World) : Type 0 where
@@ -112,8 +123,8 @@ pub record SinkFailed (words : List Bytes) (before after : World) : Type 0 where
 
 -- the cause of each status; want of memory is free, and the others don't come
 abbrev pub Cause : List Bytes → World → World → Status → Type 0
-Cause words before after status.Done = IsYes words
-Cause words before after status.No = IsNo words
+Cause words before after status.Done = IsYes words before after
+Cause words before after status.No = IsNo words before after
 Cause words before after status.Usage = HaveNoForm words
 Cause words before after status.ReadFault = IsUnread words before after
 Cause words before after status.WriteFault = SinkFailed words before after
@@ -123,5 +134,6 @@ Cause words before after status.NotUtf8 = FileIs words before after IsNotText
 Cause words before after status.Lexical = IsRefused words before after IsLexical
 Cause words before after status.Syntax = IsRefused words before after IsSyntax
 Cause words before after status.TooDeep = IsRefused words before after IsTooDeep
+Cause words before after status.Naming = IsRefused words before after IsNaming
 Cause words before after status.NotBuilt = IsNotBuilt words before after
 Cause words before after other = ⊥

@@ -4,10 +4,12 @@ use Rattle.std.specs.Str.{chars}
 use Rattle.std.specs.declared.alloc.AllocError.{AllocError}
 use Rattle.cd_syntax.specs.declared.tokens.Token.{Token}
 use Rattle.cd_syntax.specs.Faults.{Fails}
+use Rattle.cd_names.specs.declared.error.NameError.{NameError}
+use Rattle.cd_names.specs.declared.error.NameError.TheVariants as names
 use Rattle.cd_parse_types.specs.declared.error.ParseError.{ParseError}
 use Rattle.cd_parse_types.specs.declared.error.ParseError.TheVariants as fault
 use Rattle.cd_driver.specs.Command.{Bytes}
-use Rattle.cd_driver.specs.Texts.{Against, Lexical, Syntax, TooDeep, NotBuilt, HasTokens, holds_unbuilt}
+use Rattle.cd_driver.specs.Texts.{Against, Lexical, Syntax, TooDeep, Naming, NotBuilt, HasTokens, holds_unbuilt}
 use Rattle.cd_driver.specs.declared.refusal.Refusal.{Refusal}
 use Rattle.cd_driver.specs.declared.refusal.Refusal.TheVariants as refusal
 
@@ -15,6 +17,7 @@ abbrev pub against : Refusal → Against
 against (refusal.Lexical fault) = Lexical fault
 against (refusal.Syntax place) = Syntax place
 against (refusal.TooDeep place) = TooDeep place
+against (refusal.Naming fault name at) = Naming (record { fault = fault; name = name; at = at })
 against refusal.NotBuilt = NotBuilt
 
 -- it stands against the tokens of the text, whatever they are to write
@@ -23,9 +26,15 @@ IsAgainstTokens text (Lexical fault) = Fails false 0 (chars text) fault
 IsAgainstTokens text NotBuilt = (tokens : List Token) × HasTokens text tokens × (holds_unbuilt tokens ≡ true)
 IsAgainstTokens text (Syntax place) = ⊥
 IsAgainstTokens text (TooDeep place) = ⊥
+IsAgainstTokens text (Naming fault) = ⊥
 
 -- what a fault of syntax is against its text
 abbrev pub IsOfFault : ParseError → Result Refusal AllocError → Type 0
 IsOfFault (fault.Syntax place) found = found ≡ Ok (refusal.Syntax place)
 IsOfFault (fault.TooDeep place) found = found ≡ Ok (refusal.TooDeep place)
 IsOfFault fault.Memory found = IsErr found
+
+-- and what a naming fault is
+abbrev pub IsOfNames : NameError → Result Refusal AllocError → Type 0
+IsOfNames (names.Fault fault name at) found = found ≡ Ok (refusal.Naming fault name at)
+IsOfNames names.Memory found = IsErr found

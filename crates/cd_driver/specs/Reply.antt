@@ -1,13 +1,16 @@
 -- Replies: a status, and a text on output or on errors.
-use Rattle.std.specs.Prelude.{ℕ, [], ◌∷◌, ◌++◌, codes}
+use Rattle.std.specs.Prelude.{ℕ, [], ◌∷◌, ◌++◌, codes, encode_utf8_all}
 use Rattle.std.specs.Fmt.{decimal}
 use Rattle.cd_base.specs.declared.status.Status.{Status}
-use Rattle.cd_base.specs.declared.status.Status.TheVariants.{Usage, ReadFault, TooLarge, NotUtf8, Lexical as IsLexical, Syntax as IsSyntax, TooDeep as IsTooDeep, NotBuilt as IsNotBuilt}
+use Rattle.cd_base.specs.declared.status.Status.TheVariants.{Usage, ReadFault, TooLarge, NotUtf8, Lexical as IsLexical, Syntax as IsSyntax, TooDeep as IsTooDeep, Naming as IsNaming, NotBuilt as IsNotBuilt}
 use Rattle.cd_syntax.specs.declared.tokens.LexError.{LexError}
 use Rattle.cd_syntax.specs.declared.tokens.LexError.TheVariants.{BadChar, OpenText, OpenComment, TooWide, Memory}
 use Rattle.cd_driver.specs.Command.{Bytes}
 use Rattle.cd_driver.specs.Position.{position}
-use Rattle.cd_driver.specs.Texts.{Against, Lexical, Syntax, TooDeep, NotBuilt}
+use Rattle.cd_names.specs.Faults.{Fault}
+use Rattle.cd_names.specs.declared.fault.NameFault.{NameFault}
+use Rattle.cd_names.specs.declared.fault.NameFault.TheVariants.{Unknown, Twice, Unguarded}
+use Rattle.cd_driver.specs.Texts.{Against, Lexical, Syntax, TooDeep, Naming, NotBuilt}
 
 pub record Reply : Type 0 where
   pub status : Status
@@ -55,9 +58,19 @@ lexical origin text (OpenComment place) = at_place IsLexical origin text place (
 lexical origin text (TooWide place) = at_place IsLexical origin text place (codes "number too wide")
 lexical origin text Memory = not_built origin
 
+-- a naming fault of this name
+abbrev pub naming_message : NameFault → Bytes → Bytes
+naming_message Unknown name = codes "unknown name " ++ name
+naming_message Twice name = codes "name " ++ name ++ codes " twice"
+naming_message Unguarded name = codes "type " ++ name ++ codes " is not guarded"
+
+abbrev pub naming : (origin text : Bytes) → Fault → Reply
+naming origin text fault = at_place IsNaming origin text fault.at (naming_message fault.fault (encode_utf8_all fault.name))
+
 -- what is said of a text where this stands against it; its origin is the name of its file, or `T1` or `T2`
 abbrev pub refusal : (origin text : Bytes) → Against → Reply
 refusal origin text (Lexical fault) = lexical origin text fault
 refusal origin text (Syntax place) = at_place IsSyntax origin text place (codes "syntax")
 refusal origin text (TooDeep place) = at_place IsTooDeep origin text place (codes "too deep")
+refusal origin text (Naming fault) = naming origin text fault
 refusal origin text NotBuilt = not_built origin

@@ -1,22 +1,20 @@
 ghost use Rattle.std.specs.Prelude.{◌≡◌, IfOk};
+ghost use Rattle.cd_syntax.specs.PlainTree.{plain_declarations};
+ghost use Rattle.cd_syntax.specs.TypeTree.{NoDeclaration};
 ghost use Rattle.cd_driver.specs.Answer.{Disk, HasText, Answer, SubAnswer, SubTypesAnswer};
-ghost use Rattle.cd_driver.specs.Texts.{ReadsAs};
+ghost use Rattle.cd_driver.specs.Comparing.{AreSound};
 ghost use Rattle.cd_driver.specs.Answering.{IsAnswer, NamesNoFile};
-ghost use Rattle.cd_syntax.specs.Written.{written};
 ghost use Rattle.cd_driver.specs.Message.{reply_of};
 ghost use Rattle.cd_driver.specs.Command.{Bytes, SubTypes, Give, texts};
 ghost use Rattle.cd_driver.specs.File.{ReadsThere, said_of};
 
-use crate::decision::outside;
+use crate::compare::compare;
 use crate::file::{FileFault, read_file};
-use crate::message::{
-    Message, cannot_read, no, not_built, not_utf8, refused, too_large, usage, yes,
-};
+use crate::message::{Message, cannot_read, not_built, not_utf8, refused, too_large, usage};
 use crate::reader::{read_declarations, read_type};
 use crate::request::{Request, request_of};
-use crate::witness::text;
 use cd_base::files::Files;
-use cd_syntax::tree::TreeKind;
+use cd_syntax::type_tree::Declarations;
 use std::alloc::{AllocError, Global};
 
 /// The answer to words.
@@ -32,7 +30,7 @@ pub(crate) fn answer<F: Files>(
 {
     match request_of(words) {
         None => usage(alloc),
-        Some(Request::Sub(first, second)) => sub(alloc, first, second),
+        Some(Request::Sub(first, second)) => sub_alone(alloc, first, second),
         Some(Request::SubTypes(file, first, second)) => {
             sub_types(alloc, files, file, first, second)
         }
@@ -81,32 +79,36 @@ fn with_file(
     ensures { IfOk result (λ message. (disk : Disk) → HasText disk file.now text.now → SubTypesAnswer disk file.now first.now second.now (reply_of message)) }
 {
     match read_declarations(alloc, text)? {
-        Ok(()) => sub(alloc, first, second),
+        Ok(declared) => sub(alloc, &declared, first, second),
         Err(refusal) => refused(alloc, file, text, refusal),
     }
 }
 
-// Whether the first type text is within the second.
-fn sub(alloc: Global, first: &str, second: &str) -> Result<Message, AllocError>
-    ensures { IfOk result (λ message. SubAnswer first.now second.now (reply_of message)) }
+// Whether the first type text is within the second, where they see no declarations.
+fn sub_alone(alloc: Global, first: &str, second: &str) -> Result<Message, AllocError>
+    ensures { IfOk result (λ message. SubAnswer NoDeclaration first.now second.now (reply_of message)) }
 {
-    let left = match read_type(alloc, first)? {
+    let none = Declarations::of(Vec::new(alloc));
+    sub(alloc, &none, first, second)
+}
+
+// Whether the first type text is within the second, where they see these declarations.
+fn sub(
+    alloc: Global,
+    declared: &Declarations,
+    first: &str,
+    second: &str,
+) -> Result<Message, AllocError>
+    requires { AreSound (plain_declarations declared.now) }
+    ensures { IfOk result (λ message. SubAnswer (plain_declarations declared.now) first.now second.now (reply_of message)) }
+{
+    let left = match read_type(alloc, declared, first)? {
         Ok(left) => left,
         Err(refusal) => return refused(alloc, "T1", first, refusal),
     };
-    let right = match read_type(alloc, second)? {
+    let right = match read_type(alloc, declared, second)? {
         Ok(right) => right,
         Err(refusal) => return refused(alloc, "T2", second, refusal),
     };
-    compare(alloc, &left, &right)
-}
-
-// Whether the first type is within the second.
-fn compare(alloc: Global, first: &TreeKind, second: &TreeKind) -> Result<Message, AllocError>
-    ensures { IfOk result (λ message. (text1 text2 : Bytes) → ReadsAs text1 (written first.now) → ReadsAs text2 (written second.now) → SubAnswer text1 text2 (reply_of message)) }
-{
-    match outside(alloc, first, second)? {
-        None => yes(alloc),
-        Some(witness) => no(alloc, text(alloc, &witness)?.as_str()),
-    }
+    compare(alloc, declared, &left, &right)
 }

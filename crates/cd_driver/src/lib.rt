@@ -20,7 +20,7 @@ pub use position::place;
 use std::alloc::Global;
 
 mod answer;
-mod decision;
+mod compare;
 mod file;
 pub mod laws;
 mod message;
@@ -30,8 +30,6 @@ mod refusal;
 mod request;
 #[cfg(test)]
 mod tests;
-mod ways;
-mod witness;
 
 /// Does what the words ask, which are the program's arguments without its name, and answers the status
 /// that the program ends with. An answer has a text for `out` or for `err`, which is made whole before

@@ -8,6 +8,8 @@ ghost use Rattle.cd_driver.specs.Refusal.{against};
 use crate::position::place;
 use crate::refusal::Refusal;
 use cd_base::status::Status;
+use cd_names::fault::NameFault;
+use cd_syntax::name::Name;
 use cd_syntax::tokens::LexError;
 use std::alloc::{AllocError, Global};
 
@@ -80,7 +82,33 @@ pub(crate) fn refused(
         Refusal::Lexical(fault) => lexical(alloc, origin, text, fault),
         Refusal::Syntax(at) => at_place(alloc, Status::Syntax, origin, text, at, "syntax"),
         Refusal::TooDeep(at) => at_place(alloc, Status::TooDeep, origin, text, at, "too deep"),
+        Refusal::Naming { fault, name, at } => naming(alloc, origin, text, fault, &name, at),
         Refusal::NotBuilt => not_built(alloc, origin),
+    }
+}
+
+// What is said of a naming fault.
+fn naming(
+    alloc: Global,
+    origin: &str,
+    text: &str,
+    fault: NameFault,
+    name: &Name,
+    at: usize,
+) -> Result<Message, AllocError>
+    ensures { IfOk result (λ message. reply_of message ≡ reply.naming origin.now text.now (record { fault = fault; name = name.now; at = at })) }
+{
+    let message = naming_message(alloc, fault, name.as_str())?;
+    at_place(alloc, Status::Naming, origin, text, at, message.as_str())
+}
+
+fn naming_message(alloc: Global, fault: NameFault, name: &str) -> Result<String, AllocError>
+    ensures { IfOk result (λ message. string_bytes message ≡ reply.naming_message fault name.now) }
+{
+    match fault {
+        NameFault::Unknown => format!(in alloc; "unknown name {name}"),
+        NameFault::Twice => format!(in alloc; "name {name} twice"),
+        NameFault::Unguarded => format!(in alloc; "type {name} is not guarded"),
     }
 }
 

@@ -1,20 +1,27 @@
 ghost use Rattle.std.specs.Prelude.{◌≡◌, IfOk, MatchResult};
-ghost use Rattle.cd_syntax.specs.Written.{written};
-ghost use Rattle.cd_driver.specs.Refusal.{against, IsAgainstTokens, IsOfFault};
-ghost use Rattle.cd_driver.specs.Texts.{ReadsAs, DeclaresNothing, HasBuiltTokens, RefusesType, RefusesDeclarations, is_unbuilt as is_unbuilt_of, holds_unbuilt as holds_unbuilt_of};
+ghost use Rattle.cd_syntax.specs.PlainTree.{plain, plain_declarations};
+ghost use Rattle.cd_driver.specs.Refusal.{against, IsAgainstTokens, IsOfFault, IsOfNames};
+ghost use Rattle.cd_driver.specs.Texts.{ReadsAs, Declares, HasBuiltTokens, RefusesType, RefusesDeclarations, type_of, is_unbuilt as is_unbuilt_of, holds_unbuilt as holds_unbuilt_of};
 
 use crate::refusal::Refusal;
 use cd_lex::lex;
+use cd_names::error::NameError;
+use cd_names::{check_declarations, check_type};
 use cd_parse_types::{ParseError, parse_declarations, parse_type};
-use cd_syntax::built::built;
 use cd_syntax::sign::Sign;
 use cd_syntax::tokens::{LexError, Token, TokenKind};
-use cd_syntax::tree::TreeKind;
+use cd_syntax::type_tree::{Declarations, Tree};
 use std::alloc::{AllocError, Global};
 
-/// The type that a text reads as, or what stands against it.
-pub(crate) fn read_type(alloc: Global, text: &str) -> Result<Result<TreeKind, Refusal>, AllocError>
-    ensures { IfOk result (λ read. MatchResult read (λ type. ReadsAs text.now (written type)) (λ refusal. RefusesType text.now (against refusal))) }
+/// The type that a text reads as, which sees these declarations, or what stands against it.
+pub(crate) fn read_type(
+    alloc: Global,
+    declared: &Declarations,
+    text: &str,
+) -> Result<Result<Tree, Refusal>, AllocError>
+    ensures { IfOk result (λ read. MatchResult read
+        (λ is. ReadsAs (plain_declarations declared.now) text.now (type_of (plain_declarations declared.now) (plain is)))
+        (λ refusal. RefusesType (plain_declarations declared.now) text.now (against refusal))) }
 {
     let tokens = match tokens(alloc, text)? {
         Ok(tokens) => tokens,
@@ -24,15 +31,20 @@ pub(crate) fn read_type(alloc: Global, text: &str) -> Result<Result<TreeKind, Re
         Ok(tree) => tree,
         Err(error) => return Ok(Err(refusal_of(error)?)),
     };
-    Ok(built(alloc, &tree)?.ok_or(Refusal::NotBuilt))
+    if let Err(error) = check_type(alloc, declared, &tree) {
+        return Ok(Err(refusal_of_names(error)?));
+    }
+    Ok(Ok(tree))
 }
 
-/// Whether a text reads as type declarations, none so far; else what stands against it.
+/// The type declarations that a text reads as, which see one another, or what stands against it.
 pub(crate) fn read_declarations(
     alloc: Global,
     text: &str,
-) -> Result<Result<(), Refusal>, AllocError>
-    ensures { IfOk result (λ read. MatchResult read (λ _. DeclaresNothing text.now) (λ refusal. RefusesDeclarations text.now (against refusal))) }
+) -> Result<Result<Declarations, Refusal>, AllocError>
+    ensures { IfOk result (λ read. MatchResult read
+        (λ declared. Declares text.now (plain_declarations declared))
+        (λ refusal. RefusesDeclarations text.now (against refusal))) }
 {
     let tokens = match tokens(alloc, text)? {
         Ok(tokens) => tokens,
@@ -42,11 +54,10 @@ pub(crate) fn read_declarations(
         Ok(declared) => declared,
         Err(error) => return Ok(Err(refusal_of(error)?)),
     };
-    Ok(if declared.items().is_empty() {
-        Ok(())
-    } else {
-        Err(Refusal::NotBuilt)
-    })
+    if let Err(error) = check_declarations(alloc, &declared) {
+        return Ok(Err(refusal_of_names(error)?));
+    }
+    Ok(Ok(declared))
 }
 
 // What a fault of syntax is against its text.
@@ -57,6 +68,16 @@ fn refusal_of(error: ParseError) -> Result<Refusal, AllocError>
         ParseError::Syntax(place) => Ok(Refusal::Syntax(place)),
         ParseError::TooDeep(place) => Ok(Refusal::TooDeep(place)),
         ParseError::Memory => Err(AllocError),
+    }
+}
+
+// What a naming fault is against its text.
+fn refusal_of_names(error: NameError) -> Result<Refusal, AllocError>
+    ensures { IsOfNames error result }
+{
+    match error {
+        NameError::Fault { fault, name, at } => Ok(Refusal::Naming { fault, name, at }),
+        NameError::Memory => Err(AllocError),
     }
 }
 

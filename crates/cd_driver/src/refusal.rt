@@ -1,7 +1,9 @@
+use cd_names::fault::NameFault;
+use cd_syntax::name::Name;
 use cd_syntax::tokens::LexError;
 
 /// What stands against a text. A place is a byte offset.
-#[derive(Clone, Copy)]
+#[derive(Drop)]
 pub(crate) enum Refusal {
     /// Its first lexical fault.
     Lexical(LexError),
@@ -9,6 +11,15 @@ pub(crate) enum Refusal {
     Syntax(usize),
     /// A place that is too deep.
     TooDeep(usize),
+    /// The naming fault that is told of it.
+    Naming {
+        /// What is wrong.
+        fault: NameFault,
+        /// The name.
+        name: Name,
+        /// Where it stands.
+        at: usize,
+    },
     /// It is of a form that is not built.
     NotBuilt,
 }

@@ -80,7 +80,7 @@ fn answers_each_form_of_words(rt: HostRuntime) -> Result<(), Fail> {
         says("sub;5--4;0", Status::Done, "yes\n"),
         says("sub;5--4;Empty", Status::Done, "yes\n"),
         says("sub;-1;0", Status::No, "no: -1\n"),
-        complains("sub;0;Bool", Status::NotBuilt, "T2: not built\n"),
+        says("sub;0;Bool", Status::No, "no: 0\n"),
         complains("sub;(;)", Status::Syntax, "T1:1:2: syntax\n"),
         complains("sub;--types;t.cd", Status::Syntax, "T1:1:1: syntax\n"),
         complains(
@@ -139,7 +139,7 @@ fn reads_each_form_of_type_text(rt: HostRuntime) -> Result<(), Fail> {
         says("sub;\t1;0--9", Status::Done, "yes\n"),
         complains("sub;1x;0", Status::Syntax, "T1:1:2: syntax\n"),
         complains("sub;5Int;0", Status::Syntax, "T1:1:2: syntax\n"),
-        complains("sub;Int5;0", Status::NotBuilt, "T1: not built\n"),
+        complains("sub;Int5;0", Status::Naming, "T1:1:1: unknown name Int5\n"),
         complains("sub;١;0", Status::Lexical, "T1:1:1: bad character\n"),
         says(
             "sub;170141183460469231731687303715884105727;0",
@@ -204,13 +204,21 @@ fn reads_connectives(rt: HostRuntime) -> Result<(), Fail> {
         complains("sub;(1)--2;0", Status::Syntax, "T1:1:4: syntax\n"),
         complains("sub;Int--2;0", Status::Syntax, "T1:1:4: syntax\n"),
         complains("sub;Int(1);0", Status::Syntax, "T1:1:4: syntax\n"),
-        complains("sub;Ints;0", Status::NotBuilt, "T1: not built\n"),
-        complains("sub;In;0", Status::NotBuilt, "T1: not built\n"),
+        complains("sub;Ints;0", Status::Naming, "T1:1:1: unknown name Ints\n"),
+        complains("sub;In;0", Status::Naming, "T1:1:1: unknown name In\n"),
         complains("sub;int;0", Status::Syntax, "T1:1:1: syntax\n"),
-        complains("sub;Int_;0", Status::NotBuilt, "T1: not built\n"),
-        complains("sub;Empty0;0", Status::NotBuilt, "T1: not built\n"),
-        complains("sub;IntEmpty;0", Status::NotBuilt, "T1: not built\n"),
-        complains("sub;0;1->2", Status::NotBuilt, "T2: not built\n"),
+        complains("sub;Int_;0", Status::Naming, "T1:1:1: unknown name Int_\n"),
+        complains(
+            "sub;Empty0;0",
+            Status::Naming,
+            "T1:1:1: unknown name Empty0\n",
+        ),
+        complains(
+            "sub;IntEmpty;0",
+            Status::Naming,
+            "T1:1:1: unknown name IntEmpty\n",
+        ),
+        says("sub;0;1->2", Status::No, "no: 0\n"),
         says("sub;1--*;*--0|2--*", Status::No, "no: 1\n"),
         says("sub;Int;1--*|*--0", Status::Done, "yes\n"),
     ];
@@ -263,6 +271,60 @@ fn decides_pairs(rt: HostRuntime) -> Result<(), Fail> {
         complains("sub;0;1,2", Status::Syntax, "T2:1:2: syntax\n"),
     ];
     check(&rt, rt.alloc(), rows.as_slice())?;
+    Ok(())
+}
+
+// Characters, atoms, texts, records, functions, and names.
+#[test]
+fn decides_each_kind(rt: HostRuntime) -> Result<(), Fail> {
+    let rows = [
+        says("sub;'a';2", Status::No, "no: 'a'\n"),
+        says("sub;'a'--'c';Char", Status::Done, "yes\n"),
+        says("sub;`a|`b;`b", Status::No, "no: `a\n"),
+        says("sub;`true|`false;Bool", Status::Done, "yes\n"),
+        says("sub;\"ab\";String", Status::Done, "yes\n"),
+        says("sub;\"ab\";'a'", Status::No, "no: \"ab\"\n"),
+        says("sub;1 & (2 | `a);2", Status::Done, "yes\n"),
+        says("sub;{a=1};2", Status::No, "no: {a=1}\n"),
+        says("sub;{a=1};{a=Int ..}", Status::Done, "yes\n"),
+        says("sub;{};{a=?Int}", Status::Done, "yes\n"),
+        says("sub;{a=Int} & {a=Char};Empty", Status::Done, "yes\n"),
+        says("sub;Arrow;Empty -> Any", Status::Done, "yes\n"),
+        says(
+            "sub;(0 -> 1) & (1 -> 0);0--1 -> 0--1",
+            Status::Done,
+            "yes\n",
+        ),
+        says("sub;X where X = 1;2", Status::No, "no: 1\n"),
+        says(
+            "sub;(Int, X) where X = (X, Int);Empty",
+            Status::Done,
+            "yes\n",
+        ),
+        says(
+            "sub;X where X = 0 | (X, X);Y where Y = 0 | (Y, Any)",
+            Status::Done,
+            "yes\n",
+        ),
+    ];
+    check(&rt, rt.alloc(), rows.as_slice())?;
+    Ok(())
+}
+
+// Some element of the first type is outside the second.
+#[test]
+fn denies_each_kind(rt: HostRuntime) -> Result<(), Fail> {
+    let rows = [
+        ("(1, Any)", "2"),
+        ("Y where Y = 0 | (Y, Any)", "X where X = 0 | (X, X)"),
+        ("{a=Int ..}", "{a=Int} | {a=Int; b=Any ..}"),
+        ("0 -> 1", "1 -> 0"),
+        ("Any", "Empty"),
+    ];
+    for (first, second) in rows {
+        let answer = told(rt.alloc(), first, second)?;
+        assert!(rt; answer.as_str().starts_with("no: "), "{first}");
+    }
     Ok(())
 }
 
@@ -380,11 +442,23 @@ fn tells_what_stands_against_a_text(rt: HostRuntime) -> Result<(), Fail> {
         complains("sub;(* é *) x;2", Status::Syntax, "T1:1:9: syntax\n"),
         complains("sub;1 |\n\n  | 2;2", Status::Syntax, "T1:3:3: syntax\n"),
         complains("sub;\r\n1\r);2", Status::Syntax, "T1:2:3: syntax\n"),
-        complains("sub;'a';2", Status::NotBuilt, "T1: not built\n"),
-        complains("sub;{a=1};2", Status::NotBuilt, "T1: not built\n"),
-        complains("sub;X where X = 1;2", Status::NotBuilt, "T1: not built\n"),
-        complains("sub;(1, Any);2", Status::NotBuilt, "T1: not built\n"),
-        complains("sub;1 & (2 | `a);2", Status::NotBuilt, "T1: not built\n"),
+        complains("sub;X;Int", Status::Naming, "T1:1:1: unknown name X\n"),
+        complains(
+            "sub;Int;(1,\n X)",
+            Status::Naming,
+            "T2:2:2: unknown name X\n",
+        ),
+        complains(
+            "sub;Int where A = A;Int",
+            Status::Naming,
+            "T1:1:11: type A is not guarded\n",
+        ),
+        complains(
+            "sub;0 where Int = 1;X",
+            Status::Naming,
+            "T1:1:9: name Int twice\n",
+        ),
+        complains("sub;X;[", Status::Naming, "T1:1:1: unknown name X\n"),
     ];
     check(&rt, rt.alloc(), rows.as_slice())?;
     Ok(())
@@ -441,19 +515,15 @@ fn told_with(
     ))
 }
 
+const LIST: &str = "type A = (Int, A) | 0";
+
 // The file comes first, then the first type text, then the second.
 #[test]
 fn reads_a_file_of_declarations(rt: HostRuntime) -> Result<(), Fail> {
     let rows = [
         ("", "1", "0--9", Status::Done, "yes\n"),
         (" (* no type *)\n", "1", "2", Status::No, "no: 1\n"),
-        (
-            "type A = 1",
-            "(",
-            "[",
-            Status::NotBuilt,
-            "t.cd: not built\n",
-        ),
+        ("type A = 1", "(", "[", Status::Syntax, "T1:1:2: syntax\n"),
         (
             "type A = [1]",
             "(",
@@ -479,6 +549,41 @@ fn reads_a_file_of_declarations(rt: HostRuntime) -> Result<(), Fail> {
         ),
         ("", "(", "[", Status::Syntax, "T1:1:2: syntax\n"),
         ("", "1", "[", Status::NotBuilt, "T2: not built\n"),
+        (
+            "",
+            "{a=Int; a=Int}",
+            "Int",
+            Status::Naming,
+            "T1:1:9: name a twice\n",
+        ),
+        (LIST, "A", "Any", Status::Done, "yes\n"),
+        (LIST, "(1, A)", "A", Status::Done, "yes\n"),
+        (LIST, "0", "A", Status::Done, "yes\n"),
+        (LIST, "A", "(Int, A)", Status::No, "no: 0\n"),
+        (LIST, "A where A = 1", "A", Status::No, "no: 1\n"),
+        (LIST, "B", "A", Status::Naming, "T1:1:1: unknown name B\n"),
+        (LIST, "A", "B", Status::Naming, "T2:1:1: unknown name B\n"),
+        (
+            "type A = B",
+            "(",
+            "(",
+            Status::Naming,
+            "t.cd:1:10: unknown name B\n",
+        ),
+        (
+            "type A = 1 type A = 2",
+            "1",
+            "2",
+            Status::Naming,
+            "t.cd:1:17: name A twice\n",
+        ),
+        (
+            "type A = B type B = 1 | A",
+            "1",
+            "2",
+            Status::Naming,
+            "t.cd:1:6: type A is not guarded\n",
+        ),
     ];
     for (file, first, second, status, text) in rows {
         let told = told_with(rt.alloc(), file.as_bytes(), first, second)?;

@@ -11,8 +11,8 @@ returns-in-None-clause-answer g c =
 
 pub returns-in-Some-Sub-clause-answer : goal.returns-in-Some-Sub-clause-answer
 returns-in-Some-Sub-clause-answer g c =
-    answers_unread _ (λ disk. Answer (texts c.args.words.now) disk) c.sub.result
-    (answers_sub (texts c.args.words.now) c.in-Some-Sub.first.now c.in-Some-Sub.second.now (rw c.in-Some-Sub.field-0-is at c.in-Some-Sub.ensures) c.sub.result c.sub.ensures)
+    answers_unread _ (λ disk. Answer (texts c.args.words.now) disk) c.sub_alone.result
+    (answers_sub (texts c.args.words.now) c.in-Some-Sub.first.now c.in-Some-Sub.second.now (rw c.in-Some-Sub.field-0-is at c.in-Some-Sub.ensures) c.sub_alone.result c.sub_alone.ensures)
 
 pub returns-in-Some-SubTypes-clause-answer : goal.returns-in-Some-SubTypes-clause-answer
 returns-in-Some-SubTypes-clause-answer g c =
