@@ -1,5 +1,5 @@
 -- Verdicts are exact where the marks are elements of their questions and the questions without one are a closed family.
-use Rattle.std.proofs.Common.{◌≡◌, ℕ, zero, suc, ◌<◌, true, false, List, [], ◌∷◌, ◌++◌, ◌⊎◌, inl, inr, refl, ap, subst, arith, length, get_or}
+use Rattle.std.proofs.Common.{◌≡◌, true, false, List, [], ◌∷◌, ◌++◌, ◌⊎◌, inl, inr, refl, ap, subst, length}
 use Rattle.std.proofs.Common.{Option, Some, None}
 use Rattle.std.proofs.Props.{props}
 use Rattle.std.proofs.Math.Logic.{∥∥₁_elim, ∥∥₁_map}
@@ -15,12 +15,16 @@ use Rattle.cd_model.proofs.Apart.{not_both}
 use Rattle.cd_model.proofs.Decided.{in_or_outside}
 use Rattle.cd_elements.specs.declared.shape.ElementId.{ElementId}
 use Rattle.cd_elements.specs.Table.{element_at}
-use Rattle.cd_rules.specs.Family.{IsOfFamily, IsClosed}
+use Rattle.cd_rules.specs.Family.{IsOfFamily, IsClosed, AsksNodes}
+use Rattle.cd_rules.proofs.ClosedStays.{closed_stays}
 use Rattle.cd_rules.proofs.NoMember.{element_out, value_out}
 use Rattle.cd_members.specs.Marks.{IsMarked, AreMarked, unmarked}
 use Rattle.cd_empty.specs.declared.verdict.Verdict.{Verdict}
 use Rattle.cd_empty.specs.Kept.{with_verdicts}
 use Rattle.cd_empty.specs.Verdicts.{HasNoElement, HasNoValue, IsExact, IsKept, family}
+use Rattle.cd_empty.proofs.EachAt.{each_at}
+use Rattle.cd_empty.proofs.Growing.{grows_then}
+use Rattle.cd_empty.proofs.Longer.{each_of_unmarked}
 
 -- what cannot be is so in no two ways
 never_in_two_ways : IsProp ⊥
@@ -65,22 +69,16 @@ mark_had graph table question (Some id) known = (
   asked_had graph (element_at table id) question (∥∥₁_map known (λ both. both.1)),
 )
 
--- each that a number names has the fact of all
-each_at : {X : Type 0} (fact : X → Type 0) (list : List X) (number : ℕ) (other : X) → number < length list → Each fact list
-    → fact (get_or list number other)
-each_at fact [] number other below each = absurd (omega arith)
-each_at fact (one ∷ list) zero other below each = each.0
-each_at fact (one ∷ list) (suc number) other below each = each_at fact list number other (omega arith) each.1
-
 module _ (graph : Graph) (begins : (more : Graph) × (graph ≡ built_ins ++ more)) (table : List Element) (sound : Each IsElement table) where
-  -- no element and no value is in a question of a family that is known to be closed
-  none_in : (family : List Question) → ∥ IsClosed graph family ∥₁ → (question : Question) → IsOfFamily question family
-      → HasNoElement graph question × HasNoValue graph question
-  none_in family closed question there = (
+  -- no element and no value is in a question of a family that is known to be closed, since it stays closed in longer graphs
+  none_in : (family : List Question) → Each (AsksNodes (length graph)) family → ∥ IsClosed graph family ∥₁
+      → (question : Question) → IsOfFamily question family → HasNoElement graph question × HasNoValue graph question
+  none_in family asks closed question there = (
     λ is element asking. ∥∥₁_elim closed never_in_two_ways
         (λ closed. element_out graph begins family closed is element question asking there),
-    λ is value asking. ∥∥₁_elim closed never_in_two_ways
-        (λ closed. value_out graph begins family closed is value question asking there),
+    λ more is value asking. ∥∥₁_elim closed never_in_two_ways
+        (λ closed. value_out (graph ++ more) (grows_then built_ins graph (graph ++ more) begins (more, refl)) family
+        (closed_stays graph more family asks closed) is value question asking there),
   )
 
   marked_exact : (questions : List Question) (marks : List (Option ElementId)) → ∥ AreMarked graph table questions marks ∥₁
@@ -94,14 +92,16 @@ module _ (graph : Graph) (begins : (more : Graph) × (graph ≡ built_ins ++ mor
   )
   marked_exact (question ∷ questions) (Some id ∷ marks) known none =
       let mark = mark_had graph table question (Some id) (∥∥₁_map known (λ both. both.0)) in (
-        (mark.0, each_at IsElement table id.0 (element.Atom []) mark.0 sound, mark.1),
+        (mark.0, each_at IsElement table id.0 (element.Atom []) sound mark.0, mark.1),
         marked_exact questions marks (∥∥₁_map known (λ both. both.1)) none,
       )
 
   -- all verdicts are exact
-  pub all_exact : (questions : List Question) (marks : List (Option ElementId)) → ∥ AreMarked graph table questions marks ∥₁
-      → ∥ IsClosed graph (unmarked questions marks) ∥₁ → Each (λ one. IsExact graph table one.0 one.1) (with_verdicts questions marks)
-  all_exact questions marks known closed = marked_exact questions marks known (none_in (unmarked questions marks) closed)
+  pub all_exact : (questions : List Question) (marks : List (Option ElementId)) → Each (AsksNodes (length graph)) questions
+      → ∥ AreMarked graph table questions marks ∥₁ → ∥ IsClosed graph (unmarked questions marks) ∥₁
+      → Each (λ one. IsExact graph table one.0 one.1) (with_verdicts questions marks)
+  all_exact questions marks asks known closed = marked_exact questions marks known
+      (none_in (unmarked questions marks) (each_of_unmarked (AsksNodes (length graph)) questions marks asks) closed)
 
 -- a verdict that is kept among exact ones is exact
 pub kept_exact : (graph : Graph) (table : List Element) (kept : List (Question × Verdict)) (question : Question) (verdict : Verdict)

@@ -10,8 +10,8 @@ use Rattle.cd_members.specs.Marks.{AreNumbers}
 use Rattle.cd_members.specs.Making.{IsFit, IsStuck}
 use Rattle.cd_empty.specs.Deciding.{AreStuck, CanBeSettled}
 use Rattle.cd_empty.specs.Rounds.{IsFurther, IsMadeFor, IsRound, IsSoFar, IsStep, IsUnmarked, count_unmarked}
+use Rattle.cd_empty.proofs.Growing.{Grows}
 use Rattle.cd_empty.proofs.Marking.{further_by_growth, further_by_step, further_again, can_still, are_numbers, are_fit, are_as_many}
-use Rattle.cd_empty.proofs.Tried.{IsGrown}
 
 -- a mark more is a question less
 marked_is_less : (marks : List (Option ElementId)) (place : ℕ) (id : ElementId) → place < length marks → IsUnmarked marks place
@@ -88,7 +88,7 @@ module _ {table now : List Element} {marks here : List (Option ElementId)} {firs
   round_at_end left false none so_far =
       subst (λ (left : ℕ). AreStuck here (drop left (drop first here)) (drop left cases)) none so_far.1
 
-  module _ (after : List Element) (grown : IsGrown now after) (there : List (Option ElementId)) where
+  module _ (after : List Element) (grown : Grows now after) (there : List (Option ElementId)) where
     -- with no mark more the table may be larger
     pub further_unmarked : there ≡ here → IsFurther table marks first cases after there
     further_unmarked same = subst (IsFurther table marks first cases after) (sym same)

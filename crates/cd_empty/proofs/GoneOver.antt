@@ -17,22 +17,10 @@ use Rattle.cd_expand.specs.Expansion.{IsExpansion}
 use Rattle.cd_members.specs.Marks.{AreMarked}
 use Rattle.cd_empty.specs.Deciding.{AreExpanded}
 use Rattle.cd_empty.specs.Placing.{IsPlaced}
+use Rattle.cd_empty.proofs.Growing.{Grows, grows_not, grows_then, joined}
 use Rattle.cd_empty.proofs.Staying.{are_expanded_stay, are_expanded_push, expanded_count, are_marked_push}
 
--- a list is another one and more
-abbrev pub Grows : {X : Type 0} → List X → List X → Type 0
-Grows {X} old new = (more : List X) × (new ≡ old ++ more)
-
--- it is itself and nothing more
-pub grows_not : {X : Type 0} (xs : List X) → Grows xs xs
-grows_not xs = ([], sym (append-nil xs))
-
--- more, and more after that
-pub grows_then : {X : Type 0} (old mid new : List X) → Grows old mid → Grows mid new → Grows old new
-grows_then old mid new first then =
-    (first.0 ++ then.0, then.1 ∙ ap (λ xs. xs ++ then.0) first.1 ∙ append_assoc old first.0 then.0)
-
--- so it is with questions, and those that are added ask nodes of the graph
+-- questions are others and more, and those that are added ask nodes of the graph
 abbrev pub AsksMore : Graph → List Question → List Question → Type 0
 AsksMore graph old new = (more : List Question) × (new ≡ old ++ more) × Each (AsksNodes (length graph)) more
 
@@ -45,7 +33,7 @@ pub asks_then : (graph : Graph) (old mid new : List Question) → AsksMore graph
     → AsksMore graph old new
 asks_then graph old mid new first then = (
   first.0 ++ then.0,
-  then.1 ∙ ap (λ xs. xs ++ then.0) first.1 ∙ append_assoc old first.0 then.0,
+  joined old mid new first.0 then.0 first.1 then.1,
   each_of_lists (AsksNodes (length graph)) first.0 then.0 first.2 then.2,
 )
 

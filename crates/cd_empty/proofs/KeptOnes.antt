@@ -38,13 +38,6 @@ in_first (suc first) [] number below = refl
 in_first (suc first) (x ∷ list) zero below = refl
 in_first (suc first) (x ∷ list) (suc number) below = in_first first list number (omega arith)
 
--- and stands there in a longer list
-pub in_longer : {X : Type 0} (list more : List X) (number : ℕ) (one : X) → slice_get list number ≡ Some one
-    → slice_get (list ++ more) number ≡ Some one
-in_longer [] more number one at = absurd (none-some one at)
-in_longer (x ∷ list) more zero one at = at
-in_longer (x ∷ list) more (suc number) one at = in_longer list more number one at
-
 -- a question with a mark has the verdict of this mark
 pub kept_at : (asked : List Question) (marks : List (Option ElementId)) (number : ℕ) (question : Question) (mark : Option ElementId)
     → slice_get asked number ≡ Some question → slice_get marks number ≡ Some mark

@@ -1,3 +1,4 @@
+pub mod Growing
 pub mod Staying
 pub mod GoneOver
 pub mod EachAt
@@ -8,9 +9,9 @@ pub mod Marking
 pub mod GoingRound
 pub mod ClosedSoFar
 pub mod KeptOnes
+pub mod Longer
 pub mod ExactOnes
 pub mod Passing
-pub mod Longer
 pub mod HoldsOrNot
 pub mod NodeSets
 pub mod BasicNeeds

@@ -19,12 +19,12 @@ use Rattle.cd_empty.specs.declared.decider.Decider.{Decider}
 use Rattle.cd_empty.specs.Kept.{settled_questions, settled_marks, Fits}
 
 -- a fact of each is one of each of the first ones, and of each without a mark
-each_of_first : {X : Type 0} (fact : X → Type 0) (first : ℕ) (list : List X) → Each fact list → Each fact (take first list)
+pub each_of_first : {X : Type 0} (fact : X → Type 0) (first : ℕ) (list : List X) → Each fact list → Each fact (take first list)
 each_of_first fact zero list each = tt
 each_of_first fact (suc first) [] each = tt
 each_of_first fact (suc first) (one ∷ list) each = (each.0, each_of_first fact first list each.1)
 
-each_of_unmarked : (fact : Question → Type 0) (questions : List Question) (marks : List (Option ElementId)) → Each fact questions
+pub each_of_unmarked : (fact : Question → Type 0) (questions : List Question) (marks : List (Option ElementId)) → Each fact questions
     → Each fact (unmarked questions marks)
 each_of_unmarked fact [] marks each = tt
 each_of_unmarked fact (question ∷ questions) [] each = (each.0, each_of_unmarked fact questions [] each.1)

@@ -1,6 +1,6 @@
 -- Marks go on to others: by an element for one question, and again.
 use Rattle.std.proofs.Common.{◌≡◌, ℕ, zero, suc, ◌+◌, ◌<◌, ◌++◌, true, List, [], ◌∷◌, Option, Some}
-use Rattle.std.proofs.Common.{None, length, get_or, set, drop, slice_get, refl, sym, ap, ◌∙◌, subst, arith, append_assoc}
+use Rattle.std.proofs.Common.{None, length, get_or, set, drop, slice_get, refl, sym, ap, ◌∙◌, subst, arith}
 use Rattle.std.proofs.Props.{props}
 use Rattle.std.proofs.lemmas.List.{length-set, length-drop, get_or-drop, take-set-le, drop-set-add}
 use Rattle.std.proofs.lemmas.Option.{slice_get-get_or, get_or_from_slice_get, slice_get_within}
@@ -32,6 +32,7 @@ use Rattle.cd_members.proofs.Made.{made_is_in}
 use Rattle.cd_empty.specs.Deciding.{AreExpanded, CanBeSettled}
 use Rattle.cd_empty.specs.Rounds.{IsFurther, IsMadeFor, IsUnmarked}
 use Rattle.cd_empty.proofs.FitOnce.{numbers_once, all_fit_once}
+use Rattle.cd_empty.proofs.Growing.{Grows, grows_then}
 
 module _ (graph : Graph) (asked_all : List Question) where
   -- the question at a place without a mark, and what it needs
@@ -93,8 +94,7 @@ made_is_marked graph table asked_all marks are question all of after id made =
 
 module _ (table : List Element) (marks : List (Option ElementId)) (first : ℕ) (cases : List (List Needs)) where
   -- a larger table
-  pub further_by_growth : (after : List Element) → ((more : List Element) × (after ≡ table ++ more))
-      → IsFurther table marks first cases after marks
+  pub further_by_growth : (after : List Element) → Grows table after → IsFurther table marks first cases after marks
   further_by_growth after grown = record {
     marked = λ graph asked_all are expanded. (
       subst (λ (all : List Element). AreMarked graph all asked_all marks) (sym grown.1)
@@ -107,7 +107,7 @@ module _ (table : List Element) (marks : List (Option ElementId)) (first : ℕ) 
   }
 
   -- one more mark
-  module _ (after : List Element) (grown : (more : List Element) × (after ≡ table ++ more)) (place : ℕ) (d : List Needs) (id : ElementId)
+  module _ (after : List Element) (grown : Grows table after) (place : ℕ) (d : List Needs) (id : ElementId)
       (within : place < length cases) (none : IsUnmarked marks (first + place))
       (made : IsMadeFor table marks (get_or cases place d) after id) where
     marked_by_step : (graph : Graph) (asked_all : List Question) → AreMarked graph table asked_all marks
@@ -151,10 +151,7 @@ module _ (table : List Element) (marks : List (Option ElementId)) (first : ℕ) 
         next.marked graph asked_all half.0 half.1;
     count = next.count ∙ one.count;
     kept = next.kept ∙ one.kept;
-    grows = (
-      one.grows.0 ++ next.grows.0,
-      next.grows.1 ∙ ap (λ start. start ++ next.grows.0) one.grows.1 ∙ append_assoc table one.grows.0 next.grows.0,
-    );
+    grows = grows_then table after last one.grows next.grows;
   }
 
   module _ (can : CanBeSettled table marks first cases) where

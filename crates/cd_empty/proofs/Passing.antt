@@ -2,7 +2,7 @@
 use Rattle.std.proofs.Common.{◌≡◌, ℕ, ◌<◌, ◌≤◌, List, [], ◌++◌, sym, ap, ◌∙◌, subst, arith, length, take, drop, Option}
 use Rattle.std.proofs.Props.{props}
 use Rattle.std.proofs.Math.Logic.{∥∥₁_elim, ∥∥₁_map}
-use Rattle.std.proofs.lemmas.List.{append-nil, append_assoc, length-take, take-append-le, take_all}
+use Rattle.std.proofs.lemmas.List.{append-nil, length-take, take-append-le, take_all}
 use Rattle.cd_sets.specs.declared.question.Question.{Question}
 use Rattle.cd_syntax.specs.Element.{Element}
 use Rattle.cd_model.specs.BuiltIns.{built_ins}
@@ -70,12 +70,6 @@ verdicts_stay before after keeps = λ i. with_verdicts (keeps.questions i) (keep
 
 pub no_more : (before after : Decider) → KeepsSettled before after → (more : List (Question × Verdict)) × (kept after ≡ kept before ++ more)
 no_more before after keeps = ([], verdicts_stay before after keeps ∙ sym (append-nil (kept before)))
-
--- what stays of what stayed
-pub stays_after : {X : Type 0} (before between after : List X) → (more : List X) × (between ≡ before ++ more)
-    → (more : List X) × (after ≡ between ++ more) → (more : List X) × (after ≡ before ++ more)
-stays_after before between after first second =
-    (first.0 ++ second.0, second.1 ∙ ap (λ all. all ++ second.0) first.1 ∙ append_assoc before first.0 second.0)
 
 -- what fits before fits after, also with more elements
 as_long : {X : Type 0} (list : List X) (number : ℕ) → length (take number list) ≡ number → number ≤ length list

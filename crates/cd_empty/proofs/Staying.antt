@@ -1,8 +1,7 @@
 -- What is known of questions stays when more is asked and more elements are made.
-use Rattle.std.proofs.Common.{◌≡◌, ℕ, zero, suc, true, List, [], ◌∷◌, ◌++◌, Option, Some, None, length, map}
+use Rattle.std.proofs.Common.{◌≡◌, true, List, [], ◌∷◌, ◌++◌, Option, Some, None, length, map}
 use Rattle.std.proofs.Common.{inl, inr, sym, subst, arith}
-use Rattle.std.specs.Prelude.{slice_get}
-use Rattle.std.proofs.lemmas.List.{get_or_append_left, get_or_at, length-append, length_push}
+use Rattle.std.proofs.lemmas.List.{get_or_at, length_push}
 use Rattle.cd_sets.specs.declared.question.Question.{Question}
 use Rattle.cd_syntax.specs.Name.{Name}
 use Rattle.cd_syntax.specs.Element as element
@@ -24,7 +23,9 @@ use Rattle.cd_expand.specs.declared.needs.Needs.TheVariants as code
 use Rattle.cd_expand.specs.Named.{Along, IsNumber, NamesWay, NamesNeed, NamesCell, NamesRow, Names}
 use Rattle.cd_expand.specs.Expansion.{AreOfClauses, CoverClauses}
 use Rattle.cd_members.specs.Marks.{IsMarked, AreMarked}
+use Rattle.cd_members.proofs.Kept.{marked_in_longer}
 use Rattle.cd_empty.specs.Deciding.{IsExpanded, AreExpanded}
+use Rattle.cd_empty.proofs.Growing.{in_longer}
 
 -- a fact along two lists leads to another one along them
 along_leads : {X Y : Type 0} (one other : X → Y → Type 0) → ((x : X) (y : Y) → one x y → other x y)
@@ -42,15 +43,9 @@ along_push fact _ _ x y along is = absurd along
 
 -- what questions are named, they are named when more is asked
 module _ (more : List Question) where
-  stands_in_longer : (asked : List Question) (place : ℕ) (question : Question) → slice_get asked place ≡ Some question
-      → slice_get (asked ++ more) place ≡ Some question
-  stands_in_longer [] place question is = absurd cc
-  stands_in_longer (first ∷ asked) zero question is = is
-  stands_in_longer (first ∷ asked) (suc place) question is = stands_in_longer asked place question is
-
   module _ (asked : List Question) where
     number_stays : (id : QuestionId) (question : Question) → IsNumber asked id question → IsNumber (asked ++ more) id question
-    number_stays id question is = stands_in_longer asked id.0 question is
+    number_stays id question is = in_longer asked more id.0 question is
 
     way_stays : (ids : List QuestionId) (way : Way) → NamesWay asked ids way → NamesWay (asked ++ more) ids way
     way_stays = along_leads (IsNumber asked) (IsNumber (asked ++ more)) number_stays
@@ -130,25 +125,13 @@ expanded_count graph asked (question ∷ questions) (mark ∷ marks) (all ∷ ca
     omega (arith, expanded_count graph asked questions marks cases are.1)
 expanded_count graph asked _ _ _ are = absurd are
 
--- a question has the element that it is marked with when more elements are made
-marked_stays : (graph : Graph) (table more : List Element) (question : Question) (mark : Option ElementId)
-    → IsMarked graph table question mark → IsMarked graph (table ++ more) question mark
-marked_stays graph table more question None is = tt
-marked_stays graph table more question (Some id) is = (
-  omega (arith, length-append table more, is.0),
-  subst (λ one. asked (answers graph one) question true)
-      (sym (get_or_append_left table more (element.Atom []) id.0 is.0)) is.1,
-)
-
--- and one more question may have its mark then
+-- when more elements are made, one more question may have its mark
 pub are_marked_push : (graph : Graph) (table new more : List Element) → new ≡ table ++ more → (questions : List Question)
     (marks : List (Option ElementId)) (question : Question) (mark : Option ElementId) → AreMarked graph table questions marks
     → IsMarked graph new question mark → AreMarked graph new (questions ++ question ∷ []) (marks ++ mark ∷ [])
 are_marked_push graph table new more grown questions marks question mark are is =
-    along_push (IsMarked graph new) questions marks question mark
-    (along_leads (IsMarked graph table) (IsMarked graph new)
-    (λ one other has. subst (λ all. IsMarked graph all one other) (sym grown) (marked_stays graph table more one other has))
-    questions marks are) is
+    let still = marked_in_longer graph table more questions marks are in
+    along_push (IsMarked graph new) questions marks question mark (subst (λ all. AreMarked graph all questions marks) (sym grown) still) is
 
 -- the element that is added last is at its number
 pub has_last : (graph : Graph) (table new : List Element) (question : Question) (id : ElementId) (is : Element) → id.0 ≡ length table

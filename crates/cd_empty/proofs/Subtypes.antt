@@ -1,5 +1,5 @@
 -- Where no element and no value is in one node and outside another, each that is in the one is in the other.
-use Rattle.std.proofs.Common.{◌≡◌, ◌<◌, true, false, List, [], ◌∷◌, ◌++◌, ◌⊎◌, inl, inr, length, subst}
+use Rattle.std.proofs.Common.{◌≡◌, ◌<◌, true, false, List, [], ◌∷◌, ◌++◌, ◌⊎◌, inl, inr, refl, length, length-append, subst, arith}
 use Rattle.cd_sets.specs.declared.node_id.NodeId.{NodeId}
 use Rattle.cd_sets.specs.declared.question.Question.{Question}
 use Rattle.cd_syntax.specs.Element.{Element, IsElement}
@@ -12,6 +12,7 @@ use Rattle.cd_rules.specs.Needs.{question}
 use Rattle.cd_empty.specs.declared.verdict.Verdict.{Verdict}
 use Rattle.cd_empty.specs.declared.verdict.Verdict.TheVariants.{Empty}
 use Rattle.cd_empty.specs.Verdicts.{HasNoElement, HasNoValue, IsExact}
+use Rattle.cd_empty.proofs.Growing.{grows_then}
 use Rattle.cd_empty.proofs.ValuesDecided.{value_in_or_outside}
 
 module _ (graph : Graph) (first second : NodeId) where
@@ -27,14 +28,18 @@ module _ (graph : Graph) (first second : NodeId) where
       by_side (inl within) = within
       by_side (inr outside) = absurd (none is element ((inside, tt), (outside, tt)))
 
-  values_within : (begins : (more : Graph) × (graph ≡ built_ins ++ more)) → IsGraph graph → second.0 < length graph
-      → HasNoValue graph difference → (is : Value) → IsValue (length graph) is → value_answers graph is first true
-      → value_answers graph is second true
-  values_within begins sound below none is whole inside = by_side (value_in_or_outside graph begins.0 begins.1 sound is whole second below)
+  -- so is each value, whose closures may have arrows of a longer graph
+  values_within : (begins : (more : Graph) × (graph ≡ built_ins ++ more)) → second.0 < length graph → HasNoValue graph difference
+      → (more : Graph) (is : Value) → IsGraph (graph ++ more) → IsValue (length (graph ++ more)) is
+      → value_answers (graph ++ more) is first true → value_answers (graph ++ more) is second true
+  values_within begins below none more is sound whole inside =
+      let longer = grows_then built_ins graph (graph ++ more) begins (more, refl) in
+      by_side (value_in_or_outside (graph ++ more) longer.0 longer.1 sound is whole second (omega (arith, length-append graph more)))
     where
-      by_side : value_answers graph is second true ⊎ value_answers graph is second false → value_answers graph is second true
+      by_side : value_answers (graph ++ more) is second true ⊎ value_answers (graph ++ more) is second false
+          → value_answers (graph ++ more) is second true
       by_side (inl within) = within
-      by_side (inr outside) = absurd (none is whole ((inside, tt), (outside, tt)))
+      by_side (inr outside) = absurd (none more is whole ((inside, tt), (outside, tt)))
 
   -- so it is where the verdict on the question is that it is empty
   module _ (table : List Element) (one : Question) (same : one ≡ difference) (verdict : Verdict) (exact : IsExact graph table one verdict)
@@ -45,6 +50,7 @@ module _ (graph : Graph) (first second : NodeId) where
     pub each_element_within : (is : Element) → IsElement is → answers graph is first true → answers graph is second true
     each_element_within = elements_within nothing.0
 
-    pub each_value_within : (begins : (more : Graph) × (graph ≡ built_ins ++ more)) → IsGraph graph → second.0 < length graph
-        → (is : Value) → IsValue (length graph) is → value_answers graph is first true → value_answers graph is second true
-    each_value_within begins sound below = values_within begins sound below nothing.1
+    pub each_value_within : (begins : (more : Graph) × (graph ≡ built_ins ++ more)) → second.0 < length graph
+        → (more : Graph) (is : Value) → IsGraph (graph ++ more) → IsValue (length (graph ++ more)) is
+        → value_answers (graph ++ more) is first true → value_answers (graph ++ more) is second true
+    each_value_within begins below = values_within begins below nothing.1

@@ -10,12 +10,9 @@ use Rattle.cd_members.specs.Making.{IsFit, IsMade}
 use Rattle.cd_empty.specs.Rounds.{IsMadeFor}
 use Rattle.cd_empty.proofs.EachAt.{each_at, one_at}
 use Rattle.cd_empty.proofs.FitKept.{numbers_kept, fit_kept}
+use Rattle.cd_empty.proofs.Growing.{Grows}
 
--- a table is another one with more elements
-abbrev pub IsGrown : (table now : List Element) → Type 0
-IsGrown table now = (more : List Element) × (now ≡ table ++ more)
-
-module _ (table now : List Element) (marks : List (Option ElementId)) (grown : IsGrown table now) where
+module _ (table now : List Element) (marks : List (Option ElementId)) (grown : Grows table now) where
   pub still_numbers : AreNumbers table marks → AreNumbers now marks
   still_numbers are = subst (λ (all : List Element). AreNumbers all marks) (sym grown.1) (numbers_kept table grown.0 marks are)
 

@@ -1,6 +1,6 @@
 -- How marks are set: one question at a time, and in rounds over all that have none.
 use Rattle.std.specs.Prelude.{◌≡◌, ◌<◌, ◌++◌, ℕ, suc, Bool, true, false, List}
-use Rattle.std.specs.Prelude.{[], ◌∷◌, Option, Some, None, length, take, drop, slice_index_or, slice_set}
+use Rattle.std.specs.Prelude.{[], ◌∷◌, Option, Some, None, length, take, drop, slice_set}
 use Rattle.cd_sets.specs.declared.question.Question.{Question}
 use Rattle.cd_syntax.specs.Element.{Element, IsElement}
 use Rattle.cd_model.specs.Each.{Each, One}
@@ -9,7 +9,7 @@ use Rattle.cd_elements.specs.declared.shape.ElementId.{ElementId}
 use Rattle.cd_elements.specs.Table.{Names, element_at}
 use Rattle.cd_expand.specs.declared.needs.Needs.{Needs}
 use Rattle.cd_members.specs.Marks.{AreMarked}
-use Rattle.cd_members.specs.Making.{IsMade, IsStuck}
+use Rattle.cd_members.specs.Making.{HasNoMark, IsMade, IsStuck}
 use Rattle.cd_empty.specs.Deciding.{AreExpanded, AreStuck}
 
 -- how many questions have no mark
@@ -18,9 +18,9 @@ count_unmarked [] = 0
 count_unmarked (None ∷ marks) = suc (count_unmarked marks)
 count_unmarked (Some id ∷ marks) = count_unmarked marks
 
--- a question has no mark at its place
+-- the question at a place has no mark
 abbrev pub IsUnmarked : List (Option ElementId) → (place : ℕ) → Type 0
-IsUnmarked marks place = slice_index_or marks place None ≡ None
+IsUnmarked marks place = HasNoMark marks (record { 0 = place })
 
 -- An element of the table that is there in the end has what one of these needs asks for. It is made of elements of a table that
 -- began as the first one

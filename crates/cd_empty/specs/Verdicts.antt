@@ -1,5 +1,5 @@
 -- Questions with their verdicts.
-use Rattle.std.specs.Prelude.{◌≡◌, true, List, [], ◌∷◌, length}
+use Rattle.std.specs.Prelude.{◌≡◌, ◌++◌, true, List, [], ◌∷◌, length}
 use Rattle.cd_sets.specs.declared.question.Question.{Question}
 use Rattle.cd_syntax.specs.Element.{Element, IsElement}
 use Rattle.cd_model.specs.Each.{One}
@@ -10,12 +10,14 @@ use Rattle.cd_elements.specs.Table.{Names, element_at}
 use Rattle.cd_empty.specs.declared.verdict.Verdict.{Verdict}
 use Rattle.cd_empty.specs.declared.verdict.Verdict.TheVariants.{Empty, Inhabited}
 
--- no element is in a question, nor is a value whose closures have arrows of the graph
+-- no element is in a question
 abbrev pub HasNoElement : Graph → Question → Type 0
 HasNoElement graph question = (is : Element) → IsElement is → asked (answers graph is) question true → ⊥
 
+-- no value is in a question, whose closures may have arrows of any graph that begins with this one
 abbrev pub HasNoValue : Graph → Question → Type 0
-HasNoValue graph question = (is : Value) → IsValue (length graph) is → asked (value_answers graph is) question true → ⊥
+HasNoValue graph question =
+    (more : Graph) (is : Value) → IsValue (length (graph ++ more)) is → asked (value_answers (graph ++ more) is) question true → ⊥
 
 -- a verdict is exact: the question has no element, or it has this one of the table
 abbrev pub IsExact : Graph → List Element → Question → Verdict → Type 0

@@ -28,7 +28,7 @@ impl World {
     ghost use Rattle.cd_syntax.specs.Element.{Element as AnElement, IsElement};
     ghost use Rattle.cd_model.specs.BuiltIns.{built_ins};
     ghost use Rattle.cd_model.specs.Each.{Each};
-    ghost use Rattle.cd_model.specs.Formula.{IsFormula};
+    ghost use Rattle.cd_model.specs.Formula.{Graph as PlainGraph, IsFormula, IsGraph};
     ghost use Rattle.cd_model.specs.Membership.{answers, value_answers};
     ghost use Rattle.cd_model.specs.Value.{Value as AValue, IsValue};
     ghost use Rattle.cd_graph.specs.PlainFormula.{plain_list};
@@ -66,6 +66,7 @@ impl World {
     }
 
     /// Settles whether there is an element in each node of `pos` and in none of `neg`: Empty where there is none, nor a value, and else one.
+    /// The closures of values may have arrows of this graph, or of any that it grows to.
     ///
     /// # Errors
     ///
@@ -85,7 +86,8 @@ impl World {
         Ok(verdict)
     }
 
-    /// Settles whether what is in the first node is in the second: Empty where it is, and else an element that is in the first alone.
+    /// Settles whether what is in the first node is in the second: Empty where it is, and else an element that is in the first alone. The
+    /// closures of values may have arrows of this graph, or of any that it grows to.
     ///
     /// # Errors
     ///
@@ -95,15 +97,16 @@ impl World {
         requires second { second.0 < length (graph_of self.old) }
         ensures elements { IfOk result (λ verdict. verdict ≡ Empty → (is : AnElement) → IsElement is
             → answers (graph_of self.old) is first true → answers (graph_of self.old) is second true) }
-        ensures values { IfOk result (λ verdict. verdict ≡ Empty → (is : AValue) → IsValue (length (graph_of self.old)) is
-            → value_answers (graph_of self.old) is first true → value_answers (graph_of self.old) is second true) }
+        ensures values { IfOk result (λ verdict. verdict ≡ Empty → (more : PlainGraph) (is : AValue) → IsGraph (graph_of self.old ++ more)
+            → IsValue (length (graph_of self.old ++ more)) is
+            → value_answers (graph_of self.old ++ more) is first true → value_answers (graph_of self.old ++ more) is second true) }
         ensures exact { IfOk result (λ verdict. IsExact (graph_of self.old) (table_of self.new) (question (first ∷ []) (second ∷ [])) verdict) }
         ensures settled { IfOk result (λ verdict. IsKept (kept self.new) (question (first ∷ []) (second ∷ [])) verdict) }
         ensures stays { (more : List (AQuestion × AVerdict)) × (kept self.new ≡ kept self.old ++ more) }
         ensures graph { graph_of self.new ≡ graph_of self.old }
         ensures grows { (more : List AnElement) × (table_of self.new ≡ table_of self.old ++ more) }
     {
-        // The contract of this call says that the graph is sound and begins with the built-in nodes.
+        // The contract of this call says that the graph begins with the built-in nodes.
         let _nodes = self.graph.len();
         let question = question(self.decider.allocator(), &[first], &[second])?;
         self.decide(&question)

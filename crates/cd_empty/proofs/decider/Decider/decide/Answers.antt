@@ -4,8 +4,9 @@ use Rattle.std.proofs.lemmas.Option.{slice_get_within, slice_get_read}
 use Rattle.cd_sets.specs.declared.question.Question.{Question}
 use Rattle.cd_graph.specs.Nodes.{nodes}
 use Rattle.cd_empty.specs.Kept.{kept}
-use Rattle.cd_empty.proofs.KeptOnes.{kept_at, in_first, in_longer}
-use Rattle.cd_empty.proofs.Passing.{counted, asking, no_more, stays_after, fits_after}
+use Rattle.cd_empty.proofs.Growing.{grows_then, in_longer}
+use Rattle.cd_empty.proofs.KeptOnes.{kept_at, in_first}
+use Rattle.cd_empty.proofs.Passing.{counted, asking, no_more, fits_after}
 use Rattle.cd_empty.proofs.decider.Decider.decide.Goals as goal
 
 -- a question that only has a number changes nothing that is settled
@@ -33,12 +34,12 @@ settle_to-requires-clause-number c = slice_get_within _ _ _ c.in_ok-id.ensures.n
 pub returns-in_err-settle_to-clause-stays : goal.returns-in_err-settle_to-clause-stays
 returns-in_err-settle_to-clause-stays c =
     let before = no_more _ _ (c.place.ensures.keeps (counted _ _ _ c.requires.fits).asked) in
-    stays_after (kept c.args.self.now) (kept c.place.new.self) (kept c.settle_to.new.self) before c.settle_to.ensures.stays
+    grows_then (kept c.args.self.now) (kept c.place.new.self) (kept c.settle_to.new.self) before c.settle_to.ensures.stays
 
 pub returns-clause-stays : goal.returns-clause-stays
 returns-clause-stays c =
     let before = no_more _ _ (c.place.ensures.keeps (counted _ _ _ c.requires.fits).asked) in
-    stays_after (kept c.args.self.now) (kept c.place.new.self) (kept c.settle_to.new.self) before c.settle_to.ensures.stays
+    grows_then (kept c.args.self.now) (kept c.place.new.self) (kept c.settle_to.new.self) before c.settle_to.ensures.stays
 
 -- the question's mark is there
 pub index-requires : goal.index-requires

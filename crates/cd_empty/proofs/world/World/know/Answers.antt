@@ -1,16 +1,21 @@
-use Rattle.std.proofs.Common.{sym, subst}
+use Rattle.std.proofs.Common.{length, sym, subst}
 use Rattle.std.proofs.Math.Logic.{∥∥₁_map}
-use Rattle.cd_rules.specs.Family.{IsClosed}
+use Rattle.cd_rules.specs.Family.{AsksNodes, IsClosed}
 use Rattle.cd_empty.specs.Kept.{settled_questions, settled_marks}
 use Rattle.cd_empty.specs.Seen.{graph_of, table_of}
 use Rattle.cd_empty.proofs.ExactOnes.{all_exact, family_unmarked}
+use Rattle.cd_empty.proofs.Longer.{each_of_first}
+use Rattle.cd_empty.proofs.Passing.{asking}
 use Rattle.cd_empty.proofs.world.World.know.Goals as goal
 
 pub returns-clause-exact : goal.returns-clause-exact
 returns-clause-exact c =
     let world = c.args.self.now in
+    let decider = world.decider in
+    let asks = each_of_first (AsksNodes (length (graph_of world))) decider.settled decider.asked
+    (asking (graph_of world) (table_of world) decider world.fits) in
     all_exact (graph_of world) c.len-nodes.ensures.built_in (table_of world) c.len-elements.ensures.sound
-    (settled_questions world.decider) (settled_marks world.decider)
+    (settled_questions decider) (settled_marks decider) asks
     (∥∥₁_map world.fits (λ fits. fits.marked)) (∥∥₁_map world.fits (λ fits. fits.closed))
 
 pub returns-clause-closed : goal.returns-clause-closed

@@ -13,7 +13,6 @@ returns-clause-elements c =
 pub returns-clause-values : goal.returns-clause-values
 returns-clause-values c =
     let graph = graph_of c.args.self.now in
-    let nodes = c.len-nodes.ensures in
     IfOk-weaker c.decide.result _ _
     (λ verdict exact empty. each_value_within graph c.args.first c.args.second _ _ c.in_ok-question.ensures verdict exact empty
-    nodes.built_in nodes.sound c.requires.second) c.decide.ensures.exact
+    c.len-nodes.ensures.built_in c.requires.second) c.decide.ensures.exact
