@@ -95,6 +95,11 @@ pub either_apart : (b : Bool) {A B C D : Type 0} → (A → B → ⊥) → (C �
 either_apart true one other is out = one is out
 either_apart false one other is out = other is out
 
+-- both parts are, and one of them is not
+pub both_apart : {A B C D : Type 0} → (A → B → ⊥) → (C → D → ⊥) → (A × C) → (B ⊎ D) → ⊥
+both_apart one other is (inl miss) = one is.0 miss
+both_apart one other is (inr miss) = other is.1 miss
+
 -- a pair that maps, and one that fails, before others
 pub maps_apart : {A B C D E F : Type 0} → (A → B → ⊥) → (C → D → ⊥) → (E → F → ⊥) → ((B ⊎ C) × E) → ((A × D) ⊎ F) → ⊥
 maps_apart first second rest is (inr later) = rest is.1 later

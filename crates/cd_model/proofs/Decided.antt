@@ -37,6 +37,12 @@ both_or (inl a) (inl c) = inl (a, c)
 both_or (inl a) (inr d) = inr (inr d)
 both_or (inr b) other = inr (inl b)
 
+-- one holds, or both of those that stand against them
+pub one_or : {A B C D : Type 0} → A ⊎ B → C ⊎ D → (A ⊎ C) ⊎ (B × D)
+one_or (inl a) other = inl (inl a)
+one_or (inr b) (inl c) = inl (inr c)
+one_or (inr b) (inr d) = inr (b, d)
+
 module _ (reader : Reader) (decides : DecidesForms reader) where
   mutual
     holds_decided : (is : Formula) → holds reader is true ⊎ holds reader is false

@@ -11,12 +11,13 @@ use Rattle.cd_model.specs.Membership as node
 use Rattle.cd_model.specs.Scope.{Scope, Declared, names_in, names_over, names_seen}
 use Rattle.cd_model.specs.Value as value
 use Rattle.cd_model.specs.Value.{Value, ArrowOf}
-use Rattle.cd_model.specs.Written.{Written, kind_of, number_of_names, at_types, built_in, reader, labelled, mapping, AllMap, closure_mapping, value_built_in, value_reader, value_labelled, answers_with, value_answers_with, written_answers, written_value_answers}
+use Rattle.cd_model.specs.Written.{Written, kind_of, number_of_names, at_types, atom_reader, built_in, reader, items, labelled, mapping, AllMap, closure_mapping, value_built_in, value_reader, value_items, value_labelled, answers_with, value_answers_with, written_answers, written_value_answers}
 use Rattle.cd_model.proofs.Covered.{Covered, each_parts, covered_tree}
 use Rattle.cd_model.proofs.Leading.{IsIn, at_name, of_each}
 use Rattle.cd_model.proofs.SameAnswers.{both_ways, both_same, one_same, either_same}
 use Rattle.cd_model.proofs.SameNames.{types_same}
-use Rattle.cd_model.proofs.SameWritten.{Same, SameAtLabels, SameAtArrows, pair_same, xml_same, record_same, function_same, built_ins_same}
+use Rattle.cd_model.proofs.SameWritten.{Same, SameAtLabels, SameAtArrows, pair_same, xml_same, record_same, function_same, sequences_same, built_ins_same}
+use Rattle.cd_model.proofs.Sequences.{ItemsAlike, no_sequence, alike_of_atom, alike_with_item}
 
 -- All names that have a fact are guarded, and are among these. Neither number matters that is at least as many as these
 module _ (Fact : Declared → Type 0) (guards : (is : Declared) → Fact is → IsGuarded is)
@@ -32,10 +33,14 @@ module _ (Fact : Declared → Type 0) (guards : (is : Declared) → Fact is → 
     pub element_same : (is : Element) → Same Fact (at_types count (reader count is)) (at_types count' (reader count' is))
     element_same (element.Integer n) = as_read (element.Integer n) (λ scope kind covered answer. refl)
     element_same (element.Character c) = as_read (element.Character c) (λ scope kind covered answer. refl)
-    element_same (element.Atom name) = as_read (element.Atom name) (λ scope kind covered answer. refl)
+    element_same (element.Atom name) = as_read (element.Atom name)
+        (built_ins_same Fact (built_in (element.Atom name))
+        (sequences_same Fact {one = atom_reader name} {other = atom_reader name} (alike_of_atom (Same Fact) name)
+        (λ scope kind covered answer. refl)))
     element_same (element.Pair first second) = as_read (element.Pair first second)
         (built_ins_same Fact (built_in (element.Pair first second))
-        (pair_same Fact (element_same first) (element_same second)))
+        (sequences_same Fact (alike_with_item (Same Fact) (element_same first) (items_same second))
+        (pair_same Fact (element_same first) (element_same second))))
     element_same (element.Xml tag attributes content) = as_read (element.Xml tag attributes content)
         (built_ins_same Fact (built_in (element.Xml tag attributes content))
         (xml_same Fact (element_same tag) (element_same attributes) (element_same content)))
@@ -43,6 +48,12 @@ module _ (Fact : Declared → Type 0) (guards : (is : Declared) → Fact is → 
         (built_ins_same Fact (built_in (element.Record fields)) (record_same Fact (fields_same fields)))
     element_same (element.Function pairs) = as_read (element.Function pairs)
         (built_ins_same Fact (built_in (element.Function pairs)) (function_same Fact (pairs_same pairs)))
+
+    items_same : (is : Element) → ItemsAlike (Same Fact) (items count is) (items count' is)
+    items_same (element.Atom name) = alike_of_atom (Same Fact) name
+    items_same (element.Pair first second) =
+        alike_with_item (Same Fact) (element_same first) (items_same second)
+    items_same _ = no_sequence
 
     fields_same : (fields : element.Fields) → SameAtLabels Fact (labelled count fields) (labelled count' fields)
     fields_same element.NoField = λ scope label field covered answer. refl
@@ -97,10 +108,14 @@ module _ (Fact : Declared → Type 0) (guards : (is : Declared) → Fact is → 
           → Same Fact (at_types count (value_reader graph count is)) (at_types count' (value_reader graph count' is))
       value_same (value.Integer n) = value_as_read (value.Integer n) (λ scope kind covered answer. refl)
       value_same (value.Character c) = value_as_read (value.Character c) (λ scope kind covered answer. refl)
-      value_same (value.Atom name) = value_as_read (value.Atom name) (λ scope kind covered answer. refl)
+      value_same (value.Atom name) = value_as_read (value.Atom name)
+          (built_ins_same Fact (value_built_in (value.Atom name))
+          (sequences_same Fact {one = atom_reader name} {other = atom_reader name} (alike_of_atom (Same Fact) name)
+          (λ scope kind covered answer. refl)))
       value_same (value.Pair first second) = value_as_read (value.Pair first second)
           (built_ins_same Fact (value_built_in (value.Pair first second))
-          (pair_same Fact (value_same first) (value_same second)))
+          (sequences_same Fact (alike_with_item (Same Fact) (value_same first) (value_items_same second))
+          (pair_same Fact (value_same first) (value_same second))))
       value_same (value.Xml tag attributes content) = value_as_read (value.Xml tag attributes content)
           (built_ins_same Fact (value_built_in (value.Xml tag attributes content))
           (xml_same Fact (value_same tag) (value_same attributes) (value_same content)))
@@ -110,6 +125,13 @@ module _ (Fact : Declared → Type 0) (guards : (is : Declared) → Fact is → 
           (value.Closure function interface environment)
           (built_ins_same Fact (value_built_in (value.Closure function interface environment))
           (function_same Fact (closure_same graph interface)))
+
+      value_items_same : (is : Value)
+          → ItemsAlike (Same Fact) (value_items graph count is) (value_items graph count' is)
+      value_items_same (value.Atom name) = alike_of_atom (Same Fact) name
+      value_items_same (value.Pair first second) =
+          alike_with_item (Same Fact) (value_same first) (value_items_same second)
+      value_items_same _ = no_sequence
 
       value_fields_same : (fields : value.Fields)
           → SameAtLabels Fact (value_labelled graph count fields) (value_labelled graph count' fields)

@@ -7,6 +7,8 @@ pub mod Labels
 pub mod Decided
 pub mod Apart
 pub mod SameAnswers
+pub mod Languages
+pub mod Sequences
 pub mod Extension
 pub mod DataElements
 pub mod SoundData
@@ -18,6 +20,7 @@ pub mod Covered
 pub mod CoveredParts
 pub mod DeclaredScope
 pub mod Leading
+pub mod Regulars
 pub mod SameWritten
 pub mod SameNames
 pub mod Enough

@@ -8,11 +8,14 @@ use Rattle.cd_syntax.specs.TypeTree as type
 use Rattle.cd_syntax.specs.TypeTree.{Tree, tree, Kind, Trees, NoTree, ATree, Signs, NoSign, ASign, Declarations}
 use Rattle.cd_model.specs.Guarded.{IsOneOf, IsSigned}
 use Rattle.cd_model.specs.Guarded as guarded
+use Rattle.cd_model.specs.Items.{Items}
 use Rattle.cd_model.specs.Scope.{Scope, Declared}
-use Rattle.cd_model.specs.Written.{Answers, Labelled, Mapping, Field, kind_of, tree_holds, kind_holds, each_holds, one_holds, signs_hold, tuple_rest, arrows_rest, pair_reader, xml_reader, field_of, record_reader, function_reader, with_built_ins}
+use Rattle.cd_model.specs.Written.{Answers, Labelled, Mapping, Field, kind_of, tree_holds, kind_holds, each_holds, one_holds, signs_hold, tuple_rest, arrows_rest, pair_reader, xml_reader, field_of, record_reader, function_reader, fits, with_sequences, with_built_ins}
 use Rattle.cd_model.proofs.Covered.{Covered}
 use Rattle.cd_model.proofs.CoveredParts.{covered_first, covered_tuple, covered_argument, covered_arrows, covered_xml, covered_field}
+use Rattle.cd_model.proofs.Regulars.{fits_same}
 use Rattle.cd_model.proofs.SameAnswers.{both_same, one_same, three_same}
+use Rattle.cd_model.proofs.Sequences.{ItemsAlike, are_same}
 
 -- the same is answered at each of these places
 abbrev pub SameAtPlaces : (Scope → Kind → Type 0) → Answers → Answers → Type 1
@@ -60,7 +63,7 @@ module _ (Place : Scope → Kind → Type 0) (closed : AreClosed Place)
     kind_same scope (type.Meet first signs) place false = one_same
         (tree_same scope first (closed.in_first scope first signs place) false)
         (signs_same scope signs (λ is among. closed.in_signed scope first is signs among place) false)
-    kind_same scope (type.Sequence is) place answer = refl
+    kind_same scope (type.Sequence is) place answer = same scope (type.Sequence is) place answer
     kind_same scope (type.Record fields more) place answer = same scope (type.Record fields more) place answer
     kind_same scope (type.Xml tag attributes content) place answer =
         same scope (type.Xml tag attributes content) place answer
@@ -150,6 +153,13 @@ module _ (Fact : Declared → Type 0) where
       (covered_argument Fact scope is (ATree next rest) covered)
       (covered_arrows Fact scope is (ATree next rest) covered) answer
   function_same same scope _ covered answer = refl
+
+  pub sequences_same : {items others : Items Answers} {one other : Answers} → ItemsAlike Same items others → Same one other
+      → Same (with_sequences items one) (with_sequences others other)
+  sequences_same {items = items} {others = others} alike same scope (type.Sequence is) covered answer =
+      are_same Same (fits scope is) (fits scope is)
+      (fits_same Fact Same (λ one other same. same) scope is covered.within covered.over) items others alike answer
+  sequences_same alike same scope kind covered answer = same scope kind covered answer
 
   pub built_ins_same : (built_in : BuiltinName → Bool → Type 0) {one other : Answers} → Same one other
       → Same (with_built_ins built_in one) (with_built_ins built_in other)

@@ -1,5 +1,5 @@
 -- No written type answers both true and false at an element, or at a value.
-use Rattle.std.proofs.Common.{ℤ, ℕ, zero, suc, Bool, true, false, List, [], ◌∷◌, Option, Some, None, ◌⊎◌, inl, inr, sym, bytes_eq}
+use Rattle.std.proofs.Common.{ℤ, ℕ, zero, suc, Bool, true, false, List, [], ◌∷◌, Option, Some, None, inl, inr, sym, bytes_eq}
 use Rattle.std.proofs.lemmas.Bool.{true≢false}
 use Rattle.cd_syntax.specs.Name.{Name}
 use Rattle.cd_syntax.specs.declared.builtin.BuiltinName.{BuiltinName}
@@ -9,12 +9,15 @@ use Rattle.cd_syntax.specs.TypeTree as type
 use Rattle.cd_syntax.specs.TypeTree.{Tree, tree, Kind, Trees, NoTree, ATree, Signs, NoSign, ASign}
 use Rattle.cd_model.specs.BuiltIns.{built_ins, node_named}
 use Rattle.cd_model.specs.Formula.{Graph}
+use Rattle.cd_model.specs.Items.{Items, items_of_atom, with_item}
 use Rattle.cd_model.specs.Scope.{Scope, Declared, declared_as}
 use Rattle.cd_model.specs.Value as value
 use Rattle.cd_model.specs.Value.{Value, ArrowOf}
-use Rattle.cd_model.specs.Written.{Answers, Labelled, Mapping, Field, Written, kind_of, tree_holds, kind_holds, each_holds, one_holds, signs_hold, declared_holds, name_holds, at_types, integer_reader, character_reader, atom_reader, tuple_rest, arrows_rest, pair_reader, xml_reader, field_of, record_reader, function_reader, with_built_ins, built_in, reader, labelled, mapping, closure_mapping, value_built_in, value_reader, value_labelled, number_of_names, written_answers, written_value_answers}
+use Rattle.cd_model.specs.Written.{Answers, Labelled, Mapping, Field, Written, kind_of, tree_holds, kind_holds, each_holds, one_holds, signs_hold, declared_holds, name_holds, at_types, integer_reader, character_reader, atom_reader, tuple_rest, arrows_rest, pair_reader, xml_reader, field_of, record_reader, function_reader, fits, with_sequences, with_built_ins, built_in, reader, items, labelled, mapping, closure_mapping, value_built_in, value_reader, value_items, value_labelled, number_of_names, written_answers, written_value_answers}
 use Rattle.cd_model.proofs.Apart as node
-use Rattle.cd_model.proofs.Apart.{one_outcome, either_apart, maps_apart, fails_apart}
+use Rattle.cd_model.proofs.Apart.{one_outcome, either_apart, both_apart, maps_apart, fails_apart}
+use Rattle.cd_model.proofs.Regulars.{fits_apart}
+use Rattle.cd_model.proofs.Sequences.{EachItem, each_of_atom, each_with_item, are_apart}
 
 -- true and false are not both answered at a form, at a name, at a label, at an argument and result
 abbrev Apart : Answers → Type 0
@@ -30,11 +33,6 @@ ApartAtLabels labelled = (scope : Scope) (label : Name) (field : Field)
 abbrev ApartAtArrows : Mapping → Type 0
 ApartAtArrows mapping = (scope : Scope) (argument result : Kind)
     → mapping scope argument result true → mapping scope argument result false → ⊥
-
--- both parts are, and one of them is not
-both_apart : {A B C D : Type 0} → (A → B → ⊥) → (C → D → ⊥) → (A × C) → (B ⊎ D) → ⊥
-both_apart one other is (inl miss) = one is.0 miss
-both_apart one other is (inr miss) = other is.1 miss
 
 module _ (reader : Answers) (apart : Apart reader) where
   module _ (names : Scope → Name → Bool → Type 0) (names_apart : ApartAtNames names) where
@@ -55,7 +53,7 @@ module _ (reader : Answers) (apart : Apart reader) where
       kind_apart scope (type.Union trees) is out = none_apart scope trees is out
       kind_apart scope (type.Meet first signs) is out =
           both_apart (tree_apart scope first) (signs_apart scope signs) is out
-      kind_apart scope (type.Sequence sequence) is out = true≢false is
+      kind_apart scope (type.Sequence sequence) is out = apart scope (type.Sequence sequence) is out
       kind_apart scope (type.Record fields more) is out = apart scope (type.Record fields more) is out
       kind_apart scope (type.Xml tag attributes content) is out = apart scope (type.Xml tag attributes content) is out
       kind_apart scope (type.Named name) is out = names_apart scope name is out
@@ -130,6 +128,13 @@ function_apart mapping apart scope (type.Arrows (ATree one (ATree next rest))) i
     apart scope (kind_of one) (arrows_rest (ATree next rest)) is out
 function_apart mapping apart scope _ is out = true≢false is
 
+-- where this is so of the items of a sequence, and of the other forms
+sequences_apart : (items : Items Answers) (reader : Answers) → EachItem Apart items → Apart reader
+    → Apart (with_sequences items reader)
+sequences_apart items reader each apart scope (type.Sequence sequence) is out =
+    are_apart Apart (fits scope sequence) (fits_apart Apart (λ one apart. apart) scope sequence) items each is out
+sequences_apart items reader each apart scope kind is out = apart scope kind is out
+
 -- where the built-in types are apart, and the other forms
 built_ins_apart : (built_in : BuiltinName → Bool → Type 0) (reader : Answers)
     → ((name : BuiltinName) → built_in name true → built_in name false → ⊥) → Apart reader
@@ -147,11 +152,17 @@ module _ (count : ℕ) where
     element_apart : (is : Element) → Apart (at_types count (reader count is))
     element_apart (element.Integer n) = as_read (element.Integer n) (integer_reader n) (integer_apart n)
     element_apart (element.Character c) = as_read (element.Character c) (character_reader c) (character_apart c)
-    element_apart (element.Atom name) = as_read (element.Atom name) (atom_reader name) (atom_apart name)
+    element_apart (element.Atom name) = as_read (element.Atom name)
+        (with_sequences (items_of_atom name) (atom_reader name))
+        (sequences_apart (items_of_atom name) (atom_reader name) (each_of_atom Apart name) (atom_apart name))
     element_apart (element.Pair first second) = as_read (element.Pair first second)
+        (with_sequences (with_item (at_types count (reader count first)) (items count second))
+        (pair_reader (at_types count (reader count first)) (at_types count (reader count second))))
+        (sequences_apart (with_item (at_types count (reader count first)) (items count second))
         (pair_reader (at_types count (reader count first)) (at_types count (reader count second)))
+        (each_with_item Apart (items count second) (element_apart first) (items_apart second))
         (pair_apart (at_types count (reader count first)) (at_types count (reader count second))
-        (element_apart first) (element_apart second))
+        (element_apart first) (element_apart second)))
     element_apart (element.Xml tag attributes content) = as_read (element.Xml tag attributes content)
         (xml_reader (at_types count (reader count tag)) (at_types count (reader count attributes))
         (at_types count (reader count content)))
@@ -162,6 +173,11 @@ module _ (count : ℕ) where
         (record_apart (labelled count fields) (fields_apart fields))
     element_apart (element.Function pairs) = as_read (element.Function pairs) (function_reader (mapping count pairs))
         (function_apart (mapping count pairs) (pairs_apart pairs))
+
+    items_apart : (is : Element) → EachItem Apart (items count is)
+    items_apart (element.Atom name) = each_of_atom Apart name
+    items_apart (element.Pair first second) = each_with_item Apart (items count second) (element_apart first) (items_apart second)
+    items_apart _ = tt
 
     fields_apart : (fields : element.Fields) → ApartAtLabels (labelled count fields)
     fields_apart element.NoField = λ scope label field. one_outcome field.optional
@@ -191,11 +207,17 @@ module _ (count : ℕ) where
       value_apart : (is : Value) → Apart (at_types count (value_reader graph count is))
       value_apart (value.Integer n) = value_as_read (value.Integer n) (integer_reader n) (integer_apart n)
       value_apart (value.Character c) = value_as_read (value.Character c) (character_reader c) (character_apart c)
-      value_apart (value.Atom name) = value_as_read (value.Atom name) (atom_reader name) (atom_apart name)
+      value_apart (value.Atom name) = value_as_read (value.Atom name)
+          (with_sequences (items_of_atom name) (atom_reader name))
+          (sequences_apart (items_of_atom name) (atom_reader name) (each_of_atom Apart name) (atom_apart name))
       value_apart (value.Pair first second) = value_as_read (value.Pair first second)
+          (with_sequences (with_item (at_types count (value_reader graph count first)) (value_items graph count second))
+          (pair_reader (at_types count (value_reader graph count first)) (at_types count (value_reader graph count second))))
+          (sequences_apart (with_item (at_types count (value_reader graph count first)) (value_items graph count second))
           (pair_reader (at_types count (value_reader graph count first)) (at_types count (value_reader graph count second)))
+          (each_with_item Apart (value_items graph count second) (value_apart first) (value_items_apart second))
           (pair_apart (at_types count (value_reader graph count first)) (at_types count (value_reader graph count second))
-          (value_apart first) (value_apart second))
+          (value_apart first) (value_apart second)))
       value_apart (value.Xml tag attributes content) = value_as_read (value.Xml tag attributes content)
           (xml_reader (at_types count (value_reader graph count tag)) (at_types count (value_reader graph count attributes))
           (at_types count (value_reader graph count content)))
@@ -209,6 +231,12 @@ module _ (count : ℕ) where
           value_as_read (value.Closure function interface environment)
           (function_reader (closure_mapping graph count interface))
           (function_apart (closure_mapping graph count interface) (closure_apart interface))
+
+      value_items_apart : (is : Value) → EachItem Apart (value_items graph count is)
+      value_items_apart (value.Atom name) = each_of_atom Apart name
+      value_items_apart (value.Pair first second) =
+          each_with_item Apart (value_items graph count second) (value_apart first) (value_items_apart second)
+      value_items_apart _ = tt
 
       value_fields_apart : (fields : value.Fields) → ApartAtLabels (value_labelled graph count fields)
       value_fields_apart value.NoField = λ scope label field. one_outcome field.optional

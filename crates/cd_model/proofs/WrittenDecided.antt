@@ -9,11 +9,14 @@ use Rattle.cd_syntax.specs.Element.{Element}
 use Rattle.cd_syntax.specs.TypeTree as type
 use Rattle.cd_syntax.specs.TypeTree.{Tree, tree, Kind, Trees, NoTree, ATree, Signs, NoSign, ASign}
 use Rattle.cd_model.specs.BuiltIns.{built_ins, node_named}
+use Rattle.cd_model.specs.Items.{Items, items_of_atom, with_item}
 use Rattle.cd_model.specs.Scope.{Scope, Declared, declared_as}
-use Rattle.cd_model.specs.Written.{Answers, Labelled, Mapping, Field, Written, kind_of, tree_holds, kind_holds, each_holds, one_holds, signs_hold, declared_holds, name_holds, at_types, integer_reader, character_reader, atom_reader, tuple_rest, arrows_rest, pair_reader, xml_reader, field_of, record_reader, function_reader, with_built_ins, built_in, reader, labelled, mapping, number_of_names, written_answers}
+use Rattle.cd_model.specs.Written.{Answers, Labelled, Mapping, Field, Written, kind_of, tree_holds, kind_holds, each_holds, one_holds, signs_hold, declared_holds, name_holds, at_types, integer_reader, character_reader, atom_reader, tuple_rest, arrows_rest, pair_reader, xml_reader, field_of, record_reader, function_reader, fits, with_sequences, with_built_ins, built_in, reader, items, labelled, mapping, number_of_names, written_answers}
 use Rattle.cd_model.proofs.Decided as node
 use Rattle.cd_model.proofs.Decided.{swapped, both_or, three_or, either_decided, maps_or, labels_of}
 use Rattle.cd_model.proofs.Labels.{IsOneOf, all_or_fails}
+use Rattle.cd_model.proofs.Regulars.{fits_decides}
+use Rattle.cd_model.proofs.Sequences.{EachItem, each_of_atom, each_with_item, are_decided}
 use Rattle.cd_model.proofs.WrittenLabels.{names_written, written_or_not}
 
 -- true or false is answered at each form, at each name, at each label, at each argument and result
@@ -49,7 +52,7 @@ module _ (reader : Answers) (decides : Decides reader) where
       kind_decided scope (type.Arrows trees) = decides scope (type.Arrows trees)
       kind_decided scope (type.Union trees) = swapped (none_or_one scope trees)
       kind_decided scope (type.Meet first signs) = both_or (tree_decided scope first) (signs_decided scope signs)
-      kind_decided scope (type.Sequence is) = inr refl
+      kind_decided scope (type.Sequence is) = decides scope (type.Sequence is)
       kind_decided scope (type.Record fields more) = decides scope (type.Record fields more)
       kind_decided scope (type.Xml tag attributes content) = decides scope (type.Xml tag attributes content)
       kind_decided scope (type.Named name) = names_decide scope name
@@ -149,6 +152,13 @@ fields_end count (element.Field name is rest) scope label =
     by_name (inr other) (inl one) = inl (inr one)
     by_name (inr other) (inr absent) = inr (λ field free. rw other (absent field free))
 
+-- where this is so of the items of a sequence, and of the other forms
+sequences_decide : (items : Items Answers) (reader : Answers) → EachItem Decides items → Decides reader
+    → Decides (with_sequences items reader)
+sequences_decide items reader each decides scope (type.Sequence is) =
+    are_decided Decides (fits scope is) (fits_decides Decides (λ one decides. decides) scope is) items each
+sequences_decide items reader each decides scope kind = decides scope kind
+
 -- where the built-in types are decided, and the other forms
 built_ins_decide : (built_in : BuiltinName → Bool → Type 0) (reader : Answers)
     → ((name : BuiltinName) → built_in name true ⊎ built_in name false) → Decides reader
@@ -167,11 +177,17 @@ module _ (count : ℕ) where
     element_decides : (is : Element) → Decides (at_types count (reader count is))
     element_decides (element.Integer n) = as_read (element.Integer n) (integer_reader n) (integer_decides n)
     element_decides (element.Character c) = as_read (element.Character c) (character_reader c) (character_decides c)
-    element_decides (element.Atom name) = as_read (element.Atom name) (atom_reader name) (atom_decides name)
+    element_decides (element.Atom name) = as_read (element.Atom name)
+        (with_sequences (items_of_atom name) (atom_reader name))
+        (sequences_decide (items_of_atom name) (atom_reader name) (each_of_atom Decides name) (atom_decides name))
     element_decides (element.Pair first second) = as_read (element.Pair first second)
+        (with_sequences (with_item (at_types count (reader count first)) (items count second))
+        (pair_reader (at_types count (reader count first)) (at_types count (reader count second))))
+        (sequences_decide (with_item (at_types count (reader count first)) (items count second))
         (pair_reader (at_types count (reader count first)) (at_types count (reader count second)))
+        (each_with_item Decides (items count second) (element_decides first) (items_decide second))
         (pair_decides (at_types count (reader count first)) (at_types count (reader count second))
-        (element_decides first) (element_decides second))
+        (element_decides first) (element_decides second)))
     element_decides (element.Xml tag attributes content) = as_read (element.Xml tag attributes content)
         (xml_reader (at_types count (reader count tag)) (at_types count (reader count attributes))
         (at_types count (reader count content)))
@@ -182,6 +198,12 @@ module _ (count : ℕ) where
         (record_decides (labels_of fields) (labelled count fields) (fields_end count fields) (fields_decide fields))
     element_decides (element.Function pairs) = as_read (element.Function pairs) (function_reader (mapping count pairs))
         (function_decides (mapping count pairs) (pairs_decide pairs))
+
+    items_decide : (is : Element) → EachItem Decides (items count is)
+    items_decide (element.Atom name) = each_of_atom Decides name
+    items_decide (element.Pair first second) =
+        each_with_item Decides (items count second) (element_decides first) (items_decide second)
+    items_decide _ = tt
 
     fields_decide : (fields : element.Fields) → DecidesLabels (labelled count fields)
     fields_decide element.NoField = λ scope label field. cases_Bool field.optional

@@ -79,6 +79,11 @@ abbrev pub text_of : List ℕ → Element
 text_of [] = nil
 text_of (c ∷ text) = element.Pair (Character c) (text_of text)
 
+-- the sequence of these items
+abbrev pub sequence_of : List Element → Element
+sequence_of [] = nil
+sequence_of (first ∷ rest) = element.Pair first (sequence_of rest)
+
 -- the function that maps this integer alone
 abbrev pub function_of : ℕ → Element → Element
 function_of argument result = element.Function (element.Maps (Integer (pos argument)) result element.NoPair)

@@ -6,6 +6,8 @@ pub mod Canonical
 pub mod BuiltIns
 pub mod Kinds
 pub mod Examples
+pub mod Language
+pub mod Items
 pub mod Scope
 pub mod Written
 pub mod Guarded

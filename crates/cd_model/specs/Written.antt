@@ -15,11 +15,15 @@ use Rattle.cd_syntax.specs.declared.builtin.BuiltinName.TheVariants as builtin
 use Rattle.cd_syntax.specs.Element as element
 use Rattle.cd_syntax.specs.Element.{Element, IsElement}
 use Rattle.cd_syntax.specs.TypeTree as type
-use Rattle.cd_syntax.specs.TypeTree.{Tree, tree, Kind, Trees, NoTree, ATree, Signs, NoSign, ASign}
+use Rattle.cd_syntax.specs.TypeTree.{Tree, tree, Kind, Trees, NoTree, ATree, Signs, NoSign, ASign, Regular, regular, RegularKind, Regulars, NoRegular, ARegular}
+use Rattle.cd_syntax.specs.declared.type_tree.Post.{Post}
+use Rattle.cd_syntax.specs.declared.type_tree.Post.TheVariants as post
 use Rattle.cd_model.specs.BuiltIns.{built_ins, node_named}
 use Rattle.cd_model.specs.Formula.{Graph}
 use Rattle.cd_model.specs.Membership as node
-use Rattle.cd_model.specs.Membership.{answers, value_answers, either}
+use Rattle.cd_model.specs.Items.{Items, NoSequence, items_of_atom, with_item, are_in}
+use Rattle.cd_model.specs.Language.{Language, none, nothing, item, either, followed, star, plus, optional}
+use Rattle.cd_model.specs.Membership.{answers, value_answers, either as one_or_other}
 use Rattle.cd_model.specs.Each.{Each}
 use Rattle.cd_model.specs.Value as value
 use Rattle.cd_model.specs.Value.{Value, ArrowOf, IsValue}
@@ -46,8 +50,7 @@ abbrev mutual
   kind_holds reader names scope (type.Meet first signs) false = tree_holds reader names scope first false ⊎ signs_hold reader names scope signs false
   kind_holds reader names scope (type.Named name) answer = names scope name answer
   kind_holds reader names scope (type.Where is declarations) answer = tree_holds reader names (declarations ∷ scope) is answer
-  -- sequences are not read yet, and the last two are forms of patterns, which stand in no type
-  kind_holds reader names scope (type.Sequence is) answer = answer ≡ false
+  -- these two are forms of patterns, which stand in no type
   kind_holds reader names scope (type.Variable name) answer = answer ≡ false
   kind_holds reader names scope (type.Default name constant) answer = answer ≡ false
   kind_holds reader names scope kind answer = reader scope kind answer
@@ -156,6 +159,41 @@ function_reader mapping scope (type.Arrows (ATree is (ATree next rest))) answer 
     mapping scope (kind_of is) (arrows_rest (ATree next rest)) answer
 function_reader mapping scope kind answer = elsewhere scope kind answer
 
+-- The lists of things that fit a regular expression, by what each thing answers at the types of items. A lazy form holds what the
+-- greedy one holds. A capture is a form of patterns, which stands in no type
+abbrev pub repeated : Post → Language Answers → Language Answers
+repeated post.Star one = star one
+repeated post.LazyStar one = star one
+repeated post.Plus one = plus one
+repeated post.LazyPlus one = plus one
+repeated post.Opt one = optional one
+repeated post.LazyOpt one = optional one
+
+abbrev mutual
+  pub fits : Scope → Regular → Language Answers
+  fits scope (regular span kind) = fits_kind scope kind
+
+  pub fits_kind : Scope → RegularKind → Language Answers
+  fits_kind scope type.Nothing = nothing
+  fits_kind scope (type.Item is) = item (λ answers. answers scope (kind_of is))
+  fits_kind scope (type.Seq all) = fits_in_turn scope all
+  fits_kind scope (type.Alt all) = fits_one scope all
+  fits_kind scope (type.Repeat is post) = repeated post (fits scope is)
+  fits_kind scope (type.Capture name is) = none
+
+  pub fits_in_turn : Scope → Regulars → Language Answers
+  fits_in_turn scope NoRegular = nothing
+  fits_in_turn scope (ARegular first rest) = followed (fits scope first) (fits_in_turn scope rest)
+
+  pub fits_one : Scope → Regulars → Language Answers
+  fits_one scope NoRegular = none
+  fits_one scope (ARegular first rest) = either (fits scope first) (fits_one scope rest)
+
+-- a sequence is in `[R]` where its items fit R
+abbrev pub with_sequences : Items Answers → Answers → Answers
+with_sequences items reader scope (type.Sequence is) answer = are_in items (fits scope is) answer
+with_sequences items reader scope kind answer = reader scope kind answer
+
 -- a built-in name holds what its node holds, and the other forms are read by this reader
 abbrev pub with_built_ins : (BuiltinName → Bool → Type 0) → Answers → Answers
 with_built_ins built_in reader scope (type.Builtin name) answer = built_in name answer
@@ -169,19 +207,26 @@ abbrev mutual
   pub reader : ℕ → Element → Answers
   reader count (element.Integer n) = with_built_ins (built_in (element.Integer n)) (integer_reader n)
   reader count (element.Character c) = with_built_ins (built_in (element.Character c)) (character_reader c)
-  reader count (element.Atom name) = with_built_ins (built_in (element.Atom name)) (atom_reader name)
+  reader count (element.Atom name) = with_built_ins (built_in (element.Atom name)) (with_sequences (items_of_atom name) (atom_reader name))
   reader count (element.Pair first second) =
-      with_built_ins (built_in (element.Pair first second)) (pair_reader (at_types count (reader count first)) (at_types count (reader count second)))
+      with_built_ins (built_in (element.Pair first second))
+      (with_sequences (with_item (at_types count (reader count first)) (items count second))
+      (pair_reader (at_types count (reader count first)) (at_types count (reader count second))))
   reader count (element.Xml tag attributes content) =
       with_built_ins (built_in (element.Xml tag attributes content))
       (xml_reader (at_types count (reader count tag)) (at_types count (reader count attributes)) (at_types count (reader count content)))
   reader count (element.Record fields) = with_built_ins (built_in (element.Record fields)) (record_reader (labelled count fields))
   reader count (element.Function pairs) = with_built_ins (built_in (element.Function pairs)) (function_reader (mapping count pairs))
 
+  pub items : ℕ → Element → Items Answers
+  items count (element.Atom name) = items_of_atom name
+  items count (element.Pair first second) = with_item (at_types count (reader count first)) (items count second)
+  items count is = NoSequence
+
   pub labelled : ℕ → element.Fields → Labelled
   labelled count element.NoField scope label field answer = field.optional ≡ answer
   labelled count (element.Field name is rest) scope label field answer =
-      either (bytes_eq name label) (at_types count (reader count is) scope field.kind answer) (labelled count rest scope label field answer)
+      one_or_other (bytes_eq name label) (at_types count (reader count is) scope field.kind answer) (labelled count rest scope label field answer)
 
   pub mapping : ℕ → element.Pairs → Mapping
   mapping count element.NoPair scope argument result answer = answer ≡ true
@@ -214,10 +259,12 @@ abbrev mutual
   pub value_reader : Graph → ℕ → Value → Answers
   value_reader graph count (value.Integer n) = with_built_ins (value_built_in (value.Integer n)) (integer_reader n)
   value_reader graph count (value.Character c) = with_built_ins (value_built_in (value.Character c)) (character_reader c)
-  value_reader graph count (value.Atom name) = with_built_ins (value_built_in (value.Atom name)) (atom_reader name)
+  value_reader graph count (value.Atom name) =
+      with_built_ins (value_built_in (value.Atom name)) (with_sequences (items_of_atom name) (atom_reader name))
   value_reader graph count (value.Pair first second) =
       with_built_ins (value_built_in (value.Pair first second))
-      (pair_reader (at_types count (value_reader graph count first)) (at_types count (value_reader graph count second)))
+      (with_sequences (with_item (at_types count (value_reader graph count first)) (value_items graph count second))
+      (pair_reader (at_types count (value_reader graph count first)) (at_types count (value_reader graph count second))))
   value_reader graph count (value.Xml tag attributes content) =
       with_built_ins (value_built_in (value.Xml tag attributes content))
       (xml_reader (at_types count (value_reader graph count tag)) (at_types count (value_reader graph count attributes))
@@ -228,10 +275,15 @@ abbrev mutual
       with_built_ins (value_built_in (value.Closure function interface environment))
       (function_reader (closure_mapping graph count interface))
 
+  pub value_items : Graph → ℕ → Value → Items Answers
+  value_items graph count (value.Atom name) = items_of_atom name
+  value_items graph count (value.Pair first second) = with_item (at_types count (value_reader graph count first)) (value_items graph count second)
+  value_items graph count is = NoSequence
+
   pub value_labelled : Graph → ℕ → value.Fields → Labelled
   value_labelled graph count value.NoField scope label field answer = field.optional ≡ answer
   value_labelled graph count (value.Field name is rest) scope label field answer =
-      either (bytes_eq name label) (at_types count (value_reader graph count is) scope field.kind answer)
+      one_or_other (bytes_eq name label) (at_types count (value_reader graph count is) scope field.kind answer)
       (value_labelled graph count rest scope label field answer)
 
 -- a written type: its tree, and the declarations that it sees

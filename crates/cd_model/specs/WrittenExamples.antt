@@ -1,14 +1,25 @@
 -- Written types of which laws say what they hold, and which of their names are guarded.
 use Rattle.std.specs.Prelude.{ℕ, pos, true, false, List, [], ◌∷◌, Some, None, codes}
 use Rattle.cd_syntax.specs.declared.builtin.BuiltinName.TheVariants as builtin
+use Rattle.cd_syntax.specs.declared.tokens.Span.{Span}
+use Rattle.cd_syntax.specs.declared.type_tree.Post.TheVariants.{Star, Plus, Opt, LazyStar, LazyPlus, LazyOpt}
 use Rattle.cd_syntax.specs.Name.{Name}
-use Rattle.cd_syntax.specs.TypeTree.{Tree, tree, Kind, Builtin, Ints, Text, Tuple, Arrows, Union, Meet, Record, Named, Where, trees_of, NoSign, ASign, NoField, AField, Declarations, NoDeclaration, ADeclaration}
+use Rattle.cd_syntax.specs.TypeTree.{Tree, tree, Kind, Builtin, Ints, Chars, Text, Tuple, Arrows, Union, Meet, Sequence, Record, Named, Where, Regular, regular, RegularKind, Nothing, Item, Seq, Alt, Repeat, trees_of, regulars_of, NoSign, ASign, NoField, AField, Declarations, NoDeclaration, ADeclaration}
 use Rattle.cd_model.specs.Scope.{Scope, Declared}
 use Rattle.cd_model.specs.Written.{Written}
 
--- all trees stand at the same place
+-- all trees stand at the same place, and all regular expressions
+abbrev pub place : Span
+place = record { from = 0; to = 0 }
+
 abbrev pub here : Kind → Tree
-here kind = tree (record { from = 0; to = 0 }) kind
+here kind = tree place kind
+
+abbrev pub expression : RegularKind → Regular
+expression kind = regular place kind
+
+abbrev pub item : Tree → Regular
+item is = expression (Item is)
 
 abbrev pub number : ℕ → Tree
 number n = here (Ints (Some (pos n)) (Some (pos n)))
@@ -18,6 +29,12 @@ int = here (Builtin builtin.Int)
 
 abbrev pub char : Tree
 char = here (Builtin builtin.Char)
+
+abbrev pub bool : Tree
+bool = here (Builtin builtin.Bool)
+
+abbrev pub character : ℕ → Tree
+character c = here (Chars c c)
 
 abbrev pub named : List ℕ → Tree
 named name = here (Named name)
@@ -89,6 +106,49 @@ list_declared = one (codes "L") (here (Union (trees_of (here (Text []) ∷ here 
 
 abbrev pub list : Written
 list = alone (Where (named (codes "L")) list_declared)
+
+-- `[]`, `[Int* Bool?]`, `['ab']`, `[Int+ | Bool]`, `[(Int?)*]`, and `X where X = [X*]`
+abbrev pub sequence : Regular → Written
+sequence is = alone (Sequence is)
+
+abbrev pub no_items : Written
+no_items = sequence (expression Nothing)
+
+abbrev pub ints_then_bool : Written
+ints_then_bool = sequence (expression (Seq (regulars_of (expression (Repeat (item int) Star) ∷ expression (Repeat (item bool) Opt) ∷ []))))
+
+abbrev pub characters : Written
+characters = sequence (expression (Seq (regulars_of (item (character 97) ∷ item (character 98) ∷ []))))
+
+abbrev pub ints_or_bool : Written
+ints_or_bool = sequence (expression (Alt (regulars_of (expression (Repeat (item int) Plus) ∷ item bool ∷ []))))
+
+abbrev pub ints_if_any : Written
+ints_if_any = sequence (expression (Repeat (expression (Repeat (item int) Opt)) Star))
+
+abbrev pub nested : Written
+nested = alone (Where (named (codes "X")) (one (codes "X") (here (Sequence (expression (Repeat (item (named (codes "X"))) Star))))))
+
+-- `[Int*?]`, `[Int+?]`, `[Int??]`, `[(Int?)+]`, `[(Int Char)*]`, and `X where X = [A*] and A = Int | X`
+abbrev pub lazy_ints : Written
+lazy_ints = sequence (expression (Repeat (item int) LazyStar))
+
+abbrev pub some_lazy_ints : Written
+some_lazy_ints = sequence (expression (Repeat (item int) LazyPlus))
+
+abbrev pub lazy_int_if_any : Written
+lazy_int_if_any = sequence (expression (Repeat (item int) LazyOpt))
+
+abbrev pub some_ints_if_any : Written
+some_ints_if_any = sequence (expression (Repeat (expression (Repeat (item int) Opt)) Plus))
+
+abbrev pub both_in_turn : Written
+both_in_turn = sequence (expression (Repeat (expression (Seq (regulars_of (item int ∷ item char ∷ [])))) Star))
+
+abbrev pub mixed : Written
+mixed = alone (Where (named (codes "X"))
+    (two (codes "X") (here (Sequence (expression (Repeat (item (named (codes "A"))) Star))))
+    (codes "A") (here (Union (trees_of (int ∷ named (codes "X") ∷ []))))))
 
 -- the names of `X = (Int,X)`, `A = (Int where B = A)`, `X = X | Int`, `X = Int \ X` and `A = (B where B = A)`
 abbrev pub name_as : Name → Tree → Declared

@@ -6,13 +6,13 @@ ghost use Rattle.cd_syntax.specs.Element.{Element, IsElement, Integer, Character
 ghost use Rattle.cd_model.specs.BuiltIns.{built_ins, EMPTY, ANY, INT, CHAR, BYTE, ATOM, BOOL, STRING, ARROW, PAIR, RECORD, ANY_XML, DATA, NIL};
 ghost use Rattle.cd_model.specs.Canonical.{canonical};
 ghost use Rattle.cd_model.specs.Examples as example;
-ghost use Rattle.cd_model.specs.Examples.{text_of, function_of};
+ghost use Rattle.cd_model.specs.Examples.{text_of, sequence_of, function_of};
 ghost use Rattle.cd_syntax.specs.Integer.{LEAST};
 ghost use Rattle.cd_syntax.specs.Notation.{Prints};
 ghost use Rattle.cd_model.specs.Formula.{Graph, Formula, IsFormula, IsGraph};
 ghost use Rattle.cd_model.specs.Guarded.{IsGuarded, NamesAreGuarded};
 ghost use Rattle.cd_model.specs.WrittenExamples as written;
-ghost use Rattle.cd_syntax.specs.TypeTree.{Text};
+ghost use Rattle.cd_syntax.specs.TypeTree.{Text, Regular};
 ghost use Rattle.cd_model.specs.Written.{Written, number_of_names, answers_with, value_answers_with, written_answers, written_value_answers};
 ghost use Rattle.cd_model.specs.Kinds.{kind_of, kind_of_value, element_of, AnInteger, ACharacter, AnAtom, APair, AnXml, ARecord, AFunction, IsByte, IsBool, IsString, IsData, IsNil};
 ghost use Rattle.cd_model.specs.Membership.{holds, reader, value_reader, answers, value_answers, IsIn, IsOutside, IsValueIn};
@@ -203,6 +203,25 @@ pub fn written_examples()
     ensures not_circular { written_answers (Integer (pos 1)) written.not_circular true }
     ensures list { written_answers (element.Pair (Integer (pos 0)) example.list) written.list true }
     ensures no_list { written_answers example.pair written.list false }
+    ensures no_items { written_answers example.nil written.no_items true }
+    ensures an_item_too_many { written_answers (sequence_of (Integer (pos 1) ∷ [])) written.no_items false }
+    ensures in_turn { written_answers (sequence_of (Integer (pos 1) ∷ Integer (pos 2) ∷ Atom (codes "true") ∷ [])) written.ints_then_bool true }
+    ensures none_taken { written_answers example.list written.ints_then_bool true }
+    ensures out_of_turn { written_answers (sequence_of (Atom (codes "true") ∷ Integer (pos 1) ∷ [])) written.ints_then_bool false }
+    ensures at_most_once { written_answers (sequence_of (Atom (codes "true") ∷ Atom (codes "true") ∷ [])) written.ints_then_bool false }
+    ensures characters { written_answers (text_of (codes "ab")) written.characters true }
+    ensures at_least_once { written_answers example.nil written.ints_or_bool false }
+    ensures one_of { written_answers (sequence_of (Atom (codes "true") ∷ [])) written.ints_or_bool true }
+    ensures turns_that_may_be_empty { written_answers example.list written.ints_if_any true }
+    ensures nested { written_answers (sequence_of (example.nil ∷ example.nil ∷ [])) written.nested true }
+    ensures lazy_turns { written_answers (sequence_of (Integer (pos 1) ∷ Integer (pos 1) ∷ [])) written.lazy_ints true }
+    ensures lazy_but_once { written_answers example.nil written.some_lazy_ints false }
+    ensures lazy_but_at_most_once { written_answers (sequence_of (Integer (pos 1) ∷ Integer (pos 1) ∷ [])) written.lazy_int_if_any false }
+    ensures one_empty_turn { written_answers example.nil written.some_ints_if_any true }
+    ensures turns_of_both { written_answers (sequence_of (Integer (pos 1) ∷ Character 99 ∷ Integer (pos 1) ∷ [])) written.both_in_turn false }
+    ensures mixed { written_answers (sequence_of (sequence_of (Integer (pos 1) ∷ []) ∷ Integer (pos 2) ∷ [])) written.mixed true }
+    ensures no_sequence { (is : Regular) → written_answers example.pair (written.sequence is) false }
+    ensures other_end { (is : Regular) → written_answers (element.Pair (Integer (pos 1)) (Atom (codes "a"))) (written.sequence is) false }
 {}
 
 /// Names that are guarded, and names that are not.
