@@ -1,0 +1,5 @@
+pub mod Regular
+pub mod PlainRegular
+pub mod Sequences
+pub mod Automaton
+pub mod Examples
