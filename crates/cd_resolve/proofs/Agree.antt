@@ -5,6 +5,7 @@ use Rattle.cd_syntax.specs.Name.{Name}
 use Rattle.cd_syntax.specs.TypeTree as type
 use Rattle.cd_syntax.specs.TypeTree.{Kind}
 use Rattle.cd_model.specs.Formula.{Graph, formula_at}
+use Rattle.cd_model.specs.Membership as node
 use Rattle.cd_model.specs.Membership.{Reader, holds}
 use Rattle.cd_model.specs.Scope.{Scope, Declared, declared_as}
 use Rattle.cd_model.specs.Written.{Answers, name_holds}
@@ -14,7 +15,7 @@ use Rattle.cd_shapes.specs.Names.{node_of}
 use Rattle.cd_shapes.specs.Frames.{Frames, scope_of}
 use Rattle.cd_shapes.specs.Shaped.{Tables, ShapedKind}
 use Rattle.cd_shapes.specs.Reading.{AreMet}
-use Rattle.cd_resolve.specs.Closing.{formula_of}
+use Rattle.cd_resolve.specs.Closing.{node_at, formula_of}
 use Rattle.cd_resolve.proofs.FreeNames.{Uses}
 
 -- a form that is neither a connective nor a name
@@ -23,7 +24,6 @@ IsForm (type.Union trees) = ⊥
 IsForm (type.Meet first signs) = ⊥
 IsForm (type.Named name) = ⊥
 IsForm (type.Where is declarations) = ⊥
-IsForm (type.Sequence is) = ⊥
 IsForm (type.Variable name) = ⊥
 IsForm (type.Default name constant) = ⊥
 IsForm kind = Unit {0}
@@ -42,6 +42,17 @@ module _ (graph : Graph) (first : ℕ) (names : List (Name × NodeId)) (lists : 
   abbrev pub Agrees : Reader → Answers → Type 0
   Agrees reader written = (frames : Frames) (kind : Kind) (at : Place) → IsOf frames kind at → (answer : Bool)
       → holds reader (formula_of graph first (length tables.roots) at) answer ↔ written (scope_of base frames) kind answer
+
+  -- what is answered at nodes is so at the places that have them
+  abbrev pub AlikeAt : node.Answers → Answers → Type 0
+  AlikeAt one other = (frames : Frames) (kind : Kind) (at : Place) → IsOf frames kind at → (answer : Bool)
+      → one (node_at first (length tables.roots) at) answer ↔ other (scope_of base frames) kind answer
+
+  -- the same at sequences
+  abbrev pub AgreesAtSequences : Reader → Answers → Type 0
+  AgreesAtSequences reader written = (frames : Frames) (is : type.Regular) (at : Place) → IsOf frames (type.Sequence is) at
+      → (answer : Bool)
+      → holds reader (formula_of graph first (length tables.roots) at) answer ↔ written (scope_of base frames) (type.Sequence is) answer
 
   -- the same at forms that are neither connectives nor names
   abbrev pub AgreesAtForms : Reader → Answers → Type 0

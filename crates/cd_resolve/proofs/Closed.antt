@@ -1,5 +1,5 @@
 -- Formulas that were all made are those that the tables say, in each graph that they are put into.
-use Rattle.std.proofs.Common.{◌≡◌, ℕ, zero, suc, ◌+◌, ◌<◌, Bool, List, [], ◌∷◌, ◌++◌, map, length, Option, Some, refl, sym, ap, subst, ◌∙◌, arith}
+use Rattle.std.proofs.Common.{◌≡◌, ℕ, zero, suc, ◌+◌, ◌<◌, ◌≤◌, Bool, List, [], ◌∷◌, ◌++◌, map, length, Option, Some, refl, sym, ap, subst, ◌∙◌, arith}
 use Rattle.std.specs.List.{slice_get}
 use Rattle.std.specs.Option.{unwrap_or}
 use Rattle.std.proofs.lemmas.List.{length-map, length-append}
@@ -11,15 +11,15 @@ use Rattle.cd_order.specs.Order as order
 use Rattle.cd_order.specs.Order.{IsOrder, AreRows, row}
 use Rattle.cd_shapes.specs.declared.place.Place.{Place}
 use Rattle.cd_shapes.specs.declared.place.Place.TheVariants as place
-use Rattle.cd_shapes.specs.Shape.{Shape, Leaf, Pair, Xml, Record, Arrow, And, Or}
+use Rattle.cd_shapes.specs.Shape.{Shape, Leaf, Pair, Xml, Record, Arrow, And, Or, Sequence}
 use Rattle.cd_shapes.specs.Shaped.{Tables}
-use Rattle.cd_shapes.specs.Reading.{IsPlace, IsShape, AreSound}
+use Rattle.cd_shapes.specs.Reading.{IsPlace}
 use Rattle.cd_resolve.specs.declared.counts.Counts.{Counts}
-use Rattle.cd_resolve.specs.Closing.{size_of, node_at, made, formula_of, Closes, AgreesWith}
+use Rattle.cd_resolve.specs.Closing.{size_of, node_at, made, formula_of, AgreesWith}
 use Rattle.cd_resolve.specs.Links.{numbers_at, numbers_of, numbers_under, links}
-use Rattle.cd_resolve.specs.Making.{Fit, Counted, Item, Root, Made, items, so_far, of_found, of_number, filled, AreFilled}
-use Rattle.cd_resolve.proofs.Places.{each_follows, each_at, sound_roots, sound_shapes}
-use Rattle.cd_resolve.proofs.SoundParts.{IsItem, items_sound, filled_are, each_among_more}
+use Rattle.cd_resolve.specs.Making.{Fit, Counted, IsPlaced, ArePlaced, Item, Root, Made, items, so_far, of_found, of_number, filled, AreFilled}
+use Rattle.cd_resolve.proofs.Places.{each_follows, each_at, placed_roots, placed_shapes}
+use Rattle.cd_resolve.proofs.SoundParts.{IsItem, items_placed, LeafIn, items_in, filled_are, each_among_more}
 use Rattle.cd_resolve.proofs.Settling.{Under, made_same, numbers_in, rows_are_links, all_settled, filled_length}
 
 -- a fact of each of both is one of each
@@ -57,7 +57,7 @@ module _ (nodes names shapes : ℕ) where
   signs_below (sign ∷ signs) are = each_of_both (λ next. next < names + shapes) (numbers_at names sign.1)
       (numbers_of names (map (λ sign. sign.1) signs)) (place_below sign.1 are.0) (signs_below signs are.1)
 
-  shape_below : (shape : Shape) → IsShape nodes names shapes shape
+  shape_below : (shape : Shape) → IsPlaced nodes names shapes shape
       → order.Each (λ next. next < names + shapes) (numbers_under names shape)
   shape_below (Leaf is) shape = tt
   shape_below (Pair first second) shape = tt
@@ -66,6 +66,7 @@ module _ (nodes names shapes : ℕ) where
   shape_below (Arrow argument result) shape = tt
   shape_below (And signs) shape = signs_below signs shape
   shape_below (Or places) shape = places_below places shape
+  shape_below (Sequence regular places) shape = tt
 
   row_below : (all : List Item) (number : ℕ) → Each (IsItem nodes names shapes) all
       → order.Each (λ next. next < names + shapes) (row (map (numbers_in names) all) number)
@@ -90,14 +91,14 @@ pub counts_are : (counts : Counts) (tables : Tables) → Counted counts tables �
 counts_are counts tables counted = omega (arith, counted.names, counted.shapes)
 
 -- each number in a row has a row
-pub are_rows : (counts : Counts) (tables : Tables) → AreSound counts.nodes tables → Counted counts tables
+pub are_rows : (counts : Counts) (tables : Tables) → ArePlaced counts.nodes tables → Counted counts tables
     → AreRows (links tables)
-are_rows counts tables sound counted number =
+are_rows counts tables placed counted number =
     known_follows (λ next. next < counts.names + counts.shapes) (λ next. next < length (links tables))
     (λ next below. omega (arith, links_length tables, counts_are counts tables counted)) (row (links tables) number)
     (subst (λ (rows : List (List ℕ)). order.Each (λ next. next < counts.names + counts.shapes) (row rows number))
     (ap (λ (names : ℕ). map (numbers_in names) (items tables)) counted.names ∙ rows_are_links tables)
-    (row_below counts.nodes counts.names counts.shapes (items tables) number (items_sound counts tables sound counted)))
+    (row_below counts.nodes counts.names counts.shapes (items tables) number (items_placed counts tables placed counted)))
 
 -- the formula of a number in each list that begins with these, and after a graph
 get_first : (formulas more : List Formula) (number : ℕ) → number < length formulas
@@ -134,8 +135,16 @@ shape_found (one ∷ roots) shapes number zero shape is there = absurd (omega ar
 shape_found (one ∷ roots) shapes number (suc at) shape is there =
     shape_found roots shapes number at shape (omega arith) there
 
+-- each name has the formula at its root, and each shape that which is made of the formulas at its places
+pub record AreMade (graph : Graph) (first : ℕ) (tables : Tables) : Type 0 where
+  pub roots : (number : ℕ) (root : Place) → slice_get tables.roots number ≡ Some root
+      → formula_at graph (node (first + number)) ≡ formula_of graph first (length tables.roots) root
+  pub shapes : (number : ℕ) (shape : Shape) → slice_get tables.shapes number ≡ Some shape
+      → formula_at graph (node (first + (length tables.roots + number)))
+      ≡ made (node_at first (length tables.roots)) (formula_of graph first (length tables.roots)) shape
+
 module _ (old : Graph) (counts : Counts) (fit : Fit counts) (nodes : counts.nodes ≡ length old) (tables : Tables)
-    (sound : AreSound counts.nodes tables) (counted : Counted counts tables) (formulas : List Formula)
+    (placed : ArePlaced counts.nodes tables) (counted : Counted counts tables) (formulas : List Formula)
     (long : length formulas ≡ counts.names + counts.shapes)
     (made_so : (number : ℕ) → number < counts.names + counts.shapes → formula_at formulas (node number)
     ≡ of_number old counts.before counts.names (items tables) formulas number)
@@ -158,7 +167,7 @@ module _ (old : Graph) (counts : Counts) (fit : Fit counts) (nodes : counts.node
   place_there (place.Declared list index) is = number_there (list + index) (omega arith)
   place_there (place.Shape number) is = number_there (counts.names + number) (omega arith)
 
-  under_there : (shape : Shape) → IsShape counts.nodes counts.names counts.shapes shape
+  under_there : (shape : Shape) → IsPlaced counts.nodes counts.names counts.shapes shape
       → Under (λ at. so_far old counts.before counts.names formulas at
       ≡ formula_of (graph ++ formulas ++ more) counts.before counts.names at) shape
   under_there (Leaf is) shape = tt
@@ -174,6 +183,7 @@ module _ (old : Graph) (counts : Counts) (fit : Fit counts) (nodes : counts.node
   under_there (Or places) shape = each_follows (IsPlace counts.nodes counts.names counts.shapes)
       (λ at. so_far old counts.before counts.names formulas at
       ≡ formula_of (graph ++ formulas ++ more) counts.before counts.names at) place_there places shape
+  under_there (Sequence regular places) shape = tt
 
   root_closed : (number : ℕ) (root : Place) → slice_get tables.roots number ≡ Some root
       → formula_at (graph ++ formulas ++ more) (node (counts.before + number))
@@ -185,7 +195,7 @@ module _ (old : Graph) (counts : Counts) (fit : Fit counts) (nodes : counts.node
       ∙ made_so number within
       ∙ ap (of_found old counts.before counts.names formulas) (root_found tables.roots tables.shapes number root at)
       ∙ place_there root (each_at (IsPlace counts.nodes counts.names counts.shapes) tables.roots number root at
-      (sound_roots counts tables sound counted))
+      (placed_roots counts tables placed counted))
 
   shape_closed : (number : ℕ) (shape : Shape) → slice_get tables.shapes number ≡ Some shape
       → formula_at (graph ++ formulas ++ more) (node (counts.before + (counts.names + number)))
@@ -199,11 +209,11 @@ module _ (old : Graph) (counts : Counts) (fit : Fit counts) (nodes : counts.node
       (shape_found tables.roots tables.shapes number (counts.names + number) shape (omega (arith, counted.names)) at)
       ∙ made_same (node_at counts.before counts.names) (so_far old counts.before counts.names formulas)
       (formula_of (graph ++ formulas ++ more) counts.before counts.names) shape
-      (under_there shape (each_at (IsShape counts.nodes counts.names counts.shapes) tables.shapes number shape at
-      (sound_shapes counts tables sound counted)))
+      (under_there shape (each_at (IsPlaced counts.nodes counts.names counts.shapes) tables.shapes number shape at
+      (placed_shapes counts tables placed counted)))
 
-  pub closes : Closes (graph ++ formulas ++ more) counts.before tables
-  closes = record {
+  pub are_made : AreMade (graph ++ formulas ++ more) counts.before tables
+  are_made = record {
     roots = subst (λ (names : ℕ). (number : ℕ) (root : Place) → slice_get tables.roots number ≡ Some root
         → formula_at (graph ++ formulas ++ more) (node (counts.before + number))
         ≡ formula_of (graph ++ formulas ++ more) counts.before names root) counted.names root_closed;
@@ -234,14 +244,14 @@ all_made old counts tables counted left is formulas long number below =
 -- what is known of formulas that were filled in
 pub record IsClosed (old : Graph) (first : ℕ) (tables : Tables) (batch : List Formula) : Type 0 where
   pub number : length batch ≡ size_of tables
-  pub formulas : Each (IsFormula (first + length batch)) batch
-  pub closes : (graph more : Graph) → length graph ≡ first → AgreesWith old graph
-      → Closes (graph ++ batch ++ more) first tables
+  pub formulas : (nodes : ℕ) → first + length batch ≤ nodes → Each (LeafIn nodes) tables.shapes → Each (IsFormula nodes) batch
+  pub made : (graph more : Graph) → length graph ≡ first → AgreesWith old graph
+      → AreMade (graph ++ batch ++ more) first tables
 
 pub is_closed : (old : Graph) (counts : Counts) (fit : Fit counts) (nodes : counts.nodes ≡ length old) (tables : Tables)
-    → IsGraph old → AreSound counts.nodes tables → Counted counts tables → (batch : List Formula)
+    → IsGraph old → ArePlaced counts.nodes tables → Counted counts tables → (batch : List Formula)
     → AreFilled old counts tables batch → IsClosed old counts.before tables batch
-is_closed old counts fit nodes tables graph sound counted batch filling =
+is_closed old counts fit nodes tables graph placed counted batch filling =
     let order_of = filling.0 in
     let blanks = filling.1 in
     let done : List Formula = filled old counts.before counts.names (items tables) order_of blanks in
@@ -250,10 +260,10 @@ is_closed old counts fit nodes tables graph sound counted batch filling =
     let total : length done ≡ size_of tables = long ∙ counts_are counts tables counted in
     subst (IsClosed old counts.before tables) (sym filling.5) (record {
       number = total;
-      formulas = filled_are old counts fit (counts.before + length done) (omega arith)
-          (each_among_more (length old) (counts.before + length done) (omega (arith, fit.old)) old graph)
-          (items tables) (items_sound counts tables sound counted) order_of blanks
-          (each_among_more 0 (counts.before + length done) (omega arith) blanks filling.4);
-      closes = λ graph more first agrees. closes old counts fit nodes tables sound counted done long
+      formulas = λ all within leaves. filled_are old counts fit all (omega arith)
+          (each_among_more (length old) all (omega (arith, fit.old)) old graph)
+          (items tables) (items_placed counts tables placed counted) (items_in all tables leaves) order_of blanks
+          (each_among_more 0 all (omega arith) blanks filling.4);
+      made = λ graph more first agrees. are_made old counts fit nodes tables placed counted done long
           (all_made old counts tables counted order_of filling.2 blanks filling.3) graph more first agrees;
     })

@@ -21,7 +21,7 @@ use Rattle.cd_shapes.specs.Shape.{Shape, And, Or}
 use Rattle.cd_shapes.specs.Frames.{Frames, place_of, scope_of}
 use Rattle.cd_shapes.specs.Shaped.{Tables, IsAt, Shaped, ShapedKind, ShapedEach, ShapedSigns}
 use Rattle.cd_shapes.specs.Reading.{AreMet}
-use Rattle.cd_resolve.specs.Closing.{Closes, formula_of, made, node_at, signed}
+use Rattle.cd_resolve.specs.Closing.{Closes, IsNoSequence, formula_of, made, node_at, signed}
 use Rattle.cd_resolve.proofs.Agree.{IsForm}
 use Rattle.cd_resolve.proofs.BothWays.{itself, through, both_agree, one_agrees}
 use Rattle.cd_resolve.proofs.SignedFormulas.{kept_or_not, outside_or_not}
@@ -63,12 +63,12 @@ module _ (graph : Graph) (first : ℕ) (names : List (Name × NodeId)) (lists : 
         (ap (λ is. holds reader is answer) (ap (formula_of graph first (length tables.roots)) is ∙ empty))
 
     -- the formula at the place of a shape is made of those at its places
-    at_shape : (reader : Reader) (at : Place) (shape : Shape) → IsAt tables.shapes at shape → (answer : Bool)
+    at_shape : (reader : Reader) (at : Place) (shape : Shape) → IsAt tables.shapes at shape → IsNoSequence shape → (answer : Bool)
         → PlaceHolds reader at answer
         ↔ holds reader
         (made (node_at first (length tables.roots)) (formula_of graph first (length tables.roots)) shape) answer
-    at_shape reader at shape is answer = both_ways (ap (λ is. holds reader is answer)
-        (ap (formula_of graph first (length tables.roots)) is.there ∙ closes.shapes is.number shape is.is))
+    at_shape reader at shape is is_none answer = both_ways (ap (λ is. holds reader is answer)
+        (ap (formula_of graph first (length tables.roots)) is.there ∙ closes.shapes is.number shape is.is is_none))
 
     module _ (Chosen : Frames → Kind → Type 0) (closed : AreClosed Chosen) (reader : Reader) (written : Answers)
         (forms : ChosenForms Chosen reader written)
@@ -98,26 +98,27 @@ module _ (graph : Graph) (first : ℕ) (names : List (Name × NodeId)) (lists : 
         kind_agrees frames (type.Arrows trees) at met shaped chosen answer =
             forms frames (type.Arrows trees) at tt met shaped chosen answer
         kind_agrees frames (type.Union trees) at met shaped chosen true = through
-            (at_shape reader at (Or shaped.0) shaped.1 true)
+            (at_shape reader at (Or shaped.0) shaped.1 tt true)
             (some_agree frames trees shaped.0 met shaped.2
             (λ is among. closed.in_union frames trees is among chosen) true)
         kind_agrees frames (type.Union trees) at met shaped chosen false = through
-            (at_shape reader at (Or shaped.0) shaped.1 false)
+            (at_shape reader at (Or shaped.0) shaped.1 tt false)
             (each_agree frames trees shaped.0 met shaped.2
             (λ is among. closed.in_union frames trees is among chosen) false)
         kind_agrees frames (type.Meet one signs) at met shaped chosen true = through
-            (at_shape reader at (And ((true, shaped.0) ∷ shaped.1)) shaped.2 true)
+            (at_shape reader at (And ((true, shaped.0) ∷ shaped.1)) shaped.2 tt true)
             (both_agree
             (tree_agrees frames one shaped.0 met shaped.3 (closed.in_first frames one signs chosen) true)
             (signs_agree frames signs shaped.1 met shaped.4
             (λ is among. closed.in_signed frames one is signs among chosen)))
         kind_agrees frames (type.Meet one signs) at met shaped chosen false = through
-            (at_shape reader at (And ((true, shaped.0) ∷ shaped.1)) shaped.2 false)
+            (at_shape reader at (And ((true, shaped.0) ∷ shaped.1)) shaped.2 tt false)
             (one_agrees
             (tree_agrees frames one shaped.0 met shaped.3 (closed.in_first frames one signs chosen) false)
             (signs_fail frames signs shaped.1 met shaped.4
             (λ is among. closed.in_signed frames one is signs among chosen)))
-        kind_agrees frames (type.Sequence is) at met shaped chosen answer = at_empty reader at shaped answer
+        kind_agrees frames (type.Sequence is) at met shaped chosen answer =
+            forms frames (type.Sequence is) at tt met shaped chosen answer
         kind_agrees frames (type.Record fields more) at met shaped chosen answer =
             forms frames (type.Record fields more) at tt met shaped chosen answer
         kind_agrees frames (type.Xml tag attributes content) at met shaped chosen answer =

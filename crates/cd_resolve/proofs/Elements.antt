@@ -13,7 +13,8 @@ use Rattle.cd_model.specs.Written.{Answers, at_types, built_in}
 use Rattle.cd_shapes.specs.Frames.{Frames}
 use Rattle.cd_shapes.specs.Shaped.{Tables}
 use Rattle.cd_resolve.specs.Closing.{Closes}
-use Rattle.cd_resolve.proofs.Agree.{Agrees, AgreesAtForms, AgreesAtNames}
+use Rattle.cd_regex.specs.Sequences.{items_of}
+use Rattle.cd_resolve.proofs.Agree.{AlikeAt, Agrees, AgreesAtForms, AgreesAtNames}
 use Rattle.cd_resolve.proofs.BothWays.{itself, both_agree, one_agrees}
 use Rattle.cd_resolve.proofs.FormsBuiltIns.{Begins, element_at_name}
 use Rattle.cd_resolve.proofs.FormsOf.{AgreesAsForms, at_forms, at_part}
@@ -21,6 +22,8 @@ use Rattle.cd_resolve.proofs.FormsAgreeSets.{AgreesAtBuiltIns, integers_agree, c
 use Rattle.cd_resolve.proofs.FormsAgreeParts as parts
 use Rattle.cd_resolve.proofs.FormsAgreeRecords.{AgreesAtLabels, records_agree, no_field_agrees, field_agrees}
 use Rattle.cd_resolve.proofs.FormsAgreeFunctions.{AgreesAtArrows, functions_agree}
+use Rattle.cd_resolve.proofs.FormsSequences.{element_at, element_reads, sequences_agree}
+use Rattle.cd_resolve.proofs.LanguagesAgree.{ItemsAlike, alike_of_atom, alike_with_item}
 
 -- Connectives and names keep what is so of forms and of the free names that are used
 module _ (graph : Graph) (first : ℕ) (names : List (Name × NodeId)) (lists : List Frames) (tables : Tables) (base : Scope)
@@ -41,49 +44,76 @@ module _ (graph : Graph) (first : ℕ) (names : List (Name × NodeId)) (lists : 
   at_built_ins : (is : Element) → AgreesAtBuiltIns graph (node.reader graph is) (built_in is)
   at_built_ins is = element_at_name graph begins is
 
-  -- what is the same at forms and at names is so at all places
-  as_read : (is : Element) → IsElement is
+  -- its items answer the same one by one
+  abbrev SameItems : Element → Type 0
+  SameItems is = ItemsAlike (AlikeAt graph first names lists tables base Fact Used) (items_of graph is) (written.items count is)
+
+  -- what is the same at forms, of its items and at names is so at all places
+  as_read : (is : Element) → IsElement is → SameItems is
       → AgreesAsForms graph first names lists tables base Fact Used (node.reader graph is) (written.reader count is)
       → Same is
-  as_read is sound agrees = connectives (node.reader graph is) (written.reader count is)
+  as_read is sound items agrees = connectives (node.reader graph is) (written.reader count is)
       (at_forms graph first names lists tables base Fact Used closes begins
-      (node.reader graph is) (written.reader count is) agrees)
+      (node.reader graph is) (written.reader count is) agrees
+      (sequences_agree graph first names lists tables base Fact Used closes (node.reader graph is) (written.reader count is)
+      (items_of graph is) (written.items count is) (element_at graph is) (element_reads count is) items))
       (old_elements is sound)
+
+  atom_items : (name : Name) → SameItems (element.Atom name)
+  atom_items name = alike_of_atom (AlikeAt graph first names lists tables base Fact Used) name
+
+  pair_items : (one other : Element) → Same one → SameItems other → SameItems (element.Pair one other)
+  pair_items one other is_one are_items = alike_with_item (AlikeAt graph first names lists tables base Fact Used)
+      (items_of graph other) (written.items count other) is_one are_items
 
   -- by recursion on the element
   mutual
     pub element_agrees : (is : Element) → IsElement is
         → Agrees graph first names lists tables base Fact Used
         (node.reader graph is) (at_types count (written.reader count is))
-    element_agrees (element.Integer n) = λ sound. as_read (element.Integer n) sound
+    element_agrees (element.Integer n) = λ sound. as_read (element.Integer n) sound tt
         (integers_agree graph first names lists tables base Fact Used (built_in (element.Integer n)) n
         (at_built_ins (element.Integer n)))
-    element_agrees (element.Character c) = λ sound. as_read (element.Character c) sound
+    element_agrees (element.Character c) = λ sound. as_read (element.Character c) sound tt
         (characters_agree graph first names lists tables base Fact Used (built_in (element.Character c)) c
         (at_built_ins (element.Character c)))
-    element_agrees (element.Atom name) = λ sound. as_read (element.Atom name) sound
-        (atoms_agree graph first names lists tables base Fact Used (built_in (element.Atom name)) name
+    element_agrees (element.Atom name) = λ sound. as_read (element.Atom name) sound (atom_items name)
+        (atoms_agree graph first names lists tables base Fact Used (built_in (element.Atom name))
+        (written.items count (element.Atom name)) name
         (at_built_ins (element.Atom name)))
     element_agrees (element.Pair one other) = λ sound. as_read (element.Pair one other) sound
+        (pair_items one other (element_agrees one sound.0) (items_agree other sound.1))
         (parts.pairs_agree graph first names lists tables base Fact Used (built_in (element.Pair one other))
         (node.reader graph one) (node.reader graph other)
         (at_types count (written.reader count one)) (at_types count (written.reader count other))
-        (element_agrees one sound.0) (element_agrees other sound.1) (at_built_ins (element.Pair one other)))
-    element_agrees (element.Xml tag attributes content) = λ sound. as_read (element.Xml tag attributes content) sound
+        (element_agrees one sound.0) (element_agrees other sound.1) (written.items count (element.Pair one other))
+        (at_built_ins (element.Pair one other)))
+    element_agrees (element.Xml tag attributes content) = λ sound. as_read (element.Xml tag attributes content) sound tt
         (parts.xml_agrees graph first names lists tables base Fact Used (built_in (element.Xml tag attributes content))
         (node.reader graph tag) (node.reader graph attributes) (node.reader graph content)
         (at_types count (written.reader count tag)) (at_types count (written.reader count attributes))
         (at_types count (written.reader count content))
         (element_agrees tag sound.2) (element_agrees attributes sound.3) (element_agrees content sound.4)
         (at_built_ins (element.Xml tag attributes content)))
-    element_agrees (element.Record fields) = λ sound. as_read (element.Record fields) sound
+    element_agrees (element.Record fields) = λ sound. as_read (element.Record fields) sound tt
         (records_agree graph first names lists tables base Fact Used (built_in (element.Record fields))
         (node.labelled graph fields) (written.labelled count fields)
         (fields_agree fields sound.1) (at_built_ins (element.Record fields)))
-    element_agrees (element.Function pairs) = λ sound. as_read (element.Function pairs) sound
+    element_agrees (element.Function pairs) = λ sound. as_read (element.Function pairs) sound tt
         (functions_agree graph first names lists tables base Fact Used (built_in (element.Function pairs))
         (node.mapping graph pairs) (written.mapping count pairs)
         (pairs_agree pairs sound) (at_built_ins (element.Function pairs)))
+
+    items_agree : (is : Element) → IsElement is
+        → ItemsAlike (AlikeAt graph first names lists tables base Fact Used) (items_of graph is) (written.items count is)
+    items_agree (element.Integer n) = λ sound. tt
+    items_agree (element.Character c) = λ sound. tt
+    items_agree (element.Atom name) = λ sound. atom_items name
+    items_agree (element.Pair one other) = λ sound.
+        pair_items one other (element_agrees one sound.0) (items_agree other sound.1)
+    items_agree (element.Xml tag attributes content) = λ sound. tt
+    items_agree (element.Record fields) = λ sound. tt
+    items_agree (element.Function pairs) = λ sound. tt
 
     fields_agree : (fields : element.Fields) → AreFields fields
         → AgreesAtLabels graph first names lists tables base Fact Used

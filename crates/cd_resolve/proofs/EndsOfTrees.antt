@@ -14,7 +14,7 @@ use Rattle.cd_shapes.specs.declared.place.Place.{Place}
 use Rattle.cd_shapes.specs.declared.place.Place.TheVariants as place
 use Rattle.cd_shapes.specs.Frames.{Frames, scope_of, place_of}
 use Rattle.cd_shapes.specs.Leaves.{integers, characters}
-use Rattle.cd_shapes.specs.Shape.{Shape, Leaf, Pair, Xml, Arrow, And, Or}
+use Rattle.cd_shapes.specs.Shape.{Shape, Leaf, Pair, Xml, Arrow, And, Or, Sequence}
 use Rattle.cd_shapes.specs.Shaped.{Tables, IsAt, HasLeaf, ShapedText, Shaped, ShapedKind, ShapedEach, ShapedSigns}
 use Rattle.cd_shapes.specs.Reading.{AreMet}
 use Rattle.cd_resolve.specs.Links.{numbers_at, numbers_of, numbers_under, links}
@@ -93,7 +93,8 @@ module _ (names : List (Name × NodeId)) (base : Scope) (lists : List Frames) (t
           (tree_ends frames first shaped.0 met shaped.3 (closed.in_first (scope_of base frames) first signs stands))
           (signs_end frames signs shaped.1 met shaped.4
           (λ is among. closed.in_signed (scope_of base frames) first is signs among stands)))
-      kind_ends frames (type.Sequence is) at met shaped stands = at_node tables at _ shaped
+      kind_ends frames (type.Sequence is) at met shaped stands =
+          at_shape tables at (Sequence shaped.0 shaped.1) shaped.2 tt
       kind_ends frames (type.Record fields more) at met shaped stands = at_shape tables at _ shaped.1 tt
       kind_ends frames (type.Xml tag attributes content) at met shaped stands =
           at_shape tables at (Xml shaped.0 shaped.1 shaped.2) shaped.3 tt

@@ -6,11 +6,12 @@ use Rattle.cd_syntax.specs.declared.builtin.BuiltinName.{BuiltinName}
 use Rattle.cd_syntax.specs.TypeTree as type
 use Rattle.cd_syntax.specs.TypeTree.{ATree}
 use Rattle.cd_model.specs.Formula.{Graph}
+use Rattle.cd_model.specs.Items.{Items}
 use Rattle.cd_model.specs.Membership as node
 use Rattle.cd_model.specs.Membership.{Reader, at_nodes}
 use Rattle.cd_model.specs.Scope.{Scope, Declared}
 use Rattle.cd_model.specs.Written as written
-use Rattle.cd_model.specs.Written.{Answers, with_built_ins, kind_of, tuple_rest}
+use Rattle.cd_model.specs.Written.{Answers, with_built_ins, with_sequences, kind_of, tuple_rest}
 use Rattle.cd_shapes.specs.Frames.{Frames}
 use Rattle.cd_shapes.specs.Shaped.{Tables}
 use Rattle.cd_resolve.proofs.Agree.{Agrees}
@@ -27,29 +28,29 @@ module _ (graph : Graph) (first : ℕ) (names : List (Name × NodeId)) (lists : 
     abbrev pair : Reader
     pair = node.pair_reader (at_nodes graph one) (at_nodes graph other)
 
-    pub pairs_agree : AgreesAtBuiltIns graph pair built_in
+    pub pairs_agree : (items : Items Answers) → AgreesAtBuiltIns graph pair built_in
         → AgreesAsForms graph first names lists tables base Fact Used pair
-        (with_built_ins built_in (written.pair_reader one_written other_written))
-    pairs_agree named frames _ _ (form.built_in name) answer = named name answer
-    pairs_agree named frames _ _ (form.text c later head rest is_head is_rest) true = both_agree
+        (with_built_ins built_in (with_sequences items (written.pair_reader one_written other_written)))
+    pairs_agree items named frames _ _ (form.built_in name) answer = named name answer
+    pairs_agree items named frames _ _ (form.text c later head rest is_head is_rest) true = both_agree
         (at_part graph first names lists tables base Fact Used one one_written is_one
         frames (type.Chars c c) head is_head true)
         (at_part graph first names lists tables base Fact Used other other_written is_other frames
         (type.Text later) rest is_rest true)
-    pairs_agree named frames _ _ (form.text c later head rest is_head is_rest) false = one_agrees
+    pairs_agree items named frames _ _ (form.text c later head rest is_head is_rest) false = one_agrees
         (at_part graph first names lists tables base Fact Used one one_written is_one
         frames (type.Chars c c) head is_head false)
         (at_part graph first names lists tables base Fact Used other other_written is_other frames
         (type.Text later) rest is_rest false)
-    pairs_agree named frames _ _ (form.tuple is next trees head rest is_head is_rest) true = both_agree
+    pairs_agree items named frames _ _ (form.tuple is next trees head rest is_head is_rest) true = both_agree
         (at_part graph first names lists tables base Fact Used one one_written is_one frames (kind_of is) head is_head true)
         (at_part graph first names lists tables base Fact Used other other_written is_other frames
         (tuple_rest (ATree next trees)) rest is_rest true)
-    pairs_agree named frames _ _ (form.tuple is next trees head rest is_head is_rest) false = one_agrees
+    pairs_agree items named frames _ _ (form.tuple is next trees head rest is_head is_rest) false = one_agrees
         (at_part graph first names lists tables base Fact Used one one_written is_one frames (kind_of is) head is_head false)
         (at_part graph first names lists tables base Fact Used other other_written is_other frames
         (tuple_rest (ATree next trees)) rest is_rest false)
-    pairs_agree named frames _ _ _ answer = itself
+    pairs_agree items named frames _ _ _ answer = itself
 
   module _ (tag attributes content : Reader) (tag_written attributes_written content_written : Answers)
       (is_tag : Agrees graph first names lists tables base Fact Used tag tag_written)

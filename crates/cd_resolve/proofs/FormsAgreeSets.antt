@@ -11,11 +11,12 @@ use Rattle.cd_syntax.specs.Name.{Name}
 use Rattle.cd_syntax.specs.declared.builtin.BuiltinName.{BuiltinName}
 use Rattle.cd_model.specs.BuiltIns.{node_named}
 use Rattle.cd_model.specs.Formula.{Graph, formula_at}
+use Rattle.cd_model.specs.Items.{Items}
 use Rattle.cd_model.specs.Membership as node
 use Rattle.cd_model.specs.Membership.{Reader, holds}
 use Rattle.cd_model.specs.Scope.{Scope, Declared}
 use Rattle.cd_model.specs.Written as written
-use Rattle.cd_model.specs.Written.{with_built_ins}
+use Rattle.cd_model.specs.Written.{Answers, with_built_ins, with_sequences}
 use Rattle.cd_shapes.specs.Frames.{Frames}
 use Rattle.cd_shapes.specs.Shaped.{Tables}
 use Rattle.cd_resolve.proofs.BothWays.{itself, same_as}
@@ -58,10 +59,10 @@ module _ (graph : Graph) (first : ℕ) (names : List (Name × NodeId)) (lists : 
       false_alone _ answer (none_among _ _ c fails)
   characters_agree c named frames _ _ _ answer = itself
 
-  pub atoms_agree : (name : Name) → AgreesAtBuiltIns graph (node.atom_reader name) built_in
+  pub atoms_agree : (items : Items Answers) (name : Name) → AgreesAtBuiltIns graph (node.atom_reader name) built_in
       → AgreesAsForms graph first names lists tables base Fact Used (node.atom_reader name)
-      (with_built_ins built_in (written.atom_reader name))
-  atoms_agree name named frames _ _ (form.built_in other) answer = named other answer
-  atoms_agree name named frames _ _ (form.atom other) answer = same_as answer (or-false _)
-  atoms_agree name named frames _ _ form.nil answer = same_as answer (or-false _)
-  atoms_agree name named frames _ _ _ answer = itself
+      (with_built_ins built_in (with_sequences items (written.atom_reader name)))
+  atoms_agree items name named frames _ _ (form.built_in other) answer = named other answer
+  atoms_agree items name named frames _ _ (form.atom other) answer = same_as answer (or-false _)
+  atoms_agree items name named frames _ _ form.nil answer = same_as answer (or-false _)
+  atoms_agree items name named frames _ _ _ answer = itself

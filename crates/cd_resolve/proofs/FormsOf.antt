@@ -26,11 +26,16 @@ use Rattle.cd_shapes.specs.Frames.{Frames, scope_of}
 use Rattle.cd_shapes.specs.Leaves.{Pairs, Arrows}
 use Rattle.cd_shapes.specs.Shape.{Shape}
 use Rattle.cd_shapes.specs.Shaped.{Tables, IsAt, Shaped, ShapedKind, ShapedChain, ShapedFields}
-use Rattle.cd_resolve.specs.Closing.{Closes, formula_of, made, node_at}
+use Rattle.cd_resolve.specs.Closing.{Closes, IsNoSequence, formula_of, made, node_at}
 use Rattle.cd_resolve.proofs.FreeNames.{uses_first, uses_tuple, uses_argument, uses_arrows, uses_xml, uses_field}
-use Rattle.cd_resolve.proofs.Agree.{IsForm, IsOf, Agrees, AgreesAtForms}
+use Rattle.cd_resolve.proofs.Agree.{IsForm, IsOf, Agrees, AgreesAtSequences, AgreesAtForms}
 use Rattle.cd_resolve.proofs.FormsBuiltIns.{Begins, formula_of_empty, formula_of_nil}
 use Rattle.cd_resolve.proofs.FormsFields.{Named, found, field_found, field_is_found}
+
+-- a form that has one formula: a sequence has nodes of its own
+abbrev HasFormula : Kind → Type 0
+HasFormula (type.Sequence is) = ⊥
+HasFormula kind = IsForm kind
 
 module _ (graph : Graph) (first : ℕ) (names : List (Name × NodeId)) (lists : List Frames) (tables : Tables) (base : Scope)
     (Fact : Declared → Type 0) (Used : Name → Type 0) where
@@ -97,10 +102,10 @@ module _ (graph : Graph) (first : ℕ) (names : List (Name × NodeId)) (lists : 
     FormAt frames kind at = FormAs frames kind (formula_of graph first N at)
 
     -- the form of a shape, of a node, and of what holds nothing
-    as_shape : (frames : Frames) (kind : Kind) (at : Place) (shape : Shape) → IsAt tables.shapes at shape
+    as_shape : (frames : Frames) (kind : Kind) (at : Place) (shape : Shape) → IsAt tables.shapes at shape → IsNoSequence shape
         → FormAs frames kind (made (node_at first N) (formula_of graph first N) shape) → FormAt frames kind at
-    as_shape frames kind at shape is form = subst (λ is. FormAs frames kind is)
-        (sym (ap (formula_of graph first N) is.there ∙ closes.shapes is.number shape is.is)) form
+    as_shape frames kind at shape is is_none form = subst (λ is. FormAs frames kind is)
+        (sym (ap (formula_of graph first N) is.there ∙ closes.shapes is.number shape is.is is_none)) form
 
     as_node : (frames : Frames) (kind : Kind) (at : Place) (id : NodeId) (is : Formula) → at ≡ place.Node id
         → formula_at graph id ≡ is → FormAs frames kind is → FormAt frames kind at
@@ -174,7 +179,7 @@ module _ (graph : Graph) (first : ℕ) (names : List (Name × NodeId)) (lists : 
     }
 
     -- the form at a place
-    form_at : (frames : Frames) (kind : Kind) (at : Place) → IsForm kind
+    form_at : (frames : Frames) (kind : Kind) (at : Place) → HasFormula kind
         → IsOf graph first names lists tables base Fact Used frames kind at → FormAt frames kind at
     form_at frames (type.Builtin name) at form is =
         as_node frames (type.Builtin name) at (node_named name) _ is.shaped refl (built_in name)
@@ -184,20 +189,20 @@ module _ (graph : Graph) (first : ℕ) (names : List (Name × NodeId)) (lists : 
         by_test : (int_le (unwrap_or low LEAST) (unwrap_or high GREATEST) ≡ true)
             ⊎ (int_le (unwrap_or low LEAST) (unwrap_or high GREATEST) ≡ false)
             → ShapedKind names lists tables.shapes frames (type.Ints low high) at → FormAt frames (type.Ints low high) at
-        by_test (inl fits) shaped = as_shape frames (type.Ints low high) at _ (rw fits at shaped) (ints low high)
+        by_test (inl fits) shaped = as_shape frames (type.Ints low high) at _ (rw fits at shaped) tt (ints low high)
         by_test (inr fails) shaped =
             as_nothing frames (type.Ints low high) at (rw fails at shaped) (no_ints low high fails)
     form_at frames (type.Chars low high) at form is = by_test (cases_Bool (nat_le low high)) is.shaped
       where
         by_test : (nat_le low high ≡ true) ⊎ (nat_le low high ≡ false)
             → ShapedKind names lists tables.shapes frames (type.Chars low high) at → FormAt frames (type.Chars low high) at
-        by_test (inl fits) shaped = as_shape frames (type.Chars low high) at _ (rw fits at shaped) (chars low high)
+        by_test (inl fits) shaped = as_shape frames (type.Chars low high) at _ (rw fits at shaped) tt (chars low high)
         by_test (inr fails) shaped =
             as_nothing frames (type.Chars low high) at (rw fails at shaped) (no_chars low high fails)
-    form_at frames (type.Atom name) at form is = as_shape frames (type.Atom name) at _ is.shaped (atom name)
+    form_at frames (type.Atom name) at form is = as_shape frames (type.Atom name) at _ is.shaped tt (atom name)
     form_at frames (type.Text []) at form is =
         as_node frames (type.Text []) at NIL _ is.shaped (formula_of_nil graph begins) nil
-    form_at frames (type.Text (c ∷ later)) at form is = as_shape frames (type.Text (c ∷ later)) at _ is.shaped.2
+    form_at frames (type.Text (c ∷ later)) at form is = as_shape frames (type.Text (c ∷ later)) at _ is.shaped.2 tt
         (text c later _ _
         (part_at frames (type.Chars c c) is.shaped.0
         (record {
@@ -217,7 +222,7 @@ module _ (graph : Graph) (first : ℕ) (names : List (Name × NodeId)) (lists : 
     form_at frames (type.Tuple (ATree one NoTree)) at form is =
         as_nothing frames (type.Tuple (ATree one NoTree)) at is.shaped (one_tuple one)
     form_at frames (type.Tuple (ATree one (ATree next rest))) at form is =
-        as_shape frames (type.Tuple (ATree one (ATree next rest))) at _ is.shaped.2
+        as_shape frames (type.Tuple (ATree one (ATree next rest))) at _ is.shaped.2 tt
         (tuple one next rest _ _
         (part_at frames (kind_of one) is.shaped.0 (record {
           met = is.met;
@@ -235,7 +240,7 @@ module _ (graph : Graph) (first : ℕ) (names : List (Name × NodeId)) (lists : 
     form_at frames (type.Arrows (ATree one NoTree)) at form is =
         as_nothing frames (type.Arrows (ATree one NoTree)) at is.shaped (one_arrow one)
     form_at frames (type.Arrows (ATree one (ATree next rest))) at form is =
-        as_shape frames (type.Arrows (ATree one (ATree next rest))) at _ is.shaped.2
+        as_shape frames (type.Arrows (ATree one (ATree next rest))) at _ is.shaped.2 tt
         (arrows one next rest _ _
         (part_at frames (kind_of one) is.shaped.0 (record {
           met = is.met;
@@ -249,7 +254,7 @@ module _ (graph : Graph) (first : ℕ) (names : List (Name × NodeId)) (lists : 
           covered = covered_arrows Fact (scope_of base frames) one (ATree next rest) is.covered;
           uses = uses_arrows Used (scope_of [] frames) one (ATree next rest) is.uses;
         })))
-    form_at frames (type.Record all more) at form is = as_shape frames (type.Record all more) at _ is.shaped.1
+    form_at frames (type.Record all more) at form is = as_shape frames (type.Record all more) at _ is.shaped.1 tt
         (fields all more _ (node_named (any_or_none more)) (λ label.
         subst (λ field. SaysOf frames field (written.field_of all more label))
         (sym (field_is_found (node_at first N) (node_named (any_or_none more)) is.shaped.0 label))
@@ -262,7 +267,7 @@ module _ (graph : Graph) (first : ℕ) (names : List (Name × NodeId)) (lists : 
         })
         (found_is frames all more is.shaped.0 label is.shaped.2))))
     form_at frames (type.Xml tag attributes content) at form is =
-        as_shape frames (type.Xml tag attributes content) at _ is.shaped.3 (xml tag attributes content _ _ _
+        as_shape frames (type.Xml tag attributes content) at _ is.shaped.3 tt (xml tag attributes content _ _ _
         (part_at frames (kind_of tag) is.shaped.0 (record {
           met = is.met;
           shaped = shaped_kind frames tag is.shaped.0 is.shaped.4;
@@ -283,8 +288,11 @@ module _ (graph : Graph) (first : ℕ) (names : List (Name × NodeId)) (lists : 
         })))
     form_at frames _ at form is = absurd form
 
-    -- what is answered the same at each form and its formula is so at the places of forms
+    -- what is answered the same at each form and its formula, and at sequences, is so at the places of forms
     pub at_forms : (reader : Reader) (answers : Answers) → AgreesAsForms reader answers
+        → AgreesAtSequences graph first names lists tables base Fact Used reader answers
         → AgreesAtForms graph first names lists tables base Fact Used reader answers
-    at_forms reader answers agrees frames kind at form is answer =
+    at_forms reader answers agrees sequences frames (type.Sequence expression) at form is answer =
+        sequences frames expression at is answer
+    at_forms reader answers agrees sequences frames kind at form is answer =
         agrees frames kind (formula_of graph first N at) (form_at frames kind at form is) answer

@@ -14,8 +14,14 @@ pub mod LinksRows
 pub mod LinksKnown
 pub mod EndsOfTrees
 pub mod EndsOfNames
+pub mod Layers
+pub mod OverNodes
+pub mod LeafRows
 pub mod LinksDeclared
 pub mod LinksEnd
+pub mod LanguagesAgree
+pub mod FitsAgree
+pub mod FormsSequences
 pub mod FormsBuiltIns
 pub mod FormsFields
 pub mod FormsOf
@@ -33,4 +39,6 @@ pub mod Filling
 pub mod SoundParts
 pub mod Settling
 pub mod Closed
+pub mod LeafTables
+pub mod ClosedSequences
 pub mod Kept

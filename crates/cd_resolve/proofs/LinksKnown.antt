@@ -6,7 +6,7 @@ use Rattle.cd_model.proofs.Covered.{each_both}
 use Rattle.cd_order.specs.Order.{Each, row, AreRows}
 use Rattle.cd_shapes.specs.declared.place.Place.{Place}
 use Rattle.cd_shapes.specs.declared.place.Place.TheVariants as place
-use Rattle.cd_shapes.specs.Shape.{Shape, Leaf, Pair, Xml, Record, Arrow, And, Or}
+use Rattle.cd_shapes.specs.Shape.{Shape, Leaf, Pair, Xml, Record, Arrow, And, Or, Sequence}
 use Rattle.cd_shapes.specs.Shaped.{Tables}
 use Rattle.cd_shapes.specs.Reading.{IsPlace, IsShape, AreShapes, AreSound}
 use Rattle.cd_resolve.specs.Closing.{size_of}
@@ -54,6 +54,7 @@ module _ (nodes names before : ℕ) (Fact : ℕ → Type 0) (named : (number : �
   each_under (Arrow argument result) is = tt
   each_under (And signs) is = each_signed signs is
   each_under (Or places) is = each_of places is
+  each_under (Sequence regular places) is = tt
 
 -- each of the numbers in a row is below this one
 abbrev pub AllBelow : ℕ → List ℕ → Type 0

@@ -8,12 +8,12 @@ use Rattle.cd_model.specs.Formula.{AreRisingLabels}
 use Rattle.cd_shapes.specs.declared.place.Place.{Place}
 use Rattle.cd_shapes.specs.declared.place.Place.TheVariants as place
 use Rattle.cd_shapes.specs.declared.place.FieldPlace.{FieldPlace}
-use Rattle.cd_shapes.specs.Shape.{Shape, Leaf, Pair, Xml, Record, Arrow, And, Or}
+use Rattle.cd_shapes.specs.Shape.{Shape, Leaf, Pair, Xml, Record, Arrow, And, Or, Sequence}
 use Rattle.cd_shapes.specs.Shaped.{Tables}
 use Rattle.cd_shapes.specs.Reading.{IsPlace, IsShape, AreShapes, AreSound, AreRising}
 use Rattle.cd_resolve.specs.declared.counts.Counts.{Counts}
 use Rattle.cd_resolve.specs.Closing.{field_at}
-use Rattle.cd_resolve.specs.Making.{Counted}
+use Rattle.cd_resolve.specs.Making.{Counted, IsPlaced, ArePlaced}
 
 -- a fact that follows from another of each
 pub each_follows : {X : Type 0} (fact other : X → Type 0) → ((one : X) → fact one → other one) → (list : List X)
@@ -74,6 +74,11 @@ shape_among_more nodes names before top (And signs) more is =
 shape_among_more nodes names before top (Or places) more is =
     each_follows (IsPlace nodes names before) (IsPlace nodes names top)
     (λ at. place_among_more nodes names before top at more) places is
+shape_among_more nodes names before top (Sequence regular places) more is = (
+  each_follows (IsPlace nodes names before) (IsPlace nodes names top)
+      (λ at. place_among_more nodes names before top at more) places is.0,
+  is.1,
+)
 
 -- each shape is one among all
 pub shapes_among_all : (nodes names before top : ℕ) (shapes : List Shape) → before + length shapes ≤ top
@@ -105,3 +110,29 @@ sound_roots counts tables sound counted =
     subst (λ (names : ℕ). Each (IsPlace counts.nodes names counts.shapes) tables.roots) (sym counted.names)
     (subst (λ (shapes : ℕ). Each (IsPlace counts.nodes (length tables.roots) shapes) tables.roots) (sym counted.shapes)
     sound.roots)
+
+-- shapes are placed
+pub placed : (nodes names shapes : ℕ) (shape : Shape) → IsShape nodes names shapes shape → IsPlaced nodes names shapes shape
+placed nodes names shapes (Leaf formula) is = tt
+placed nodes names shapes (Pair first second) is = is
+placed nodes names shapes (Xml tag attributes content) is = is
+placed nodes names shapes (Record named rest) is = is
+placed nodes names shapes (Arrow argument result) is = is
+placed nodes names shapes (And signs) is = is
+placed nodes names shapes (Or places) is = is
+placed nodes names shapes (Sequence regular places) is = is
+
+-- the shapes and the roots of tables whose places are there
+pub placed_shapes : (counts : Counts) (tables : Tables) → ArePlaced counts.nodes tables → Counted counts tables
+    → Each (IsPlaced counts.nodes counts.names counts.shapes) tables.shapes
+placed_shapes counts tables are counted =
+    subst (λ (names : ℕ). Each (IsPlaced counts.nodes names counts.shapes) tables.shapes) (sym counted.names)
+    (subst (λ (shapes : ℕ). Each (IsPlaced counts.nodes (length tables.roots) shapes) tables.shapes) (sym counted.shapes)
+    are.shapes)
+
+pub placed_roots : (counts : Counts) (tables : Tables) → ArePlaced counts.nodes tables → Counted counts tables
+    → Each (IsPlace counts.nodes counts.names counts.shapes) tables.roots
+placed_roots counts tables are counted =
+    subst (λ (names : ℕ). Each (IsPlace counts.nodes names counts.shapes) tables.roots) (sym counted.names)
+    (subst (λ (shapes : ℕ). Each (IsPlace counts.nodes (length tables.roots) shapes) tables.roots) (sym counted.shapes)
+    are.roots)

@@ -51,6 +51,10 @@ node_is_there nodes first tables (place.Node id) fits is = omega arith
 node_is_there nodes first tables (place.Declared list index) fits is = omega arith
 node_is_there nodes first tables (place.Shape number) fits is = omega arith
 
+-- what is below a number is below more
+among_more : {one few more : ℕ} → one < few → few ≤ more → one < more
+among_more below within = omega arith
+
 -- a graph that begins with another agrees with it
 kept : (graph more : Graph) (id : ℕ) → id < length graph → formula_at graph (node id) ≡ formula_at (graph ++ more) (node id)
 kept [] more id below = absurd (omega arith)
@@ -96,7 +100,7 @@ module _ (declarations : Declarations) (none : (fault : Fault) → IsFaultOfList
       by_place (inr outside) = absurd cc (sym place_is ∙ outside.at)
 
   pub declarations_stand : (graph batch : Graph) → length graph ≡ first → (rest : Graph) × (graph ≡ built_ins ++ rest)
-      → 14 ≤ first → length batch ≡ size_of tables → ((more : Graph) → Closes (graph ++ batch ++ more) first tables)
+      → 14 ≤ first → size_of tables ≤ length batch → ((more : Graph) → Closes (graph ++ batch ++ more) first tables)
       → AreNamed (graph ++ batch) declarations (numbered first declarations)
   declarations_stand graph batch long begins enough size closes =
       all_named (graph ++ batch) declarations first each
@@ -104,8 +108,8 @@ module _ (declarations : Declarations) (none : (fault : Fault) → IsFaultOfList
       begun : (rest : Graph) × (graph ++ batch ≡ built_ins ++ rest)
       begun = (begins.0 ++ batch, ap (λ graph. graph ++ batch) begins.1 ∙ append_assoc built_ins begins.0 batch)
 
-      total : length (graph ++ batch) ≡ first + size_of tables
-      total = length-append graph batch ∙ ap (λ n. n + length batch) long ∙ ap (λ n. first + n) size
+      total : first + size_of tables ≤ length (graph ++ batch)
+      total = omega (arith, length-append graph batch)
 
       -- nothing is asked of free names
       all_used : {kind : Kind} → Uses (λ name. Unit {0}) (declarations ∷ []) kind
@@ -117,8 +121,7 @@ module _ (declarations : Declarations) (none : (fault : Fault) → IsFaultOfList
           (tree (record { from = 0; to = 0 }) (Named name)) (place.Declared 0 index) read.roots (inl refl, tt)
           (sym (ap (λ index. declared_or 0 index (given None)) at)) (list_is_guarded declarations none)
           (λ name. Unit {0}) all_used (graph ++ batch) begun
-          (subst (λ total. (node_at first (length tables.roots) (place.Declared 0 index)).0 < total) (sym total)
-          (node_is_there 14 first tables (place.Declared 0 index) enough (has_root name index at)))
+          (among_more (node_is_there 14 first tables (place.Declared 0 index) enough (has_root name index at)) total)
           closes (λ more is element name used. refl) (λ more is value name used. refl)
 
       each : (name : Name) (index : ℕ) → index_in declarations name ≡ Some index
@@ -161,21 +164,20 @@ module _ (declarations : Declarations) (none : (fault : Fault) → IsFaultOfList
   type_ends sound = ends names (declarations ∷ []) (names_seen (declarations ∷ []) is) lists tables (length old) read sound
       (names_are_guarded declarations none is none_inside)
 
-  pub type_stands : (batch : Graph) → length batch ≡ size_of tables
+  pub type_stands : (batch : Graph) → size_of tables ≤ length batch
       → ((more : Graph) → Closes (old ++ batch ++ more) (length old) tables)
       → StandsFor (old ++ batch) (node_at (length old) (length tables.roots) root)
       (record { scope = declarations ∷ []; tree = is })
   type_stands batch size closes = stands (length old) names lists tables (declarations ∷ []) [] is root read.roots tt shaped
       (names_are_guarded declarations none is none_inside) IsUsed uses (old ++ batch) begun
-      (subst (λ total. (node_at (length old) (length tables.roots) root).0 < total) (sym total)
-      (node_is_there (length old) (length old) tables root (omega arith) there))
+      (among_more (node_is_there (length old) (length old) tables root (omega arith) there) total)
       closes old_elements old_values
     where
       begun : (rest : Graph) × (old ++ batch ≡ built_ins ++ rest)
       begun = (begins.0 ++ batch, ap (λ graph. graph ++ batch) begins.1 ∙ append_assoc built_ins begins.0 batch)
 
-      total : length (old ++ batch) ≡ length old + size_of tables
-      total = length-append old batch ∙ ap (λ n. length old + n) size
+      total : length old + size_of tables ≤ length (old ++ batch)
+      total = omega (arith, length-append old batch)
 
       TheFact : Declared → Type 0
       TheFact = Fact (length old) names lists tables (declarations ∷ []) [] is root read.roots tt shaped
@@ -198,7 +200,7 @@ module _ (declarations : Declarations) (none : (fault : Fault) → IsFaultOfList
           (length old) lists tables TheFact (batch ++ more) v) value
 
   -- where the number of nodes and the root are known by equations
-  pub type_stands_at : (first : ℕ) → first ≡ length old → (batch : Graph) → length batch ≡ size_of tables
+  pub type_stands_at : (first : ℕ) → first ≡ length old → (batch : Graph) → size_of tables ≤ length batch
       → ((more : Graph) → Closes (old ++ batch ++ more) first tables)
       → (id : NodeId) → id ≡ node_at first (length tables.roots) root
       → StandsFor (old ++ batch) id (record { scope = declarations ∷ []; tree = is })

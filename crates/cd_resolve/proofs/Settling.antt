@@ -12,7 +12,7 @@ use Rattle.cd_order.specs.Order as order
 use Rattle.cd_order.specs.Order.{IsOneOf, ComeAfter, AreRows, row}
 use Rattle.cd_shapes.specs.declared.place.Place.{Place}
 use Rattle.cd_shapes.specs.declared.place.Place.TheVariants as place
-use Rattle.cd_shapes.specs.Shape.{Shape, Leaf, Pair, Xml, Record, Arrow, And, Or}
+use Rattle.cd_shapes.specs.Shape.{Shape, Leaf, Pair, Xml, Record, Arrow, And, Or, Sequence}
 use Rattle.cd_shapes.specs.Shaped.{Tables}
 use Rattle.cd_resolve.specs.Closing.{node_at, signed, made}
 use Rattle.cd_resolve.specs.Links.{numbers_at, numbers_of, numbers_under, links}
@@ -70,6 +70,7 @@ made_same nodes one other (And signs) same =
     ap (λ (all : List Formula). formula.And (formulas_of all)) (signs_same one other signs same)
 made_same nodes one other (Or places) same =
     ap (λ (all : List Formula). formula.Or (formulas_of all)) (places_same one other places same)
+made_same nodes one other (Sequence regular places) same = refl
 
 -- one of the first is one of both, and so is one of the others
 pub one_of_first : (number : ℕ) (first later : List ℕ) → IsOneOf number first → IsOneOf number (first ++ later)
@@ -152,6 +153,7 @@ module _ (old : Graph) (first names : ℕ) where
   under_same one other (Arrow argument result) same = tt
   under_same one other (And signs) same = all_signs_same one other signs same
   under_same one other (Or places) same = all_same one other places same
+  under_same one other (Sequence regular places) same = tt
 
   -- what has a number has the same formula where those of its row are the same
   number_same : (one other : List Formula) (all : List Item) (number : ℕ)

@@ -9,13 +9,13 @@ use Rattle.cd_model.specs.Formula.{Graph, Formula, Formulas, Nothing, Everything
 use Rattle.cd_shapes.specs.declared.place.Place.{Place}
 use Rattle.cd_shapes.specs.declared.place.Place.TheVariants as place
 use Rattle.cd_shapes.specs.declared.place.FieldPlace.{FieldPlace}
-use Rattle.cd_shapes.specs.Shape.{Shape, Leaf, Pair, Xml, Record, Arrow, And, Or}
+use Rattle.cd_shapes.specs.Shape.{Shape, Leaf, Pair, Xml, Record, Arrow, And, Or, Sequence}
 use Rattle.cd_shapes.specs.Shaped.{Tables}
-use Rattle.cd_shapes.specs.Reading.{IsPlace, IsShape, AreSound}
+use Rattle.cd_shapes.specs.Reading.{IsPlace}
 use Rattle.cd_resolve.specs.declared.counts.Counts.{Counts}
 use Rattle.cd_resolve.specs.Closing.{node_at, field_at, signed, made}
-use Rattle.cd_resolve.specs.Making.{Fit, Counted, Item, Root, Made, items, so_far, of_number, filled}
-use Rattle.cd_resolve.proofs.Places.{each_follows, labels_rise, sound_roots, sound_shapes}
+use Rattle.cd_resolve.specs.Making.{Fit, Counted, IsPlaced, ArePlaced, Item, Root, Made, items, so_far, of_number, filled}
+use Rattle.cd_resolve.proofs.Places.{each_follows, labels_rise, placed_roots, placed_shapes}
 
 -- a formula of a graph is one of a longer graph
 mutual
@@ -76,15 +76,35 @@ each_map fact make (one ∷ rest) each = (each.0, each_map fact make rest each.1
 -- what has a number speaks of these places alone
 abbrev pub IsItem : (nodes names shapes : ℕ) → Item → Type 0
 IsItem nodes names shapes (Root at) = IsPlace nodes names shapes at
-IsItem nodes names shapes (Made shape) = IsShape nodes names shapes shape
+IsItem nodes names shapes (Made shape) = IsPlaced nodes names shapes shape
 
-pub items_sound : (counts : Counts) (tables : Tables) → AreSound counts.nodes tables → Counted counts tables
+pub items_placed : (counts : Counts) (tables : Tables) → ArePlaced counts.nodes tables → Counted counts tables
     → Each (IsItem counts.nodes counts.names counts.shapes) (items tables)
-items_sound counts tables sound counted =
+items_placed counts tables are counted =
     let Is : Item → Type 0 = IsItem counts.nodes counts.names counts.shapes in
     each_append Is (map Root tables.roots) (map Made tables.shapes)
-    (each_map Is Root tables.roots (sound_roots counts tables sound counted))
-    (each_map Is Made tables.shapes (sound_shapes counts tables sound counted))
+    (each_map Is Root tables.roots (placed_roots counts tables are counted))
+    (each_map Is Made tables.shapes (placed_shapes counts tables are counted))
+
+-- a leaf has a formula of a graph with so many nodes
+abbrev pub LeafIn : (nodes : ℕ) → Shape → Type 0
+LeafIn nodes (Leaf is) = IsFormula nodes is
+LeafIn nodes shape = Unit {0}
+
+-- and so has what has a number, if it is a leaf
+abbrev pub ItemIn : (nodes : ℕ) → Item → Type 0
+ItemIn nodes (Root at) = Unit {0}
+ItemIn nodes (Made shape) = LeafIn nodes shape
+
+each_root : (nodes : ℕ) (roots : List Place) → Each (λ at. ItemIn nodes (Root at)) roots
+each_root nodes [] = tt
+each_root nodes (at ∷ roots) = (tt, each_root nodes roots)
+
+pub items_in : (nodes : ℕ) (tables : Tables) → Each (LeafIn nodes) tables.shapes → Each (ItemIn nodes) (items tables)
+items_in nodes tables leaves =
+    each_append (ItemIn nodes) (map Root tables.roots) (map Made tables.shapes)
+    (each_map (ItemIn nodes) Root tables.roots (each_root nodes tables.roots))
+    (each_map (ItemIn nodes) Made tables.shapes leaves)
 
 module _ (old : Graph) (counts : Counts) (fit : Fit counts) (total : ℕ)
     (last : counts.before + (counts.names + counts.shapes) ≤ total) (olds : Each (IsFormula total) old) where
@@ -122,32 +142,34 @@ module _ (old : Graph) (counts : Counts) (fit : Fit counts) (total : ℕ)
     fields_are [] are = tt
     fields_are (field ∷ named) are = (node_below field.1.place are.0, fields_are named are.1)
 
-    made_is : (shape : Shape) → IsShape counts.nodes counts.names counts.shapes shape
+    made_is : (shape : Shape) → IsPlaced counts.nodes counts.names counts.shapes shape → LeafIn total shape
         → IsFormula total (made (node_at counts.before counts.names) (so_far old counts.before counts.names formulas) shape)
-    made_is (Leaf is) shape = formula_among_more 0 total (omega arith) is shape
-    made_is (Pair first second) shape = (node_below first shape.0, node_below second shape.1)
-    made_is (Xml tag attributes content) shape =
+    made_is (Leaf is) shape leaf = leaf
+    made_is (Pair first second) shape leaf = (node_below first shape.0, node_below second shape.1)
+    made_is (Xml tag attributes content) shape leaf =
         (node_below tag shape.0, node_below attributes shape.1, node_below content shape.2)
-    made_is (Record named rest) shape = (
+    made_is (Record named rest) shape leaf = (
       labels_rise (node_at counts.before counts.names) None named shape.0,
       fields_are named shape.1,
       omega (arith, fit.old, shape.2),
     )
-    made_is (Arrow argument result) shape = (node_below argument shape.0, node_below result shape.1)
-    made_is (And signs) shape = signs_are signs
-    made_is (Or places) shape = places_are places
+    made_is (Arrow argument result) shape leaf = (node_below argument shape.0, node_below result shape.1)
+    made_is (And signs) shape leaf = signs_are signs
+    made_is (Or places) shape leaf = places_are places
+    made_is (Sequence regular places) shape leaf = tt
 
     number_is : (all : List Item) (number : ℕ) → Each (IsItem counts.nodes counts.names counts.shapes) all
+        → Each (ItemIn total) all
         → IsFormula total (of_number old counts.before counts.names all formulas number)
-    number_is [] number are = tt
-    number_is (Root at ∷ all) zero are = so_far_is at
-    number_is (Made shape ∷ all) zero are = made_is shape are.0
-    number_is (item ∷ all) (suc number) are = number_is all number are.1
+    number_is [] number are leaves = tt
+    number_is (Root at ∷ all) zero are leaves = so_far_is at
+    number_is (Made shape ∷ all) zero are leaves = made_is shape are.0 leaves.0
+    number_is (item ∷ all) (suc number) are leaves = number_is all number are.1 leaves.1
 
   -- however many are made
-  pub filled_are : (all : List Item) → Each (IsItem counts.nodes counts.names counts.shapes) all → (order : List ℕ)
-      (formulas : List Formula) → Each (IsFormula total) formulas
+  pub filled_are : (all : List Item) → Each (IsItem counts.nodes counts.names counts.shapes) all → Each (ItemIn total) all
+      → (order : List ℕ) (formulas : List Formula) → Each (IsFormula total) formulas
       → Each (IsFormula total) (filled old counts.before counts.names all order formulas)
-  filled_are all are [] formulas each = each
-  filled_are all are (number ∷ order) formulas each = filled_are all are order _
-      (each_set (IsFormula total) formulas number _ (number_is formulas each all number are) each)
+  filled_are all are leaves [] formulas each = each
+  filled_are all are leaves (number ∷ order) formulas each = filled_are all are leaves order _
+      (each_set (IsFormula total) formulas number _ (number_is formulas each all number are leaves) each)

@@ -14,7 +14,8 @@ use Rattle.cd_model.specs.Written.{Answers, at_types, value_built_in}
 use Rattle.cd_shapes.specs.Frames.{Frames, scope_of}
 use Rattle.cd_shapes.specs.Shaped.{Tables}
 use Rattle.cd_resolve.specs.Closing.{Closes}
-use Rattle.cd_resolve.proofs.Agree.{Agrees, AgreesAtForms, AgreesAtNames}
+use Rattle.cd_regex.specs.Sequences.{value_items_of}
+use Rattle.cd_resolve.proofs.Agree.{AlikeAt, Agrees, AgreesAtForms, AgreesAtNames}
 use Rattle.cd_resolve.proofs.BothWays.{each_agrees, follows, none_agrees}
 use Rattle.cd_resolve.proofs.FormsBuiltIns.{Begins, value_at_name}
 use Rattle.cd_resolve.proofs.FormsOf.{AgreesAsForms, at_forms}
@@ -22,6 +23,8 @@ use Rattle.cd_resolve.proofs.FormsAgreeSets.{AgreesAtBuiltIns, integers_agree, c
 use Rattle.cd_resolve.proofs.FormsAgreeParts as parts
 use Rattle.cd_resolve.proofs.FormsAgreeRecords.{AgreesAtLabels, records_agree, no_field_agrees, field_agrees}
 use Rattle.cd_resolve.proofs.FormsAgreeFunctions.{AgreesAtArrows, functions_agree}
+use Rattle.cd_resolve.proofs.FormsSequences.{value_at, value_reads, sequences_agree}
+use Rattle.cd_resolve.proofs.LanguagesAgree.{ItemsAlike, alike_of_atom, alike_with_item}
 use Rattle.cd_resolve.proofs.Elements.{pairs_agree}
 
 -- Connectives and names keep what is so of forms and of the free names that are used
@@ -45,14 +48,29 @@ module _ (graph : Graph) (first : ℕ) (names : List (Name × NodeId)) (lists : 
   at_built_ins : (is : Value) → AgreesAtBuiltIns graph (node.value_reader graph is) (value_built_in is)
   at_built_ins is = value_at_name graph begins is
 
-  -- what is the same at forms and at names is so at all places
-  as_read : (is : Value) → IsValue (length graph) is
+  -- its items answer the same one by one
+  abbrev SameItems : Value → Type 0
+  SameItems is = ItemsAlike (AlikeAt graph first names lists tables base Fact Used)
+      (value_items_of graph is) (written.value_items graph count is)
+
+  -- what is the same at forms, of its items and at names is so at all places
+  as_read : (is : Value) → IsValue (length graph) is → SameItems is
       → AgreesAsForms graph first names lists tables base Fact Used
       (node.value_reader graph is) (written.value_reader graph count is) → Same is
-  as_read is sound agrees = connectives (node.value_reader graph is) (written.value_reader graph count is)
+  as_read is sound items agrees = connectives (node.value_reader graph is) (written.value_reader graph count is)
       (at_forms graph first names lists tables base Fact Used closes begins
-      (node.value_reader graph is) (written.value_reader graph count is) agrees)
+      (node.value_reader graph is) (written.value_reader graph count is) agrees
+      (sequences_agree graph first names lists tables base Fact Used closes
+      (node.value_reader graph is) (written.value_reader graph count is)
+      (value_items_of graph is) (written.value_items graph count is) (value_at graph is) (value_reads graph count is) items))
       (old_values is sound)
+
+  atom_items : (name : Name) → SameItems (value.Atom name)
+  atom_items name = alike_of_atom (AlikeAt graph first names lists tables base Fact Used) name
+
+  pair_items : (one other : Value) → Same one → SameItems other → SameItems (value.Pair one other)
+  pair_items one other is_one are_items = alike_with_item (AlikeAt graph first names lists tables base Fact Used)
+      (value_items_of graph other) (written.value_items graph count other) is_one are_items
 
   -- a closure maps what it maps by the function elements in its interface
   closure_agrees : (interface : List ArrowOf) → AgreesAtArrows graph first names lists tables base Fact Used
@@ -71,21 +89,24 @@ module _ (graph : Graph) (first : ℕ) (names : List (Name × NodeId)) (lists : 
     pub value_agrees : (is : Value) → IsValue (length graph) is
         → Agrees graph first names lists tables base Fact Used
         (node.value_reader graph is) (at_types count (written.value_reader graph count is))
-    value_agrees (value.Integer n) = λ sound. as_read (value.Integer n) sound
+    value_agrees (value.Integer n) = λ sound. as_read (value.Integer n) sound tt
         (integers_agree graph first names lists tables base Fact Used (value_built_in (value.Integer n)) n
         (at_built_ins (value.Integer n)))
-    value_agrees (value.Character c) = λ sound. as_read (value.Character c) sound
+    value_agrees (value.Character c) = λ sound. as_read (value.Character c) sound tt
         (characters_agree graph first names lists tables base Fact Used (value_built_in (value.Character c)) c
         (at_built_ins (value.Character c)))
-    value_agrees (value.Atom name) = λ sound. as_read (value.Atom name) sound
-        (atoms_agree graph first names lists tables base Fact Used (value_built_in (value.Atom name)) name
+    value_agrees (value.Atom name) = λ sound. as_read (value.Atom name) sound (atom_items name)
+        (atoms_agree graph first names lists tables base Fact Used (value_built_in (value.Atom name))
+        (written.value_items graph count (value.Atom name)) name
         (at_built_ins (value.Atom name)))
     value_agrees (value.Pair one other) = λ sound. as_read (value.Pair one other) sound
+        (pair_items one other (value_agrees one sound.0) (items_agree other sound.1))
         (parts.pairs_agree graph first names lists tables base Fact Used (value_built_in (value.Pair one other))
         (node.value_reader graph one) (node.value_reader graph other)
         (at_types count (written.value_reader graph count one)) (at_types count (written.value_reader graph count other))
-        (value_agrees one sound.0) (value_agrees other sound.1) (at_built_ins (value.Pair one other)))
-    value_agrees (value.Xml tag attributes content) = λ sound. as_read (value.Xml tag attributes content) sound
+        (value_agrees one sound.0) (value_agrees other sound.1) (written.value_items graph count (value.Pair one other))
+        (at_built_ins (value.Pair one other)))
+    value_agrees (value.Xml tag attributes content) = λ sound. as_read (value.Xml tag attributes content) sound tt
         (parts.xml_agrees graph first names lists tables base Fact Used (value_built_in (value.Xml tag attributes content))
         (node.value_reader graph tag) (node.value_reader graph attributes) (node.value_reader graph content)
         (at_types count (written.value_reader graph count tag))
@@ -93,16 +114,28 @@ module _ (graph : Graph) (first : ℕ) (names : List (Name × NodeId)) (lists : 
         (at_types count (written.value_reader graph count content))
         (value_agrees tag sound.2) (value_agrees attributes sound.3) (value_agrees content sound.4)
         (at_built_ins (value.Xml tag attributes content)))
-    value_agrees (value.Record fields) = λ sound. as_read (value.Record fields) sound
+    value_agrees (value.Record fields) = λ sound. as_read (value.Record fields) sound tt
         (records_agree graph first names lists tables base Fact Used (value_built_in (value.Record fields))
         (node.value_labelled graph fields) (written.value_labelled graph count fields)
         (fields_agree fields sound.1) (at_built_ins (value.Record fields)))
     value_agrees (value.Closure function interface environment) = λ sound.
-        as_read (value.Closure function interface environment) sound
+        as_read (value.Closure function interface environment) sound tt
         (functions_agree graph first names lists tables base Fact Used
         (value_built_in (value.Closure function interface environment))
         (node.closure_mapping graph interface) (written.closure_mapping graph count interface)
         (closure_agrees interface) (at_built_ins (value.Closure function interface environment)))
+
+    items_agree : (is : Value) → IsValue (length graph) is
+        → ItemsAlike (AlikeAt graph first names lists tables base Fact Used)
+        (value_items_of graph is) (written.value_items graph count is)
+    items_agree (value.Integer n) = λ sound. tt
+    items_agree (value.Character c) = λ sound. tt
+    items_agree (value.Atom name) = λ sound. atom_items name
+    items_agree (value.Pair one other) = λ sound.
+        pair_items one other (value_agrees one sound.0) (items_agree other sound.1)
+    items_agree (value.Xml tag attributes content) = λ sound. tt
+    items_agree (value.Record fields) = λ sound. tt
+    items_agree (value.Closure function interface environment) = λ sound. tt
 
     fields_agree : (fields : value.Fields) → AreValues (length graph) fields
         → AgreesAtLabels graph first names lists tables base Fact Used

@@ -1,3 +1,4 @@
+pub mod Batches
 pub mod Closing
 pub mod Free
 pub mod Links

@@ -7,8 +7,9 @@ use Rattle.cd_model.specs.BuiltIns.{node}
 use Rattle.cd_model.specs.Formula.{Graph, Formula, Nothing, IsFormula, formula_at}
 use Rattle.cd_shapes.specs.declared.place.Place.{Place}
 use Rattle.cd_shapes.specs.declared.place.Place.TheVariants as place
-use Rattle.cd_shapes.specs.Shape.{Shape}
+use Rattle.cd_shapes.specs.Shape.{Shape, Leaf}
 use Rattle.cd_shapes.specs.Shaped.{Tables}
+use Rattle.cd_shapes.specs.Reading.{IsPlace, IsShape}
 use Rattle.cd_resolve.specs.declared.counts.Counts.{Counts}
 use Rattle.cd_resolve.specs.Closing.{node_at, made}
 use Rattle.cd_resolve.specs.Links.{links}
@@ -22,6 +23,16 @@ pub record Fit (counts : Counts) : Type 0 where
 pub record Counted (counts : Counts) (tables : Tables) : Type 0 where
   pub names : counts.names ≡ length tables.roots
   pub shapes : counts.shapes ≡ length tables.shapes
+
+-- a shape whose places are there, whatever its leaves name
+abbrev pub IsPlaced : (nodes names shapes : ℕ) → Shape → Type 0
+IsPlaced nodes names shapes (Leaf formula) = Unit {0}
+IsPlaced nodes names shapes shape = IsShape nodes names shapes shape
+
+-- tables whose places are there
+pub record ArePlaced (nodes : ℕ) (tables : Tables) : Type 0 where
+  pub roots : Each (IsPlace nodes (length tables.roots) (length tables.shapes)) tables.roots
+  pub shapes : Each (IsPlaced nodes (length tables.roots) (length tables.shapes)) tables.shapes
 
 -- what has a number: a declared name, with its root, or a shape
 pub data Item : Type 0 where

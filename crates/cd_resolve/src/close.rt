@@ -10,11 +10,12 @@ ghost use Rattle.cd_shapes.specs.Reading.{AreSound};
 ghost use Rattle.cd_order.specs.Order.{Ends};
 ghost use Rattle.cd_resolve.specs.Closing.{size_of, Closes, AgreesWith};
 ghost use Rattle.cd_resolve.specs.Links.{links};
-ghost use Rattle.cd_resolve.specs.Making.{Fit, Counted, AreFilled};
+ghost use Rattle.cd_resolve.specs.Making.{Fit, Counted, ArePlaced, AreFilled};
 
 use crate::counts::Counts;
 use crate::make::{blanks, fill};
 use crate::rows::link_rows;
+use crate::sequences::with_leaves;
 use cd_graph::{Formula, Formulas, Graph};
 use cd_order::order;
 use cd_shapes::tables::Tables;
@@ -38,7 +39,7 @@ fn formulas_of(
     counts: Counts,
     tables: &Tables,
 ) -> Result<Vec<Formula>, AllocError>
-    requires sound { AreSound counts.nodes (plain_tables tables.now) }
+    requires placed { ArePlaced counts.nodes (plain_tables tables.now) }
     requires ends { (number : ℕ) → number < size_of (plain_tables tables.now)
         → Ends (links (plain_tables tables.now)) number }
     requires counted { Counted counts (plain_tables tables.now) }
@@ -53,21 +54,22 @@ fn formulas_of(
     fill(alloc, old, counts, tables, blanks, order.as_slice())
 }
 
-/// The formulas of the names and of the shapes of tables, for a graph of `first` nodes that begins with those of `old`.
+/// The formulas of the names and of the shapes of tables, and then those of the nodes of sequences, for a graph of `first` nodes
+/// that begins with those of `old`.
 pub(crate) fn close(
     alloc: Global,
     old: &Graph,
     first: usize,
-    tables: &Tables,
+    tables: Tables,
 ) -> Result<Formulas, AllocError>
-    requires sound { AreSound (length (nodes old.now)) (plain_tables tables.now) }
-    requires ends { (number : ℕ) → number < size_of (plain_tables tables.now) → Ends (links (plain_tables tables.now)) number }
+    requires sound { AreSound (length (nodes old.now)) (plain_tables tables) }
+    requires ends { (number : ℕ) → number < size_of (plain_tables tables) → Ends (links (plain_tables tables)) number }
     requires old { length (nodes old.now) ≤ first }
-    ensures counted { IfOk result (λ _. first + size_of (plain_tables tables.now) < 2 ^ 64) }
-    ensures number { IfOk result (λ batch. length (plain_list batch) ≡ size_of (plain_tables tables.now)) }
+    ensures counted { IfOk result (λ _. first + size_of (plain_tables tables) < 2 ^ 64) }
+    ensures number { IfOk result (λ batch. size_of (plain_tables tables) ≤ length (plain_list batch)) }
     ensures formulas { IfOk result (λ batch. Each (IsFormula (first + length (plain_list batch))) (plain_list batch)) }
     ensures closes { IfOk result (λ batch. (graph more : PlainGraph) → length graph ≡ first → AgreesWith (nodes old.now) graph
-        → Closes (graph ++ plain_list batch ++ more) first (plain_tables tables.now)) }
+        → Closes (graph ++ plain_list batch ++ more) first (plain_tables tables)) }
 {
     let names = tables.roots.len();
     let shapes = tables.shapes.len();
@@ -83,6 +85,8 @@ pub(crate) fn close(
     if !fits(counts) {
         return Err(AllocError);
     }
-    let formulas = formulas_of(alloc, old, counts, tables)?;
+    let (leaves, mut batches) = with_leaves(alloc, counts, tables)?;
+    let mut formulas = formulas_of(alloc, old, counts, &leaves)?;
+    formulas.append(&mut batches)?;
     Ok(Formulas::of(formulas))
 }

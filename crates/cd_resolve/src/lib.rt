@@ -6,6 +6,7 @@ mod counts;
 pub mod laws;
 mod make;
 mod rows;
+mod sequences;
 #[cfg(test)]
 mod tests;
 mod types;

@@ -8,9 +8,9 @@ ghost use Rattle.cd_graph.specs.PlainFormula.{plain, plain_list, plain_field, pl
 ghost use Rattle.cd_shapes.specs.Shape as shape;
 ghost use Rattle.cd_shapes.specs.Shape.{plain_shape};
 ghost use Rattle.cd_shapes.specs.PlainTables.{plain_tables};
-ghost use Rattle.cd_shapes.specs.Reading.{AreSound, IsPlace, IsShape};
+ghost use Rattle.cd_shapes.specs.Reading.{IsPlace, IsShape};
 ghost use Rattle.cd_resolve.specs.Closing.{node_at, field_at, signed, made};
-ghost use Rattle.cd_resolve.specs.Making.{Fit, Counted, items, so_far, of_number, filled};
+ghost use Rattle.cd_resolve.specs.Making.{Fit, Counted, ArePlaced, IsPlaced, items, so_far, of_number, filled};
 
 use crate::counts::Counts;
 use cd_graph::fields::{Field, FieldList, Fields};
@@ -168,7 +168,7 @@ fn formula_of_shape(
     formulas: &[Formula],
     shape: &Shape,
 ) -> Result<Formula, AllocError>
-    requires shape { IsShape counts.nodes counts.names counts.shapes (plain_shape shape.now) }
+    requires shape { IsPlaced counts.nodes counts.names counts.shapes (plain_shape shape.now) }
     requires fit { Fit counts }
     requires old { counts.nodes ≡ length (nodes old.now) }
     requires formulas { length formulas.now ≡ counts.names + counts.shapes }
@@ -205,6 +205,8 @@ fn formula_of_shape(
             formulas,
             places.as_slice(),
         )?)),
+        // It has nodes of its own.
+        Shape::Sequence(_, _) => Ok(Formula::none()),
     }
 }
 
@@ -217,7 +219,7 @@ fn formula_of_number(
     formulas: &[Formula],
     number: usize,
 ) -> Result<Formula, AllocError>
-    requires sound { AreSound counts.nodes (plain_tables tables.now) }
+    requires placed { ArePlaced counts.nodes (plain_tables tables.now) }
     requires counted { Counted counts (plain_tables tables.now) }
     requires fit { Fit counts }
     requires old { counts.nodes ≡ length (nodes old.now) }
@@ -261,7 +263,7 @@ pub(crate) fn fill(
     mut formulas: Vec<Formula>,
     order: &[usize],
 ) -> Result<Vec<Formula>, AllocError>
-    requires sound { AreSound counts.nodes (plain_tables tables.now) }
+    requires placed { ArePlaced counts.nodes (plain_tables tables.now) }
     requires counted { Counted counts (plain_tables tables.now) }
     requires fit { Fit counts }
     requires old { counts.nodes ≡ length (nodes old.now) }

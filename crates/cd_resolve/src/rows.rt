@@ -3,9 +3,9 @@ ghost use Rattle.std.specs.Prelude.{◌≡◌, ◌++◌, map, IfOk, OnOk};
 ghost use Rattle.cd_model.specs.Each.{Each};
 ghost use Rattle.cd_shapes.specs.Shape.{plain_shape};
 ghost use Rattle.cd_shapes.specs.PlainTables.{plain_tables};
-ghost use Rattle.cd_shapes.specs.Reading.{AreSound, IsPlace, IsShape};
+ghost use Rattle.cd_shapes.specs.Reading.{IsPlace};
 ghost use Rattle.cd_resolve.specs.Links.{numbers_at, numbers_of, numbers_under, links};
-ghost use Rattle.cd_resolve.specs.Making.{Fit, Counted};
+ghost use Rattle.cd_resolve.specs.Making.{Fit, Counted, ArePlaced, IsPlaced};
 
 use crate::counts::Counts;
 use cd_shapes::place::Place;
@@ -70,7 +70,7 @@ fn row_of_signs(
 
 // The row of a shape: what a connective stands over.
 fn row_of_shape(alloc: Global, counts: Counts, shape: &Shape) -> Result<Vec<usize>, AllocError>
-    requires shape { IsShape counts.nodes counts.names counts.shapes (plain_shape shape.now) }
+    requires shape { IsPlaced counts.nodes counts.names counts.shapes (plain_shape shape.now) }
     requires fit { Fit counts }
     ensures { IfOk result (λ row. row.items ≡ numbers_under counts.names (plain_shape shape.now)) }
 {
@@ -82,6 +82,7 @@ fn row_of_shape(alloc: Global, counts: Counts, shape: &Shape) -> Result<Vec<usiz
         Shape::Arrow(_, _) => Ok(Vec::new(alloc)),
         Shape::And(signs) => row_of_signs(alloc, counts, signs.as_slice()),
         Shape::Or(places) => row_of_places(alloc, counts, places.as_slice()),
+        Shape::Sequence(_, _) => Ok(Vec::new(alloc)),
     }
 }
 
@@ -104,7 +105,7 @@ fn shape_rows(
     counts: Counts,
     shapes: &[Shape],
 ) -> Result<Vec<Vec<usize>>, AllocError>
-    requires shapes { Each (IsShape counts.nodes counts.names counts.shapes) (map plain_shape shapes.now) }
+    requires shapes { Each (IsPlaced counts.nodes counts.names counts.shapes) (map plain_shape shapes.now) }
     requires fit { Fit counts }
     ensures { IfOk result (λ rows. map (λ row. row.items) rows.items
         ≡ map (numbers_under counts.names) (map plain_shape shapes.now)) }
@@ -122,7 +123,7 @@ pub(crate) fn link_rows(
     counts: Counts,
     tables: &Tables,
 ) -> Result<Vec<Vec<usize>>, AllocError>
-    requires sound { AreSound counts.nodes (plain_tables tables.now) }
+    requires placed { ArePlaced counts.nodes (plain_tables tables.now) }
     requires counted { Counted counts (plain_tables tables.now) }
     requires fit { Fit counts }
     ensures { IfOk result (λ rows. map (λ row. row.items) rows.items ≡ links (plain_tables tables.now)) }

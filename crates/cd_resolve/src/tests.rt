@@ -1,8 +1,8 @@
 //! With ample memory the calls answer, which no clause says.
 ghost use Rattle.std.specs.Prelude.{◌≡◌, ◌+◌, [], ◌∷◌, length, IfOk};
-ghost use Rattle.cd_syntax.specs.PlainTree.{plain, plain_kind, plain_declaration, plain_declarations};
+ghost use Rattle.cd_syntax.specs.PlainTree.{plain, plain_kind, plain_declaration, plain_declarations, plain_regular, plain_regular_kind};
 ghost use Rattle.cd_syntax.specs.TypeTree.{Declarations as PlainDeclarations};
-ghost use Rattle.cd_syntax.specs.WellMade.{IsWellMade, IsWellMadeKind, AreWellMadeDeclarations};
+ghost use Rattle.cd_syntax.specs.WellMade.{IsWellMade, IsWellMadeKind, AreWellMadeDeclarations, IsWellMadeRegular, IsWellMadeRegularKind};
 ghost use Rattle.cd_model.specs.Each.{Each};
 ghost use Rattle.cd_model.specs.Formula.{IsFormula};
 ghost use Rattle.cd_graph.specs.Nodes.{nodes};
@@ -18,7 +18,9 @@ use cd_sets::node_id::NodeId;
 use cd_syntax::builtin::BuiltinName;
 use cd_syntax::name::Name;
 use cd_syntax::tokens::Span;
-use cd_syntax::type_tree::{Declaration, Declarations, SignedTree, Tree, TreeKind};
+use cd_syntax::type_tree::{
+    Declaration, Declarations, Post, RegKind, RegTree, SignedTree, Tree, TreeKind,
+};
 use std::alloc::{AllocError, Global};
 use std::test::Fail;
 
@@ -88,6 +90,27 @@ fn meet(alloc: Global, first: Tree, second: Tree) -> Result<Tree, AllocError>
     let mut others = Vec::new(alloc);
     others.push(SignedTree::new(true, second))?;
     Ok(tree(TreeKind::meet(Box::new(alloc, first)?, others)))
+}
+
+// An expression, somewhere.
+fn expression(kind: RegKind) -> RegTree
+    requires { IsWellMadeRegularKind (plain_regular_kind kind) }
+    ensures { IsWellMadeRegular (plain_regular result) }
+{
+    RegTree {
+        span: Span { from: 0, to: 99 },
+        kind,
+    }
+}
+
+// The sequences of any number of items of a type.
+fn list(alloc: Global, item: Tree) -> Result<Tree, AllocError>
+    requires { IsWellMade (plain item) }
+    ensures { IfOk result (λ is. IsWellMade (plain is)) }
+{
+    let item = expression(RegKind::Item(Box::new(alloc, item)?));
+    let items = expression(RegKind::Repeat(Box::new(alloc, item)?, Post::Star));
+    Ok(tree(TreeKind::Sequence(Box::new(alloc, items)?)))
 }
 
 // A declaration of this name.
@@ -235,5 +258,29 @@ fn resolves_a_type_with_its_own_names(rt: HostRuntime) -> Result<(), Fail> {
     let (graph, root) = graph_with(rt.alloc(), &none, &zeros)?;
     assert_eq!(rt; root, NodeId(14));
     assert_eq!(rt; graph.len(), 18);
+    Ok(())
+}
+
+// `[ B* ] | Int`, whose node is the one after that of its sequence. The two nodes of the expression stand after it.
+#[test]
+fn resolves_a_sequence(rt: HostRuntime) -> Result<(), Fail> {
+    let alloc = rt.alloc();
+    let declared = chain(alloc)?;
+    let either = either(alloc, list(alloc, named(alloc, "B")?)?, int())?;
+    let (graph, root) = graph_with(alloc, &declared, &either)?;
+    assert_eq!(rt; root, NodeId(20));
+    assert_eq!(rt; graph.len(), 23);
+    Ok(())
+}
+
+// `[ [ Int* ]* ]`, where the nodes of the inner expression and then those of the outer one stand after their sequences.
+#[test]
+fn resolves_a_sequence_of_sequences(rt: HostRuntime) -> Result<(), Fail> {
+    let none = Declarations::of(Vec::new(rt.alloc()));
+    let inner = list(rt.alloc(), int())?;
+    let outer = list(rt.alloc(), inner)?;
+    let (graph, root) = graph_with(rt.alloc(), &none, &outer)?;
+    assert_eq!(rt; root, NodeId(15));
+    assert_eq!(rt; graph.len(), 20);
     Ok(())
 }

@@ -45,8 +45,7 @@ pub struct TypeBatch {
 /// Nodes for type declarations, which see one another and no others.
 ///
 /// The declarations are well made and no naming fault stands in them. Where the formulas are put after those of a graph of
-/// `first` nodes that begins with the built-in ones, the node of each name stands for its type. A sequence, which no text writes
-/// so far, holds nothing.
+/// `first` nodes that begins with the built-in ones, the node of each name stands for its type.
 ///
 /// # Errors
 ///
@@ -61,7 +60,7 @@ pub fn resolve(alloc: Global, first: usize, declared: &Declarations) -> Result<B
         → AreNamed (graph ++ plain_list batch.formulas) (plain_declarations declared.now) batch.names) }
 {
     let tables = read_declarations(alloc, declared)?;
-    let formulas = close(alloc, &Graph::new(alloc)?, first, &tables)?;
+    let formulas = close(alloc, &Graph::new(alloc)?, first, tables)?;
     let names = numbered_from(alloc, first, declared)?;
     Ok(Batch { formulas, names })
 }
@@ -84,8 +83,7 @@ fn numbered_from(alloc: Global, first: usize, declared: &Declarations) -> Result
 ///
 /// The type is well made, and no naming fault stands in it nor in the declarations. Each name that occurs in it and that no
 /// `where` declares there has a node in `names`, which stands for what `declared` says of it; all nodes in `names` are nodes of
-/// the graph. Where the formulas are put after those of the graph, the root stands for the type. A sequence, which no text writes
-/// so far, holds nothing.
+/// the graph. Where the formulas are put after those of the graph, the root stands for the type.
 ///
 /// # Errors
 ///
@@ -109,13 +107,13 @@ pub fn resolve_type(
 {
     let (tables, place) = read_tree(alloc, names, tree)?;
     let first = graph.len();
-    let formulas = close(alloc, graph, first, &tables)?;
     let counts = Counts {
         nodes: first,
         before: first,
         names: tables.roots.len(),
         shapes: tables.shapes.len(),
     };
+    let formulas = close(alloc, graph, first, tables)?;
     let root = node_of(counts, place);
     Ok(TypeBatch { formulas, root })
 }

@@ -3,7 +3,7 @@ use Rattle.std.proofs.Common.{ℕ, ◌+◌, ◌≤◌, List, [], ◌∷◌, ◌+
 use Rattle.cd_model.specs.Each.{Each}
 use Rattle.cd_shapes.specs.declared.place.Place.{Place}
 use Rattle.cd_shapes.specs.declared.place.Place.TheVariants as place
-use Rattle.cd_shapes.specs.Shape.{Shape, Leaf, Pair, Xml, Record, Arrow, And, Or}
+use Rattle.cd_shapes.specs.Shape.{Shape, Leaf, Pair, Xml, Record, Arrow, And, Or, Sequence}
 use Rattle.cd_shapes.specs.Reading.{IsPlace, IsShape, AreShapes}
 
 -- what holds of each thing in a list, and makes another fact of it, gives the other fact of each
@@ -50,6 +50,8 @@ shape_grows nodes names before more (And signs) named is =
     places_grow (λ sign. sign.1) nodes names before more before signs named (omega arith) is
 shape_grows nodes names before more (Or places) named is =
     places_grow (λ at. at) nodes names before more before places named (omega arith) is
+shape_grows nodes names before more (Sequence regular places) named is =
+    (places_grow (λ at. at) nodes names before more before places named (omega arith) is.0, is.1)
 
 -- bounded shapes
 pub shapes_grow : (nodes names before more : ℕ) (shapes : List Shape) → names ≤ more

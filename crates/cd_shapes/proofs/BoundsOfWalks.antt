@@ -4,22 +4,25 @@ use Rattle.cd_sets.specs.declared.node_id.NodeId.{NodeId}
 use Rattle.cd_syntax.specs.Name.{Name, IsLabel}
 use Rattle.cd_syntax.specs.TypeTree as type
 use Rattle.cd_syntax.specs.TypeTree.{Tree, tree, Kind, Trees, NoTree, ATree, Signs, NoSign, ASign, Fields, NoField, AField}
-use Rattle.cd_syntax.specs.WellMade.{IsWellMade, IsWellMadeKind, AreWellMade, AreWellMadeSigns, AreWellMadeFields}
+use Rattle.cd_syntax.specs.WellMade.{IsWellMade, IsWellMadeKind, AreWellMade, AreWellMadeSigns, AreWellMadeFields, IsWellMadeRegular, IsWellMadeRegularKind, AreWellMadeRegulars}
 use Rattle.cd_model.specs.BuiltIns.{node_named}
 use Rattle.cd_model.specs.Each.{Each}
 use Rattle.cd_model.specs.Written.{any_or_none}
 use Rattle.cd_model.proofs.Covered.{each_both}
+use Rattle.cd_regex.specs.Regular.{Regular, AsksBelow}
 use Rattle.cd_shapes.specs.declared.place.Place.{Place}
 use Rattle.cd_shapes.specs.declared.place.Place.TheVariants as place
 use Rattle.cd_shapes.specs.declared.place.FieldPlace.{FieldPlace}
-use Rattle.cd_shapes.specs.Shape.{Xml, Record, And, Or}
+use Rattle.cd_shapes.specs.Shape.{Xml, Record, And, Or, Sequence}
 use Rattle.cd_shapes.specs.Frames.{Frames, place_of}
 use Rattle.cd_shapes.specs.Leaves.{integers, characters, atom, Joint, Pairs, Arrows, sorted}
 use Rattle.cd_shapes.specs.Reading.{AreBelow, IsPlace}
-use Rattle.cd_shapes.specs.Walk.{State, entered, Read, chained_all, united, signed_all, recorded, one_more, elements, walked, walked_kind, walked_trees, walked_signs, walked_fields}
+use Rattle.cd_shapes.specs.Walk.{State, entered, Read, chained_all, united, signed_all, recorded, one_more, elements, ReadRegular, sequenced, walked, walked_kind, walked_trees, walked_signs, walked_fields, walked_regular, walked_regular_kind, walked_regulars}
 use Rattle.cd_shapes.proofs.Rising.{sorted_keeps, sorted_rises}
 use Rattle.cd_shapes.proofs.BoundsOfStates.{AllFit, IsBounded, Extends, IsWalked, AreWalked, extends_itself, extends_on, fit_on, place_on, places_on, walked_on, all_walked_on, stays, push_walked, enters, fit_inside, enter_bounded}
 use Rattle.cd_shapes.proofs.BoundsOfNames.{node_bounded, name_bounded}
+use Rattle.cd_shapes.proofs.WalkedShapes.{regular_at}
+use Rattle.cd_shapes.proofs.AsksPlaces.{asks_places}
 use Rattle.cd_shapes.proofs.BoundsOfLeaves.{nothing_walked, leaf_walked, integers_leaf, characters_leaf, text_walked, chain_walked}
 
 -- the place of a sign's tree, that of a field's, and a place itself
@@ -79,6 +82,12 @@ elements_walked nodes s tag attributes content first second third =
       third.place,
     ))
 
+-- those of a sequence, whose expression asks for them alone
+sequenced_walked : (nodes : ℕ) (s : State) (all : ReadRegular) → AreWalked itself nodes s (all.1, all.2)
+    → AsksBelow (length all.1) all.0 → IsWalked nodes s (sequenced all)
+sequenced_walked nodes s all walked asks = walked_on nodes s all.2 (sequenced all) walked.extends
+    (push_walked nodes all.2 (Sequence all.0 all.1) walked.bounded (walked.places, asks))
+
 -- those of a tuple, or of a chain of arrows
 chained_walked : (nodes : ℕ) → 14 ≤ nodes → (joint : Joint) (s : State) (all : List Place × State)
     → AreWalked itself nodes s all → IsWalked nodes s (chained_all joint all)
@@ -136,7 +145,10 @@ module _ (names : List (Name × NodeId)) (nodes : ℕ) (enough : 14 ≤ nodes)
         let all = walked_signs names frames signs ((true, read.0) ∷ []) read.1 in
         signed_walked nodes s all (all_walked_on of_sign nodes s read.1 all one.extends
         (signs_walked frames signs ((true, read.0) ∷ []) read.1 well.1 fit_later one.bounded (one.place, tt)))
-    kind_walked frames (type.Sequence is) s well fit bounded = nothing_walked nodes enough s bounded
+    kind_walked frames (type.Sequence is) s well fit bounded =
+        let all = walked_regular names frames is [] s in
+        sequenced_walked nodes s all (regular_walked frames is [] s well fit bounded tt)
+        (asks_places names all.2.lists all.2.shapes frames all.1 is all.0 (regular_at names frames is [] s))
     kind_walked frames (type.Record fields more) s well fit bounded =
         recorded_walked nodes enough s more (walked_fields names frames fields [] s)
         (fields_walked frames fields [] s well fit bounded tt) (labels_walked frames fields [] s well tt)
@@ -202,3 +214,49 @@ module _ (names : List (Name × NodeId)) (nodes : ℕ) (enough : 14 ≤ nodes)
         all_walked_on of_field nodes s read.1 (walked_fields names frames rest (one_more made next) read.1) one.extends
         (fields_walked frames rest (one_more made next) read.1 well.2 (fit_on s read.1 frames one.extends fit) one.bounded
         (one_more_walked of_field nodes s read.1 made next one.extends each one.place))
+
+    -- the places of the items of an expression, after places that were made
+    regular_walked : (frames : Frames) (is : type.Regular) (places : List Place) (s : State) → IsWellMadeRegular is
+        → AllFit s.names frames → IsBounded nodes s → Each (IsPlace nodes s.names (length s.shapes)) places
+        → AreWalked itself nodes s
+        ((walked_regular names frames is places s).1, (walked_regular names frames is places s).2)
+    regular_walked frames (type.regular span kind) places s well fit bounded each =
+        regular_kind_walked frames kind places s well fit bounded each
+
+    regular_kind_walked : (frames : Frames) (kind : type.RegularKind) (places : List Place) (s : State)
+        → IsWellMadeRegularKind kind
+        → AllFit s.names frames → IsBounded nodes s → Each (IsPlace nodes s.names (length s.shapes)) places
+        → AreWalked itself nodes s
+        ((walked_regular_kind names frames kind places s).1, (walked_regular_kind names frames kind places s).2)
+    regular_kind_walked frames type.Nothing places s well fit bounded each =
+        record { bounded = bounded; extends = extends_itself s; places = each }
+    regular_kind_walked frames (type.Item is) places s well fit bounded each =
+        let read = walked names frames is s in
+        let one = tree_walked frames is s well fit bounded in
+        record {
+          bounded = one.bounded;
+          extends = one.extends;
+          places = one_more_walked itself nodes s read.1 places read.0 one.extends each one.place;
+        }
+    regular_kind_walked frames (type.Seq all) places s well fit bounded each =
+        regulars_walked frames all [] places s well fit bounded each
+    regular_kind_walked frames (type.Alt all) places s well fit bounded each =
+        regulars_walked frames all [] places s well fit bounded each
+    regular_kind_walked frames (type.Repeat is post) places s well fit bounded each =
+        regular_walked frames is places s well fit bounded each
+    regular_kind_walked frames (type.Capture name is) places s well fit bounded each = elim well [ ]
+
+    regulars_walked : (frames : Frames) (all : type.Regulars) (made : List Regular) (places : List Place) (s : State)
+        → AreWellMadeRegulars all
+        → AllFit s.names frames → IsBounded nodes s → Each (IsPlace nodes s.names (length s.shapes)) places
+        → AreWalked itself nodes s
+        ((walked_regulars names frames all made places s).1, (walked_regulars names frames all made places s).2)
+    regulars_walked frames type.NoRegular made places s well fit bounded each =
+        record { bounded = bounded; extends = extends_itself s; places = each }
+    regulars_walked frames (type.ARegular first rest) made places s well fit bounded each =
+        let read = walked_regular names frames first places s in
+        let one = regular_walked frames first places s well.0 fit bounded each in
+        let all = walked_regulars names frames rest (one_more made read.0) read.1 read.2 in
+        all_walked_on itself nodes s read.2 (all.1, all.2) one.extends
+        (regulars_walked frames rest (one_more made read.0) read.1 read.2 well.1 (fit_on s read.2 frames one.extends fit)
+        one.bounded one.places)

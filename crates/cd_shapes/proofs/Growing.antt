@@ -7,12 +7,13 @@ use Rattle.cd_syntax.specs.TypeTree as type
 use Rattle.cd_syntax.specs.TypeTree.{Tree, tree, Kind, Trees, NoTree, ATree, Signs, NoSign, ASign, Fields, NoField, AField, Declarations, NoDeclaration, ADeclaration}
 use Rattle.cd_model.specs.Each.{One}
 use Rattle.cd_model.specs.Formula.{Formula}
+use Rattle.cd_regex.specs.Regular.{Regular}
 use Rattle.cd_shapes.specs.declared.place.Place.{Place}
 use Rattle.cd_shapes.specs.declared.place.FieldPlace.{FieldPlace}
 use Rattle.cd_shapes.specs.Shape.{Shape}
 use Rattle.cd_shapes.specs.Frames.{Frames}
 use Rattle.cd_shapes.specs.Leaves.{characters, Joint, Pairs, Arrows}
-use Rattle.cd_shapes.specs.Walk.{State, entered, pushed, leaf, walked_text, chained, one_more, walked, walked_kind, walked_trees, walked_signs, walked_fields, walked_declared}
+use Rattle.cd_shapes.specs.Walk.{State, entered, pushed, leaf, walked_text, chained, one_more, walked, walked_kind, walked_trees, walked_signs, walked_fields, walked_regular, walked_regular_kind, walked_regulars, walked_declared}
 use Rattle.cd_shapes.proofs.ListFacts.{one_before, get_before}
 
 -- the lists and the shapes of the first are those of the second, and more may follow
@@ -110,7 +111,9 @@ module _ (names : List (Name × NodeId)) where
         let under : Frames = record { declarations = declarations; first = s.names } ∷ frames in
         let one = entered under declarations s in
         then s one _ (entered_grows under declarations s) (walked_grows under is one)
-    kind_grows frames (type.Sequence is) s = same s
+    kind_grows frames (type.Sequence is) s =
+        let all = walked_regular names frames is [] s in
+        then s all.2 _ (regular_grows frames is [] s) (pushed_grows _ all.2)
     kind_grows frames (type.Variable name) s = same s
     kind_grows frames (type.Default name constant) s = same s
 
@@ -135,6 +138,26 @@ module _ (names : List (Name × NodeId)) where
         let one = walked names frames is s in
         then s one.1 _ (walked_grows frames is s)
         (fields_grow frames rest (one_more made (label, record { optional = optional; place = one.0 })) one.1)
+
+    pub regular_grows : (frames : Frames) (is : type.Regular) (places : List Place) (s : State)
+        → Grows s (walked_regular names frames is places s).2
+    regular_grows frames (type.regular span kind) places s = regular_kind_grows frames kind places s
+
+    pub regular_kind_grows : (frames : Frames) (kind : type.RegularKind) (places : List Place) (s : State)
+        → Grows s (walked_regular_kind names frames kind places s).2
+    regular_kind_grows frames type.Nothing places s = same s
+    regular_kind_grows frames (type.Item is) places s = walked_grows frames is s
+    regular_kind_grows frames (type.Seq all) places s = regulars_grow frames all [] places s
+    regular_kind_grows frames (type.Alt all) places s = regulars_grow frames all [] places s
+    regular_kind_grows frames (type.Repeat is post) places s = regular_grows frames is places s
+    regular_kind_grows frames (type.Capture name is) places s = same s
+
+    pub regulars_grow : (frames : Frames) (all : type.Regulars) (made : List Regular) (places : List Place) (s : State)
+        → Grows s (walked_regulars names frames all made places s).2
+    regulars_grow frames type.NoRegular made places s = same s
+    regulars_grow frames (type.ARegular first rest) made places s =
+        let one = walked_regular names frames first places s in
+        then s one.2 _ (regular_grows frames first places s) (regulars_grow frames rest (one_more made one.0) one.1 one.2)
 
   -- the trees of a list of declarations
   pub declared_grows : (frames : Frames) (declarations : Declarations) (made : List Place) (s : State)

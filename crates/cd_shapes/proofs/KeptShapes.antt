@@ -5,14 +5,16 @@ use Rattle.cd_syntax.specs.Name.{Name}
 use Rattle.cd_syntax.specs.TypeTree as type
 use Rattle.cd_syntax.specs.TypeTree.{Tree, tree, Kind, Trees, NoTree, ATree, Signs, NoSign, ASign, Fields, NoField, AField}
 use Rattle.cd_model.specs.Formula.{Formula}
+use Rattle.cd_regex.specs.Regular.{Regular, Regulars, NoRegular, ARegular}
 use Rattle.cd_shapes.specs.declared.place.Place.{Place}
 use Rattle.cd_shapes.specs.declared.place.FieldPlace.{FieldPlace}
 use Rattle.cd_shapes.specs.Shape.{Shape}
 use Rattle.cd_shapes.specs.Frames.{Frames}
 use Rattle.cd_shapes.specs.Leaves.{characters, Joint, Pairs, Arrows}
 use Rattle.cd_shapes.specs.Walk.{State}
-use Rattle.cd_shapes.specs.Shaped.{IsAt, HasLeaf, ShapedText, Shaped, ShapedKind, ShapedChain, ShapedEach, ShapedSigns, ShapedFields}
+use Rattle.cd_shapes.specs.Shaped.{IsAt, HasLeaf, ShapedText, Shaped, ShapedKind, ShapedChain, ShapedEach, ShapedSigns, ShapedFields, ShapedRegular, ShapedRegularKind, ShapedRegulars}
 use Rattle.cd_shapes.proofs.Growing.{Grows}
+use Rattle.cd_shapes.proofs.PlacesKept.{AreKept, same_places}
 
 module _ (s t : State) (grows : Grows s t) where
   -- the place of a shape
@@ -69,7 +71,8 @@ module _ (s t : State) (grows : Grows s t) where
       kind_kept frames (type.Where part declarations) at is =
           let under : Frames = record { declarations = declarations; first = is.0 } ∷ frames in
           (is.0, grows.met under is.1, shaped_kept under part at is.2)
-      kind_kept frames (type.Sequence expression) at is = is
+      kind_kept frames (type.Sequence expression) at is =
+          (is.0, is.1, at_kept at _ is.2, regular_kept frames is.1 is.1 (same_places is.1) expression is.0 is.3)
       kind_kept frames (type.Variable name) at is = is
       kind_kept frames (type.Default name constant) at is = is
 
@@ -110,3 +113,33 @@ module _ (s t : State) (grows : Grows s t) where
       fields_kept frames (AField label from optional part rest) [] is = elim is [ ]
       fields_kept frames (AField label from optional part rest) (field ∷ named) is =
           (is.0, is.1, shaped_kept frames part field.1.place is.2, fields_kept frames rest named is.3)
+
+      -- an expression, also over more places
+      pub regular_kept : (frames : Frames) (places all : List Place) → AreKept places all → (expression : type.Regular)
+          (regular : Regular) → ShapedRegular names s.lists s.shapes frames places expression regular
+          → ShapedRegular names t.lists t.shapes frames all expression regular
+      regular_kept frames places all kept (type.regular span kind) regular is =
+          regular_kind_kept frames places all kept kind regular is
+
+      pub regular_kind_kept : (frames : Frames) (places all : List Place) → AreKept places all → (kind : type.RegularKind)
+          (regular : Regular) → ShapedRegularKind names s.lists s.shapes frames places kind regular
+          → ShapedRegularKind names t.lists t.shapes frames all kind regular
+      regular_kind_kept frames places all kept type.Nothing regular is = is
+      regular_kind_kept frames places all kept (type.Item part) regular is =
+          (is.0, is.1, is.2, kept is.0.0 is.1 is.3, shaped_kept frames part is.1 is.4)
+      regular_kind_kept frames places all kept (type.Seq parts) regular is =
+          (is.0, is.1, regulars_kept frames places all kept parts is.0 is.2)
+      regular_kind_kept frames places all kept (type.Alt parts) regular is =
+          (is.0, is.1, regulars_kept frames places all kept parts is.0 is.2)
+      regular_kind_kept frames places all kept (type.Repeat inner post) regular is =
+          (is.0, is.1, regular_kept frames places all kept inner is.0 is.2)
+      regular_kind_kept frames places all kept (type.Capture name inner) regular is = is
+
+      pub regulars_kept : (frames : Frames) (places all : List Place) → AreKept places all → (parts : type.Regulars)
+          (regulars : Regulars) → ShapedRegulars names s.lists s.shapes frames places parts regulars
+          → ShapedRegulars names t.lists t.shapes frames all parts regulars
+      regulars_kept frames places all kept type.NoRegular NoRegular is = tt
+      regulars_kept frames places all kept type.NoRegular (ARegular one others) is = elim is [ ]
+      regulars_kept frames places all kept (type.ARegular first rest) NoRegular is = elim is [ ]
+      regulars_kept frames places all kept (type.ARegular first rest) (ARegular one others) is =
+          (regular_kept frames places all kept first one is.0, regulars_kept frames places all kept rest others is.1)

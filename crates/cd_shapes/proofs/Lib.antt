@@ -1,7 +1,9 @@
 pub mod ListFacts
 pub mod Growing
+pub mod PlacesKept
 pub mod KeptShapes
 pub mod WalkedShapes
+pub mod AsksPlaces
 pub mod Meeting
 pub mod Rooted
 pub mod Readings

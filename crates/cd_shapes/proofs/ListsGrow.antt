@@ -2,13 +2,15 @@
 use Rattle.std.proofs.Common.{◌≡◌, refl, ◌∙◌, ℕ, ◌≤◌, Bool, true, List, [], ◌∷◌, ◌++◌, length, Option, Some, None, arith}
 use Rattle.cd_sets.specs.declared.node_id.NodeId.{NodeId}
 use Rattle.cd_syntax.specs.Name.{Name}
+use Rattle.cd_syntax.specs.TypeTree as type
 use Rattle.cd_syntax.specs.TypeTree.{Tree, tree, Kind, Builtin, Ints, Chars, Atom, Text, Tuple, Arrows, Union, Meet, Sequence, Record, Xml, Named, Where, Variable, Default, Trees, NoTree, ATree, Signs, NoSign, ASign, Fields, NoField, AField, Declarations, NoDeclaration, ADeclaration}
 use Rattle.cd_model.specs.Formula.{Formula}
+use Rattle.cd_regex.specs.Regular.{Regular}
 use Rattle.cd_shapes.specs.declared.place.Place.{Place}
 use Rattle.cd_shapes.specs.declared.place.FieldPlace.{FieldPlace}
 use Rattle.cd_shapes.specs.Frames.{Frames}
 use Rattle.cd_shapes.specs.Leaves.{integers, characters, Joint, Pairs, Arrows as ArrowsOf}
-use Rattle.cd_shapes.specs.Walk.{State, leaf, walked_text, chained, entered, one_more, walked, walked_kind, walked_trees, walked_signs, walked_fields, walked_declared, walked_list}
+use Rattle.cd_shapes.specs.Walk.{State, leaf, walked_text, chained, entered, one_more, walked, walked_kind, walked_trees, walked_signs, walked_fields, walked_regular, walked_regular_kind, walked_regulars, walked_declared, walked_list}
 
 abbrev pub met : State → ℕ
 met s = length s.lists
@@ -60,7 +62,7 @@ module _ (names : List (Name × NodeId)) where
         let one = grows frames first s in
         let more = signs_grow frames signs ((true, (walked names frames first s).0) ∷ []) (walked names frames first s).1 in
         omega arith
-    kind_grows frames (Sequence is) s = omega arith
+    kind_grows frames (Sequence is) s = regular_grows frames is [] s
     kind_grows frames (Record fields more) s = fields_grow frames fields [] s
     kind_grows frames (Xml tag attributes content) s =
         let one = grows frames tag s in
@@ -101,6 +103,28 @@ module _ (names : List (Name × NodeId)) where
         let more = fields_grow frames rest
         (one_more made (label, record { optional = optional; place = (walked names frames is s).0 }))
         (walked names frames is s).1 in
+        omega arith
+
+    regular_grows : (frames : Frames) (is : type.Regular) (places : List Place) (s : State)
+        → met s ≤ met (walked_regular names frames is places s).2
+    regular_grows frames (type.regular span kind) places s = regular_kind_grows frames kind places s
+
+    regular_kind_grows : (frames : Frames) (kind : type.RegularKind) (places : List Place) (s : State)
+        → met s ≤ met (walked_regular_kind names frames kind places s).2
+    regular_kind_grows frames type.Nothing places s = omega arith
+    regular_kind_grows frames (type.Item is) places s = grows frames is s
+    regular_kind_grows frames (type.Seq all) places s = regulars_grow frames all [] places s
+    regular_kind_grows frames (type.Alt all) places s = regulars_grow frames all [] places s
+    regular_kind_grows frames (type.Repeat is post) places s = regular_grows frames is places s
+    regular_kind_grows frames (type.Capture name is) places s = omega arith
+
+    regulars_grow : (frames : Frames) (all : type.Regulars) (made : List Regular) (places : List Place) (s : State)
+        → met s ≤ met (walked_regulars names frames all made places s).2
+    regulars_grow frames type.NoRegular made places s = omega arith
+    regulars_grow frames (type.ARegular first rest) made places s =
+        let read = walked_regular names frames first places s in
+        let one = regular_grows frames first places s in
+        let more = regulars_grow frames rest (one_more made read.0) read.1 read.2 in
         omega arith
 
   declared_grow : (frames : Frames) (declarations : Declarations) (made : List Place) (s : State)

@@ -7,15 +7,16 @@ use Rattle.cd_syntax.specs.TypeTree as type
 use Rattle.cd_syntax.specs.TypeTree.{Tree, tree, Kind, Trees, NoTree, ATree, Signs, NoSign, ASign, Fields, NoField, AField, Declarations, NoDeclaration, ADeclaration}
 use Rattle.cd_model.specs.Each.{Each}
 use Rattle.cd_model.specs.Formula.{Formula}
-use Rattle.cd_model.specs.Scope.{Scope, Declared, names_in, names_in_kind, names_in_trees, names_in_signs, names_in_fields, names_declared, names_over}
+use Rattle.cd_model.specs.Scope.{Scope, Declared, names_in, names_in_kind, names_in_trees, names_in_signs, names_in_fields, names_in_regular, names_in_regular_kind, names_in_regulars, names_declared, names_over}
 use Rattle.cd_model.proofs.Covered.{each_parts, each_both}
+use Rattle.cd_regex.specs.Regular.{Regular}
 use Rattle.cd_shapes.specs.declared.place.Place.{Place}
 use Rattle.cd_shapes.specs.declared.place.FieldPlace.{FieldPlace}
 use Rattle.cd_shapes.specs.Shape.{Shape}
 use Rattle.cd_shapes.specs.Frames.{Frame, Frames, scope_of, number_in}
 use Rattle.cd_shapes.specs.Leaves.{characters, Joint, Pairs, Arrows}
 use Rattle.cd_shapes.specs.Reading.{AreMet}
-use Rattle.cd_shapes.specs.Walk.{State, entered, pushed, leaf, walked_text, chained, one_more, walked, walked_kind, walked_trees, walked_signs, walked_fields, walked_declared}
+use Rattle.cd_shapes.specs.Walk.{State, entered, pushed, leaf, walked_text, chained, one_more, walked, walked_kind, walked_trees, walked_signs, walked_fields, walked_regular, walked_regular_kind, walked_regulars, walked_declared}
 use Rattle.cd_shapes.proofs.ListFacts.{one_before, one_last}
 
 -- these lists have numbers that follow one another from the first on to the last, and those round them are among all
@@ -193,7 +194,9 @@ module _ (base : Scope) (Fact : Declared → Type 0) where
           let enters = entered_meets frames declarations s met under_seen in
           both s one _ enters (walked_meets (frame ∷ frames) is one
           (one_last (frame ∷ frames) s.lists, still_met s one enters frames met) under_seen parts.1)
-      kind_meets frames (type.Sequence is) s met seen each = stays s s refl refl
+      kind_meets frames (type.Sequence is) s met seen each =
+          let all = walked_regular names frames is [] s in
+          both s all.2 _ (regular_meets frames is [] s met seen each) (pushed_meets _ all.2)
       kind_meets frames (type.Variable name) s met seen each = stays s s refl refl
       kind_meets frames (type.Default name constant) s met seen each = stays s s refl refl
 
@@ -233,6 +236,33 @@ module _ (base : Scope) (Fact : Declared → Type 0) where
           both s one.1 _ first_meets (fields_meet frames rest
           (one_more made (label, record { optional = optional; place = one.0 })) one.1
           (still_met s one.1 first_meets frames met) seen parts.1)
+
+      pub regular_meets : (frames : Frames) (is : type.Regular) (places : List Place) (s : State) → AreMet s.lists frames
+          → Seen frames → Each Fact (names_in_regular (scope_of base frames) is)
+          → Meets s (walked_regular names frames is places s).2
+      regular_meets frames (type.regular span kind) places s met seen each = regular_kind_meets frames kind places s met seen each
+
+      pub regular_kind_meets : (frames : Frames) (kind : type.RegularKind) (places : List Place) (s : State)
+          → AreMet s.lists frames → Seen frames → Each Fact (names_in_regular_kind (scope_of base frames) kind)
+          → Meets s (walked_regular_kind names frames kind places s).2
+      regular_kind_meets frames type.Nothing places s met seen each = stays s s refl refl
+      regular_kind_meets frames (type.Item is) places s met seen each = walked_meets frames is s met seen each
+      regular_kind_meets frames (type.Seq all) places s met seen each = regulars_meet frames all [] places s met seen each
+      regular_kind_meets frames (type.Alt all) places s met seen each = regulars_meet frames all [] places s met seen each
+      regular_kind_meets frames (type.Repeat is post) places s met seen each = regular_meets frames is places s met seen each
+      regular_kind_meets frames (type.Capture name is) places s met seen each = stays s s refl refl
+
+      pub regulars_meet : (frames : Frames) (all : type.Regulars) (made : List Regular) (places : List Place) (s : State)
+          → AreMet s.lists frames → Seen frames → Each Fact (names_in_regulars (scope_of base frames) all)
+          → Meets s (walked_regulars names frames all made places s).2
+      regulars_meet frames type.NoRegular made places s met seen each = stays s s refl refl
+      regulars_meet frames (type.ARegular first rest) made places s met seen each =
+          let scope = scope_of base frames in
+          let parts = each_parts Fact (names_in_regular scope first) (names_in_regulars scope rest) each in
+          let one = walked_regular names frames first places s in
+          let first_meets = regular_meets frames first places s met seen parts.0 in
+          both s one.2 _ first_meets (regulars_meet frames rest (one_more made one.0) one.1 one.2
+          (still_met s one.2 first_meets frames met) seen parts.1)
 
     -- the trees of a list of declarations, whose names all have the fact
     pub declared_meets : (frames : Frames) (declarations : Declarations) (made : List Place) (s : State)

@@ -5,19 +5,21 @@ use Rattle.cd_sets.specs.declared.node_id.NodeId.{NodeId}
 use Rattle.cd_syntax.specs.Name.{Name}
 use Rattle.cd_syntax.specs.TypeTree as type
 use Rattle.cd_syntax.specs.TypeTree.{Tree, tree, Kind, Trees, NoTree, ATree, Signs, NoSign, ASign, Fields, NoField, AField}
-use Rattle.cd_model.specs.BuiltIns.{node_named}
+use Rattle.cd_model.specs.BuiltIns.{node, node_named}
 use Rattle.cd_model.specs.Formula.{Formula}
 use Rattle.cd_model.specs.Written.{any_or_none}
+use Rattle.cd_regex.specs.Regular.{Regular, regulars_of}
 use Rattle.cd_shapes.specs.declared.place.Place.{Place}
 use Rattle.cd_shapes.specs.declared.place.FieldPlace.{FieldPlace}
-use Rattle.cd_shapes.specs.Shape.{Shape, Leaf, Pair, Xml, Record, And, Or}
+use Rattle.cd_shapes.specs.Shape.{Shape, Leaf, Pair, Xml, Record, And, Or, Sequence}
 use Rattle.cd_shapes.specs.Frames.{Frames}
 use Rattle.cd_shapes.specs.Leaves.{characters, Joint, Pairs, Arrows, joined, sorted}
-use Rattle.cd_shapes.specs.Walk.{State, entered, pushed, leaf, walked_text, chained, one_more, walked, walked_kind, walked_trees, walked_signs, walked_fields}
-use Rattle.cd_shapes.specs.Shaped.{IsAt, HasLeaf, ShapedText, Shaped, ShapedKind, ShapedChain, ShapedEach, ShapedSigns, ShapedFields}
+use Rattle.cd_shapes.specs.Walk.{State, entered, pushed, leaf, walked_text, chained, one_more, walked, walked_kind, walked_trees, walked_signs, walked_fields, walked_regular, walked_regular_kind, walked_regulars}
+use Rattle.cd_shapes.specs.Shaped.{IsAt, HasLeaf, ShapedText, Shaped, ShapedKind, ShapedChain, ShapedEach, ShapedSigns, ShapedFields, ShapedRegular, ShapedRegularKind, ShapedRegulars}
 use Rattle.cd_shapes.proofs.ListFacts.{get_next, one_last}
-use Rattle.cd_shapes.proofs.Growing.{then, pushed_grows, leaf_grows, chained_grows, walked_grows, trees_grow, signs_grow, fields_grow}
-use Rattle.cd_shapes.proofs.KeptShapes.{leaf_kept, text_kept, shaped_kept, chain_kept, each_kept, signs_kept, fields_kept}
+use Rattle.cd_shapes.proofs.Growing.{then, pushed_grows, leaf_grows, chained_grows, walked_grows, trees_grow, signs_grow, fields_grow, regulars_grow}
+use Rattle.cd_shapes.proofs.PlacesKept.{same_places, regulars_keep}
+use Rattle.cd_shapes.proofs.KeptShapes.{leaf_kept, text_kept, shaped_kept, chain_kept, each_kept, signs_kept, fields_kept, regular_kept}
 
 -- a shape that is made stands at its place
 pub pushed_at : (shape : Shape) (s : State) → IsAt (pushed shape s).1.shapes (pushed shape s).0 shape
@@ -88,6 +90,20 @@ module _ (names : List (Name × NodeId)) where
     pub named : List (Name × FieldPlace)
     pub are : all.0 ≡ made ++ named
     pub each : ShapedFields names all.1.lists all.1.shapes frames fields named
+
+  -- the same of expressions, of the numbers of these places
+  pub record RegularsAt (frames : Frames) (regulars : type.Regulars) (made : List Regular)
+      (all : List Regular × List Place × State) : Type 0 where
+    pub parts : List Regular
+    pub are : all.0 ≡ made ++ parts
+    pub each : ShapedRegulars names all.2.lists all.2.shapes frames all.1 regulars (regulars_of parts)
+
+  -- the expressions that were made after none
+  all_regulars : (frames : Frames) (regulars : type.Regulars) (all : List Regular × List Place × State)
+      → RegularsAt frames regulars [] all
+      → ShapedRegulars names all.2.lists all.2.shapes frames all.1 regulars (regulars_of all.0)
+  all_regulars frames regulars all each = subst (λ parts. ShapedRegulars names all.2.lists all.2.shapes frames all.1
+      regulars (regulars_of parts)) (sym each.are) each.each
 
   -- the chain of trees whose places were made
   chain_at : (frames : Frames) (joint : Joint) (trees : Trees) (all : List Place × State) → TreesAt frames trees [] all
@@ -172,7 +188,15 @@ module _ (names : List (Name × NodeId)) where
         let under : Frames = record { declarations = declarations; first = s.names } ∷ frames in
         let one = entered under declarations s in
         (s.names, (walked_grows names under is one).met under (one_last under s.lists), walked_at under is one)
-    kind_at frames (type.Sequence is) s = refl
+    kind_at frames (type.Sequence is) s =
+        let all = walked_regular names frames is [] s in
+        let shape = Sequence all.0 all.1 in (
+          all.0,
+          all.1,
+          pushed_at shape all.2,
+          regular_kept all.2 _ (pushed_grows shape all.2) names frames all.1 all.1 (same_places all.1) is all.0
+              (regular_at frames is [] s),
+        )
     kind_at frames (type.Variable name) s = refl
     kind_at frames (type.Default name constant) s = refl
 
@@ -227,6 +251,48 @@ module _ (names : List (Name × NodeId)) where
             refl,
             shaped_kept one.1 all.1 (fields_grow names frames rest (one_more made field) one.1) names frames is
                 one.0 (walked_at frames is s),
+            later.each,
+          );
+        }
+
+    pub regular_at : (frames : Frames) (is : type.Regular) (places : List Place) (s : State)
+        → ShapedRegular names (walked_regular names frames is places s).2.lists
+        (walked_regular names frames is places s).2.shapes frames (walked_regular names frames is places s).1 is
+        (walked_regular names frames is places s).0
+    regular_at frames (type.regular span kind) places s = regular_kind_at frames kind places s
+
+    pub regular_kind_at : (frames : Frames) (kind : type.RegularKind) (places : List Place) (s : State)
+        → ShapedRegularKind names (walked_regular_kind names frames kind places s).2.lists
+        (walked_regular_kind names frames kind places s).2.shapes frames
+        (walked_regular_kind names frames kind places s).1 kind (walked_regular_kind names frames kind places s).0
+    regular_kind_at frames type.Nothing places s = refl
+    regular_kind_at frames (type.Item is) places s =
+        let one = walked names frames is s in
+        (node (length places), one.0, refl, get_next one.0 places [], walked_at frames is s)
+    regular_kind_at frames (type.Seq regulars) places s =
+        let all = walked_regulars names frames regulars [] places s in
+        (regulars_of all.0, refl, all_regulars frames regulars all (regulars_at frames regulars [] places s))
+    regular_kind_at frames (type.Alt regulars) places s =
+        let all = walked_regulars names frames regulars [] places s in
+        (regulars_of all.0, refl, all_regulars frames regulars all (regulars_at frames regulars [] places s))
+    regular_kind_at frames (type.Repeat is post) places s =
+        ((walked_regular names frames is places s).0, refl, regular_at frames is places s)
+    regular_kind_at frames (type.Capture name is) places s = refl
+
+    pub regulars_at : (frames : Frames) (regulars : type.Regulars) (made : List Regular) (places : List Place) (s : State)
+        → RegularsAt frames regulars made (walked_regulars names frames regulars made places s)
+    regulars_at frames type.NoRegular made places s = record { parts = []; are = sym (append-nil made); each = tt }
+    regulars_at frames (type.ARegular first rest) made places s =
+        let one = walked_regular names frames first places s in
+        let all = walked_regulars names frames rest (one_more made one.0) one.1 one.2 in
+        let later = regulars_at frames rest (one_more made one.0) one.1 one.2 in
+        record {
+          parts = one.0 ∷ later.parts;
+          are = later.are ∙ append_assoc made (one.0 ∷ []) later.parts;
+          each = (
+            regular_kept one.2 all.2 (regulars_grow names frames rest (one_more made one.0) one.1 one.2) names frames
+                one.1 all.1 (regulars_keep names frames rest (one_more made one.0) one.1 one.2) first one.0
+                (regular_at frames first places s),
             later.each,
           );
         }

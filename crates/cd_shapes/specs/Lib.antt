@@ -2,6 +2,7 @@ pub mod Names
 pub mod Shape
 pub mod Frames
 pub mod Leaves
+pub mod Repeated
 pub mod Walk
 pub mod Shaped
 pub mod Reading

@@ -8,10 +8,11 @@ use Rattle.cd_syntax.specs.Element.{IsAbove}
 use Rattle.cd_model.specs.Each.{Each, One}
 use Rattle.cd_model.specs.Formula.{IsFormula}
 use Rattle.cd_model.specs.Scope.{Scope, Declared, names_over}
+use Rattle.cd_regex.specs.Regular.{AsksBelow}
 use Rattle.cd_shapes.specs.declared.place.Place.{Place}
 use Rattle.cd_shapes.specs.declared.place.Place.TheVariants as place
 use Rattle.cd_shapes.specs.declared.place.FieldPlace.{FieldPlace}
-use Rattle.cd_shapes.specs.Shape.{Shape, Leaf, Pair, Xml, Record, Arrow, And, Or}
+use Rattle.cd_shapes.specs.Shape.{Shape, Leaf, Pair, Xml, Record, Arrow, And, Or, Sequence}
 use Rattle.cd_shapes.specs.Names.{node_of}
 use Rattle.cd_shapes.specs.Frames.{Frames, scope_of, number_in}
 use Rattle.cd_shapes.specs.Shaped.{Tables, Shaped}
@@ -31,7 +32,7 @@ abbrev pub AreRising : Option Name → List (Name × FieldPlace) → Type 0
 AreRising before [] = Unit {0}
 AreRising before (field ∷ named) = IsLabel field.0 × IsAbove before field.0 × AreRising (Some field.0) named
 
--- a shape whose places are such, and whose names are words
+-- a shape whose places are such, and whose names are words; an expression asks for places that are there
 abbrev pub IsShape : (nodes names before : ℕ) → Shape → Type 0
 IsShape nodes names before (Leaf formula) = IsFormula 0 formula
 IsShape nodes names before (Pair first second) = IsPlace nodes names before first × IsPlace nodes names before second
@@ -42,6 +43,7 @@ IsShape nodes names before (Record named rest) =
 IsShape nodes names before (Arrow argument result) = IsPlace nodes names before argument × IsPlace nodes names before result
 IsShape nodes names before (And signs) = Each (λ sign. IsPlace nodes names before sign.1) signs
 IsShape nodes names before (Or places) = Each (IsPlace nodes names before) places
+IsShape nodes names before (Sequence regular places) = Each (IsPlace nodes names before) places × AsksBelow (length places) regular
 
 -- each shape names places before it alone; the first of them has this number
 abbrev pub AreShapes : (nodes names before : ℕ) → List Shape → Type 0

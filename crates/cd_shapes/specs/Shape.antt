@@ -4,6 +4,8 @@ use Rattle.cd_sets.specs.declared.node_id.NodeId.{NodeId}
 use Rattle.cd_syntax.specs.Name.{Name}
 use Rattle.cd_model.specs.Formula.{Formula}
 use Rattle.cd_graph.specs.PlainFormula.{plain}
+use Rattle.cd_regex.specs.Regular.{Regular}
+use Rattle.cd_regex.specs.PlainRegular.{plain as plain_regular}
 use Rattle.cd_shapes.specs.declared.place.Place.{Place}
 use Rattle.cd_shapes.specs.declared.place.FieldPlace.{FieldPlace}
 use Rattle.cd_shapes.specs.declared.shape.Shape.{Shape as CodeShape}
@@ -19,6 +21,8 @@ pub data Shape : Type 0 where
   -- what is in each place with true, and in none with false
   And : List (Bool × Place) → Shape
   Or : List Place → Shape
+  -- the sequences whose items fit an expression over the numbers of these places
+  Sequence : Regular → List Place → Shape
 
 -- the plain shape of one of the code
 abbrev pub plain_shape : CodeShape → Shape
@@ -29,3 +33,4 @@ plain_shape (code.Record named rest) = Record named.items rest
 plain_shape (code.Arrow argument result) = Arrow argument result
 plain_shape (code.And signs) = And signs.items
 plain_shape (code.Or places) = Or places.items
+plain_shape (code.Sequence regular places) = Sequence (plain_regular regular) places.items

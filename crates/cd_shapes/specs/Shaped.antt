@@ -9,12 +9,14 @@ use Rattle.cd_model.specs.BuiltIns.{EMPTY, NIL, node_named}
 use Rattle.cd_model.specs.Each.{One}
 use Rattle.cd_model.specs.Formula.{Formula}
 use Rattle.cd_model.specs.Written.{any_or_none}
+use Rattle.cd_regex.specs.Regular.{Regular, Regulars, Nothing, Item, Seq, Alt, NoRegular, ARegular}
 use Rattle.cd_shapes.specs.declared.place.Place.{Place}
 use Rattle.cd_shapes.specs.declared.place.Place.TheVariants as place
 use Rattle.cd_shapes.specs.declared.place.FieldPlace.{FieldPlace}
-use Rattle.cd_shapes.specs.Shape.{Shape, Leaf, Pair, Xml, Record, And, Or}
+use Rattle.cd_shapes.specs.Shape.{Shape, Leaf, Pair, Xml, Record, And, Or, Sequence}
 use Rattle.cd_shapes.specs.Frames.{Frames, place_of}
 use Rattle.cd_shapes.specs.Leaves.{integers, characters, atom, Joint, Pairs, Arrows, joined, sorted}
+use Rattle.cd_shapes.specs.Repeated.{repeated}
 
 -- where the type of each declared name is found, by its number, and the shapes
 pub record Tables : Type 0 where
@@ -55,6 +57,8 @@ module _ (names : List (Name × NodeId)) (lists : List Frames) (shapes : List Sh
     ShapedKind frames (type.Union trees) at = (places : List Place) × IsAt shapes at (Or places) × ShapedEach frames trees places
     ShapedKind frames (type.Meet first signs) at = (one : Place) × (signed : List (Bool × Place))
         × IsAt shapes at (And ((true, one) ∷ signed)) × Shaped frames first one × ShapedSigns frames signs signed
+    ShapedKind frames (type.Sequence is) at = (regular : Regular) × (places : List Place) × IsAt shapes at (Sequence regular places)
+        × ShapedRegular frames places is regular
     ShapedKind frames (type.Record fields more) at = (named : List (Name × FieldPlace))
         × IsAt shapes at (Record (sorted named) (node_named (any_or_none more))) × ShapedFields frames fields named
     ShapedKind frames (type.Xml tag attributes content) at = (one other last : Place) × IsAt shapes at (Xml one other last)
@@ -87,3 +91,24 @@ module _ (names : List (Name × NodeId)) (lists : List Frames) (shapes : List Sh
     ShapedFields frames (AField label at optional is rest) (field ∷ named) = (field.0 ≡ label) × (field.1.optional ≡ optional)
         × Shaped frames is field.1.place × ShapedFields frames rest named
     ShapedFields frames fields named = ⊥
+
+    -- an expression whose items are the numbers of these places
+    pub ShapedRegular : Frames → List Place → type.Regular → Regular → Type 0
+    ShapedRegular frames places (type.regular span kind) is = ShapedRegularKind frames places kind is
+
+    pub ShapedRegularKind : Frames → List Place → type.RegularKind → Regular → Type 0
+    ShapedRegularKind frames places type.Nothing is = is ≡ Nothing
+    ShapedRegularKind frames places (type.Item part) is = (id : NodeId) × (at : Place) × (is ≡ Item id) × (slice_get places id.0 ≡ Some at)
+        × Shaped frames part at
+    ShapedRegularKind frames places (type.Seq all) is = (parts : Regulars) × (is ≡ Seq parts) × ShapedRegulars frames places all parts
+    ShapedRegularKind frames places (type.Alt all) is = (parts : Regulars) × (is ≡ Alt parts) × ShapedRegulars frames places all parts
+    ShapedRegularKind frames places (type.Repeat inner post) is = (part : Regular) × (is ≡ repeated post part)
+        × ShapedRegular frames places inner part
+    -- a form of patterns, which stands in no type
+    ShapedRegularKind frames places (type.Capture name inner) is = is ≡ Alt NoRegular
+
+    pub ShapedRegulars : Frames → List Place → type.Regulars → Regulars → Type 0
+    ShapedRegulars frames places type.NoRegular NoRegular = Unit {0}
+    ShapedRegulars frames places (type.ARegular first rest) (ARegular one others) = ShapedRegular frames places first one
+        × ShapedRegulars frames places rest others
+    ShapedRegulars frames places all parts = ⊥

@@ -5,15 +5,18 @@ use Rattle.cd_sets.specs.declared.node_id.NodeId.{NodeId}
 use Rattle.cd_syntax.specs.Name.{Name}
 use Rattle.cd_syntax.specs.TypeTree as type
 use Rattle.cd_syntax.specs.TypeTree.{Tree, tree, Kind, Trees, NoTree, ATree, Signs, NoSign, ASign, Fields, NoField, AField, Declarations, NoDeclaration, ADeclaration}
-use Rattle.cd_model.specs.BuiltIns.{EMPTY, NIL, node_named}
+use Rattle.cd_syntax.specs.declared.type_tree.Post.{Post}
+use Rattle.cd_model.specs.BuiltIns.{EMPTY, NIL, node, node_named}
 use Rattle.cd_model.specs.Formula.{Formula}
 use Rattle.cd_model.specs.Written.{any_or_none}
+use Rattle.cd_regex.specs.Regular.{Regular, Nothing, Item, Seq, Alt, NoRegular, regulars_of}
 use Rattle.cd_shapes.specs.declared.place.Place.{Place}
 use Rattle.cd_shapes.specs.declared.place.Place.TheVariants as place
 use Rattle.cd_shapes.specs.declared.place.FieldPlace.{FieldPlace}
-use Rattle.cd_shapes.specs.Shape.{Shape, Leaf, Pair, Xml, Record, And, Or}
+use Rattle.cd_shapes.specs.Shape.{Shape, Leaf, Pair, Xml, Record, And, Or, Sequence}
 use Rattle.cd_shapes.specs.Frames.{Frames, place_of, number_in}
 use Rattle.cd_shapes.specs.Leaves.{integers, characters, atom, Joint, Pairs, Arrows, joined, sorted}
+use Rattle.cd_shapes.specs.Repeated.{repeated}
 
 -- the lists of declarations that were met, each with those round it, the number of their names, and the shapes
 pub record State : Type 0 where
@@ -78,6 +81,29 @@ one_more made next = made ++ next ∷ []
 abbrev pub elements : Place → Place → Read → Read
 elements tag attributes content = pushed (Xml tag attributes content.0) content.1
 
+-- what is read of an expression: it over the numbers of these places, and the state after it
+abbrev pub ReadRegular : Type 0
+ReadRegular = Regular × List Place × State
+
+abbrev pub sequenced : ReadRegular → Read
+sequenced all = pushed (Sequence all.0 all.1) all.2
+
+-- an item has the number of its place, which is put after those that are there
+abbrev pub numbered : List Place → Place → Regular × List Place
+numbered places at = (Item (node (length places)), one_more places at)
+
+abbrev pub item_of : List Place → Read → ReadRegular
+item_of places item = ((numbered places item.0).0, (numbered places item.0).1, item.1)
+
+abbrev pub repeats : Post → ReadRegular → ReadRegular
+repeats post one = (repeated post one.0, one.1, one.2)
+
+abbrev pub in_turn : List Regular × List Place × State → ReadRegular
+in_turn all = (Seq (regulars_of all.0), all.1, all.2)
+
+abbrev pub one_of : List Regular × List Place × State → ReadRegular
+one_of all = (Alt (regulars_of all.0), all.1, all.2)
+
 abbrev mutual
   -- the walk over a tree under these lists, where names that they do not declare have these nodes
   pub walked : List (Name × NodeId) → Frames → Tree → State → Read
@@ -96,6 +122,7 @@ abbrev mutual
   walked_kind names frames (type.Union trees) s = united (walked_trees names frames trees [] s)
   walked_kind names frames (type.Meet first signs) s = signed_all
       (walked_signs names frames signs ((true, (walked names frames first s).0) ∷ []) (walked names frames first s).1)
+  walked_kind names frames (type.Sequence is) s = sequenced (walked_regular names frames is [] s)
   walked_kind names frames (type.Record fields more) s = recorded more (walked_fields names frames fields [] s)
   walked_kind names frames (type.Xml tag attributes content) s =
       elements (walked names frames tag s).0 (walked names frames attributes (walked names frames tag s).1).0
@@ -122,6 +149,26 @@ abbrev mutual
   walked_fields names frames (AField label at optional is rest) made s =
       walked_fields names frames rest (one_more made (label, record { optional = optional; place = (walked names frames is s).0 }))
       (walked names frames is s).1
+
+  -- an expression, whose items come after these places
+  pub walked_regular : List (Name × NodeId) → Frames → type.Regular → List Place → State → ReadRegular
+  walked_regular names frames (type.regular span kind) places s = walked_regular_kind names frames kind places s
+
+  pub walked_regular_kind : List (Name × NodeId) → Frames → type.RegularKind → List Place → State → ReadRegular
+  walked_regular_kind names frames type.Nothing places s = (Nothing, places, s)
+  walked_regular_kind names frames (type.Item is) places s = item_of places (walked names frames is s)
+  walked_regular_kind names frames (type.Seq all) places s = in_turn (walked_regulars names frames all [] places s)
+  walked_regular_kind names frames (type.Alt all) places s = one_of (walked_regulars names frames all [] places s)
+  walked_regular_kind names frames (type.Repeat is post) places s = repeats post (walked_regular names frames is places s)
+  -- a form of patterns, which stands in no type
+  walked_regular_kind names frames (type.Capture name is) places s = (Alt NoRegular, places, s)
+
+  pub walked_regulars : List (Name × NodeId) → Frames → type.Regulars → List Regular → List Place → State
+      → List Regular × List Place × State
+  walked_regulars names frames type.NoRegular made places s = (made, places, s)
+  walked_regulars names frames (type.ARegular first rest) made places s =
+      walked_regulars names frames rest (one_more made (walked_regular names frames first places s).0)
+      (walked_regular names frames first places s).1 (walked_regular names frames first places s).2
 
 -- the trees of a list of declarations in turn
 abbrev pub walked_declared : List (Name × NodeId) → Frames → Declarations → List Place → State → List Place × State

@@ -11,6 +11,7 @@ pub mod names;
 pub mod place;
 pub mod read;
 mod scope;
+mod sequence;
 pub mod shape;
 mod sort;
 mod state;

@@ -1,5 +1,6 @@
 use crate::place::{FieldPlace, Place};
 use cd_graph::Formula;
+use cd_regex::Reg;
 use cd_sets::node_id::NodeId;
 use cd_syntax::name::Name;
 
@@ -20,4 +21,6 @@ pub enum Shape {
     And(Vec<(bool, Place)>),
     /// What is in one of the types.
     Or(Vec<Place>),
+    /// The sequences whose items fit an expression, whose items are the numbers of these places.
+    Sequence(Reg, Vec<Place>),
 }

@@ -12,6 +12,7 @@ use crate::leaves::{atom, characters, integers};
 use crate::lookup::place_of;
 use crate::place::{FieldPlace, Place};
 use crate::scope::under;
+use crate::sequence::walk_sequence;
 use crate::shape::Shape;
 use crate::state::{Joint, State};
 use cd_graph::built_in::{EMPTY, node_of};
@@ -70,10 +71,9 @@ fn walk_kind<'t>(
         TreeKind::Where(body, declarations) => {
             walk_where(alloc, names, body, declarations, frames, state)
         }
-        // Sequences are not read yet, and the other two are forms of patterns, which stand in no type.
-        TreeKind::Sequence(_) | TreeKind::Variable(_) | TreeKind::Default(_, _) => {
-            Ok(Place::Node(EMPTY))
-        }
+        TreeKind::Sequence(expression) => walk_sequence(alloc, names, expression, frames, state),
+        // These two are forms of patterns, which stand in no type.
+        TreeKind::Variable(_) | TreeKind::Default(_, _) => Ok(Place::Node(EMPTY)),
     }
 }
 

@@ -20,7 +20,7 @@ pub order-requires-clause-rows : goal.order-requires-clause-rows
 order-requires-clause-rows c =
     let tables = plain_tables c.args.tables.now in
     subst AreRows (sym (same_rows _ _ (links tables) c.as_slice.ensures.value c.in_ok-rows.ensures))
-    (are_rows c.args.counts tables c.requires.sound c.requires.counted)
+    (are_rows c.args.counts tables c.requires.placed c.requires.counted)
 
 pub order-requires-clause-ends : goal.order-requires-clause-ends
 order-requires-clause-ends c =

@@ -4,10 +4,9 @@ use Rattle.std.proofs.lemmas.Result.{IfOk-weaker}
 use Rattle.cd_graph.specs.Nodes.{nodes}
 use Rattle.cd_graph.specs.PlainFormula.{plain}
 use Rattle.cd_shapes.specs.Shape.{plain_shape}
-use Rattle.cd_shapes.specs.Reading.{IsShape}
 use Rattle.cd_shapes.specs.PlainTables.{plain_tables}
-use Rattle.cd_resolve.specs.Making.{of_found}
-use Rattle.cd_resolve.proofs.Places.{each_made, sound_shapes}
+use Rattle.cd_resolve.specs.Making.{IsPlaced, of_found}
+use Rattle.cd_resolve.proofs.Places.{each_made, placed_shapes}
 use Rattle.cd_resolve.proofs.Filling.{root_at, shape_after, shape_read}
 use Rattle.cd_resolve.proofs.make.formula_of_number.Goals as goal
 
@@ -15,9 +14,9 @@ pub formula_of_shape-requires-clause-shape : goal.formula_of_shape-requires-clau
 formula_of_shape-requires-clause-shape c =
     let counts = c.args.counts in
     let e = c.requires.counted.shapes in
-    each_made (IsShape counts.nodes counts.names counts.shapes) plain_shape c.args.tables.now.shapes.items
+    each_made (IsPlaced counts.nodes counts.names counts.shapes) plain_shape c.args.tables.now.shapes.items
     _ _ (omega (arith, length-map c.args.tables.now.shapes.items plain_shape)) c.index-else-number-counts.ensures
-    (sound_shapes counts (plain_tables c.args.tables.now) c.requires.sound c.requires.counted)
+    (placed_shapes counts (plain_tables c.args.tables.now) c.requires.placed c.requires.counted)
 
 pub returns-then-number-counts : goal.returns-then-number-counts
 returns-then-number-counts c =

@@ -10,9 +10,9 @@ use Rattle.cd_shapes.specs.declared.place.Place.{Place}
 use Rattle.cd_shapes.specs.declared.place.FieldPlace.{FieldPlace}
 use Rattle.cd_shapes.specs.declared.shape.Shape.{Shape}
 use Rattle.cd_shapes.specs.Shape.{plain_shape}
-use Rattle.cd_shapes.specs.Reading.{IsPlace, IsShape}
+use Rattle.cd_shapes.specs.Reading.{IsPlace}
 use Rattle.cd_resolve.specs.Closing.{node_at, field_at, signed, made}
-use Rattle.cd_resolve.specs.Making.{so_far}
+use Rattle.cd_resolve.specs.Making.{IsPlaced, so_far}
 use Rattle.cd_resolve.proofs.make.formula_of_shape.Goals as goal
 
 pub returns-in-Record : goal.returns-in-Record
@@ -43,5 +43,5 @@ signed_copies-requires-clause-signs c =
     let counts = c.args.counts in
     subst (Each (λ (sign : Bool × Place). IsPlace counts.nodes counts.names counts.shapes sign.1))
     (sym c.as_slice-in-And.ensures.value)
-    (subst (λ (shape : Shape). IsShape counts.nodes counts.names counts.shapes (plain_shape shape)) c.in-And.is
+    (subst (λ (shape : Shape). IsPlaced counts.nodes counts.names counts.shapes (plain_shape shape)) c.in-And.is
     c.requires.shape)
