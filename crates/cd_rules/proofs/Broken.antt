@@ -1,4 +1,4 @@
--- What a family breaks has no member whose parts are in no question of the family.
+-- What a family breaks has no member whose parts are in no question that the family covers.
 use Rattle.std.proofs.Common.{◌≡◌, true, false, List, [], ◌∷◌, map, ◌⊎◌, inl, inr, sym, subst, ◌∙◌, true≢false}
 use Rattle.cd_sets.specs.declared.question.Question.{Question}
 use Rattle.cd_syntax.specs.Name.{Name}
@@ -11,8 +11,9 @@ use Rattle.cd_rules.specs.Clauses.{Clause, Pairs, Xmls, Records, IsClauseOf, par
 use Rattle.cd_rules.specs.Needs.{Way, Need, empty_or_not, pair_way, xml_way, splits, splits_in_three}
 use Rattle.cd_rules.specs.Rows.{Cell, Row, rows_of}
 use Rattle.cd_rules.specs.Members.{IsLiving}
-use Rattle.cd_rules.specs.Family.{IsOfFamily, BreaksNeed, BreaksRow, Breaks}
+use Rattle.cd_rules.specs.Family.{IsCovered, BreaksNeed, BreaksRow, Breaks}
 use Rattle.cd_rules.proofs.ClauseOf.{IsOfKind, in_pairs, in_xmls, in_records}
+use Rattle.cd_rules.proofs.Ones.{one_alone}
 use Rattle.cd_rules.proofs.PairsForward.{pairs_forward}
 use Rattle.cd_rules.proofs.XmlsForward.{xmls_forward}
 use Rattle.cd_rules.proofs.RecordsForward.{HasAt, records_forward}
@@ -31,20 +32,13 @@ broken_one family reader (choice ∷ choices) (inl meets) breaks =
 broken_one family reader (choice ∷ choices) (inr later) breaks =
     broken_one family reader choices later (λ clause is. breaks clause (inr is))
 
--- what is so of each question of a family is so of one in it
-pub of_family : (Fact : Question → Type 0) (family : List Question) (question : Question) → Each Fact family → IsOfFamily question family
-    → Fact question
-of_family Fact [] question each is = elim is [ ]
-of_family Fact (other ∷ family) question each (inl same) = subst Fact same each.0
-of_family Fact (other ∷ family) question each (inr later) = of_family Fact family question each.1 later
-
 module _ (family : List Question) where
-  -- a question that is none of the family
+  -- a question that the family does not cover
   abbrev pub IsOut : Question → Type 0
-  IsOut question = IsOfFamily question family → ⊥
+  IsOut question = IsCovered question family → ⊥
 
   -- a way all of whose questions are out is not broken
-  way_out : (way : Way) → Each IsOut way → One (λ question. IsOfFamily question family) way → ⊥
+  way_out : (way : Way) → Each IsOut way → One (λ question. IsCovered question family) way → ⊥
   way_out [] out one = elim one [ ]
   way_out (question ∷ way) out (inl is) = out.0 is
   way_out (question ∷ way) out (inr later) = way_out way out.1 later
@@ -57,11 +51,7 @@ module _ (family : List Question) where
   -- the one need of a clause
   pub one_need_out : (needs : List Need) (need : Need) → needs ≡ need ∷ [] → One (Each IsOut) need
       → One (BreaksNeed family) needs → ⊥
-  one_need_out needs need same out broken = by_one (subst (One (BreaksNeed family)) same broken)
-    where
-      by_one : One (BreaksNeed family) (need ∷ []) → ⊥
-      by_one (inl breaks) = need_out need out breaks
-      by_one (inr none) = elim none [ ]
+  one_need_out needs need same out broken = need_out need out (one_alone (BreaksNeed family) needs need same broken)
 
   -- a basic kind: there is a member
   pub member_out : {X : Type 0} (IsMember : X → Type 0) (x : X) → IsMember x → (needs : List Need) → empty_or_not IsMember needs
@@ -71,7 +61,7 @@ module _ (family : List Question) where
 
   -- a row that lives is not broken
   cells_out : (cells : List (Name × Cell)) → Each (λ cell. (cell.1.absent ≡ true) ⊎ IsOut cell.1.value) cells
-      → One (λ cell. (cell.1.absent ≡ false) × IsOfFamily cell.1.value family) cells → ⊥
+      → One (λ cell. (cell.1.absent ≡ false) × IsCovered cell.1.value family) cells → ⊥
   cells_out [] lives one = elim one [ ]
   cells_out (cell ∷ cells) (inl absent, lives) (inl broken) = absurd (true≢false (sym absent ∙ broken.0))
   cells_out (cell ∷ cells) (inr out, lives) (inl broken) = out broken.1

@@ -14,6 +14,8 @@ pub mod ArrowsForward
 pub mod LabelsNamed
 pub mod RecordsForward
 pub mod RecordsOfThings
+pub mod Among
+pub mod Covering
 pub mod Broken
 pub mod NoMember
 pub mod MembersOfSets
@@ -34,3 +36,6 @@ pub mod InCells
 pub mod RowsExact
 pub mod RowsOfThings
 pub mod ClosedStays
+pub mod SplitsOfKept
+pub mod ReducedBroken
+pub mod ReducedHeld

@@ -1,4 +1,4 @@
--- No element and no value is in a question of a closed family, by recursion on the element and on the value.
+-- No element and no value is in a question that a closed family covers, by recursion on the element and on the value.
 use Rattle.std.proofs.Common.{◌≡◌, true, false, List, [], ◌∷◌, ◌++◌, map, length, inl, inr, refl, sym, subst}
 use Rattle.cd_sets.specs.declared.question.Question.{Question}
 use Rattle.cd_syntax.specs.Element as element
@@ -21,9 +21,11 @@ use Rattle.cd_rules.proofs.ChoicesExact.{question_exact}
 use Rattle.cd_rules.proofs.ClauseOf.{IsOfKind, in_integers, in_characters, in_atoms, in_arrows, kind_of_element, kind_of_value_read}
 use Rattle.cd_rules.proofs.ArrowsForward.{PartsHave, arrows_forward, closure_forward}
 use Rattle.cd_rules.proofs.RecordsOfThings.{FieldsHave, ValuesHave, elements_have, values_have}
-use Rattle.cd_rules.proofs.Broken.{IsBroken, broken_one, of_family, IsOut, AskedOut, need_out, member_out, pair_out, xml_out, record_out}
+use Rattle.cd_rules.proofs.Covering.{asked_less, of_covered}
+use Rattle.cd_rules.proofs.Ones.{each_weaker}
+use Rattle.cd_rules.proofs.Broken.{IsBroken, broken_one, IsOut, AskedOut, need_out, member_out, pair_out, xml_out, record_out}
 
--- a function of whose refused arrows none is broken is in no question of the family
+-- a function of whose refused arrows none is broken is in no question that is broken
 arrows_out : (family : List Question) (mapping : Mapping)
     → ((wanted : List Pair) (refused : Pair) → Each (λ parts. mapping parts.0 parts.1 true) wanted
     → mapping refused.0 refused.1 false → BreaksNeed family (map (arrow_way refused) (splits wanted)) → ⊥)
@@ -66,12 +68,17 @@ value_attributes_in graph begins _ is = absurd is
 
 module _ (graph : Graph) (begins : (more : Graph) × (graph ≡ built_ins ++ more)) (family : List Question)
     (closed : IsClosed graph family) where
-  -- a thing in a question of the family meets a choice whose clauses are all broken
+  -- A thing in a question of the family meets a choice whose clauses are all broken. So where there are none such, it is in no question of
+  -- the family, and in none that asks no less
   broken_of : (reader : Reader) → (IsBroken family reader → ⊥) → AskedOut family (at_nodes graph reader)
-  broken_of reader out question is there = out (broken_one family reader (choices_of graph question)
-      ((question_exact reader graph question).0 is)
-      (of_family (λ question. (clause : Clause) → IsClauseOfQuestion graph question clause → Breaks family clause)
-      family question closed there))
+  broken_of reader out question is covered = of_covered IsNotAsked family question
+      (λ other asks none is. none (asked_less (at_nodes graph reader) question other asks is))
+      (each_weaker (λ question. (clause : Clause) → IsClauseOfQuestion graph question clause → Breaks family clause) IsNotAsked
+      (λ question breaks is. out (broken_one family reader (choices_of graph question) ((question_exact reader graph question).0 is) breaks))
+      family closed) covered is
+    where
+      IsNotAsked : Question → Type 0
+      IsNotAsked question = asked (at_nodes graph reader) question true → ⊥
 
   -- integers, characters and atoms, whose readers are those of elements and of values
   integer_out : (n : _) → IsElement (element.Integer n) → IsBroken family (node.integer_reader n) → ⊥

@@ -1,5 +1,5 @@
 -- Facts of each and of one of a list, and of lists that are made of lists.
-use Rattle.std.proofs.Common.{◌≡◌, refl, List, [], ◌∷◌, ◌++◌, ◌⊎◌, inl, inr, map}
+use Rattle.std.proofs.Common.{◌≡◌, refl, subst, List, [], ◌∷◌, ◌++◌, ◌⊎◌, inl, inr, map}
 use Rattle.cd_model.specs.Each.{Each, One}
 
 -- what follows from a fact of each, and of one
@@ -79,6 +79,14 @@ pub one_leads : {X : Type 0} (fact : X → Type 0) {Is : Type 0} → ((x : X) �
 one_leads fact leads [] is = elim is [ ]
 one_leads fact leads (x ∷ xs) (inl is) = leads x is
 one_leads fact leads (x ∷ xs) (inr later) = one_leads fact leads xs later
+
+-- where one thing of a list with no other has a fact, this thing has it
+pub one_alone : {X : Type 0} (fact : X → Type 0) (xs : List X) (x : X) → xs ≡ x ∷ [] → One fact xs → fact x
+one_alone fact xs x alone one = first (subst (One fact) alone one)
+  where
+    first : One fact (x ∷ []) → fact x
+    first (inl is) = is
+    first (inr none) = elim none [ ]
 
 -- a fact of each of two lists is one of each of both
 pub each_of_lists : {X : Type 0} (fact : X → Type 0) (xs ys : List X) → Each fact xs → Each fact ys → Each fact (xs ++ ys)

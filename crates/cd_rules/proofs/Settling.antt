@@ -1,11 +1,11 @@
--- A clause all of whose questions have a fact or are in a family has all that it needs, or is broken.
+-- A clause all of whose questions have a fact or are covered by a family has all that it needs, or is broken.
 use Rattle.std.proofs.Common.{◌≡◌, true, false, List, [], ◌∷◌, ◌⊎◌, inl, inr}
 use Rattle.std.proofs.lemmas.Bool.{cases_Bool}
 use Rattle.cd_sets.specs.declared.question.Question.{Question}
 use Rattle.cd_syntax.specs.Name.{Name}
 use Rattle.cd_model.specs.Each.{Each, One}
 use Rattle.cd_rules.specs.Clauses.{Clause, Ints, Chars, Atoms, Pairs, Xmls, Records, Arrows}
-use Rattle.cd_rules.specs.Family.{IsOfFamily, BreaksNeed, BreaksRow, HasBrokenNeed, Breaks}
+use Rattle.cd_rules.specs.Family.{IsCovered, BreaksNeed, BreaksRow, HasBrokenNeed, Breaks}
 use Rattle.cd_rules.specs.Members.{IsMet, IsLiving, HasAllNeeds, IsSupplied}
 use Rattle.cd_rules.specs.Needs.{Way, Need}
 use Rattle.cd_rules.specs.Rows.{Cell, Row, rows_of}
@@ -29,13 +29,13 @@ turned (inr b) = inl b
 
 module _ (fact : Question → Type 0) (family : List Question) where
   abbrev HasOne : Way → Type 0
-  HasOne way = One (λ question. IsOfFamily question family) way
+  HasOne way = One (λ question. IsCovered question family) way
 
   -- a need is met, or broken
   need_settled : (need : Need) → AreSettled fact family need → IsMet fact need ⊎ BreaksNeed family need
   need_settled need settled = turned (each_or_one HasOne (λ way. Each fact way) need
       (each_weaker (λ way. Each (IsSettled fact family) way) (λ way. HasOne way ⊎ Each fact way)
-      (λ way each. turned (each_or_one fact (λ question. IsOfFamily question family) way each)) need settled))
+      (λ way each. turned (each_or_one fact (λ question. IsCovered question family) way each)) need settled))
 
   -- all needs are met, or one is broken
   needs_settled : (needs : List Need) → Each (AreSettled fact family) needs
@@ -43,13 +43,13 @@ module _ (fact : Question → Type 0) (family : List Question) where
   needs_settled needs settled = each_or_one (IsMet fact) (BreaksNeed family) needs
       (each_weaker (AreSettled fact family) (λ need. IsMet fact need ⊎ BreaksNeed family need) need_settled needs settled)
 
-  -- a cell may be absent, or has the fact, or has to be there and is in the family
+  -- a cell may be absent, or has the fact, or has to be there and is covered
   cell_settled : (cell : Name × Cell) → IsSettled fact family cell.1.value
-      → ((cell.1.absent ≡ true) ⊎ fact cell.1.value) ⊎ ((cell.1.absent ≡ false) × IsOfFamily cell.1.value family)
+      → ((cell.1.absent ≡ true) ⊎ fact cell.1.value) ⊎ ((cell.1.absent ≡ false) × IsCovered cell.1.value family)
   cell_settled cell settled = by_absent (cases_Bool cell.1.absent) settled
     where
       by_absent : (cell.1.absent ≡ true) ⊎ (cell.1.absent ≡ false) → IsSettled fact family cell.1.value
-          → ((cell.1.absent ≡ true) ⊎ fact cell.1.value) ⊎ ((cell.1.absent ≡ false) × IsOfFamily cell.1.value family)
+          → ((cell.1.absent ≡ true) ⊎ fact cell.1.value) ⊎ ((cell.1.absent ≡ false) × IsCovered cell.1.value family)
       by_absent (inl absent) settled = inl (inl absent)
       by_absent (inr there) (inl is) = inl (inr is)
       by_absent (inr there) (inr out) = inr (there, out)
@@ -57,15 +57,15 @@ module _ (fact : Question → Type 0) (family : List Question) where
   row_settled : (row : Row) → HasSettledRow fact family row → BreaksRow family row ⊎ IsLiving fact row
   row_settled row settled = joined
       (each_or_one (λ cell. (cell.1.absent ≡ true) ⊎ fact cell.1.value)
-      (λ cell. (cell.1.absent ≡ false) × IsOfFamily cell.1.value family) row.cells
+      (λ cell. (cell.1.absent ≡ false) × IsCovered cell.1.value family) row.cells
       (each_weaker (λ cell. IsSettled fact family cell.1.value)
-      (λ cell. ((cell.1.absent ≡ true) ⊎ fact cell.1.value) ⊎ ((cell.1.absent ≡ false) × IsOfFamily cell.1.value family))
+      (λ cell. ((cell.1.absent ≡ true) ⊎ fact cell.1.value) ⊎ ((cell.1.absent ≡ false) × IsCovered cell.1.value family))
       cell_settled row.cells settled.0))
-      (each_or_one fact (λ question. IsOfFamily question family) row.some settled.1)
+      (each_or_one fact (λ question. IsCovered question family) row.some settled.1)
     where
       joined : Each (λ cell. (cell.1.absent ≡ true) ⊎ fact cell.1.value) row.cells
-          ⊎ One (λ cell. (cell.1.absent ≡ false) × IsOfFamily cell.1.value family) row.cells
-          → Each fact row.some ⊎ One (λ question. IsOfFamily question family) row.some
+          ⊎ One (λ cell. (cell.1.absent ≡ false) × IsCovered cell.1.value family) row.cells
+          → Each fact row.some ⊎ One (λ question. IsCovered question family) row.some
           → BreaksRow family row ⊎ IsLiving fact row
       joined (inr cell) some = inl (inl cell)
       joined (inl cells) (inr question) = inl (inr question)

@@ -1,8 +1,8 @@
 -- Small cases of the rules, for the laws that compute them.
-use Rattle.std.specs.Prelude.{ℕ, false, List, [], ◌∷◌, map, codes}
+use Rattle.std.specs.Prelude.{ℕ, true, false, List, [], ◌∷◌, ◌++◌, map, codes}
 use Rattle.cd_sets.specs.declared.question.Question.{Question}
-use Rattle.cd_model.specs.BuiltIns.{node}
-use Rattle.cd_model.specs.Formula.{Formula, Ints, Chars, And, Not, NoFormula, AFormula}
+use Rattle.cd_model.specs.BuiltIns.{built_ins, node, INT}
+use Rattle.cd_model.specs.Formula.{Graph, Formula, Ints, Chars, Pair as PairOf, And, Not, NoFormula, AFormula}
 use Rattle.cd_rules.specs.Clauses.{Pair, RecordType}
 use Rattle.cd_rules.specs.Rows.{Row}
 
@@ -37,3 +37,15 @@ row_at_a value every some = record {
   every = every;
   some = some;
 }
+
+-- the same, where nothing may stand
+abbrev pub row_without_a : (value every : Question) → List Question → Row
+row_without_a value every some = record {
+  cells = (codes "a", record { absent = true; value = value }) ∷ [];
+  every = every;
+  some = some;
+}
+
+-- a graph whose last node, 14, is that of the pairs of an integer and a pair of this node, without end
+abbrev pub endless : Graph
+endless = built_ins ++ PairOf INT (node 14) ∷ []

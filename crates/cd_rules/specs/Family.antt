@@ -1,5 +1,6 @@
--- Closed families: lists of questions, each of whose clauses is broken by questions of the list, so that none has a member.
+-- Closed families: lists of questions, each of whose clauses is broken by questions that the list covers, so that none has a member.
 use Rattle.std.specs.Prelude.{◌≡◌, ◌⊎◌, ℕ, ◌<◌, false, List}
+use Rattle.cd_sets.specs.declared.node_id.NodeId.{NodeId}
 use Rattle.cd_sets.specs.declared.question.Question.{Question}
 use Rattle.cd_model.specs.Each.{Each, One}
 use Rattle.cd_model.specs.Formula.{Graph}
@@ -10,13 +11,26 @@ use Rattle.cd_rules.specs.Rows.{Row, rows_of}
 abbrev pub IsOfFamily : Question → List Question → Type 0
 IsOfFamily question family = One (λ other. other ≡ question) family
 
--- a need is broken where each of its ways has a question of the family
-abbrev pub BreaksNeed : List Question → Need → Type 0
-BreaksNeed family need = Each (λ way. One (λ question. IsOfFamily question family) way) need
+-- A question asks no less than another: it wants each node that the other wants, and refuses each one that the other refuses. So what
+-- is in it is in the other
+abbrev pub AreAmong : (some all : List NodeId) → Type 0
+AreAmong some all = Each (λ id. One (λ other. other ≡ id) all) some
 
--- a row is broken where a field has to be there and its question is in the family, or a question of `some` is
+abbrev pub AsksNoLess : Question → Question → Type 0
+AsksNoLess question other = AreAmong other.pos question.pos × AreAmong other.neg question.neg
+
+-- a family covers a question that asks no less than one of its questions
+abbrev pub IsCovered : Question → List Question → Type 0
+IsCovered question family = One (AsksNoLess question) family
+
+-- a need is broken where each of its ways has a question that the family covers
+abbrev pub BreaksNeed : List Question → Need → Type 0
+BreaksNeed family need = Each (λ way. One (λ question. IsCovered question family) way) need
+
+-- a row is broken where a field has to be there and its question is covered, or a question of `some` is
 abbrev pub BreaksRow : List Question → Row → Type 0
-BreaksRow family row = One (λ cell. (cell.1.absent ≡ false) × IsOfFamily cell.1.value family) row.cells ⊎ One (λ question. IsOfFamily question family) row.some
+BreaksRow family row = One (λ cell. (cell.1.absent ≡ false) × IsCovered cell.1.value family) row.cells
+    ⊎ One (λ question. IsCovered question family) row.some
 
 -- a clause is broken where one of its needs is; and a clause of records where each of its rows is
 abbrev pub HasBrokenNeed : List Question → Clause → Type 0

@@ -1,14 +1,14 @@
--- Clauses all of whose questions are settled: each has a fact, or is in a family.
+-- Clauses all of whose questions are settled: each has a fact, or is covered by a family.
 use Rattle.std.specs.Prelude.{◌⊎◌, List}
 use Rattle.cd_sets.specs.declared.question.Question.{Question}
 use Rattle.cd_model.specs.Each.{Each}
 use Rattle.cd_rules.specs.Clauses.{Clause, Records}
 use Rattle.cd_rules.specs.Needs.{Need, AreNeeds}
 use Rattle.cd_rules.specs.Rows.{Row, rows_of}
-use Rattle.cd_rules.specs.Family.{IsOfFamily}
+use Rattle.cd_rules.specs.Family.{IsCovered}
 
 abbrev pub IsSettled : (Question → Type 0) → List Question → Question → Type 0
-IsSettled fact family question = fact question ⊎ IsOfFamily question family
+IsSettled fact family question = fact question ⊎ IsCovered question family
 
 abbrev pub AreSettled : (Question → Type 0) → List Question → Need → Type 0
 AreSettled fact family need = Each (λ way. Each (IsSettled fact family) way) need

@@ -8,7 +8,7 @@ ghost use Rattle.cd_model.specs.Formula.{Graph};
 ghost use Rattle.cd_model.specs.Membership.{asked, answers, reader, value_answers, value_reader};
 ghost use Rattle.cd_model.specs.Value as value;
 ghost use Rattle.cd_model.specs.Value.{Value, IsValue};
-ghost use Rattle.cd_model.specs.BuiltIns.{built_ins, node};
+ghost use Rattle.cd_model.specs.BuiltIns.{built_ins, node, ANY, INT, CHAR};
 ghost use Rattle.cd_rules.specs.Settled.{IsSettledClause};
 ghost use Rattle.cd_rules.specs.Examples as example;
 ghost use Rattle.cd_rules.specs.Examples.{asks, both};
@@ -16,9 +16,10 @@ ghost use Rattle.cd_rules.specs.Needs.{set_of, splits, splits_in_three, pair_way
 ghost use Rattle.cd_rules.specs.Rows.{rows_of};
 ghost use Rattle.cd_rules.specs.InRow.{element_at, value_at, IsInRow};
 ghost use Rattle.cd_model.specs.Kinds.{kind_of, kind_of_value, ARecord};
-ghost use Rattle.cd_rules.specs.Clauses.{Clause, RecordType, Records, IsClauseOfQuestion, IsInClause};
+ghost use Rattle.cd_rules.specs.Clauses.{Clause, RecordType, Pairs, Records, IsClauseOfQuestion, IsInClause};
 ghost use Rattle.cd_rules.specs.Members.{HasElement, HasMember, IsSupplied, NamesLabels};
-ghost use Rattle.cd_rules.specs.Family.{IsOfFamily, Breaks, IsClosed, AsksNodes};
+ghost use Rattle.cd_rules.specs.Reduced.{IsReduced};
+ghost use Rattle.cd_rules.specs.Family.{IsOfFamily, IsCovered, BreaksRow, Breaks, IsClosed, AsksNodes};
 ghost use Rattle.cd_rules.specs.Choices.{choices, choices_of, Meets};
 
 /// A question holds just what meets one of its choices.
@@ -47,12 +48,12 @@ pub fn rows_are_exact()
         ↔ One (IsInRow (value_answers graph) (value_at fields)) (rows_of wanted refused) }
 {}
 
-/// No element is in a question of a closed family, nor is a value, whatever arrows of the graph its closures have.
+/// No element is in a question that a closed family covers, nor is a value, whatever arrows of the graph its closures have.
 pub fn closed_families_are_empty()
     ensures elements { (graph more : Graph) (family : List Question) (question : Question) (is : Element) → graph ≡ built_ins ++ more
-        → IsClosed graph family → IsOfFamily question family → IsElement is → asked (answers graph is) question true → ⊥ }
+        → IsClosed graph family → IsCovered question family → IsElement is → asked (answers graph is) question true → ⊥ }
     ensures values { (graph more : Graph) (family : List Question) (question : Question) (is : Value) → graph ≡ built_ins ++ more
-        → IsClosed graph family → IsOfFamily question family → IsValue (length graph) is → asked (value_answers graph is) question true → ⊥ }
+        → IsClosed graph family → IsCovered question family → IsValue (length graph) is → asked (value_answers graph is) question true → ⊥ }
 {}
 
 /// A closed family whose questions ask nodes of a graph stays closed in each longer graph.
@@ -69,7 +70,21 @@ pub fn needs_are_exact()
         → HasMember graph clause }
 {}
 
-/// A clause all of whose questions have elements or are in a family has all that it needs, or is broken.
+/// A family covers the questions of it.
+pub fn families_cover()
+    ensures { (family : List Question) (question : Question) → IsOfFamily question family → IsCovered question family }
+{}
+
+/// A clause holds the elements that its reduced form holds, and is broken where that is.
+pub fn reduced_clauses()
+    ensures holds { (graph more : Graph) (clause reduced : Clause) (is : Element) → graph ≡ built_ins ++ more → IsReduced graph clause reduced
+        → IsElement is → IsInClause (kind_of is) (reader graph is) reduced → IsInClause (kind_of is) (reader graph is) clause }
+    ensures breaks { (graph : Graph) (family : List Question) (clause reduced : Clause) → IsReduced graph clause reduced
+        → Breaks family reduced → Breaks family clause }
+    ensures labels { (graph : Graph) (clause reduced : Clause) → IsReduced graph clause reduced → NamesLabels clause → NamesLabels reduced }
+{}
+
+/// A clause all of whose questions have elements or are covered by a family has all that it needs, or is broken.
 pub fn clauses_are_settled()
     ensures { (graph : Graph) (family : List Question) (clause : Clause) → IsSettledClause (HasElement graph) family clause
         → IsSupplied (HasElement graph) clause ⊎ Breaks family clause }
@@ -90,4 +105,11 @@ pub fn worked_examples()
     ensures rows { rows_of (example.with_a 14 1 ∷ []) (example.with_a 15 0 ∷ [])
         ≡ example.row_at_a (asks (14 ∷ []) []) (asks (1 ∷ []) []) (asks (1 ∷ []) (0 ∷ []) ∷ [])
         ∷ example.row_at_a (asks (14 ∷ []) (15 ∷ [])) (asks (1 ∷ []) []) [] ∷ [] }
+    ensures covered { IsCovered (asks (1 ∷ 2 ∷ []) (3 ∷ 4 ∷ [])) (asks (1 ∷ []) (4 ∷ []) ∷ []) }
+    ensures not_covered { IsCovered (asks (1 ∷ []) (3 ∷ [])) (asks (1 ∷ 2 ∷ []) (3 ∷ []) ∷ []) → ⊥ }
+    ensures has_to_be_there { BreaksRow (asks (14 ∷ []) [] ∷ []) (example.row_at_a (asks (14 ∷ []) []) (asks (1 ∷ []) []) []) }
+    ensures may_be_absent { BreaksRow (asks (14 ∷ []) [] ∷ []) (example.row_without_a (asks (14 ∷ []) []) (asks (1 ∷ []) []) []) → ⊥ }
+    ensures covered_elsewhere { BreaksRow (asks (1 ∷ []) (0 ∷ []) ∷ []) (example.row_without_a (asks (14 ∷ []) []) (asks (1 ∷ []) []) (asks (1 ∷ []) (0 ∷ []) ∷ [])) }
+    ensures endless { IsClosed example.endless (asks (14 ∷ []) [] ∷ []) }
+    ensures reduced { (more : Graph) → IsReduced (built_ins ++ more) (Pairs ((INT, INT) ∷ []) ((CHAR, ANY) ∷ [])) (Pairs ((INT, INT) ∷ []) []) }
 {}
