@@ -5,10 +5,12 @@ use Rattle.cd_model.specs.Each.{Each, One}
 use Rattle.cd_model.specs.Formula.{Graph}
 use Rattle.cd_elements.specs.declared.shape.ElementId.{ElementId}
 use Rattle.cd_rules.specs.Clauses.{Clause, Ints, Chars, Atoms, Pairs, Xmls, Records, Arrows, IsClauseOfQuestion}
-use Rattle.cd_rules.specs.Family.{IsOfFamily, BreaksNeed, BreaksRow, HasBrokenNeed, Breaks, IsClosed}
-use Rattle.cd_rules.specs.Needs.{Need, AreNeeds}
-use Rattle.cd_rules.specs.Rows.{Row, rows_of}
-use Rattle.cd_rules.proofs.Ones.{each_weaker, one_weaker, one_leads, one_with_each}
+use Rattle.cd_rules.specs.Family.{IsOfFamily, Breaks, IsClosed}
+use Rattle.cd_rules.specs.Needs.{AreNeeds}
+use Rattle.cd_rules.specs.Reduced.{IsReduced}
+use Rattle.cd_rules.proofs.Covering.{breaks_more}
+use Rattle.cd_rules.proofs.Ones.{each_weaker, one_leads, one_with_each}
+use Rattle.cd_rules.proofs.ReducedBroken.{reduced_broken}
 use Rattle.cd_expand.specs.declared.needs.Needs.{Needs}
 use Rattle.cd_expand.specs.Named.{Along, Names}
 use Rattle.cd_expand.specs.Expansion.{CoverClauses}
@@ -16,34 +18,6 @@ use Rattle.cd_members.specs.Marks.{unmarked}
 use Rattle.cd_members.specs.Making.{IsStuck}
 use Rattle.cd_empty.specs.Deciding.{AreExpanded, AreStuck}
 use Rattle.cd_members.proofs.Stuck.{stuck_is_broken}
-
--- a family that has all questions of another breaks what the other breaks
-module _ (one other : List Question) (within : (question : Question) → IsOfFamily question one → IsOfFamily question other) where
-  of_more : (questions : List Question) → One (λ question. IsOfFamily question one) questions
-      → One (λ question. IsOfFamily question other) questions
-  of_more = one_weaker (λ question. IsOfFamily question one) (λ question. IsOfFamily question other) within
-
-  need_breaks : (need : Need) → BreaksNeed one need → BreaksNeed other need
-  need_breaks = each_weaker (λ way. One (λ question. IsOfFamily question one) way)
-      (λ way. One (λ question. IsOfFamily question other) way) of_more
-
-  row_breaks : (row : Row) → BreaksRow one row → BreaksRow other row
-  row_breaks row (inl cell) = inl (one_weaker (λ cell. (cell.1.absent ≡ _) × IsOfFamily cell.1.value one)
-      (λ cell. (cell.1.absent ≡ _) × IsOfFamily cell.1.value other) (λ cell has. (has.0, within cell.1.value has.1)) row.cells cell)
-  row_breaks row (inr some) = inr (of_more row.some some)
-
-  by_need : (clause : Clause) → HasBrokenNeed one clause → HasBrokenNeed other clause
-  by_need clause broken = (broken.0, broken.1, one_weaker (BreaksNeed one) (BreaksNeed other) need_breaks broken.0 broken.2)
-
-  pub breaks_more : (clause : Clause) → Breaks one clause → Breaks other clause
-  breaks_more (Ints wanted refused) broken = by_need (Ints wanted refused) broken
-  breaks_more (Chars wanted refused) broken = by_need (Chars wanted refused) broken
-  breaks_more (Atoms wanted refused) broken = by_need (Atoms wanted refused) broken
-  breaks_more (Pairs wanted refused) broken = by_need (Pairs wanted refused) broken
-  breaks_more (Xmls wanted refused) broken = by_need (Xmls wanted refused) broken
-  breaks_more (Arrows wanted refused) broken = by_need (Arrows wanted refused) broken
-  breaks_more (Records wanted refused) broken =
-      each_weaker (BreaksRow one) (BreaksRow other) row_breaks (rows_of wanted refused) broken
 
 -- a clause that has a need without ways is broken by any family
 without_ways : (family : List Question) (clause : Clause) → AreNeeds clause ([] ∷ []) → Breaks family clause
@@ -65,10 +39,17 @@ module _ (graph : Graph) (asked : List Question) (marks : List (Option ElementId
       → IsBrokenBy graph (unmarked asked marks) question
   stuck_breaks question all cover stuck clause is = by_cover (cover clause is)
     where
-      by_cover : One (λ needs. Names asked needs clause) all ⊎ AreNeeds clause ([] ∷ []) → Breaks (unmarked asked marks) clause
-      by_cover (inl named) = one_leads (λ needs. Names asked needs clause × IsStuck marks needs)
-          (λ needs both. stuck_is_broken asked marks needs clause both.0 both.1) all
-          (one_with_each (λ needs. Names asked needs clause) (IsStuck marks) all named stuck)
+      HasNeeds : Needs → Type 0
+      HasNeeds needs = (reduced : Clause) × IsReduced graph clause reduced × Names asked needs reduced
+
+      -- its reduced form is
+      by_needs : (needs : Needs) → HasNeeds needs × IsStuck marks needs → Breaks (unmarked asked marks) clause
+      by_needs needs both = reduced_broken (unmarked asked marks) graph clause both.0.0 both.0.1
+          (stuck_is_broken asked marks needs both.0.0 both.0.2 both.1)
+
+      by_cover : One HasNeeds all ⊎ AreNeeds clause ([] ∷ []) → Breaks (unmarked asked marks) clause
+      by_cover (inl one) = one_leads (λ needs. HasNeeds needs × IsStuck marks needs) by_needs all
+          (one_with_each HasNeeds (IsStuck marks) all one stuck)
       by_cover (inr none) = without_ways (unmarked asked marks) clause none
 
   stuck_closed : (questions : List Question) (some : List (Option ElementId)) (cases : List (List Needs))

@@ -21,7 +21,8 @@ use Rattle.cd_rules.proofs.Asking.{each_of_map}
 use Rattle.cd_rules.proofs.MembersMeet.{member_supplies}
 use Rattle.cd_rules.proofs.MembersOfArrows.{arrows_have}
 use Rattle.cd_rules.proofs.Ones.{each_of_two}
-use Rattle.cd_expand.proofs.PartsAsk.{PairIsWithin, arrow_ways_ask}
+use Rattle.cd_apart.specs.Within.{IsPairWithin}
+use Rattle.cd_expand.proofs.PartsAsk.{arrow_ways_ask}
 use Rattle.cd_empty.proofs.EachQuestion.{has_or_not}
 use Rattle.cd_empty.proofs.HoldsOrNot.{HoldsOrNot, each_or_not, one_or_not}
 use Rattle.cd_empty.proofs.NodeSets.{IsMadeOfSets}
@@ -72,7 +73,7 @@ module _ (graph more : Graph) (begins : graph ≡ built_ins ++ more) (sound : Is
     abbrev needs : List Need
     needs = map (λ one. map (arrow_way one) (splits wanted)) refused
 
-    needs_or_not : Each (PairIsWithin nodes) wanted → Each (PairIsWithin nodes) refused → HoldsOrNot (Each (IsMet (HasElement graph)) needs)
+    needs_or_not : Each (IsPairWithin nodes) wanted → Each (IsPairWithin nodes) refused → HoldsOrNot (Each (IsMet (HasElement graph)) needs)
     needs_or_not within others = each_or_not (IsMet (HasElement graph)) (Each (Each IsOfNodes)) need_or_not needs
         (each_of_two (Each (Each (AsksNodes nodes))) (Each (Each IsMadeOfSets)) (Each (Each IsOfNodes)) of_nodes needs
         (arrow_ways_ask nodes wanted refused (within, others)) (arrow_needs_made wanted refused))
@@ -111,7 +112,7 @@ module _ (graph more : Graph) (begins : graph ≡ built_ins ++ more) (sound : Is
     pub all_map_or_not : Each (λ arrow. (arrow.argument.0 < nodes) × (arrow.result.0 < nodes)) interface
         → argument.0 < nodes → result.0 < nodes → HoldsOrNot (AllMap graph interface argument result)
     all_map_or_not below from_below to_below = by_needs (needs_or_not (arrows_of interface) refused
-        (each_of_map (λ (arrow : ArrowOf). (arrow.argument, arrow.result)) (PairIsWithin nodes) interface below) ((from_below, to_below), tt))
+        (each_of_map (λ (arrow : ArrowOf). (arrow.argument, arrow.result)) (IsPairWithin nodes) interface below) ((from_below, to_below), tt))
       where
         by_needs : HoldsOrNot (Each (IsMet (HasElement graph)) (needs (arrows_of interface) refused))
             → HoldsOrNot (AllMap graph interface argument result)

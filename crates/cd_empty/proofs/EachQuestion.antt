@@ -17,12 +17,14 @@ use Rattle.cd_rules.specs.Rows.{Row, rows_of}
 use Rattle.cd_rules.specs.Settled.{IsSettled, AreSettled, HasSettledRow, IsSettledClause}
 use Rattle.cd_rules.proofs.ClauseOf.{kind_of_element}
 use Rattle.cd_rules.proofs.ClausesExact.{clauses_exact}
+use Rattle.cd_rules.proofs.Covering.{covers_own}
 use Rattle.cd_rules.proofs.Elsewhere.{is_elsewhere}
 use Rattle.cd_rules.proofs.MembersOfClauses.{supplied_has}
 use Rattle.cd_rules.proofs.NoMember.{element_out}
 use Rattle.cd_rules.proofs.Ones.{each_weaker, each_of_two}
 use Rattle.cd_rules.proofs.Settling.{each_or_one, clause_settled}
-use Rattle.cd_expand.proofs.PartsAsk.{IsWithin, RowAsks, clause_is_within, clause_names_labels, pair_ways_ask, xml_ways_ask, arrow_ways_ask, rows_ask}
+use Rattle.cd_expand.specs.Within.{IsWithin}
+use Rattle.cd_expand.proofs.PartsAsk.{RowAsks, clause_is_within, clause_names_labels, pair_ways_ask, xml_ways_ask, arrow_ways_ask, rows_ask}
 use Rattle.cd_empty.proofs.BasicNeeds.{needs_known, integer_or_not, character_or_not, atom_or_not}
 use Rattle.cd_empty.proofs.ClausesAnswer.{Answer, choices_answer}
 use Rattle.cd_empty.proofs.HoldsOrNot.{HoldsOrNot}
@@ -42,13 +44,20 @@ module _ (graph more : Graph) (begins : graph ≡ built_ins ++ more) (sound : Is
   has_built_ins : 14 ≤ nodes
   has_built_ins = let count = ap length begins in omega (arith, count, length-append built_ins more)
 
+  -- a question has an element, or is of a family
+  abbrev HasOrIsOf : List Question → Question → Type 0
+  HasOrIsOf family one = HasElement graph one ⊎ IsOfFamily one family
+
   -- each question of sets has an element, or is of this family
   abbrev Covers : List Question → Type 0
-  Covers family = (one : Question) → IsOfFamily one (all_questions nodes) → IsSettled (HasElement graph) family one
+  Covers family = (one : Question) → IsOfFamily one (all_questions nodes) → HasOrIsOf family one
 
   module _ (family : List Question) (covers : Covers family) where
     made_settled : (one : Question) → AsksNodes nodes one → IsMadeOfSets one → IsSettled (HasElement graph) family one
-    made_settled one asks made = covers one (among_all nodes one asks made)
+    made_settled one asks made = elim (covers one (among_all nodes one asks made)) [
+      | inl has ↦ inl has
+      | inr of ↦ inr (covers_own family one of)
+    ]
 
     way_settled : (way : Way) → Each (AsksNodes nodes) way → Each IsMadeOfSets way → Each (IsSettled (HasElement graph) family) way
     way_settled = each_of_two (AsksNodes nodes) IsMadeOfSets (IsSettled (HasElement graph) family) made_settled
@@ -127,7 +136,7 @@ module _ (graph more : Graph) (begins : graph ≡ built_ins ++ more) (sound : Is
   record Without (family : List Question) : Type 0 where
     rest : List Question
     shorter : suc (length rest) ≡ length family
-    others : (one : Question) → IsOfFamily one family → IsSettled (HasElement graph) rest one
+    others : (one : Question) → IsOfFamily one family → HasOrIsOf rest one
     asks : Each (AsksNodes nodes) family → Each (AsksNodes nodes) rest
 
   without : (family : List Question) → One (HasElement graph) family → Without family
@@ -176,6 +185,7 @@ module _ (graph more : Graph) (begins : graph ≡ built_ins ++ more) (sound : Is
   pub has_or_not : (one : Question) → AsksNodes nodes one → IsMadeOfSets one → HoldsOrNot (HasElement graph one)
   has_or_not one asks made = by_settled (closed.2 one (among_all nodes one asks made))
     where
-      by_settled : IsSettled (HasElement graph) closed.0 one → HoldsOrNot (HasElement graph one)
+      by_settled : HasOrIsOf closed.0 one → HoldsOrNot (HasElement graph one)
       by_settled (inl has) = inl has
-      by_settled (inr there) = inr (λ has. element_out graph (more, begins) closed.0 closed.1 has.0 has.1 one has.2 there)
+      by_settled (inr there) =
+          inr (λ has. element_out graph (more, begins) closed.0 closed.1 has.0 has.1 one has.2 (covers_own closed.0 one there))

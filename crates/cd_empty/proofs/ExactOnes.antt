@@ -17,6 +17,7 @@ use Rattle.cd_elements.specs.declared.shape.ElementId.{ElementId}
 use Rattle.cd_elements.specs.Table.{element_at}
 use Rattle.cd_rules.specs.Family.{IsOfFamily, IsClosed, AsksNodes}
 use Rattle.cd_rules.proofs.ClosedStays.{closed_stays}
+use Rattle.cd_rules.proofs.Covering.{covers_own}
 use Rattle.cd_rules.proofs.NoMember.{element_out, value_out}
 use Rattle.cd_members.specs.Marks.{IsMarked, AreMarked, unmarked}
 use Rattle.cd_empty.specs.declared.verdict.Verdict.{Verdict}
@@ -75,10 +76,10 @@ module _ (graph : Graph) (begins : (more : Graph) × (graph ≡ built_ins ++ mor
       → (question : Question) → IsOfFamily question family → HasNoElement graph question × HasNoValue graph question
   none_in family asks closed question there = (
     λ is element asking. ∥∥₁_elim closed never_in_two_ways
-        (λ closed. element_out graph begins family closed is element question asking there),
+        (λ closed. element_out graph begins family closed is element question asking (covers_own family question there)),
     λ more is value asking. ∥∥₁_elim closed never_in_two_ways
         (λ closed. value_out (graph ++ more) (grows_then built_ins graph (graph ++ more) begins (more, refl)) family
-        (closed_stays graph more family asks closed) is value question asking there),
+        (closed_stays graph more family asks closed) is value question asking (covers_own family question there)),
   )
 
   marked_exact : (questions : List Question) (marks : List (Option ElementId)) → ∥ AreMarked graph table questions marks ∥₁

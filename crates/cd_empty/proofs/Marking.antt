@@ -8,6 +8,7 @@ use Rattle.std.proofs.Math.Logic.{∥∥₁_map}
 use mathlib.Core.Logic.{∥∥₁_elim}
 use Rattle.cd_sets.specs.declared.question.Question.{Question}
 use Rattle.cd_syntax.specs.Element.{Element, IsElement}
+use Rattle.cd_model.specs.BuiltIns.{built_ins}
 use Rattle.cd_model.specs.Each.{Each, One}
 use Rattle.cd_model.specs.Formula.{Graph}
 use Rattle.cd_model.specs.Kinds.{kind_of}
@@ -20,10 +21,12 @@ use Rattle.cd_expand.specs.Named.{Names}
 use Rattle.cd_expand.specs.Expansion.{AreOfClauses}
 use Rattle.cd_rules.specs.Clauses.{Clause, IsClauseOfQuestion}
 use Rattle.cd_rules.specs.Members.{NamesLabels}
+use Rattle.cd_rules.specs.Reduced.{IsReduced}
 use Rattle.cd_rules.proofs.ClauseOf.{kind_of_element}
 use Rattle.cd_rules.proofs.ClausesExact.{clauses_exact}
 use Rattle.cd_rules.proofs.Elsewhere.{is_elsewhere}
 use Rattle.cd_rules.proofs.Ones.{each_weaker, one_with_each, one_leads}
+use Rattle.cd_rules.proofs.ReducedHeld.{reduced_held}
 use Rattle.cd_members.specs.Marks.{AreMarked, AreNumbers, IsMarked}
 use Rattle.cd_members.specs.Making.{IsMade, IsFit}
 use Rattle.cd_members.proofs.Fit.{named_is_fit}
@@ -64,39 +67,42 @@ module _ (graph : Graph) (asked_all : List Question) where
   expanded_count (question ∷ questions) (mark ∷ marks) (all ∷ cases) are = ap suc (expanded_count questions marks cases are.1)
   expanded_count _ _ _ are = absurd are
 
--- what is known of needs of a clause of a question
+-- what is known of needs of a reduced clause of a question
 abbrev IsOfClause : Graph → (asked_all : List Question) → Question → Needs → Type 0
-IsOfClause graph asked_all question needs = (clause : Clause) × IsClauseOfQuestion graph question clause × NamesLabels clause
-    × Names asked_all needs clause
+IsOfClause graph asked_all question needs = (clause reduced : Clause) × IsClauseOfQuestion graph question clause
+    × IsReduced graph clause reduced × NamesLabels reduced × Names asked_all needs reduced
 
--- an element that is made for needs of a clause of a question is in the question
-made_is_asked : (graph : Graph) (table : List Element) (asked_all : List Question) (marks : List (Option ElementId))
-    → AreMarked graph table asked_all marks → (question : Question) (is : Element) → IsElement is → (needs : Needs)
-    → IsMade table marks needs is × IsOfClause graph asked_all question needs → asked (answers graph is) question true
-made_is_asked graph table asked_all marks are question is sound needs made =
-    let clause : Clause = made.1.0 in
+-- an element that is made for needs of a reduced clause of a question is in the clause, and so in the question
+made_is_asked : (graph : Graph) (begins : (more : Graph) × (graph ≡ built_ins ++ more)) (table : List Element) (asked_all : List Question)
+    (marks : List (Option ElementId)) → AreMarked graph table asked_all marks → (question : Question) (is : Element) → IsElement is
+    → (needs : Needs) → IsMade table marks needs is × IsOfClause graph asked_all question needs
+    → asked (answers graph is) question true
+made_is_asked graph begins table asked_all marks are question is sound needs made =
+    let of = made.1 in
+    let held = made_is_in graph table asked_all marks are needs of.1 of.5 is sound made.0 in
     (clauses_exact (kind_of is) (reader graph is) (kind_of_element graph is) (is_elsewhere graph is) graph question).1
-    (clause, made.1.1, made_is_in graph table asked_all marks are needs clause made.1.3 is sound made.0)
+    (of.0, of.2, reduced_held graph begins of.0 of.1 is of.3 sound held)
 
-made_is_marked : (graph : Graph) (table : List Element) (asked_all : List Question) (marks : List (Option ElementId))
-    → AreMarked graph table asked_all marks → (question : Question) (all : List Needs) → AreOfClauses graph asked_all question all
-    → (after : List Element) (id : ElementId) → IsMadeFor table marks all after id → IsMarked graph after question (Some id)
-made_is_marked graph table asked_all marks are question all of after id made =
+made_is_marked : (graph : Graph) (begins : (more : Graph) × (graph ≡ built_ins ++ more)) (table : List Element) (asked_all : List Question)
+    (marks : List (Option ElementId)) → AreMarked graph table asked_all marks → (question : Question) (all : List Needs)
+    → AreOfClauses graph asked_all question all → (after : List Element) (id : ElementId) → IsMadeFor table marks all after id
+    → IsMarked graph after question (Some id)
+made_is_marked graph begins table asked_all marks are question all of after id made =
     let larger : List Element = table ++ made.made.0 in
     let is : Element = element_at after id in
     let one : One (λ needs. IsMade larger marks needs is × IsOfClause graph asked_all question needs) all =
     one_with_each (λ needs. IsMade larger marks needs is) (IsOfClause graph asked_all question) all made.made.1 of in (
       made.named,
       one_leads (λ needs. IsMade larger marks needs is × IsOfClause graph asked_all question needs)
-          (made_is_asked graph larger asked_all marks (marked_in_longer graph table made.made.0 asked_all marks are) question is made.sound)
-          all one,
+          (made_is_asked graph begins larger asked_all marks (marked_in_longer graph table made.made.0 asked_all marks are) question is
+          made.sound) all one,
     )
 
 module _ (table : List Element) (marks : List (Option ElementId)) (first : ℕ) (cases : List (List Needs)) where
   -- a larger table
   pub further_by_growth : (after : List Element) → Grows table after → IsFurther table marks first cases after marks
   further_by_growth after grown = record {
-    marked = λ graph asked_all are expanded. (
+    marked = λ graph rest asked_all begins are expanded. (
       subst (λ (all : List Element). AreMarked graph all asked_all marks) (sym grown.1)
           (marked_in_longer graph table grown.0 asked_all marks are),
       expanded,
@@ -110,10 +116,10 @@ module _ (table : List Element) (marks : List (Option ElementId)) (first : ℕ) 
   module _ (after : List Element) (grown : Grows table after) (place : ℕ) (d : List Needs) (id : ElementId)
       (within : place < length cases) (none : IsUnmarked marks (first + place))
       (made : IsMadeFor table marks (get_or cases place d) after id) where
-    marked_by_step : (graph : Graph) (asked_all : List Question) → AreMarked graph table asked_all marks
+    marked_by_step : (graph rest : Graph) (asked_all : List Question) → graph ≡ built_ins ++ rest → AreMarked graph table asked_all marks
         → AreExpanded graph asked_all (drop first asked_all) (drop first marks) cases
         → AreMarked graph after asked_all (set marks (first + place) (Some id))
-    marked_by_step graph asked_all are expanded =
+    marked_by_step graph rest asked_all begins are expanded =
         let here = expanded_at graph asked_all (drop first asked_all) (drop first marks) cases place d expanded within
         (get_or-drop first marks place None ∙ none) in
         let question : Question = here.0 in
@@ -127,12 +133,12 @@ module _ (table : List Element) (marks : List (Option ElementId)) (first : ℕ) 
         subst (λ (all : List Element). AreMarked graph all asked_all marks) (sym grown.1)
         (marked_in_longer graph table grown.0 asked_all marks are) in
         marked_set graph after asked_all marks number question id still asks
-        (made_is_marked graph table asked_all marks are question (get_or cases place d) here.2 after id made)
+        (made_is_marked graph (rest, begins) table asked_all marks are question (get_or cases place d) here.2 after id made)
 
     pub further_by_step : IsFurther table marks first cases after (set marks (first + place) (Some id))
     further_by_step = record {
-      marked = λ graph asked_all are expanded. (
-        marked_by_step graph asked_all are expanded,
+      marked = λ graph rest asked_all begins are expanded. (
+        marked_by_step graph rest asked_all begins are expanded,
         subst (λ (rest : List (Option ElementId)). AreExpanded graph asked_all (drop first asked_all) rest cases)
             (sym (drop-set-add first marks place (Some id)))
             (expanded_set graph asked_all (drop first asked_all) (drop first marks) cases place id expanded),
@@ -146,9 +152,9 @@ module _ (table : List Element) (marks : List (Option ElementId)) (first : ℕ) 
   pub further_again : (after last : List Element) (now then : List (Option ElementId)) → IsFurther table marks first cases after now
       → IsFurther after now first cases last then → IsFurther table marks first cases last then
   further_again after last now then one next = record {
-    marked = λ graph asked_all are expanded.
-        let half = one.marked graph asked_all are expanded in
-        next.marked graph asked_all half.0 half.1;
+    marked = λ graph rest asked_all begins are expanded.
+        let half = one.marked graph rest asked_all begins are expanded in
+        next.marked graph rest asked_all begins half.0 half.1;
     count = next.count ∙ one.count;
     kept = next.kept ∙ one.kept;
     grows = grows_then table after last one.grows next.grows;
@@ -159,7 +165,7 @@ module _ (table : List Element) (marks : List (Option ElementId)) (first : ℕ) 
     pub can_still : (after : List Element) (now : List (Option ElementId)) → IsFurther table marks first cases after now
         → CanBeSettled after now first cases
     can_still after now further = ∥∥₁_map can (λ is.
-        let next = further.marked is.0 is.2.0 is.2.1 is.2.2 in (is.0, is.1, (is.2.0, next.0, next.1)))
+        let next = further.marked is.0 is.1.0 is.2.0 is.1.1 is.2.1 is.2.2 in (is.0, is.1, (is.2.0, next.0, next.1)))
 
     -- so marks are numbers of the table
     mark_is_number : (graph : Graph) (questions : List Question) (all : List (Option ElementId)) → AreMarked graph table questions all
@@ -184,4 +190,4 @@ module _ (table : List Element) (marks : List (Option ElementId)) (first : ℕ) 
         let here = expanded_at is.0 is.2.0 (drop first is.2.0) (drop first marks) cases place d is.2.2 within
         (get_or-drop first marks place None ∙ none) in
         each_weaker (IsOfClause is.0 is.2.0 here.0) (IsFit table marks)
-        (λ needs of. named_is_fit is.0 is.1.0 is.1.1 table is.2.0 marks is.2.1 needs of.0 of.3 of.2) (get_or cases place d) here.2)
+        (λ needs of. named_is_fit is.0 is.1.0 is.1.1 table is.2.0 marks is.2.1 needs of.1 of.5 of.4) (get_or cases place d) here.2)

@@ -11,6 +11,7 @@ use Rattle.cd_model.specs.Membership.{asked, answers}
 use Rattle.cd_rules.specs.Clauses.{Clause, Pairs, Xmls, Records, Arrows, IsClauseOfQuestion}
 use Rattle.cd_rules.specs.Members.{NamesLabels}
 use Rattle.cd_rules.specs.Needs.{Way, Need, pair_way, xml_way, arrow_way, splits, splits_in_three}
+use Rattle.cd_rules.specs.Reduced.{IsReduced}
 use Rattle.cd_rules.specs.Rows as rows
 use Rattle.cd_rules.specs.Rows.{rows_of}
 use Rattle.cd_rules.proofs.Ones.{each_weaker, one_weaker}
@@ -79,19 +80,22 @@ module _ (more : List Question) where
 
     -- so what clauses need stays known
     abbrev IsOf : Graph → Question → List Question → Needs → Type 0
-    IsOf graph question asked needs =
-        (clause : Clause) × IsClauseOfQuestion graph question clause × NamesLabels clause × Names asked needs clause
+    IsOf graph question asked needs = (clause reduced : Clause) × IsClauseOfQuestion graph question clause
+        × IsReduced graph clause reduced × NamesLabels reduced × Names asked needs reduced
+
+    abbrev HasNeeds : Graph → Clause → List Question → Needs → Type 0
+    HasNeeds graph clause asked needs = (reduced : Clause) × IsReduced graph clause reduced × Names asked needs reduced
 
     clauses_stay : (graph : Graph) (question : Question) (all : List Needs) → AreOfClauses graph asked question all
         → AreOfClauses graph (asked ++ more) question all
     clauses_stay graph question = each_weaker (IsOf graph question asked) (IsOf graph question (asked ++ more))
-        (λ needs of. (of.0, of.1, of.2, names_stay needs of.0 of.3))
+        (λ needs of. (of.0, of.1, of.2, of.3, of.4, names_stay needs of.1 of.5))
 
     cover_stays : (graph : Graph) (question : Question) (all : List Needs) → CoverClauses graph asked question all
         → CoverClauses graph (asked ++ more) question all
     cover_stays graph question all cover clause of = elim (cover clause of) [
-      | inl one ↦ inl (one_weaker (λ needs. Names asked needs clause) (λ needs. Names (asked ++ more) needs clause)
-          (λ needs. names_stay needs clause) all one)
+      | inl one ↦ inl (one_weaker (HasNeeds graph clause asked) (HasNeeds graph clause (asked ++ more))
+          (λ needs has. (has.0, has.1, names_stay needs has.0 has.2)) all one)
       | inr without ↦ inr without
     ]
 

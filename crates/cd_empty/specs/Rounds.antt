@@ -3,6 +3,7 @@ use Rattle.std.specs.Prelude.{◌≡◌, ◌<◌, ◌++◌, ℕ, suc, Bool, true
 use Rattle.std.specs.Prelude.{[], ◌∷◌, Option, Some, None, length, take, drop, slice_set}
 use Rattle.cd_sets.specs.declared.question.Question.{Question}
 use Rattle.cd_syntax.specs.Element.{Element, IsElement}
+use Rattle.cd_model.specs.BuiltIns.{built_ins}
 use Rattle.cd_model.specs.Each.{Each, One}
 use Rattle.cd_model.specs.Formula.{Graph}
 use Rattle.cd_elements.specs.declared.shape.ElementId.{ElementId}
@@ -37,11 +38,11 @@ IsStep table marks place all true after now = (id : ElementId) × IsUnmarked mar
     × IsMadeFor table marks all after id
 IsStep table marks place all false after now = (now ≡ marks) × (IsUnmarked marks place → Each (IsStuck marks) all)
 
--- Marks went on to others over a larger table: what they were marks of they are still marks of, and those before the first place, and
--- how many there are, stayed
+-- Marks went on to others over a larger table: what they were marks of, in a graph with the built-in nodes, they are still marks of, and
+-- those before the first place, and how many there are, stayed
 pub record IsFurther (table : List Element) (marks : List (Option ElementId)) (first : ℕ) (cases : List (List Needs))
     (after : List Element) (now : List (Option ElementId)) : Type 0 where
-  pub marked : (graph : Graph) (asked : List Question) → AreMarked graph table asked marks
+  pub marked : (graph more : Graph) (asked : List Question) → graph ≡ built_ins ++ more → AreMarked graph table asked marks
       → AreExpanded graph asked (drop first asked) (drop first marks) cases
       → AreMarked graph after asked now × AreExpanded graph asked (drop first asked) (drop first now) cases
   pub count : length now ≡ length marks

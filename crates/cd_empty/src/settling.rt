@@ -2,6 +2,7 @@
 ghost use Rattle.std.specs.Prelude.{◌≡◌, ◌++◌, ◌<◌, List, drop, length, map, take, OnOk, OnErr, IfOk, MatchOption};
 ghost use Rattle.cd_sets.specs.declared.question.Question.{Question as AQuestion};
 ghost use Rattle.cd_syntax.specs.Element.{Element as AnElement};
+ghost use Rattle.cd_model.specs.BuiltIns.{built_ins};
 ghost use Rattle.cd_model.specs.Each.{Each};
 ghost use Rattle.cd_model.specs.Formula.{Graph as PlainGraph};
 ghost use Rattle.cd_elements.specs.Elements.{table};
@@ -24,7 +25,8 @@ pub(crate) fn settle(
     cases: &[Vec<Needs>],
 ) -> Result<(), AllocError>
     requires { CanBeSettled (table elements.old) marks.old.items first (map (λ all. all.items) cases.now) }
-    ensures marked { OnOk result ((graph : PlainGraph) (asked : List AQuestion) → AreMarked graph (table elements.old) asked marks.old.items
+    ensures marked { OnOk result ((graph more : PlainGraph) (asked : List AQuestion) → graph ≡ built_ins ++ more
+        → AreMarked graph (table elements.old) asked marks.old.items
         → AreExpanded graph asked (drop first asked) (drop first marks.old.items) (map (λ all. all.items) cases.now)
         → AreMarked graph (table elements.new) asked marks.new.items
         × AreExpanded graph asked (drop first asked) (drop first marks.new.items) (map (λ all. all.items) cases.now)) }

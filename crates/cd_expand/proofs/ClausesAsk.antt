@@ -13,8 +13,11 @@ use Rattle.cd_normal.specs.Standing.{Stands}
 use Rattle.cd_records.specs.RecordTypes.{record_types}
 use Rattle.cd_expand.specs.Added.{Adds}
 use Rattle.cd_expand.specs.OfClauses.{ClauseAsks}
+use Rattle.cd_expand.specs.Within.{IsWithin, StandsInGraph}
+use Rattle.cd_expand.proofs.Adding.{adds_for}
 use Rattle.cd_expand.proofs.Expanding.{IsToldOf, AreTold}
-use Rattle.cd_expand.proofs.PartsAsk.{IsWithin, clause_is_within, pair_ways_ask, xml_ways_ask, arrow_ways_ask, rows_ask}
+use Rattle.cd_expand.proofs.PartsAsk.{clause_is_within, pair_ways_ask, xml_ways_ask, arrow_ways_ask, rows_ask}
+use Rattle.cd_expand.proofs.Reducing.{AreReduced, kept_in_graph}
 
 -- parts that are the same are within the same bound
 within_both : {X : Type 0} (Within : List X → List X → Type 0) {pos neg wanted refused : List X} → (pos ≡ wanted) × (neg ≡ refused)
@@ -39,19 +42,27 @@ clause_asks nodes least (code.Chars set) _ stands within = tt
 clause_asks nodes least (code.Atoms set) _ stands within = tt
 clause_asks nodes least _ _ stands within = absurd stands
 
--- and so does each question that is added
-pub added_asks : (graph : Graph) → IsGraph graph → (more : Graph) × (graph ≡ built_ins ++ more) → (question : Question)
-    → AsksNodes (length graph) question → (clauses : List Clause) → AreTold graph question clauses → (old new : List Question)
-    → Adds (λ nodes. Each (ClauseAsks nodes) clauses) old new
-    → (more : List Question) × (new ≡ old ++ more) × Each (AsksNodes (length graph)) more
-added_asks graph sound begins question asks clauses told old new adds = (
-  adds.more,
-  adds.grown,
-  adds.asking (length graph)
-      (each_weaker (IsToldOf graph question) (ClauseAsks (length graph))
-      (λ clause of. clause_asks (length graph) least clause of.0 of.2 (clause_is_within graph sound question asks of.0 of.1))
-      clauses told.sound),
-)
+-- so does what it needs once it is reduced
+pub reduced_adds : (graph : Graph) (clause kept : Clause) → AreReduced graph clause kept → (old new : List Question)
+    → Adds (λ nodes. ClauseAsks nodes kept) old new → Adds (λ nodes. StandsInGraph nodes clause) old new
+reduced_adds graph clause kept told = adds_for (λ nodes. StandsInGraph nodes clause) (λ nodes. ClauseAsks nodes kept)
+    (λ nodes stands. let still = kept_in_graph graph nodes clause kept told stands in
+    clause_asks nodes still.0 kept still.1 still.2 still.3)
+
+-- the clauses of a question stand for those of the graph
+pub all_in_graph : (graph : Graph) → IsGraph graph → (more : Graph) × (graph ≡ built_ins ++ more) → (question : Question)
+    → AsksNodes (length graph) question → (clauses : List Clause) → AreTold graph question clauses
+    → Each (StandsInGraph (length graph)) clauses
+all_in_graph graph sound begins question asks clauses told = each_weaker (IsToldOf graph question) (StandsInGraph (length graph))
+    (λ clause of. (least, of.0, of.2, clause_is_within graph sound question asks of.0 of.1)) clauses told.sound
   where
     least : 14 ≤ length graph
     least = let long = ap length begins.1 ∙ length-append built_ins begins.0 in omega arith
+
+-- and so each question that is added asks nodes of the graph
+pub added_asks : (graph : Graph) → IsGraph graph → (more : Graph) × (graph ≡ built_ins ++ more) → (question : Question)
+    → AsksNodes (length graph) question → (clauses : List Clause) → AreTold graph question clauses → (old new : List Question)
+    → Adds (λ nodes. Each (StandsInGraph nodes) clauses) old new
+    → (more : List Question) × (new ≡ old ++ more) × Each (AsksNodes (length graph)) more
+added_asks graph sound begins question asks clauses told old new adds =
+    (adds.more, adds.grown, adds.asking (length graph) (all_in_graph graph sound begins question asks clauses told))

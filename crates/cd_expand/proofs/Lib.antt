@@ -9,5 +9,6 @@ pub mod Naming
 pub mod OneClause
 pub mod PartsAsk
 pub mod PlainNeeds
+pub mod Reducing
 pub mod RowParts
 pub mod SoFar

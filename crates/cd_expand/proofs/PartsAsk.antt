@@ -22,26 +22,8 @@ use Rattle.cd_rules.specs.Rows.{Cell, Row, Reason, Reasons, field_at, labels_of,
 use Rattle.cd_rules.specs.Rows.{types_at, types_elsewhere, cell_at, row_of, rows_of}
 use Rattle.cd_rules.proofs.Asking.{each_of_map, each_of_set}
 use Rattle.cd_rules.proofs.Ones.{each_weaker, each_of_all, each_of_lists, one_with_each, one_leads}
-
--- both parts of a pair, or of an arrow, are among so many nodes
-abbrev pub PairIsWithin : (nodes : ℕ) → Pair → Type 0
-PairIsWithin nodes pair = (pair.0.0 < nodes) × (pair.1.0 < nodes)
-
--- so are all three of an XML element
-abbrev pub TripleIsWithin : (nodes : ℕ) → Triple → Type 0
-TripleIsWithin nodes triple = (triple.0.0 < nodes) × (triple.1.0 < nodes) × (triple.2.0 < nodes)
-
--- so is the node of each field of a record type, and its rest
-abbrev pub TypeIsWithin : (nodes : ℕ) → RecordType → Type 0
-TypeIsWithin nodes type = Each (λ field. field.1.node.0 < nodes) type.named × (type.rest.0 < nodes)
-
--- so are all parts of a clause
-abbrev pub IsWithin : (nodes : ℕ) → Clause → Type 0
-IsWithin nodes (Pairs wanted refused) = Each (PairIsWithin nodes) wanted × Each (PairIsWithin nodes) refused
-IsWithin nodes (Xmls wanted refused) = Each (TripleIsWithin nodes) wanted × Each (TripleIsWithin nodes) refused
-IsWithin nodes (Records wanted refused) = Each (TypeIsWithin nodes) wanted × Each (TypeIsWithin nodes) refused
-IsWithin nodes (Arrows wanted refused) = Each (PairIsWithin nodes) wanted × Each (PairIsWithin nodes) refused
-IsWithin nodes clause = Unit {0}
+use Rattle.cd_apart.specs.Within.{IsPairWithin, IsXmlWithin}
+use Rattle.cd_expand.specs.Within.{IsTypeWithin, IsWithin}
 
 -- what each literal of these choices and of those has, each of the joined choices has
 module _ (fact : Literal → Type 0) where
@@ -154,22 +136,22 @@ module _ (nodes : ℕ) where
     )
 
   -- the parts of a formula of the graph are among its nodes: of pairs
-  pair_is_within : PartsHave (PairIsWithin nodes) pair_of
+  pair_is_within : PartsHave (IsPairWithin nodes) pair_of
   pair_is_within (formula.Pair first second) whole = whole
   pair_is_within _ whole = tt
 
   -- of XML elements
-  xml_is_within : PartsHave (TripleIsWithin nodes) xml_of
+  xml_is_within : PartsHave (IsXmlWithin nodes) xml_of
   xml_is_within (formula.Xml tag attributes content) whole = whole
   xml_is_within _ whole = tt
 
   -- of records
-  record_is_within : PartsHave (TypeIsWithin nodes) record_of
+  record_is_within : PartsHave (IsTypeWithin nodes) record_of
   record_is_within (formula.Record named rest) whole = (whole.1, whole.2)
   record_is_within _ whole = tt
 
   -- of functions
-  arrow_is_within : PartsHave (PairIsWithin nodes) arrow_of
+  arrow_is_within : PartsHave (IsPairWithin nodes) arrow_of
   arrow_is_within (formula.Arrow argument result) whole = whole
   arrow_is_within _ whole = tt
 
@@ -177,13 +159,13 @@ module _ (nodes : ℕ) where
   within_by_choice : (clause : Clause) (choice : Choice) → IsClauseOf choice clause → Each IsLiteral choice
       → IsWithin nodes clause
   within_by_choice (Pairs wanted refused) choice is each =
-      clause_parts_have (PairIsWithin nodes) APair pair_of pair_is_within choice wanted refused is each
+      clause_parts_have (IsPairWithin nodes) APair pair_of pair_is_within choice wanted refused is each
   within_by_choice (Xmls wanted refused) choice is each =
-      clause_parts_have (TripleIsWithin nodes) AnXml xml_of xml_is_within choice wanted refused is each
+      clause_parts_have (IsXmlWithin nodes) AnXml xml_of xml_is_within choice wanted refused is each
   within_by_choice (Records wanted refused) choice is each =
-      clause_parts_have (TypeIsWithin nodes) ARecord record_of record_is_within choice wanted refused is each
+      clause_parts_have (IsTypeWithin nodes) ARecord record_of record_is_within choice wanted refused is each
   within_by_choice (Arrows wanted refused) choice is each =
-      clause_parts_have (PairIsWithin nodes) AFunction arrow_of arrow_is_within choice wanted refused is each
+      clause_parts_have (IsPairWithin nodes) AFunction arrow_of arrow_is_within choice wanted refused is each
   within_by_choice _ choice is each = tt
 
   -- labels that rise are labels
@@ -278,16 +260,16 @@ module _ (nodes : ℕ) where
   parts_below part has leads xs each = each_of_map part IsBelow xs (each_weaker has (λ x. IsBelow (part x)) leads xs each)
 
   -- the first parts of pairs
-  firsts_below : (pairs : List Pair) → Each (PairIsWithin nodes) pairs → Each IsBelow (map (λ parts. parts.0) pairs)
-  firsts_below = parts_below (λ (parts : Pair). parts.0) (PairIsWithin nodes) (λ parts both. both.0)
+  firsts_below : (pairs : List Pair) → Each (IsPairWithin nodes) pairs → Each IsBelow (map (λ parts. parts.0) pairs)
+  firsts_below = parts_below (λ (parts : Pair). parts.0) (IsPairWithin nodes) (λ parts both. both.0)
 
   -- the second parts of pairs
-  seconds_below : (pairs : List Pair) → Each (PairIsWithin nodes) pairs → Each IsBelow (map (λ parts. parts.1) pairs)
-  seconds_below = parts_below (λ (parts : Pair). parts.1) (PairIsWithin nodes) (λ parts both. both.1)
+  seconds_below : (pairs : List Pair) → Each (IsPairWithin nodes) pairs → Each IsBelow (map (λ parts. parts.1) pairs)
+  seconds_below = parts_below (λ (parts : Pair). parts.1) (IsPairWithin nodes) (λ parts both. both.1)
 
   -- the way of a clause of pairs, for what its parts are given
-  pair_way_asks : (wanted : List Pair) → Each (PairIsWithin nodes) wanted → (given : List Pair × List Pair)
-      → BothHave (PairIsWithin nodes) given → Each (AsksNodes nodes) (pair_way wanted given)
+  pair_way_asks : (wanted : List Pair) → Each (IsPairWithin nodes) wanted → (given : List Pair × List Pair)
+      → BothHave (IsPairWithin nodes) given → Each (AsksNodes nodes) (pair_way wanted given)
   pair_way_asks wanted within given both = (
     question_asks (map (λ parts. parts.0) wanted) (map (λ parts. parts.0) given.0)
         (firsts_below wanted within) (firsts_below given.0 both.0),
@@ -299,20 +281,20 @@ module _ (nodes : ℕ) where
   )
 
   -- the tags of XML elements
-  tags_below : (xmls : List Triple) → Each (TripleIsWithin nodes) xmls → Each IsBelow (map (λ parts. parts.0) xmls)
-  tags_below = parts_below (λ (parts : Triple). parts.0) (TripleIsWithin nodes) (λ parts all. all.0)
+  tags_below : (xmls : List Triple) → Each (IsXmlWithin nodes) xmls → Each IsBelow (map (λ parts. parts.0) xmls)
+  tags_below = parts_below (λ (parts : Triple). parts.0) (IsXmlWithin nodes) (λ parts all. all.0)
 
   -- their attributes
-  attributes_below : (xmls : List Triple) → Each (TripleIsWithin nodes) xmls → Each IsBelow (map (λ parts. parts.1) xmls)
-  attributes_below = parts_below (λ (parts : Triple). parts.1) (TripleIsWithin nodes) (λ parts all. all.1)
+  attributes_below : (xmls : List Triple) → Each (IsXmlWithin nodes) xmls → Each IsBelow (map (λ parts. parts.1) xmls)
+  attributes_below = parts_below (λ (parts : Triple). parts.1) (IsXmlWithin nodes) (λ parts all. all.1)
 
   -- their content
-  contents_below : (xmls : List Triple) → Each (TripleIsWithin nodes) xmls → Each IsBelow (map (λ parts. parts.2) xmls)
-  contents_below = parts_below (λ (parts : Triple). parts.2) (TripleIsWithin nodes) (λ parts all. all.2)
+  contents_below : (xmls : List Triple) → Each (IsXmlWithin nodes) xmls → Each IsBelow (map (λ parts. parts.2) xmls)
+  contents_below = parts_below (λ (parts : Triple). parts.2) (IsXmlWithin nodes) (λ parts all. all.2)
 
   -- the way of a clause of XML elements; it asks for an atom and for a record besides
-  xml_way_asks : 14 ≤ nodes → (wanted : List Triple) → Each (TripleIsWithin nodes) wanted
-      → (given : List Triple × List Triple × List Triple) → AllHave (TripleIsWithin nodes) given
+  xml_way_asks : 14 ≤ nodes → (wanted : List Triple) → Each (IsXmlWithin nodes) wanted
+      → (given : List Triple × List Triple × List Triple) → AllHave (IsXmlWithin nodes) given
       → Each (AsksNodes nodes) (xml_way wanted given)
   xml_way_asks least wanted within given all = (
     question_asks (ATOM ∷ map (λ parts. parts.0) wanted) (map (λ parts. parts.0) given.0)
@@ -329,7 +311,7 @@ module _ (nodes : ℕ) where
   )
 
   -- the question of a pair's result, if there is one
-  result_asks : (refused : Pair) → PairIsWithin nodes refused → (others : List Pair) → Each (PairIsWithin nodes) others
+  result_asks : (refused : Pair) → IsPairWithin nodes refused → (others : List Pair) → Each (IsPairWithin nodes) others
       → Each (AsksNodes nodes) (result_questions refused others)
   result_asks refused within [] each = tt
   result_asks refused within (one ∷ others) each = (
@@ -338,8 +320,8 @@ module _ (nodes : ℕ) where
   )
 
   -- the way of a refused arrow
-  arrow_way_asks : (refused : Pair) → PairIsWithin nodes refused → (given : List Pair × List Pair)
-      → BothHave (PairIsWithin nodes) given → Each (AsksNodes nodes) (arrow_way refused given)
+  arrow_way_asks : (refused : Pair) → IsPairWithin nodes refused → (given : List Pair × List Pair)
+      → BothHave (IsPairWithin nodes) given → Each (AsksNodes nodes) (arrow_way refused given)
   arrow_way_asks refused within given both = (
     question_asks (refused.0 ∷ []) (map (λ parts. parts.0) given.0) (within.0, tt) (firsts_below given.0 both.0),
     result_asks refused within given.1 both.1,
@@ -358,21 +340,21 @@ module _ (nodes : ℕ) where
       by_name false later = later
 
   -- what record types say of a label is of nodes below
-  fields_below : (label : Name) (types : List RecordType) → Each (TypeIsWithin nodes) types
+  fields_below : (label : Name) (types : List RecordType) → Each (IsTypeWithin nodes) types
       → Each IsBelow (map (λ type. (field_at type label).node) types)
-  fields_below label = parts_below (λ (type : RecordType). (field_at type label).node) (TypeIsWithin nodes)
+  fields_below label = parts_below (λ (type : RecordType). (field_at type label).node) (IsTypeWithin nodes)
       (λ type both. field_below type.named type.rest label both.0 both.1)
 
   -- and so are their rests
-  rests_below : (types : List RecordType) → Each (TypeIsWithin nodes) types → Each IsBelow (map (λ type. type.rest) types)
-  rests_below = parts_below (λ (type : RecordType). type.rest) (TypeIsWithin nodes) (λ type both. both.1)
+  rests_below : (types : List RecordType) → Each (IsTypeWithin nodes) types → Each IsBelow (map (λ type. type.rest) types)
+  rests_below = parts_below (λ (type : RecordType). type.rest) (IsTypeWithin nodes) (λ type both. both.1)
 
   -- the types of some reasons are of nodes below
   abbrev TypesAreWithin : Reasons → Type 0
-  TypesAreWithin reasons = Each (λ one. TypeIsWithin nodes one.0) reasons
+  TypesAreWithin reasons = Each (λ one. IsTypeWithin nodes one.0) reasons
 
   -- so they are with a type that is
-  with_reasons_within : (type : RecordType) → TypeIsWithin nodes type → (reasons : List Reason) (others : List Reasons)
+  with_reasons_within : (type : RecordType) → IsTypeWithin nodes type → (reasons : List Reason) (others : List Reasons)
       → Each TypesAreWithin others → Each TypesAreWithin (each_with type reasons others)
   with_reasons_within type within [] others each = tt
   with_reasons_within type within (reason ∷ reasons) others each =
@@ -382,7 +364,7 @@ module _ (nodes : ℕ) where
       (with_reasons_within type within reasons others each)
 
   -- and in each choice of reasons of refused types that are
-  reasons_within : (labels : List Name) (refused : List RecordType) → Each (TypeIsWithin nodes) refused
+  reasons_within : (labels : List Name) (refused : List RecordType) → Each (IsTypeWithin nodes) refused
       → Each TypesAreWithin (reasons_of labels refused)
   reasons_within labels [] each = (tt, tt)
   reasons_within labels (type ∷ refused) each =
@@ -390,17 +372,17 @@ module _ (nodes : ℕ) where
 
   -- and those that are refused at a label
   types_at_within : (label : Name) (reasons : Reasons) → TypesAreWithin reasons
-      → Each (TypeIsWithin nodes) (types_at label reasons)
+      → Each (IsTypeWithin nodes) (types_at label reasons)
   types_at_within label [] each = tt
   types_at_within label (one ∷ reasons) each = by_reason (is_reason label one.1) (types_at_within label reasons each.1)
     where
-      by_reason : (is : Bool) → Each (TypeIsWithin nodes) (types_at label reasons)
-          → Each (TypeIsWithin nodes) (if is then one.0 ∷ types_at label reasons else types_at label reasons)
+      by_reason : (is : Bool) → Each (IsTypeWithin nodes) (types_at label reasons)
+          → Each (IsTypeWithin nodes) (if is then one.0 ∷ types_at label reasons else types_at label reasons)
       by_reason true later = (each.0, later)
       by_reason false later = later
 
   -- and those that are refused elsewhere
-  types_elsewhere_within : (reasons : Reasons) → TypesAreWithin reasons → Each (TypeIsWithin nodes) (types_elsewhere reasons)
+  types_elsewhere_within : (reasons : Reasons) → TypesAreWithin reasons → Each (IsTypeWithin nodes) (types_elsewhere reasons)
   types_elsewhere_within [] each = tt
   types_elsewhere_within ((type, None) ∷ reasons) each = (each.0, types_elsewhere_within reasons each.1)
   types_elsewhere_within ((type, Some label) ∷ reasons) each = types_elsewhere_within reasons each.1
@@ -409,40 +391,40 @@ module _ (nodes : ℕ) where
 pub pair_ways_ask : (nodes : ℕ) (wanted refused : List Pair) → IsWithin nodes (Pairs wanted refused)
     → Each (Each (AsksNodes nodes)) (map (pair_way wanted) (splits refused))
 pair_ways_ask nodes wanted refused within = each_of_map (pair_way wanted) (Each (AsksNodes nodes)) (splits refused)
-    (each_weaker (BothHave (PairIsWithin nodes)) (λ given. Each (AsksNodes nodes) (pair_way wanted given))
-    (pair_way_asks nodes wanted within.0) (splits refused) (splits_have (PairIsWithin nodes) refused within.1))
+    (each_weaker (BothHave (IsPairWithin nodes)) (λ given. Each (AsksNodes nodes) (pair_way wanted given))
+    (pair_way_asks nodes wanted within.0) (splits refused) (splits_have (IsPairWithin nodes) refused within.1))
 
 -- those of a clause of XML elements do, where the graph has the built-in nodes
 pub xml_ways_ask : (nodes : ℕ) → 14 ≤ nodes → (wanted refused : List Triple) → IsWithin nodes (Xmls wanted refused)
     → Each (Each (AsksNodes nodes)) (map (xml_way wanted) (splits_in_three refused))
 xml_ways_ask nodes least wanted refused within =
     each_of_map (xml_way wanted) (Each (AsksNodes nodes)) (splits_in_three refused)
-    (each_weaker (AllHave (TripleIsWithin nodes)) (λ given. Each (AsksNodes nodes) (xml_way wanted given))
+    (each_weaker (AllHave (IsXmlWithin nodes)) (λ given. Each (AsksNodes nodes) (xml_way wanted given))
     (xml_way_asks nodes least wanted within.0) (splits_in_three refused)
-    (splits_in_three_have (TripleIsWithin nodes) refused within.1))
+    (splits_in_three_have (IsXmlWithin nodes) refused within.1))
 
 -- and those of each need of a clause of functions
 pub arrow_ways_ask : (nodes : ℕ) (wanted refused : List Pair) → IsWithin nodes (Arrows wanted refused)
     → Each (Each (Each (AsksNodes nodes))) (map (λ one. map (arrow_way one) (splits wanted)) refused)
 arrow_ways_ask nodes wanted refused within =
     each_of_map (λ one. map (arrow_way one) (splits wanted)) (Each (Each (AsksNodes nodes))) refused
-    (each_weaker (PairIsWithin nodes) (λ one. Each (Each (AsksNodes nodes)) (map (arrow_way one) (splits wanted)))
+    (each_weaker (IsPairWithin nodes) (λ one. Each (Each (AsksNodes nodes)) (map (arrow_way one) (splits wanted)))
     (λ one is. each_of_map (arrow_way one) (Each (AsksNodes nodes)) (splits wanted)
-    (each_weaker (BothHave (PairIsWithin nodes)) (λ given. Each (AsksNodes nodes) (arrow_way one given))
-    (arrow_way_asks nodes one is) (splits wanted) (splits_have (PairIsWithin nodes) wanted within.0))) refused within.1)
+    (each_weaker (BothHave (IsPairWithin nodes)) (λ given. Each (AsksNodes nodes) (arrow_way one given))
+    (arrow_way_asks nodes one is) (splits wanted) (splits_have (IsPairWithin nodes) wanted within.0))) refused within.1)
 
 -- the questions of a row, but that of the labels of no cell, ask nodes below
 abbrev pub RowAsks : (nodes : ℕ) → Row → Type 0
 RowAsks nodes row = Each (λ cell. AsksNodes nodes cell.1.value) row.cells × Each (AsksNodes nodes) row.some
 
 -- those of the row of some reasons do
-row_asks : (nodes : ℕ) (labels : List Name) (wanted : List RecordType) → Each (TypeIsWithin nodes) wanted
+row_asks : (nodes : ℕ) (labels : List Name) (wanted : List RecordType) → Each (IsTypeWithin nodes) wanted
     → (reasons : Reasons) → TypesAreWithin nodes reasons → RowAsks nodes (row_of labels wanted reasons)
 row_asks nodes labels wanted within reasons types = (
   each_of_map (λ label. (label, cell_at wanted reasons label)) (λ (cell : Name × Cell). AsksNodes nodes cell.1.value) labels
       (each_of_all (λ label. AsksNodes nodes (cell_at wanted reasons label).value) cell_asks labels),
   each_of_map (λ type. question (map (λ type. type.rest) wanted) (type.rest ∷ [])) (AsksNodes nodes) (types_elsewhere reasons)
-      (each_weaker (TypeIsWithin nodes) (λ type. AsksNodes nodes (question (map (λ type. type.rest) wanted) (type.rest ∷ [])))
+      (each_weaker (IsTypeWithin nodes) (λ type. AsksNodes nodes (question (map (λ type. type.rest) wanted) (type.rest ∷ [])))
       some_asks (types_elsewhere reasons) (types_elsewhere_within nodes reasons types)),
 )
   where
@@ -451,7 +433,7 @@ row_asks nodes labels wanted within reasons types = (
         (map (λ type. (field_at type label).node) (types_at label reasons)) (fields_below nodes label wanted within)
         (fields_below nodes label (types_at label reasons) (types_at_within nodes label reasons types))
 
-    some_asks : (type : RecordType) → TypeIsWithin nodes type
+    some_asks : (type : RecordType) → IsTypeWithin nodes type
         → AsksNodes nodes (question (map (λ type. type.rest) wanted) (type.rest ∷ []))
     some_asks type is = question_asks nodes (map (λ type. type.rest) wanted) (type.rest ∷ [])
         (rests_below nodes wanted within) (is.1, tt)

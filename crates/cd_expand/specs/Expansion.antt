@@ -10,6 +10,7 @@ use Rattle.cd_elements.specs.Table.{IsShape, element_by}
 use Rattle.cd_rules.specs.Clauses.{Clause, IsClauseOfQuestion}
 use Rattle.cd_rules.specs.Members.{NamesLabels}
 use Rattle.cd_rules.specs.Needs.{AreNeeds}
+use Rattle.cd_rules.specs.Reduced.{IsReduced}
 use Rattle.cd_expand.specs.declared.needs.Needs.{Needs}
 use Rattle.cd_expand.specs.declared.expansion.Expansion.{Expansion}
 use Rattle.cd_expand.specs.declared.expansion.Expansion.TheVariants.{Element as AnElement, Clauses}
@@ -20,15 +21,15 @@ abbrev pub HasShape : Graph → Question → Shape → Type 0
 HasShape graph question shape = (table : List Element) → IsShape table shape × IsElement (element_by table shape)
     × asked (answers graph (element_by table shape)) question true
 
--- each of the needs is that of a clause of the question
+-- each of the needs is that of a reduced clause of the question
 abbrev pub AreOfClauses : Graph → (asked : List Question) → Question → List Needs → Type 0
-AreOfClauses graph asked question all =
-    Each (λ needs. (clause : Clause) × IsClauseOfQuestion graph question clause × NamesLabels clause × Names asked needs clause) all
+AreOfClauses graph asked question all = Each (λ needs. (clause reduced : Clause) × IsClauseOfQuestion graph question clause
+    × IsReduced graph clause reduced × NamesLabels reduced × Names asked needs reduced) all
 
--- and each clause of the question has its needs there, or has a need without ways
+-- and each clause of the question has the needs of a reduced form of it there, or has a need without ways
 abbrev pub CoverClauses : Graph → (asked : List Question) → Question → List Needs → Type 0
 CoverClauses graph asked question all = (clause : Clause) → IsClauseOfQuestion graph question clause
-    → One (λ needs. Names asked needs clause) all ⊎ AreNeeds clause ([] ∷ [])
+    → One (λ needs. (reduced : Clause) × IsReduced graph clause reduced × Names asked needs reduced) all ⊎ AreNeeds clause ([] ∷ [])
 
 abbrev pub IsExpansion : Graph → (asked : List Question) → Question → Expansion → Type 0
 IsExpansion graph asked question (AnElement shape) = HasShape graph question shape

@@ -2,13 +2,16 @@
 use Rattle.std.specs.Prelude.{◌⊎◌, ℕ, List, Option, Some, None, map}
 use Rattle.cd_sets.specs.declared.question.Question.{Question}
 use Rattle.cd_model.specs.Each.{Each, One}
+use Rattle.cd_model.specs.Formula.{Graph}
 use Rattle.cd_graph.specs.declared.fields.Fields.{Fields}
-use Rattle.cd_rules.specs.Clauses.{Pair, Triple, Pairs, Xmls, Records, Arrows}
+use Rattle.cd_rules.specs.Clauses.{Clause as PlainClause, Pair, Triple, Pairs, Xmls, Records, Arrows}
 use Rattle.cd_rules.specs.Family.{AsksNodes}
 use Rattle.cd_rules.specs.Needs.{pair_way, xml_way, arrow_way, splits, splits_in_three}
+use Rattle.cd_rules.specs.Reduced.{IsReduced}
 use Rattle.cd_rules.specs.Rows.{Row, rows_of}
 use Rattle.cd_normal.specs.declared.clause.Clause.{Clause}
 use Rattle.cd_normal.specs.declared.clause.Clause.TheVariants as code
+use Rattle.cd_normal.specs.Standing.{Stands}
 use Rattle.cd_records.specs.RecordTypes.{record_types}
 use Rattle.cd_expand.specs.declared.needs.Needs.{Needs}
 use Rattle.cd_expand.specs.Basic.{IsBasic}
@@ -52,7 +55,17 @@ abbrev pub NamesClause : (asked : List Question) → Clause → Option Needs →
 NamesClause asked clause None = IsBasic clause
 NamesClause asked clause (Some needs) = NamesNeeded asked clause needs
 
--- what is named is needed for one of the clauses each, and each clause that is not basic needs one of those
-abbrev pub NamesEach : (asked : List Question) → List Clause → List Needs → Type 0
-NamesEach asked clauses all = Each (λ needs. One (λ clause. NamesNeeded asked clause needs) clauses) all
-    × Each (λ clause. IsBasic clause ⊎ One (NamesNeeded asked clause) all) clauses
+-- what is named is needed for a reduced form of each clause for which this one stands
+abbrev pub NamesReduced : Graph → (asked : List Question) → Clause → Needs → Type 0
+NamesReduced graph asked clause needs = (is : PlainClause) → Stands clause is
+    → (reduced : PlainClause) × IsReduced graph is reduced × Names asked needs reduced
+
+-- so it is, if this one is not basic
+abbrev pub NamesOne : Graph → (asked : List Question) → Clause → Option Needs → Type 0
+NamesOne graph asked clause None = IsBasic clause
+NamesOne graph asked clause (Some needs) = NamesReduced graph asked clause needs
+
+-- what is named is needed for one of the clauses each, reduced, and each clause that is not basic needs one of those
+abbrev pub NamesEach : Graph → (asked : List Question) → List Clause → List Needs → Type 0
+NamesEach graph asked clauses all = Each (λ needs. One (λ clause. NamesReduced graph asked clause needs) clauses) all
+    × Each (λ clause. IsBasic clause ⊎ One (NamesReduced graph asked clause) all) clauses

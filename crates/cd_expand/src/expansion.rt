@@ -6,12 +6,14 @@ ghost use Rattle.cd_graph.specs.Nodes.{nodes};
 ghost use Rattle.cd_rules.specs.Family.{AsksNodes};
 ghost use Rattle.cd_expand.specs.Added.{Adds};
 ghost use Rattle.cd_expand.specs.Basic.{IsNoSet, IsIn};
-ghost use Rattle.cd_expand.specs.OfClauses.{ClauseAsks, NamesEach};
+ghost use Rattle.cd_expand.specs.OfClauses.{NamesOne, NamesEach};
+ghost use Rattle.cd_expand.specs.Within.{StandsInGraph};
 ghost use Rattle.cd_expand.specs.Expansion.{IsExpansion};
 
 use crate::basic::some_element;
 use crate::needs::Needs;
 use crate::of_clause::needs_of;
+use cd_apart::reduced_clause;
 use cd_asked::Asked;
 use cd_elements::Shape;
 use cd_graph::Graph;
@@ -25,12 +27,13 @@ use std::alloc::{AllocError, Global};
 pub enum Expansion {
     /// It has this element.
     Element(Shape),
-    /// For each clause that can have elements, what it needs.
+    /// For each clause that can have elements, what it needs, once it is reduced.
     Clauses(Vec<Needs>),
 }
 
 /// Looks at the clauses of a question. Where one of them is a set of integers, characters or atoms that is not empty the question
-/// has an element. Else what the clauses need is given, and the questions of the needs are added to those that are asked.
+/// has an element. Else what the clauses need is given, once they are reduced, and the questions of the needs are added to those that
+/// are asked.
 ///
 /// # Errors
 ///
@@ -48,11 +51,10 @@ pub fn expand(
     // The contract of this call says that the graph is sound, and that it has the built-in nodes.
     let _sound = graph.len();
     let clauses = clauses(alloc, graph, question)?;
-    let clauses = clauses.as_slice();
-    match element_of_one(alloc, clauses)? {
+    match element_of_one(alloc, clauses.as_slice())? {
         Some(shape) => Ok(Expansion::Element(shape)),
         None => {
-            let needs = needs_of_each(alloc, asked, clauses)?;
+            let needs = needs_of_each(alloc, graph, asked, clauses)?;
             Ok(Expansion::Clauses(needs))
         }
     }
@@ -70,20 +72,37 @@ fn element_of_one(alloc: Global, clauses: &[Clause]) -> Result<Option<Shape>, Al
     Ok(None)
 }
 
-// What each clause needs that is not of a set.
+// What each clause needs that is not of a set, once it is reduced.
 fn needs_of_each(
     alloc: Global,
+    graph: &Graph,
     asked: &mut Asked,
-    clauses: &[Clause],
+    clauses: Vec<Clause>,
 ) -> Result<Vec<Needs>, AllocError>
-    ensures names { IfOk result (λ all. NamesEach asked.new clauses.now all.items) }
-    ensures grows { Adds (λ nodes. Each (ClauseAsks nodes) clauses.now) asked.old asked.new }
+    requires { Each (StandsInGraph (length (nodes graph.now))) clauses.items }
+    ensures names { IfOk result (λ all. NamesEach (nodes graph.now) asked.new clauses.items all.items) }
+    ensures grows { Adds (λ nodes. Each (StandsInGraph nodes) clauses.items) asked.old asked.new }
 {
     let mut all = Vec::new(alloc);
     for clause in clauses {
-        add(&mut all, needs_of(alloc, asked, clause)?)?;
+        add(&mut all, needs_of_one(alloc, graph, asked, clause)?)?;
     }
     Ok(all)
+}
+
+// What a clause needs, once it is reduced.
+fn needs_of_one(
+    alloc: Global,
+    graph: &Graph,
+    asked: &mut Asked,
+    clause: Clause,
+) -> Result<Option<Needs>, AllocError>
+    requires { StandsInGraph (length (nodes graph.now)) clause }
+    ensures names { IfOk result (λ needs. NamesOne (nodes graph.now) asked.new clause needs) }
+    ensures grows { Adds (λ nodes. StandsInGraph nodes clause) asked.old asked.new }
+{
+    let reduced = reduced_clause(alloc, graph, clause)?;
+    needs_of(alloc, asked, &reduced)
 }
 
 // Adds the needs, if there are some.

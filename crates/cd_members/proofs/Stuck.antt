@@ -4,10 +4,11 @@ use Rattle.cd_sets.specs.declared.question.Question.{Question}
 use Rattle.cd_syntax.specs.Name.{Name}
 use Rattle.cd_model.specs.Each.{One}
 use Rattle.cd_rules.specs.Clauses.{Clause, Pairs, Xmls, Records, Arrows}
-use Rattle.cd_rules.specs.Family.{IsOfFamily, BreaksNeed, BreaksRow, Breaks}
+use Rattle.cd_rules.specs.Family.{IsCovered, BreaksNeed, BreaksRow, Breaks}
 use Rattle.cd_rules.specs.Needs.{Way, Need, pair_way, xml_way, arrow_way, splits, splits_in_three}
 use Rattle.cd_rules.specs.Rows as rows
 use Rattle.cd_rules.specs.Rows.{rows_of}
+use Rattle.cd_rules.proofs.Covering.{covers_own}
 use Rattle.cd_asked.specs.declared.asked.QuestionId.{QuestionId}
 use Rattle.cd_elements.specs.declared.shape.ElementId.{ElementId}
 use Rattle.cd_expand.specs.declared.needs.Cell.{Cell}
@@ -21,13 +22,17 @@ use Rattle.cd_members.proofs.Alongs.{along_each, along_one}
 use Rattle.cd_members.proofs.MarksOf.{is_unmarked}
 
 module _ (questions : List Question) (marks : List (Option ElementId)) where
-  -- a question is one of those without marks
+  -- a question is covered by those without marks
   abbrev IsLeft : Question → Type 0
-  IsLeft question = IsOfFamily question (unmarked questions marks)
+  IsLeft question = IsCovered question (unmarked questions marks)
 
-  -- one of a way without a mark is one of those
+  -- one without a mark is
+  is_left : (id : QuestionId) (question : Question) → IsNumber questions id question → HasNoMark marks id → IsLeft question
+  is_left id question number none = covers_own (unmarked questions marks) question (is_unmarked questions marks id question number none)
+
+  -- and so is one of a way with one without a mark
   way_left : (ids : List QuestionId) (way : Way) → NamesWay questions ids way → One (HasNoMark marks) ids → One IsLeft way
-  way_left = along_one (IsNumber questions) (HasNoMark marks) IsLeft (is_unmarked questions marks)
+  way_left = along_one (IsNumber questions) (HasNoMark marks) IsLeft is_left
 
   -- a need is broken by them
   need_broken : (ways : List (List QuestionId)) (need : Need) → NamesNeed questions ways need → IsStuckNeed marks ways
@@ -38,7 +43,7 @@ module _ (questions : List Question) (marks : List (Option ElementId)) where
   cell_left : (cell : Cell) (of : Name × rows.Cell) → NamesCell questions cell of
       → (cell.absent ≡ false) × HasNoMark marks cell.value → (of.1.absent ≡ false) × IsLeft of.1.value
   cell_left cell of names is =
-      (sym names.1 ∙ is.0, is_unmarked questions marks cell.value of.1.value names.2 is.1)
+      (sym names.1 ∙ is.0, is_left cell.value of.1.value names.2 is.1)
 
   row_broken : (row : Row) (of : rows.Row) → NamesRow questions row of → IsStuckRow marks row
       → BreaksRow (unmarked questions marks) of

@@ -84,7 +84,8 @@ returns-clause-fits c =
     let same = ap (map (λ all. all.items)) c.deref.ensures.value in
     ∥∥₁_map c.requires.fits (λ fits.
     let both = collected graph _ _ before c.requires.marks asked _ _ _ same call.marked call.expanded fits in
-    let marked = c.in_ok-settle.ensures.marked graph asked both.0 both.1 in
+    let begins = c.len-count.ensures.built_in in
+    let marked = c.in_ok-settle.ensures.marked graph begins.0 asked begins.1 both.0 both.1 in
     fits_all graph _ _ before after _ (settles c) asks marked c.in_ok-settle.ensures.stuck fits)
 
 pub returns-clause-stays : goal.returns-clause-stays

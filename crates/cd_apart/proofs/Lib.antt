@@ -1,0 +1,8 @@
+pub mod ChoicesOfGraph
+pub mod PartsWithin
+mod PartsBelow
+mod Emptying
+mod HeldByOne
+mod SeenEmpty
+mod Leaving
+mod ReducedForms

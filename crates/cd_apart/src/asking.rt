@@ -1,0 +1,32 @@
+//! The clauses of what is in all of some nodes.
+ghost use Rattle.std.specs.Prelude.{◌<◌, true, length, IfOk};
+ghost use Rattle.cd_syntax.specs.Element.{Element, IsElement};
+ghost use Rattle.cd_model.specs.Each.{Each, One};
+ghost use Rattle.cd_model.specs.Membership.{answers};
+ghost use Rattle.cd_graph.specs.Nodes.{nodes};
+ghost use Rattle.cd_apart.specs.Emptiness.{IsHeld};
+ghost use Rattle.cd_apart.specs.Within.{IsWithin};
+
+use cd_graph::Graph;
+use cd_needs::asking::question;
+use cd_normal::clause::Clause;
+use cd_normal::clauses;
+use cd_sets::node_id::NodeId;
+use std::alloc::{AllocError, Global};
+
+/// Clauses such that an element in all of the nodes is in one of them.
+pub(crate) fn clauses_of_all(
+    alloc: Global,
+    graph: &Graph,
+    ids: &[NodeId],
+) -> Result<Vec<Clause>, AllocError>
+    requires { Each (λ id. id.0 < length (nodes graph.now)) ids.now }
+    ensures within { IfOk result (λ clauses. Each (IsWithin (length (nodes graph.now))) clauses.items) }
+    ensures held { IfOk result (λ clauses. (is : Element) → IsElement is → Each (λ id. answers (nodes graph.now) is id true) ids.now
+        → One (IsHeld (nodes graph.now) is) clauses.items) }
+{
+    // The contract of this call says that the graph is sound.
+    let _sound = graph.len();
+    let asked = question(alloc, ids, &[])?;
+    clauses(alloc, graph, &asked)
+}

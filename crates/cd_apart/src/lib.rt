@@ -1,0 +1,12 @@
+//! Clauses without what they refuse in vain.
+#![tactic(auto)]
+
+pub mod apart;
+mod asking;
+mod parts;
+pub mod reduced;
+#[cfg(test)]
+mod tests;
+
+pub use apart::are_apart;
+pub use reduced::reduced_clause;
