@@ -15,7 +15,6 @@ pub mod SoundData
 pub mod KeptAnswers
 pub mod DecidedValues
 pub mod Nowhere
-pub mod TextsAgree
 pub mod Covered
 pub mod CoveredParts
 pub mod DeclaredScope

@@ -8,7 +8,6 @@ ghost use Rattle.cd_model.specs.Canonical.{canonical};
 ghost use Rattle.cd_model.specs.Examples as example;
 ghost use Rattle.cd_model.specs.Examples.{text_of, sequence_of, function_of};
 ghost use Rattle.cd_syntax.specs.Integer.{LEAST};
-ghost use Rattle.cd_syntax.specs.Notation.{Prints};
 ghost use Rattle.cd_model.specs.Formula.{Graph, Formula, IsFormula, IsGraph};
 ghost use Rattle.cd_model.specs.Guarded.{IsGuarded, NamesAreGuarded};
 ghost use Rattle.cd_model.specs.WrittenExamples as written;
@@ -156,11 +155,6 @@ pub fn canonical_examples()
     ensures one_item { canonical (element.Pair (Integer (pos 1)) example.nil) ≡ codes "[1]" }
     ensures character_at_the_end { canonical (element.Pair (Integer (pos 1)) (Character 97)) ≡ codes "(1, 'a')" }
     ensures function_in_a_field { canonical (element.Record (element.Field (codes "a") (element.Function element.NoPair) element.NoField)) ≡ codes "{a=fun{}}" }
-{}
-
-/// A text that was defined for integers and for pairs of them is the canonical one.
-pub fn texts_agree()
-    ensures { (is : Element) (text : List ℕ) → Prints is text → text ≡ canonical is }
 {}
 
 /// Where names are guarded, as many as are declared are enough: more of them change no answer.

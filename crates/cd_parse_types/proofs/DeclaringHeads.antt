@@ -25,7 +25,8 @@ text_tree : (depth : ℕ) (span : Span) → IsTree depth (at (token.Text []) spa
 text_tree depth span =
     grammar.type depth _ _ (grammar.IsArrow.arrow depth (at (token.Text []) span ∷ []) [] _ NoTree
     (grammar.union depth (at (token.Text []) span ∷ []) [] _ NoTree
-    (grammar.meet depth (at (token.Text []) span ∷ []) [] _ NoSign (grammar.text depth [] span) (grammar.no_sign depth)) (grammar.no_meet depth)) (grammar.no_result depth))
+    (grammar.meet depth (at (token.Text []) span ∷ []) [] _ NoSign (grammar.bare depth _ _ (grammar.text depth [] span)) (grammar.no_sign depth))
+    (grammar.no_meet depth)) (grammar.no_result depth))
 
 declares : (depth : ℕ) (type_word span equal text : Span) (name : Name) → is_type_name name ≡ true
     → SomeDeclarations depth (at (token.Word (codes "type")) type_word ∷ at (token.Word name) span ∷ at (token.Sign sign.Equal) equal ∷ at (token.Text []) text ∷ [])

@@ -17,8 +17,7 @@ use cd_syntax::tokens::{Token, TokenKind};
 use cd_syntax::type_tree::{Declaration, Declarations};
 use std::alloc::Global;
 
-/// The type declarations that tokens write, all of them, but for sequences and XML; `end` is the place of the end
-/// of their text.
+/// The type declarations that tokens write, all of them; `end` is the place of the end of their text.
 ///
 /// # Errors
 ///

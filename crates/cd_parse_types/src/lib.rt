@@ -1,4 +1,4 @@
-//! The trees of types and of type declarations that tokens write, but for sequences and XML.
+//! The trees of types and of type declarations that tokens write.
 #![tactic(auto)]
 
 pub mod declarations;

@@ -10,8 +10,7 @@ use cd_syntax::type_tree::Tree;
 use cd_type_reader::{Reading, read};
 use std::alloc::Global;
 
-/// The type that tokens write, all of them, but for sequences and XML; `end` is the place of the end of
-/// their text.
+/// The type that tokens write, all of them; `end` is the place of the end of their text.
 ///
 /// # Errors
 ///

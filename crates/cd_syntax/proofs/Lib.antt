@@ -1,4 +1,2 @@
-pub mod Membership
-pub mod Notation
 pub mod Spelled
-pub mod Building
+pub mod TypesIn

@@ -1,11 +1,6 @@
 pub mod Name
 pub mod Integer
 pub mod Element
-pub mod Tree
-pub mod Written
-pub mod Membership
-pub mod Subtype
-pub mod Notation
 pub mod Signs
 pub mod Quotes
 pub mod Comments
@@ -15,7 +10,7 @@ pub mod Digits
 pub mod TypeTree
 pub mod PlainTree
 pub mod WellMade
-pub mod Built
 pub mod TypeGrammar
+pub mod PlainBase
 pub mod SyntaxFaults
 pub mod Examples

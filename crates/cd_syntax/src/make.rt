@@ -1,13 +1,14 @@
 //! Trees from their parts.
 ghost use Rattle.std.specs.Prelude.{◌≡◌, map};
-ghost use Rattle.cd_syntax.specs.TypeTree.{tree as plain_tree, Builtin, Ints, Chars, Atom, Text, Tuple, Arrows, Union, Meet, Record, Named, Where, trees_of, signs_of, fields_of, declarations_of};
-ghost use Rattle.cd_syntax.specs.PlainTree.{plain, plain_kind, plain_signed, plain_field, plain_declaration};
+ghost use Rattle.cd_syntax.specs.TypeTree.{tree as plain_tree, Builtin, Ints, Chars, Atom, Text, Tuple, Arrows, Union, Meet, Sequence, Record, Xml, Named, Where, regular as plain_regular_tree, Nothing, Item, Seq, Alt, Repeat, trees_of, signs_of, fields_of, declarations_of, regulars_of};
+ghost use Rattle.cd_syntax.specs.PlainTree.{plain, plain_kind, plain_signed, plain_field, plain_declaration, plain_regular, plain_regular_kind};
 
 use crate::builtin::BuiltinName;
 use crate::name::Name;
 use crate::tokens::Span;
 use crate::type_tree::{
-    Declaration, Declarations, FieldTree, FieldTrees, Signed, SignedTree, Tree, TreeKind, Trees,
+    Declaration, Declarations, FieldTree, FieldTrees, Post, RegKind, RegTree, RegTrees, Signed,
+    SignedTree, Tree, TreeKind, Trees,
 };
 
 impl Tree {
@@ -83,6 +84,20 @@ impl TreeKind {
         TreeKind::Meet(first, Signed { items: others })
     }
 
+    /// The sequences whose items fit.
+    pub fn sequence(items: Box<RegTree>) -> TreeKind
+        ensures { plain_kind result ≡ Sequence (plain_regular items.value) }
+    {
+        TreeKind::Sequence(items)
+    }
+
+    /// The XML elements of a tag, attributes and a content.
+    pub fn xml(tag: Box<Tree>, attributes: Box<Tree>, content: Box<Tree>) -> TreeKind
+        ensures { plain_kind result ≡ Xml (plain tag.value) (plain attributes.value) (plain content.value) }
+    {
+        TreeKind::Xml(tag, attributes, content)
+    }
+
     /// The records with these fields, and with true also those that have other fields beside them.
     pub fn record(fields: Vec<FieldTree>, more: bool) -> TreeKind
         ensures { plain_kind result ≡ Record (fields_of (map plain_field fields.items)) more }
@@ -134,5 +149,51 @@ impl Declaration {
         ensures { plain_declaration result ≡ record { name = name; at = at; tree = plain tree } }
     {
         Declaration { name, at, tree }
+    }
+}
+
+impl RegTree {
+    /// What is written, and where.
+    pub fn new(span: Span, kind: RegKind) -> RegTree
+        ensures { plain_regular result ≡ plain_regular_tree span (plain_regular_kind kind) }
+    {
+        RegTree { span, kind }
+    }
+}
+
+impl RegKind {
+    /// No item.
+    pub fn nothing() -> RegKind
+        ensures { plain_regular_kind result ≡ Nothing }
+    {
+        RegKind::Nothing
+    }
+
+    /// One item of this type.
+    pub fn item(tree: Box<Tree>) -> RegKind
+        ensures { plain_regular_kind result ≡ Item (plain tree.value) }
+    {
+        RegKind::Item(tree)
+    }
+
+    /// One after the other.
+    pub fn seq(all: Vec<RegTree>) -> RegKind
+        ensures { plain_regular_kind result ≡ Seq (regulars_of (map plain_regular all.items)) }
+    {
+        RegKind::Seq(RegTrees::of(all))
+    }
+
+    /// One of them.
+    pub fn alt(all: Vec<RegTree>) -> RegKind
+        ensures { plain_regular_kind result ≡ Alt (regulars_of (map plain_regular all.items)) }
+    {
+        RegKind::Alt(RegTrees::of(all))
+    }
+
+    /// As often as the postfix says.
+    pub fn repeat(one: Box<RegTree>, post: Post) -> RegKind
+        ensures { plain_regular_kind result ≡ Repeat (plain_regular one.value) post }
+    {
+        RegKind::Repeat(one, post)
     }
 }

@@ -1,3 +1,4 @@
+use crate::base::Base;
 use crate::builtin::BuiltinName;
 use crate::constant::Constant;
 use crate::name::Name;
@@ -145,5 +146,35 @@ fn keeps_the_text_of_a_name(rt: HostRuntime) -> Result<(), Fail> {
             text
         );
     }
+    Ok(())
+}
+
+fn items(alloc: Global, trees: Vec<Tree>) -> Result<RegKind, AllocError> {
+    let mut all = Vec::new(alloc);
+    for tree in trees {
+        all.push(RegTree::of_type(alloc, tree)?)?;
+    }
+    Ok(RegKind::alt(all))
+}
+
+// What a regular expression is in parentheses, as a text.
+fn enclosed(alloc: Global, kind: RegKind) -> Result<String, AllocError> {
+    match expression(kind).in_parentheses(alloc)? {
+        Base::OfType(tree) => format!(in alloc; "{:?}", tree.kind),
+        Base::Group(_) => String::from_str(alloc, "group"),
+    }
+}
+
+#[test]
+fn tells_a_type_from_a_group(rt: HostRuntime) -> Result<(), Fail> {
+    let alloc = rt.alloc();
+    let item = RegKind::item(Box::new(alloc, any())?);
+    assert_eq!(rt; enclosed(alloc, item)?.as_str(), "Builtin(Any)");
+    let types = items(alloc, two(alloc)?.items)?;
+    let union = format!(in alloc; "Union({:?})", two(alloc)?)?;
+    assert_eq!(rt; enclosed(alloc, types)?.as_str(), union.as_str());
+    let mixed = RegKind::Alt(expressions(alloc)?);
+    assert_eq!(rt; enclosed(alloc, mixed)?.as_str(), "group");
+    assert_eq!(rt; enclosed(alloc, RegKind::nothing())?.as_str(), "group");
     Ok(())
 }

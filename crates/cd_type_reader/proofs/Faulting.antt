@@ -9,8 +9,11 @@ use Rattle.cd_syntax.specs.TypeTree.{Tree}
 use Rattle.cd_syntax.specs.TypeGrammar.{IsTree}
 use Rattle.cd_syntax.specs.SyntaxFaults.{AType, BeginSome}
 use Rattle.cd_type_reader.specs.Machine.{State, Fault, Syntax, TooDeep, start, step, finish, Whole, Missing, At, made_at_end, going_on, run}
-use Rattle.cd_type_reader.proofs.FaultingMore.{more, Above, above, same_finish}
-use Rattle.cd_type_reader.proofs.FaultingClosed.{IsClosed, kept, completes}
+use Rattle.cd_type_reader.proofs.FaultingMore.{more, Above, same_finish}
+use Rattle.cd_type_reader.proofs.FaultingAbove.{above}
+use Rattle.cd_type_reader.proofs.FaultingClosed.{IsClosed}
+use Rattle.cd_type_reader.proofs.FaultingKept.{kept}
+use Rattle.cd_type_reader.proofs.FaultingEnds.{completes}
 
 -- the fault comes at the token with this index
 abbrev FaultsAt : Fault → List Token → State → ℕ → Type 0
@@ -58,49 +61,51 @@ not_whole fault (one ∷ tokens) more read state (suc index) is found whole =
     not_whole fault tokens more (suc read) found.0 index is found.2 (ap (going_on read (λ next. run (suc read) next (take (suc index) tokens ++ more))) (sym found.1) ∙ whole)
 
 -- the same step, with more room
-on_above : (state next : State) (one : Token) → step state one ≡ Ok next → step (more state) one ≡ Ok (more next)
-on_above state next one is = subst (λ r. Above r (step (more state) one)) is (above state one)
+on_above : (state next : State) (one : Token) → IsClosed state → step state one ≡ Ok next → step (more state) one ≡ Ok (more next)
+on_above state next one are is = subst (λ r. Above r (step (more state) one)) is (above state one are)
 
 -- a fault of syntax is one with more room too
-still : (tokens : List Token) (state : State) (index : ℕ) → FaultsAt Syntax tokens state index → FaultsAt Syntax tokens (more state) index
-still [] state index found = absurd found
-still (one ∷ tokens) state zero found = subst (λ r. Above r (step (more state) one)) found (above state one)
-still (one ∷ tokens) state (suc index) found = (more found.0, on_above state found.0 one found.1, still tokens found.0 index found.2)
+still : (tokens : List Token) (state : State) (index : ℕ) → IsClosed state → FaultsAt Syntax tokens state index → FaultsAt Syntax tokens (more state) index
+still [] state index are found = absurd found
+still (one ∷ tokens) state zero are found = subst (λ r. Above r (step (more state) one)) found (above state one are)
+still (one ∷ tokens) state (suc index) are found =
+    (more found.0, on_above state found.0 one are found.1, still tokens found.0 index (kept state one found.0 are found.1) found.2)
 
 still_from : (extra room big : ℕ) (tokens : List Token) (index : ℕ) → big ≡ extra + room → FaultsAt Syntax tokens (start room) index → FaultsAt Syntax tokens (start big) index
 still_from zero room big tokens index is found =
     let same : room ≡ big = omega arith in
     subst (λ room. FaultsAt Syntax tokens (start room) index) same found
-still_from (suc extra) room big tokens index is found = still_from extra (suc room) big tokens index (omega arith) (still tokens (start room) index found)
+still_from (suc extra) room big tokens index is found = still_from extra (suc room) big tokens index (omega arith) (still tokens (start room) index (tt, tt) found)
 
 -- and where something is missing, it is with more room
-still_missing : (tokens : List Token) (read : ℕ) (state : State) → run read state tokens ≡ Missing → run read (more state) tokens ≡ Missing
-still_missing [] read state is = ap made_at_end (same_finish state) ∙ is
-still_missing (one ∷ tokens) read state is = by_step (step state one) (step (more state) one) (above state one) is (still_missing tokens (suc read))
+still_missing : (tokens : List Token) (read : ℕ) (state : State) → IsClosed state → run read state tokens ≡ Missing → run read (more state) tokens ≡ Missing
+still_missing [] read state are is = ap made_at_end (same_finish state) ∙ is
+still_missing (one ∷ tokens) read state are is = by_step (step state one) refl is (still_missing tokens (suc read))
   where
-    by_step : (r r' : Result State Fault) → Above r r' → going_on read (λ next. run (suc read) next tokens) r ≡ Missing
-        → ((next : State) → run (suc read) next tokens ≡ Missing → run (suc read) (more next) tokens ≡ Missing)
-        → going_on read (λ next. run (suc read) next tokens) r' ≡ Missing
-    by_step (Ok next) r' same is on = ap (going_on read (λ next. run (suc read) next tokens)) same ∙ on next is
-    by_step (Err fault) r' same is on = absurd cc
+    by_step : (r : Result State Fault) → step state one ≡ r → going_on read (λ next. run (suc read) next tokens) r ≡ Missing
+        → ((next : State) → IsClosed next → run (suc read) next tokens ≡ Missing → run (suc read) (more next) tokens ≡ Missing)
+        → going_on read (λ next. run (suc read) next tokens) (step (more state) one) ≡ Missing
+    by_step (Ok next) stepped is on =
+        ap (going_on read (λ next. run (suc read) next tokens)) (on_above state next one are stepped) ∙ on next (kept state one next are stepped) is
+    by_step (Err fault) stepped is on = absurd cc
 
 still_missing_from : (extra room big : ℕ) (tokens : List Token) → big ≡ extra + room → run 0 (start room) tokens ≡ Missing → run 0 (start big) tokens ≡ Missing
 still_missing_from zero room big tokens is missing =
     let same : room ≡ big = omega arith in
     subst (λ room. run 0 (start room) tokens ≡ Missing) same missing
-still_missing_from (suc extra) room big tokens is missing = still_missing_from extra (suc room) big tokens (omega arith) (still_missing tokens 0 (start room) missing)
+still_missing_from (suc extra) room big tokens is missing = still_missing_from extra (suc room) big tokens (omega arith) (still_missing tokens 0 (start room) (tt, tt) missing)
 
 -- a form that had no room is taken with more, and what stands open then is ended
-goes : (tokens : List Token) (read : ℕ) (state : State) (index : ℕ) → IsClosed (more state) → FaultsAt TooDeep tokens state index
+goes : (tokens : List Token) (read : ℕ) (state : State) (index : ℕ) → IsClosed state → IsClosed (more state) → FaultsAt TooDeep tokens state index
     → (rest : List Token) × (is : Tree) × (run read (more state) (take (suc index) tokens ++ rest) ≡ Whole is)
-goes [] read state index are found = absurd found
-goes (one ∷ tokens) read state zero are found =
-    let taken : Above (Err TooDeep) (step (more state) one) = subst (λ r. Above r (step (more state) one)) found (above state one) in
-    let on = completes taken.0 (suc read) (kept (more state) one taken.0 are taken.1) in
+goes [] read state index are bigger found = absurd found
+goes (one ∷ tokens) read state zero are bigger found =
+    let taken : Above (Err TooDeep) (step (more state) one) = subst (λ r. Above r (step (more state) one)) found (above state one are) in
+    let on = completes taken.0 (suc read) (kept (more state) one taken.0 bigger taken.1) in
     (on.0, on.1, ap (going_on read (λ next. run (suc read) next (take 0 tokens ++ on.0))) taken.1 ∙ on.2)
-goes (one ∷ tokens) read state (suc index) are found =
-    let taken = on_above state found.0 one found.1 in
-    let on = goes tokens (suc read) found.0 index (kept (more state) one (more found.0) are taken) found.2 in
+goes (one ∷ tokens) read state (suc index) are bigger found =
+    let taken = on_above state found.0 one are found.1 in
+    let on = goes tokens (suc read) found.0 index (kept state one found.0 are found.1) (kept (more state) one (more found.0) bigger taken) found.2 in
     (on.0, on.1, ap (going_on read (λ next. run (suc read) next (take (suc index) tokens ++ on.0))) taken ∙ on.2)
 
 -- what stands before a fault, or all that was read, is ended with some tokens more, and with no more room
@@ -164,7 +169,7 @@ no_room complete room index tokens more is fault derived =
 
 pub goes_on : IsSound → (room index : ℕ) (tokens : List Token) → run 0 (start room) tokens ≡ At TooDeep index → BeginSome AType (suc room) (take (suc index) tokens)
 goes_on sound room index tokens fault =
-    let on = goes tokens 0 (start room) index (tt, tt) (faults_at TooDeep tokens (start room) index fault) in
+    let on = goes tokens 0 (start room) index (tt, tt) (tt, tt) (faults_at TooDeep tokens (start room) index fault) in
     (on.0, (on.1, sound (suc room) (take (suc index) tokens ++ on.0) on.1 on.2))
 
 pub begins_before : IsSound → (fault : Fault) (room index : ℕ) (tokens : List Token) → run 0 (start room) tokens ≡ At fault index → BeginSome AType room (take index tokens)

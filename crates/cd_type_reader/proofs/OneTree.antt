@@ -9,7 +9,8 @@ use Rattle.cd_type_reader.proofs.Completing.{complete}
 -- the machine makes both, with room for both
 pub one_tree : (depth other : ℕ) (tokens : List Token) (first second : Tree) → IsTree depth tokens first → IsTree other tokens second → first ≡ second
 one_tree depth other tokens first second one another =
-    let both = sym (complete (depth + other) depth tokens first one (omega arith)) ∙ complete (depth + other) other tokens second another (omega arith) in
+    let both = sym (complete (depth + other) depth tokens first one (omega arith))
+    ∙ complete (depth + other) other tokens second another (omega arith) in
     same first second both
   where
     same : (first second : Tree) → Whole first ≡ Whole second → first ≡ second

@@ -4,7 +4,7 @@ use Rattle.cd_syntax.specs.declared.sign.Sign.{Sign}
 use Rattle.cd_syntax.specs.declared.sign.Sign.TheVariants as sign
 use Rattle.cd_syntax.specs.declared.tokens.Span.{Span}
 use Rattle.cd_syntax.specs.declared.tokens.TokenKind.TheVariants as token
-use Rattle.cd_type_reader.specs.Machine.{Chain, Frame, Syntax, step_after}
+use Rattle.cd_type_reader.specs.Machine.{Chain, Frame, Syntax, step_tree}
 
 pub other_sign : (is : Sign) (chain : Chain) (top : Frame) (below : List Frame) (span : Span)
     → (is ≡ sign.And → ⊥)
@@ -16,7 +16,7 @@ pub other_sign : (is : Sign) (chain : Chain) (top : Frame) (below : List Frame) 
     → (is ≡ sign.Semicolon → ⊥)
     → (is ≡ sign.Dots → ⊥)
     → (is ≡ sign.CloseBrace → ⊥)
-    → step_after chain top below (token.Sign is) span ≡ Err Syntax
+    → step_tree chain top below (token.Sign is) span ≡ Err Syntax
 other_sign sign.StarTo chain top below span n0 n1 n2 n3 n4 n5 n6 n7 n8 = refl
 other_sign sign.ToStar chain top below span n0 n1 n2 n3 n4 n5 n6 n7 n8 = refl
 other_sign sign.StarQuestion chain top below span n0 n1 n2 n3 n4 n5 n6 n7 n8 = refl

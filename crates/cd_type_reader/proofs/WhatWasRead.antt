@@ -10,8 +10,8 @@ use Rattle.cd_syntax.specs.declared.tokens.TokenKind.TheVariants as token
 use Rattle.cd_syntax.specs.Name.{Name, is_type_name}
 use Rattle.cd_syntax.specs.TypeTree.{Tree, tree, Kind, Tuple, Arrows, Union, Meet, NoTree, NoSign, Signed, Field, Declaration, trees_of, signs_of, fields_of, declarations_of}
 use Rattle.cd_syntax.specs.TypeGrammar as grammar
-use Rattle.cd_syntax.specs.TypeGrammar.{starts, ends, written, at, arrows_of, union_of, tuple_of, equal_sign, IsTree, AreNames, IsArrow, AreResults, IsUnion, AreMeets, IsMeet, AreSigned, IsSimple, AreItems, AreFields}
-use Rattle.cd_type_reader.specs.Machine.{Part, Row, Chain, Names, row_with, chain_with, meet_with, meet_part, union_part, arrow_part, where_part, tuple_part}
+use Rattle.cd_syntax.specs.TypeGrammar.{starts, ends, written, at, arrows_of, union_of, tuple_of, equal_sign, IsTree, AreNames, IsArrow, AreResults, IsUnion, AreMeets, IsMeet, AreSigned, IsSimple, AreItems, AreFields, IsEnd}
+use Rattle.cd_type_reader.specs.Machine.{Part, Row, Chain, Names, row_with, chain_with, meet_with, meet_part, union_part, arrow_part, where_part, tuple_part, record_part}
 
 -- the place where tokens begin, and that where they end
 pub data Begins : List Token → ℕ → Type 0 where
@@ -26,7 +26,7 @@ begins_more _ more _ (begins first rest) = begins first (rest ++ more)
 pub finishes_more : (before tokens : List Token) (to : ℕ) → Finishes tokens to → Finishes (before ++ tokens) to
 finishes_more before _ _ (finishes rest last) = simp append_assoc at (finishes (before ++ rest) last)
 
-starts_are : (tokens : List Token) (from : ℕ) → Begins tokens from → starts tokens ≡ from
+pub starts_are : (tokens : List Token) (from : ℕ) → Begins tokens from → starts tokens ≡ from
 starts_are _ _ (begins first rest) = refl
 
 ends_of : (rest : List Token) (last : Token) → ends (rest ++ last ∷ []) ≡ last.span.to
@@ -34,7 +34,7 @@ ends_of [] last = refl
 ends_of (one ∷ []) last = refl
 ends_of (one ∷ next ∷ rest) last = ends_of (next ∷ rest) last
 
-ends_are : (tokens : List Token) (to : ℕ) → Finishes tokens to → ends tokens ≡ to
+pub ends_are : (tokens : List Token) (to : ℕ) → Finishes tokens to → ends tokens ≡ to
 ends_are _ _ (finishes rest last) = ends_of rest last
 
 -- the tree that tokens between two places write
@@ -336,3 +336,12 @@ fields_more room _ _ label span equal semicolon optional last is no_field labels
 fields_more room _ _ label span equal semicolon optional last is (field first first_span first_equal first_semicolon first_optional tokens rest first_is others first_labels first_typed so_far) labels typed =
     simp append_assoc (field first first_span first_equal first_semicolon first_optional tokens _ first_is _ first_labels first_typed
     (fields_more room rest others label span equal semicolon optional last is so_far labels typed))
+
+-- fields in braces are a simple type
+pub record_is : (room : ℕ) (inner rest : List Token) (fields : List Field) (more : Bool) (left right : Span) → AreFields room inner (fields_of fields) → IsEnd rest more
+    → Is (IsSimple (suc room)) (at (token.Sign sign.OpenBrace) left ∷ (inner ++ rest) ++ at (token.Sign sign.CloseBrace) right ∷ []) (record_part (record { from = left.from; fields = fields }) right.to more)
+record_is room inner rest fields more left right are ends = record {
+  derived = grammar.bare _ _ _ (grammar.IsBare.record_type room inner rest left right (fields_of fields) more are ends);
+  first = begins _ _;
+  last = finishes (at (token.Sign sign.OpenBrace) left ∷ (inner ++ rest)) (at (token.Sign sign.CloseBrace) right);
+}

@@ -6,7 +6,11 @@ use Rattle.cd_syntax.specs.declared.tokens.Token.{Token}
 use Rattle.cd_syntax.specs.declared.tokens.TokenKind.{TokenKind}
 use Rattle.cd_syntax.specs.declared.tokens.TokenKind.TheVariants as token
 use Rattle.cd_syntax.specs.Name.{Name, is_type_name}
-use Rattle.cd_syntax.specs.TypeTree.{Tree, tree, Kind, Builtin, Ints, Chars, Atom, Text, Tuple, Arrows, Union, Meet, Record, Named, Where, Signed, Field, Declaration, trees_of, signs_of, fields_of, declarations_of}
+use Rattle.cd_syntax.specs.TypeTree.{Tree, tree, Kind, Builtin, Ints, Chars, Atom, Text, Tuple, Arrows, Union, Meet, Sequence, Record, Xml, Named, Where, Signed, Field, Declaration, trees_of, signs_of, fields_of, declarations_of, Regular, regular, RegularKind, Nothing, Item, Seq, Alt, Repeat, regulars_of}
+use Rattle.cd_syntax.specs.TypeGrammar.{Base, OfType, Group, in_parentheses, letters}
+use Rattle.cd_syntax.specs.declared.type_tree.Post.{Post}
+use Rattle.cd_syntax.specs.declared.type_tree.Post.TheVariants as post
+use Rattle.cd_syntax.specs.declared.builtin.BuiltinName.TheVariants as builtin
 use Rattle.cd_syntax.specs.declared.builtin.BuiltinName.{BuiltinName}
 use Rattle.cd_type_reader.specs.BuiltinNames.{builtin_of}
 
@@ -39,6 +43,33 @@ pub record Opened : Type 0 where
   pub from : ℕ
   pub fields : List Field
 
+-- a regular expression, and the extent of its tokens
+pub record RegularPart : Type 0 where
+  pub is : Regular
+  pub from : ℕ
+  pub to : ℕ
+
+-- the parts of a chain of regular expressions that stand before the one that is read, one or more
+pub record RegularRow : Type 0 where
+  pub from : ℕ
+  pub all : List Regular
+
+-- A sequence so far, from its `[` on, or a group of one, from its `(` on: the alternatives before the one that is read, and the items of
+-- this one before the one that is read
+pub record Listed : Type 0 where
+  pub from : ℕ
+  pub group : Bool
+  pub alternatives : Option RegularRow
+  pub items : Option RegularRow
+
+-- An XML type so far, from its `<` on: its tag and its attributes, which begin and end at these bytes
+pub record Tagged : Type 0 where
+  pub from : ℕ
+  pub tag : Tree
+  pub fields : List Field
+  pub start : Option ℕ
+  pub to : ℕ
+
 -- what a tree is read for
 pub data Around : Type 0 where
   -- the whole text
@@ -47,6 +78,14 @@ pub data Around : Type 0 where
   InParentheses : (from : ℕ) (items : List Tree) → Around
   -- it is the type of a field with this label at this byte
   InField : Opened → (label : Name) (at : ℕ) (optional : Bool) → Around
+  -- it is an item of a sequence or a group
+  InSequence : Listed → Around
+  -- it is the tag of an XML type, or its attributes, in parentheses; a `<` stands at this byte
+  InTag : (from : ℕ) → Around
+  InAttributes : (from : ℕ) (tag : Tree) → Around
+  -- it is the type of an attribute with this label at this byte, or the content: a simple type
+  InAttribute : Tagged → (label : Name) (at : ℕ) (optional : Bool) → Around
+  InContent : (from : ℕ) (tag attributes : Tree) → Around
 
 -- A tree that stands open. So many forms may open within it, and so many within the arrow that is read
 pub record Frame : Type 0 where
@@ -77,6 +116,18 @@ pub data Place : Type 0 where
   FieldNext : Opened → Place
   LabelRead : Opened → (label : Name) (at : ℕ) → Place
   FieldsEnd : Opened → Place
+  -- before an item of a sequence; where nothing is read of a sequence it may end
+  ItemNext : (may_end : Bool) → Place
+  -- after a group, or with false after a postfix, which no other one follows
+  RegularRead : RegularPart → (may_repeat : Bool) → Place
+  -- after `<`
+  TagNext : (from : ℕ) → Place
+  -- before an attribute, after its label, and after `..`; where an attribute was read a `;` may stand
+  AttributeNext : Tagged → (after_one : Bool) → Place
+  AttributeLabel : Tagged → (label : Name) (at : ℕ) → Place
+  AttributesEnd : Tagged → Place
+  -- after attributes in parentheses
+  ContentNext : (from : ℕ) (tag attributes : Tree) → Place
 
 pub record State : Type 0 where
   pub place : Place
@@ -159,8 +210,31 @@ at_place place top below = Ok (record { place = place; top = top; below = below 
 abbrev pub settled : Frame → Frame
 settled top = record { room = top.room; left = top.left; around = top.around; names = top.names; arrows = top.arrows; unions = top.unions; pending = None }
 
+abbrev pub xml_part : ℕ → Tree → Tree → Part → Part
+xml_part from tag attributes content = part from content.to (Xml tag attributes content.tree)
+
+abbrev pub attributes_with : Tagged → Name → ℕ → Bool → Part → Tagged
+attributes_with tagged label at optional one = record {
+  from = tagged.from;
+  tag = tagged.tag;
+  fields = tagged.fields ++ record { label = label; at = at; optional = optional; tree = one.tree } ∷ [];
+  start = tagged.start;
+  to = one.to;
+}
+
+-- The machine goes on after a simple type: as the content of an XML type it ends that type, which is a simple one too
+abbrev pub put_here : Part → Frame → List Frame → Result State Fault
+put_here one top below = at_place (After (chain_with top.pending one)) (settled top) below
+
+abbrev pub put_within : Around → Part → Frame → (outer : Frame) → List Frame → (Part → Result State Fault) → Result State Fault
+put_within (InContent from tag attributes) one top outer below put_outside = put_outside (xml_part from tag attributes one)
+put_within (InAttribute tagged label at optional) one top outer below put_outside =
+    at_place (AttributeNext (attributes_with tagged label at optional one) true) outer below
+put_within around one top outer below put_outside = put_here one top (outer ∷ below)
+
 abbrev pub put : Part → Frame → List Frame → Result State Fault
-put one top below = at_place (After (chain_with top.pending one)) (settled top) below
+put one top [] = put_here one top []
+put one top (outer ∷ below) = put_within top.around one top outer below (λ wrapped. put wrapped outer below)
 
 -- how many forms may open within one more
 abbrev pub within : ℕ → Option ℕ
@@ -175,9 +249,15 @@ opened (Some room) next = next room
 abbrev pub record_part : Opened → ℕ → Bool → Part
 record_part open_record to more = part open_record.from to (Record (fields_of open_record.fields) more)
 
+-- an XML type of which the tag was read
+abbrev pub tagged_by : ℕ → Tree → Tagged
+tagged_by from tag = record { from = from; tag = tag; fields = []; start = None; to = from }
+
 -- after the meet `chain` of the top tree
 abbrev pub close_parenthesis : ℕ → Around → Part → List Frame → Result State Fault
 close_parenthesis to (InParentheses from items) last (outer ∷ below) = put (tuple_part from to items last.tree) outer below
+close_parenthesis to (InTag from) last (outer ∷ below) = at_place (AttributeNext (tagged_by from last.tree) false) outer below
+close_parenthesis to (InAttributes from tag) last (outer ∷ below) = at_place (ContentNext from tag last.tree) outer below
 close_parenthesis to around last below = Err Syntax
 
 abbrev pub next_item : ℕ → Around → Part → List Frame → Result State Fault
@@ -290,18 +370,22 @@ abbrev pub step_letter_bound : ℕ → ℕ → Frame → List Frame → TokenKin
 step_letter_bound low from top below (token.Chars (high ∷ [])) span = put (part from span.to (Chars low high)) top below
 step_letter_bound low from top below kind span = Err Syntax
 
-abbrev pub step_after : Chain → Frame → List Frame → TokenKind → Span → Result State Fault
-step_after chain top below (token.Sign sign.And) span = at_place Before (pending_sign chain true top) below
-step_after chain top below (token.Sign sign.Backslash) span = at_place Before (pending_sign chain false top) below
-step_after chain top below (token.Sign sign.Or) span = at_place Before (after_or chain top) below
-step_after chain top below (token.Sign sign.Arrow) span = opened (within top.left) (λ left. at_place Before (after_arrow chain top left) below)
-step_after chain top below (token.Sign sign.Comma) span = next_item top.room top.around (tree_end top chain) below
-step_after chain top below (token.Sign sign.CloseParenthesis) span = close_parenthesis span.to top.around (tree_end top chain) below
-step_after chain top below (token.Sign sign.Semicolon) span = next_field top.around (tree_end top chain) below
-step_after chain top below (token.Sign sign.Dots) span = fields_end top.around (tree_end top chain) below
-step_after chain top below (token.Sign sign.CloseBrace) span = close_brace span.to top.around (tree_end top chain) below
-step_after chain top below (token.Word name) span = step_after_word name chain top below
-step_after chain top below kind span = Err Syntax
+abbrev pub step_tree : Chain → Frame → List Frame → TokenKind → Span → Result State Fault
+step_tree chain top below (token.Sign sign.And) span = at_place Before (pending_sign chain true top) below
+step_tree chain top below (token.Sign sign.Backslash) span = at_place Before (pending_sign chain false top) below
+step_tree chain top below (token.Sign sign.Or) span = at_place Before (after_or chain top) below
+step_tree chain top below (token.Sign sign.Arrow) span = opened (within top.left) (λ left. at_place Before (after_arrow chain top left) below)
+step_tree chain top below (token.Sign sign.Comma) span = next_item top.room top.around (tree_end top chain) below
+step_tree chain top below (token.Sign sign.CloseParenthesis) span = close_parenthesis span.to top.around (tree_end top chain) below
+step_tree chain top below (token.Sign sign.Semicolon) span = next_field top.around (tree_end top chain) below
+step_tree chain top below (token.Sign sign.Dots) span = fields_end top.around (tree_end top chain) below
+step_tree chain top below (token.Sign sign.CloseBrace) span = close_brace span.to top.around (tree_end top chain) below
+step_tree chain top below (token.Word name) span = step_after_word name chain top below
+step_tree chain top below kind span = Err Syntax
+
+-- a sequence or a group of which nothing is read
+abbrev pub listed_from : ℕ → Bool → Listed
+listed_from from group = record { from = from; group = group; alternatives = None; items = None }
 
 abbrev pub step_before : Frame → List Frame → TokenKind → Span → Result State Fault
 step_before top below (token.Int n) span = at_place (Low n span.from span.to) top below
@@ -313,16 +397,278 @@ step_before top below (token.Sign sign.StarTo) span = at_place (Most span.from) 
 step_before top below (token.Sign sign.OpenParenthesis) span =
     opened (within top.left) (λ room. at_place Before (frame room (InParentheses span.from [])) (top ∷ below))
 step_before top below (token.Sign sign.OpenBrace) span = opened (within top.left) (λ room. at_place (FieldNext (record { from = span.from; fields = [] })) top below)
+step_before top below (token.Sign sign.OpenBracket) span =
+    opened (within top.left) (λ room. at_place (ItemNext true) (frame room (InSequence (listed_from span.from false))) (top ∷ below))
+step_before top below (token.Sign sign.Less) span = opened (within top.left) (λ room. at_place (TagNext span.from) top below)
 step_before top below kind span = Err Syntax
+
+-- one more part of a chain
+abbrev pub regular_row_with : Option RegularRow → RegularPart → RegularRow
+regular_row_with None one = record { from = one.from; all = one.is ∷ [] }
+regular_row_with (Some row) one = record { from = row.from; all = row.all ++ one.is ∷ [] }
+
+-- a chain with its last part
+abbrev pub regular_part : (from to : ℕ) → RegularKind → RegularPart
+regular_part from to kind = record { is = regular (record { from = from; to = to }) kind; from = from; to = to }
+
+abbrev pub seq_part : Option RegularRow → RegularPart → RegularPart
+seq_part None last = last
+seq_part (Some row) last = regular_part row.from last.to (Seq (regulars_of (row.all ++ last.is ∷ [])))
+
+abbrev pub alt_part : Option RegularRow → RegularPart → RegularPart
+alt_part None last = last
+alt_part (Some row) last = regular_part row.from last.to (Alt (regulars_of (row.all ++ last.is ∷ [])))
+
+-- the alternative, and the regular expression, that end with this item
+abbrev pub seq_end : Listed → RegularPart → RegularPart
+seq_end listed last = seq_part listed.items last
+
+abbrev pub regular_end : Listed → RegularPart → RegularPart
+regular_end listed last = alt_part listed.alternatives (seq_end listed last)
+
+-- an item of one type, and one with a postfix
+abbrev pub item_of : Tree → Regular
+item_of (tree span kind) = regular span (Item (tree span kind))
+
+abbrev pub item_part : Part → RegularPart
+item_part one = record { is = item_of one.tree; from = one.from; to = one.to }
+
+abbrev pub repeated_part : RegularPart → Post → ℕ → RegularPart
+repeated_part one mark to = regular_part one.from to (Repeat one.is mark)
+
+-- characters as items, which are none or more than one
+abbrev pub letters_of : Span → List ℕ → Regular
+letters_of span [] = regular span Nothing
+letters_of span (c ∷ rest) = regular span (Seq (letters span (c ∷ rest)))
+
+abbrev pub letters_part : List ℕ → Span → RegularPart
+letters_part text span = record { is = letters_of span text; from = span.from; to = span.to }
+
+-- before the next item, and before the next alternative
+abbrev pub with_one_more : Listed → RegularPart → Listed
+with_one_more listed one = record {
+  from = listed.from;
+  group = listed.group;
+  alternatives = listed.alternatives;
+  items = Some (regular_row_with listed.items one);
+}
+
+abbrev pub with_alternative : Listed → RegularPart → Listed
+with_alternative listed last = record {
+  from = listed.from;
+  group = listed.group;
+  alternatives = Some (regular_row_with listed.alternatives (seq_end listed last));
+  items = None;
+}
+
+-- Where a group is a union of types so far, it may be the first type of a tuple or of an arrow, or one that has names: it is read
+-- on as what stands in parentheses outside of a sequence
+abbrev pub with_type : Regular → Option (List Tree) → Option (List Tree)
+with_type (regular span (Item is)) (Some rest) = Some (is ∷ rest)
+with_type is rest = None
+
+abbrev pub types_in : List Regular → Option (List Tree)
+types_in [] = Some []
+types_in (first ∷ rest) = with_type first (types_in rest)
+
+abbrev pub tree_frame : ℕ → ℕ → Option Row → Frame
+tree_frame room from unions = record {
+  room = room;
+  left = room;
+  around = InParentheses from [];
+  names = None;
+  arrows = None;
+  unions = unions;
+  pending = None;
+}
+
+abbrev pub with_unions : ℕ → ℕ → ℕ → Option (List Tree) → Option Frame
+with_unions room from start None = None
+with_unions room from start (Some trees) = Some (tree_frame room from (Some (record { from = start; trees = trees })))
+
+abbrev pub as_union : ℕ → ℕ → Option RegularRow → Option Frame
+as_union room from None = Some (tree_frame room from None)
+as_union room from (Some row) = with_unions room from row.from (types_in row.all)
+
+abbrev pub as_tree_where : ℕ → Listed → Bool → Option RegularRow → Option Frame
+as_tree_where room listed true None = as_union room listed.from listed.alternatives
+as_tree_where room listed group items = None
+
+abbrev pub as_tree : ℕ → Listed → Option Frame
+as_tree room listed = as_tree_where room listed listed.group listed.items
+
+abbrev pub step_as_tree : Option Frame → Chain → List Frame → TokenKind → Span → Result State Fault
+step_as_tree None chain below kind span = Err Syntax
+step_as_tree (Some top) chain below kind span = step_tree chain top below kind span
+
+-- a group ends, which is a type where it is a union of types
+abbrev pub put_base : Base → (from to : ℕ) → Frame → List Frame → Result State Fault
+put_base (OfType is) from to outer below = put (record { tree = is; from = from; to = to }) outer below
+put_base (Group is) from to outer below = at_place (RegularRead (record { is = is; from = from; to = to }) true) outer below
+
+abbrev pub close_group : Bool → Listed → ℕ → Regular → List Frame → Result State Fault
+close_group true listed to is (outer ∷ below) = put_base (in_parentheses is) listed.from to outer below
+close_group group listed to is below = Err Syntax
+
+-- a sequence ends
+abbrev pub close_bracket : Bool → Listed → ℕ → Regular → List Frame → Result State Fault
+close_bracket false listed to is (outer ∷ below) = put (part listed.from to (Sequence is)) outer below
+close_bracket group listed to is below = Err Syntax
+
+abbrev pub empty_at : ℕ → Regular
+empty_at place = regular (record { from = place; to = place }) Nothing
+
+abbrev pub close_empty : Bool → Around → Span → List Frame → Result State Fault
+close_empty true (InSequence listed) span below = close_bracket listed.group listed span.to (empty_at span.from) below
+close_empty may_end around span below = Err Syntax
+
+-- before an item of a sequence
+abbrev pub step_item : Bool → Frame → List Frame → TokenKind → Span → Result State Fault
+step_item may_end top below (token.Chars []) span = at_place (RegularRead (letters_part [] span) true) top below
+step_item may_end top below (token.Chars (c ∷ d ∷ rest)) span = at_place (RegularRead (letters_part (c ∷ d ∷ rest) span) true) top below
+step_item may_end top below (token.Sign sign.OpenParenthesis) span =
+    opened (within top.left) (λ room. at_place (ItemNext false) (frame room (InSequence (listed_from span.from true))) (top ∷ below))
+step_item may_end top below (token.Sign sign.CloseBracket) span = close_empty may_end top.around span below
+step_item may_end top below kind span = step_before top below kind span
+
+-- the postfix that a sign is
+abbrev pub post_of : TokenKind → Option Post
+post_of (token.Sign sign.Star) = Some post.Star
+post_of (token.Sign sign.Plus) = Some post.Plus
+post_of (token.Sign sign.Question) = Some post.Opt
+post_of (token.Sign sign.StarQuestion) = Some post.LazyStar
+post_of (token.Sign sign.PlusQuestion) = Some post.LazyPlus
+post_of (token.Sign sign.QuestionQuestion) = Some post.LazyOpt
+post_of kind = None
+
+-- after an item of a sequence that has its postfix, or has none
+abbrev pub step_next : Listed → RegularPart → ℕ → List Frame → TokenKind → Span → Result State Fault
+step_next listed one room below (token.Sign sign.Or) span = at_place (ItemNext false) (frame room (InSequence (with_alternative listed one))) below
+step_next listed one room below (token.Sign sign.CloseBracket) span =
+    close_bracket listed.group listed span.to (regular_end listed one).is below
+step_next listed one room below (token.Sign sign.CloseParenthesis) span =
+    close_group listed.group listed span.to (regular_end listed one).is below
+step_next listed one room below kind span = step_item false (frame room (InSequence (with_one_more listed one))) below kind span
+
+-- after an item that a postfix may follow
+abbrev pub step_post : Option Post → Listed → RegularPart → Frame → List Frame → TokenKind → Span → Result State Fault
+step_post (Some mark) listed one top below kind span = at_place (RegularRead (repeated_part one mark span.to) false) top below
+step_post None listed one top below kind span = step_next listed one top.room below kind span
+
+abbrev pub step_regular_in : Around → RegularPart → Bool → Frame → List Frame → TokenKind → Span → Result State Fault
+step_regular_in (InSequence listed) one true top below kind span = step_post (post_of kind) listed one top below kind span
+step_regular_in (InSequence listed) one false top below kind span = step_next listed one top.room below kind span
+step_regular_in around one may_repeat top below kind span = Err Syntax
+
+abbrev pub step_regular : RegularPart → Bool → Frame → List Frame → TokenKind → Span → Result State Fault
+step_regular one may_repeat top below kind span = step_regular_in top.around one may_repeat top below kind span
+
+-- after the meet of an item
+abbrev pub step_item_word : Bool → Listed → Chain → Frame → List Frame → TokenKind → Span → Result State Fault
+step_item_word true listed chain top below kind span = step_as_tree (as_tree top.room listed) chain below kind span
+step_item_word false listed chain top below kind span = step_post (post_of kind) listed (item_part (meet_part chain)) top below kind span
+
+abbrev pub step_in_sequence : Listed → Chain → Frame → List Frame → TokenKind → Span → Result State Fault
+step_in_sequence listed chain top below (token.Sign sign.And) span = at_place Before (pending_sign chain true top) below
+step_in_sequence listed chain top below (token.Sign sign.Backslash) span = at_place Before (pending_sign chain false top) below
+step_in_sequence listed chain top below (token.Sign sign.Arrow) span = step_as_tree (as_tree top.room listed) chain below (token.Sign sign.Arrow) span
+step_in_sequence listed chain top below (token.Sign sign.Comma) span = step_as_tree (as_tree top.room listed) chain below (token.Sign sign.Comma) span
+step_in_sequence listed chain top below (token.Word name) span =
+    step_item_word (bytes_eq name (codes "where")) listed chain top below (token.Word name) span
+step_in_sequence listed chain top below kind span = step_post (post_of kind) listed (item_part (meet_part chain)) top below kind span
+
+abbrev pub step_after_in : Around → Chain → Frame → List Frame → TokenKind → Span → Result State Fault
+step_after_in (InSequence listed) chain top below kind span = step_in_sequence listed chain top below kind span
+step_after_in around chain top below kind span = step_tree chain top below kind span
+
+abbrev pub step_after : Chain → Frame → List Frame → TokenKind → Span → Result State Fault
+step_after chain top below kind span = step_after_in top.around chain top below kind span
+
+-- after `<`
+abbrev pub within_two : ℕ → Option ℕ
+within_two (suc (suc room)) = Some room
+within_two room = None
+
+abbrev pub tag_of : Name → Kind
+tag_of name = if bytes_eq name (codes "_") then Builtin builtin.Any else Atom name
+
+abbrev pub step_tag : ℕ → Frame → List Frame → TokenKind → Span → Result State Fault
+step_tag from top below (token.Word name) span = at_place (AttributeNext (tagged_by from (tree span (tag_of name))) false) top below
+step_tag from top below (token.Sign sign.OpenParenthesis) span =
+    opened (within_two top.left) (λ room. at_place Before (frame room (InTag from)) (top ∷ below))
+step_tag from top below kind span = Err Syntax
+
+-- attributes, of which a token is read that begins or ends so
+abbrev pub start_or : Option ℕ → ℕ → Option ℕ
+start_or (Some start) place = Some start
+start_or None place = Some place
+
+abbrev pub going_to : Tagged → Span → Tagged
+going_to tagged span = record { from = tagged.from; tag = tagged.tag; fields = tagged.fields; start = start_or tagged.start span.from; to = span.to }
+
+-- the attributes that end; where there are none they are at the place of the `>`
+abbrev pub attributes_from : Option ℕ → (to place : ℕ) → Kind → Tree
+attributes_from None to place kind = tree (record { from = place; to = place }) kind
+attributes_from (Some start) to place kind = tree (record { from = start; to = to }) kind
+
+abbrev pub attributes_tree : Tagged → ℕ → Bool → Tree
+attributes_tree tagged place more = attributes_from tagged.start tagged.to place (Record (fields_of tagged.fields) more)
+
+abbrev pub open_content : ℕ → Tree → Tree → Frame → List Frame → Result State Fault
+open_content from tag attributes top below = opened (within top.left) (λ room. at_place Before (frame room (InContent from tag attributes)) (top ∷ below))
+
+abbrev pub open_attributes : Option ℕ → Tagged → Frame → List Frame → Result State Fault
+open_attributes None tagged top below =
+    opened (within_two top.left) (λ room. at_place Before (frame room (InAttributes tagged.from tagged.tag)) (top ∷ below))
+open_attributes (Some start) tagged top below = Err Syntax
+
+abbrev pub step_attribute : Tagged → Bool → Frame → List Frame → TokenKind → Span → Result State Fault
+step_attribute tagged after_one top below (token.Word label) span =
+    if bytes_eq label (codes "_") then Err Syntax else at_place (AttributeLabel (going_to tagged span) label span.from) top below
+step_attribute tagged after_one top below (token.Sign sign.Dots) span = at_place (AttributesEnd (going_to tagged span)) top below
+step_attribute tagged true top below (token.Sign sign.Semicolon) span = at_place (AttributeNext (going_to tagged span) false) top below
+step_attribute tagged after_one top below (token.Sign sign.OpenParenthesis) span = open_attributes tagged.start tagged top below
+step_attribute tagged after_one top below (token.Sign sign.Greater) span =
+    open_content tagged.from tagged.tag (attributes_tree tagged span.from false) top below
+step_attribute tagged after_one top below kind span = Err Syntax
+
+-- after the label of an attribute, after `..`, and after attributes in parentheses
+abbrev pub open_attribute : Tagged → Name → ℕ → Bool → Frame → List Frame → Result State Fault
+open_attribute tagged label at optional top below =
+    opened (within top.left) (λ room. at_place Before (frame room (InAttribute tagged label at optional)) (top ∷ below))
+
+abbrev pub step_attribute_label : Tagged → Name → ℕ → Frame → List Frame → TokenKind → Result State Fault
+step_attribute_label tagged label at top below (token.Sign sign.Equal) = open_attribute tagged label at false top below
+step_attribute_label tagged label at top below (token.Sign sign.EqualQuestion) = open_attribute tagged label at true top below
+step_attribute_label tagged label at top below kind = Err Syntax
+
+abbrev pub step_attributes_end : Tagged → Frame → List Frame → TokenKind → Span → Result State Fault
+step_attributes_end tagged top below (token.Sign sign.Greater) span =
+    open_content tagged.from tagged.tag (attributes_tree tagged span.from true) top below
+step_attributes_end tagged top below kind span = Err Syntax
+
+abbrev pub step_content : ℕ → Tree → Tree → Frame → List Frame → TokenKind → Result State Fault
+step_content from tag attributes top below (token.Sign sign.Greater) = open_content from tag attributes top below
+step_content from tag attributes top below kind = Err Syntax
+
+-- a token after a simple type
+abbrev pub step_put_at : Place → Frame → List Frame → TokenKind → Span → Result State Fault
+step_put_at (After chain) top below kind span = step_after chain top below kind span
+step_put_at (AttributeNext tagged after_one) top below kind span = step_attribute tagged after_one top below kind span
+step_put_at place top below kind span = Err Syntax
+
+abbrev pub step_put : Result State Fault → TokenKind → Span → Result State Fault
+step_put (Ok state) kind span = step_put_at state.place state.top state.below kind span
+step_put (Err fault) kind span = Err fault
 
 abbrev pub step_low : ℤ → ℕ → ℕ → Frame → List Frame → TokenKind → Span → Result State Fault
 step_low n from to top below (token.Sign sign.To) span = at_place (Bound n from) top below
 step_low n from to top below (token.Sign sign.ToStar) span = put (part from span.to (Ints (Some n) None)) top below
-step_low n from to top below kind span = step_after (chain_with top.pending (number_part n from to)) (settled top) below kind span
+step_low n from to top below kind span = step_put (put (number_part n from to) top below) kind span
 
 abbrev pub step_letter : ℕ → ℕ → ℕ → Frame → List Frame → TokenKind → Span → Result State Fault
 step_letter c from to top below (token.Sign sign.To) span = at_place (LetterBound c from) top below
-step_letter c from to top below kind span = step_after (chain_with top.pending (letter_part c from to)) (settled top) below kind span
+step_letter c from to top below kind span = step_put (put (letter_part c from to) top below) kind span
 
 abbrev pub step_at : Place → Frame → List Frame → TokenKind → Span → Result State Fault
 step_at Before top below kind span = step_before top below kind span
@@ -337,6 +683,13 @@ step_at (NameRead body declared name at) top below kind span = step_equal body d
 step_at (FieldNext fields) top below kind span = step_field fields top below kind span
 step_at (LabelRead fields label at) top below kind span = step_label fields label at top below kind
 step_at (FieldsEnd fields) top below kind span = step_fields_end fields top below kind span
+step_at (ItemNext may_end) top below kind span = step_item may_end top below kind span
+step_at (RegularRead one may_repeat) top below kind span = step_regular one may_repeat top below kind span
+step_at (TagNext from) top below kind span = step_tag from top below kind span
+step_at (AttributeNext tagged after_one) top below kind span = step_attribute tagged after_one top below kind span
+step_at (AttributeLabel tagged label at) top below kind span = step_attribute_label tagged label at top below kind
+step_at (AttributesEnd tagged) top below kind span = step_attributes_end tagged top below kind span
+step_at (ContentNext from tag attributes) top below kind span = step_content from tag attributes top below kind
 
 abbrev pub step : State → Token → Result State Fault
 step state one = step_at state.place state.top state.below one.kind one.span
@@ -349,9 +702,17 @@ ended_with around last below = None
 abbrev pub ended : Chain → Frame → List Frame → Option Tree
 ended chain top below = ended_with top.around (tree_end top chain) below
 
+abbrev pub finish_put_at : Place → Frame → List Frame → Option Tree
+finish_put_at (After chain) top below = ended chain top below
+finish_put_at place top below = None
+
+abbrev pub finish_put : Result State Fault → Option Tree
+finish_put (Ok state) = finish_put_at state.place state.top state.below
+finish_put (Err fault) = None
+
 abbrev pub finish_at : Place → Frame → List Frame → Option Tree
-finish_at (Low n from to) top below = ended (chain_with top.pending (number_part n from to)) (settled top) below
-finish_at (Letter c from to) top below = ended (chain_with top.pending (letter_part c from to)) (settled top) below
+finish_at (Low n from to) top below = finish_put (put (number_part n from to) top below)
+finish_at (Letter c from to) top below = finish_put (put (letter_part c from to) top below)
 finish_at (After chain) top below = ended chain top below
 finish_at place top below = None
 

@@ -1,12 +1,18 @@
 -- The machine of the code that reads types, as plain data.
-use Rattle.std.specs.Prelude.{Bool, List, map, reverse, Option, Result, Ok, Err}
+use Rattle.std.specs.Prelude.{ℕ, Bool, List, [], ◌∷◌, map, reverse, Option, Result, Ok, Err}
 use Rattle.std.specs.Global.{Box}
 use Rattle.std.specs.Option.{option_map}
-use Rattle.cd_syntax.specs.PlainTree.{plain, plain_signed, plain_field, plain_declaration}
+use Rattle.cd_syntax.specs.PlainTree.{plain, plain_signed, plain_field, plain_declaration, plain_regular}
+use Rattle.cd_syntax.specs.declared.tokens.Span.{Span}
+use Rattle.cd_syntax.specs.TypeTree.{Regular, regular, RegularKind, Nothing, Item, Seq, regulars_of, tree, Chars}
 use Rattle.cd_type_reader.specs.Machine as machine
 use Rattle.cd_type_reader.specs.declared.part.Part.{Part}
 use Rattle.cd_type_reader.specs.declared.part.Row.{Row}
 use Rattle.cd_type_reader.specs.declared.part.Chain.{Chain}
+use Rattle.cd_type_reader.specs.declared.regular.RegularPart.{RegularPart}
+use Rattle.cd_type_reader.specs.declared.regular.RegularRow.{RegularRow}
+use Rattle.cd_type_reader.specs.declared.listed.Listed.{Listed}
+use Rattle.cd_type_reader.specs.declared.tagged.Tagged.{Tagged}
 use Rattle.cd_type_reader.specs.declared.frame.Names.{Names}
 use Rattle.cd_type_reader.specs.declared.frame.Opened.{Opened}
 use Rattle.cd_type_reader.specs.declared.frame.Around.{Around}
@@ -38,10 +44,38 @@ plain_names names = record { body = plain_part names.body; declared = map plain_
 abbrev pub plain_opened : Opened → machine.Opened
 plain_opened opened = record { from = opened.from; fields = map plain_field opened.fields.items }
 
+abbrev pub plain_regular_part : RegularPart → machine.RegularPart
+plain_regular_part part = record { is = plain_regular part.is; from = part.from; to = part.to }
+
+abbrev pub plain_regular_row : RegularRow → machine.RegularRow
+plain_regular_row row = record { from = row.from; all = map plain_regular row.all.items }
+
+abbrev pub plain_listed : Listed → machine.Listed
+plain_listed listed = record {
+  from = listed.from;
+  group = listed.group;
+  alternatives = option_map plain_regular_row listed.alternatives;
+  items = option_map plain_regular_row listed.items;
+}
+
+abbrev pub plain_tagged : Tagged → machine.Tagged
+plain_tagged tagged = record {
+  from = tagged.from;
+  tag = plain tagged.tag.value;
+  fields = map plain_field tagged.fields.items;
+  start = tagged.start;
+  to = tagged.to;
+}
+
 abbrev pub plain_around : Around → machine.Around
 plain_around around.Alone = machine.Alone
 plain_around (around.InParentheses from items) = machine.InParentheses from (map plain items.items)
 plain_around (around.InField opened label at optional) = machine.InField (plain_opened opened) label at optional
+plain_around (around.InSequence listed) = machine.InSequence (plain_listed listed)
+plain_around (around.InTag from) = machine.InTag from
+plain_around (around.InAttributes from tag) = machine.InAttributes from (plain tag.value)
+plain_around (around.InAttribute tagged label at optional) = machine.InAttribute (plain_tagged tagged) label at optional
+plain_around (around.InContent from tag attributes) = machine.InContent from (plain tag.value) (plain attributes.value)
 
 abbrev pub plain_frame : Frame → machine.Frame
 plain_frame frame = record {
@@ -71,6 +105,13 @@ plain_place (place.NameRead body declared name at) = machine.NameRead (plain_par
 plain_place (place.FieldNext opened) = machine.FieldNext (plain_opened opened)
 plain_place (place.LabelRead opened label at) = machine.LabelRead (plain_opened opened) label at
 plain_place (place.FieldsEnd opened) = machine.FieldsEnd (plain_opened opened)
+plain_place (place.ItemNext may_end) = machine.ItemNext may_end
+plain_place (place.RegularRead one may_repeat) = machine.RegularRead (plain_regular_part one) may_repeat
+plain_place (place.TagNext from) = machine.TagNext from
+plain_place (place.AttributeNext tagged after_one) = machine.AttributeNext (plain_tagged tagged) after_one
+plain_place (place.AttributeLabel tagged label at) = machine.AttributeLabel (plain_tagged tagged) label at
+plain_place (place.AttributesEnd tagged) = machine.AttributesEnd (plain_tagged tagged)
+plain_place (place.ContentNext from tag attributes) = machine.ContentNext from (plain tag.value) (plain attributes.value)
 
 abbrev pub plain_state : State → machine.State
 plain_state state = record { place = plain_place state.place; top = plain_frame state.top.value; below = plain_frames state.below.items }
@@ -82,3 +123,11 @@ plain_fault fault.TooDeep = machine.TooDeep
 abbrev pub plain_outcome : Outcome → Result machine.State machine.Fault
 plain_outcome (outcome.Next state) = Ok (plain_state state)
 plain_outcome (outcome.Stopped fault) = Err (plain_fault fault)
+
+-- one character that stands in a sequence among others
+abbrev pub letter_of : Span → ℕ → Regular
+letter_of span c = regular span (Item (tree span (Chars c c)))
+
+abbrev pub letters_kind : List Regular → RegularKind
+letters_kind [] = Nothing
+letters_kind (first ∷ rest) = Seq (regulars_of (first ∷ rest))

@@ -1,24 +1,26 @@
-ghost use Rattle.std.specs.Prelude.{◌≡◌, Bool, true, false, List, [], ◌∷◌, Option, Some, None, Result, Ok, Err, map, IfOk};
+ghost use Rattle.std.specs.Prelude.{◌≡◌, map, IfOk};
 ghost use Rattle.std.specs.Option.{option_map};
-ghost use Rattle.cd_syntax.specs.PlainTree.{plain, plain_declaration};
+ghost use Rattle.cd_syntax.specs.PlainTree.{plain_declaration};
 ghost use Rattle.cd_syntax.specs.declared.tokens.TokenKind.TheVariants as token;
 ghost use Rattle.cd_type_reader.specs.Machine as machine;
-ghost use Rattle.cd_type_reader.specs.PlainMachine.{plain_part, plain_row, plain_chain, plain_names, plain_around, plain_frame, plain_frames, plain_outcome};
+ghost use Rattle.cd_type_reader.specs.PlainMachine.{plain_part, plain_chain, plain_names, plain_around, plain_frame, plain_frames, plain_outcome};
 
 use crate::frame::{
     Around, Frame, Names, arrow_end, begun, declared_with, fields_with, record_part, tree_end,
     within,
 };
 use crate::part::{Chain, Part, meet_part, pushed, row_with, tuple_part, union_part};
-use crate::state::{Outcome, Place, at_place, put, syntax, too_deep};
+use crate::put::put;
+use crate::state::{Outcome, Place, at_place, syntax, too_deep};
+use crate::tagged::tagged_by;
 use cd_syntax::name::Name;
 use cd_syntax::sign::Sign;
 use cd_syntax::tokens::{Span, TokenKind};
 use cd_syntax::type_tree::Declaration;
 use std::alloc::{AllocError, Global};
 
-/// One more token after the simple types of a meet.
-pub(crate) fn step_after(
+/// One more token after the simple types of a meet that is no item of a sequence.
+pub(crate) fn step_tree(
     alloc: Global,
     chain: Chain,
     top: Box<Frame>,
@@ -26,7 +28,7 @@ pub(crate) fn step_after(
     kind: &TokenKind,
     span: Span,
 ) -> Result<Outcome, AllocError>
-    ensures { IfOk result (λ outcome. plain_outcome outcome ≡ machine.step_after (plain_chain chain) (plain_frame top.value) (plain_frames below.items) kind.now span) }
+    ensures { IfOk result (λ outcome. plain_outcome outcome ≡ machine.step_tree (plain_chain chain) (plain_frame top.value) (plain_frames below.items) kind.now span) }
 {
     match kind {
         TokenKind::Sign(sign) => after_sign(alloc, chain, top, below, *sign, span),
@@ -43,7 +45,7 @@ fn after_sign(
     sign: Sign,
     span: Span,
 ) -> Result<Outcome, AllocError>
-    ensures { IfOk result (λ outcome. plain_outcome outcome ≡ machine.step_after (plain_chain chain) (plain_frame top.value) (plain_frames below.items) (token.Sign sign) span) }
+    ensures { IfOk result (λ outcome. plain_outcome outcome ≡ machine.step_tree (plain_chain chain) (plain_frame top.value) (plain_frames below.items) (token.Sign sign) span) }
 {
     match sign {
         Sign::And => Ok(at_place(Place::Before, pending(chain, true, top), below)),
@@ -59,8 +61,8 @@ fn after_sign(
     }
 }
 
-// A `&` or a `\` was read.
-fn pending(chain: Chain, kept: bool, mut top: Box<Frame>) -> Box<Frame>
+/// A `&` or a `\` was read.
+pub(crate) fn pending(chain: Chain, kept: bool, mut top: Box<Frame>) -> Box<Frame>
     ensures { plain_frame result.value ≡ machine.pending_sign (plain_chain chain) kept (plain_frame top.value) }
 {
     top.pending = Some((chain, kept));
@@ -119,14 +121,12 @@ fn after_comma(
 {
     let room = top.room;
     let (around, last) = tree_end(alloc, top, chain)?;
-    match around {
-        Around::InParentheses(from, items) => {
-            let items = pushed(items, last.tree)?;
-            let top = Box::new(alloc, begun(room, Around::InParentheses(from, items)))?;
-            Ok(at_place(Place::Before, top, below))
-        }
-        _ => Ok(syntax()),
-    }
+    let Around::InParentheses(from, items) = around else {
+        return Ok(syntax());
+    };
+    let items = pushed(items, last.tree)?;
+    let top = Box::new(alloc, begun(room, Around::InParentheses(from, items)))?;
+    Ok(at_place(Place::Before, top, below))
 }
 
 // A `)` was read.
@@ -134,20 +134,48 @@ fn close_parenthesis(
     alloc: Global,
     chain: Chain,
     top: Box<Frame>,
-    mut below: Vec<Box<Frame>>,
+    below: Vec<Box<Frame>>,
     to: usize,
 ) -> Result<Outcome, AllocError>
     ensures { IfOk result (λ outcome. plain_outcome outcome ≡ machine.close_parenthesis to (plain_around top.value.around) (machine.tree_end (plain_frame top.value) (plain_chain chain)) (plain_frames below.items)) }
 {
     let (around, last) = tree_end(alloc, top, chain)?;
-    let Around::InParentheses(from, items) = around else {
-        return Ok(syntax());
-    };
-    let Some(outer) = below.pop() else {
-        return Ok(syntax());
-    };
-    let tuple = tuple_part(from, to, items, last.tree)?;
-    Ok(put(alloc, tuple, outer, below)?)
+    close(alloc, around, last, below, to)
+}
+
+// The tree that ends is what it was read for.
+fn close(
+    alloc: Global,
+    around: Around,
+    last: Part,
+    mut below: Vec<Box<Frame>>,
+    to: usize,
+) -> Result<Outcome, AllocError>
+    ensures { IfOk result (λ outcome. plain_outcome outcome ≡ machine.close_parenthesis to (plain_around around) (plain_part last) (plain_frames below.items)) }
+{
+    match around {
+        Around::InParentheses(from, items) => {
+            let Some(outer) = below.pop() else {
+                return Ok(syntax());
+            };
+            put(alloc, tuple_part(from, to, items, last.tree)?, outer, below)
+        }
+        Around::InTag(from) => {
+            let Some(outer) = below.pop() else {
+                return Ok(syntax());
+            };
+            let tagged = tagged_by(alloc, from, last.tree)?;
+            Ok(at_place(Place::AttributeNext(tagged, false), outer, below))
+        }
+        Around::InAttributes(from, tag) => {
+            let Some(outer) = below.pop() else {
+                return Ok(syntax());
+            };
+            let attributes = Box::new(alloc, last.tree)?;
+            Ok(at_place(Place::ContentNext(from, tag, attributes), outer, below))
+        }
+        _ => Ok(syntax()),
+    }
 }
 
 // A `;` was read.
@@ -234,25 +262,18 @@ fn after_word(
 fn next_name(
     alloc: Global,
     chain: Chain,
-    top: Box<Frame>,
+    mut top: Box<Frame>,
     below: Vec<Box<Frame>>,
     first: bool,
 ) -> Result<Outcome, AllocError>
     ensures { IfOk result (λ outcome. plain_outcome outcome ≡ machine.next_name (machine.names_of (option_map plain_names top.value.names) (machine.arrow_end (plain_frame top.value) (plain_chain chain)) first) (plain_frame top.value) (plain_frames below.items)) }
 {
-    let Frame {
-        room,
-        around,
-        names,
-        arrows,
-        unions,
-        ..
-    } = Box::into_inner(top);
-    let last = arrow_end(alloc, arrows, unions, chain)?;
-    let Some((body, declared)) = names_of(alloc, names, last, first)? else {
+    let last = arrow_end(alloc, top.arrows.take(), top.unions.take(), chain)?;
+    let Some((body, declared)) = names_of(alloc, top.names.take(), last, first)? else {
         return Ok(syntax());
     };
-    let top = Box::new(alloc, begun(room, around))?;
+    top.left = top.room;
+    top.pending = None;
     Ok(at_place(Place::NameNext(body, declared), top, below))
 }
 

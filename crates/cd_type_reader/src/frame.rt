@@ -1,10 +1,13 @@
-ghost use Rattle.std.specs.Prelude.{◌≡◌, Bool, List, [], ◌∷◌, ◌++◌, Option, Some, None, map, IfOk};
+ghost use Rattle.std.specs.Prelude.{◌≡◌, map, IfOk};
 ghost use Rattle.std.specs.Option.{option_map};
-ghost use Rattle.cd_syntax.specs.PlainTree.{plain, plain_field, plain_declaration};
+ghost use Rattle.cd_syntax.specs.PlainTree.{plain, plain_declaration};
 ghost use Rattle.cd_type_reader.specs.Machine as machine;
-ghost use Rattle.cd_type_reader.specs.PlainMachine.{plain_part, plain_row, plain_chain, plain_pending, plain_names, plain_opened, plain_around, plain_frame};
+ghost use Rattle.cd_type_reader.specs.CodeSteps.{is_listed};
+ghost use Rattle.cd_type_reader.specs.PlainMachine.{plain_part, plain_row, plain_chain, plain_names, plain_opened, plain_around, plain_frame};
 
+use crate::listed::Listed;
 use crate::part::{Chain, Part, Row, arrow_part, form, meet_part, union_part};
+use crate::tagged::Tagged;
 use cd_syntax::name::Name;
 use cd_syntax::type_tree::{Declaration, FieldTree, Tree, TreeKind};
 use std::alloc::{AllocError, Global};
@@ -34,6 +37,16 @@ pub(crate) enum Around {
     InParentheses(usize, Vec<Tree>),
     /// It is the type of a field with this label at this byte.
     InField(Opened, Name, usize, bool),
+    /// It is an item of a sequence or a group.
+    InSequence(Listed),
+    /// It is the tag of an XML type, in parentheses; a `<` stands at this byte.
+    InTag(usize),
+    /// It is the attributes of an XML type with this tag, in parentheses.
+    InAttributes(usize, Box<Tree>),
+    /// It is the type of an attribute with this label at this byte, a simple type.
+    InAttribute(Tagged, Name, usize, bool),
+    /// It is the content of an XML type with this tag and these attributes, a simple type.
+    InContent(usize, Box<Tree>, Box<Tree>),
 }
 
 /// A tree that stands open.
@@ -65,11 +78,33 @@ pub(crate) fn begun(room: usize, around: Around) -> Frame
     }
 }
 
+/// What a tree is read for.
+pub(crate) fn around_of(top: Box<Frame>) -> Around
+    ensures { result ≡ top.value.around }
+{
+    let Frame { around, .. } = Box::into_inner(top);
+    around
+}
+
+/// Whether an item of a sequence is read.
+pub(crate) fn is_listed(around: &Around) -> bool
+    ensures { result ≡ is_listed (plain_around around.now) }
+{
+    matches!(around, Around::InSequence(_))
+}
+
 /// How many forms may open within one more.
 pub(crate) fn within(room: usize) -> Option<usize>
     ensures { result ≡ machine.within room }
 {
     room.checked_sub(1)
+}
+
+/// How many forms may open within two more.
+pub(crate) fn within_two(room: usize) -> Option<usize>
+    ensures { result ≡ machine.within_two room }
+{
+    room.checked_sub(2)
 }
 
 /// The declarations with the last one.

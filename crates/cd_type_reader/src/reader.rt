@@ -1,14 +1,15 @@
-ghost use Rattle.std.specs.Prelude.{◌≡◌, ◌<◌, ℕ, List, Option, IfOk, length};
+ghost use Rattle.std.specs.Prelude.{◌≡◌, Ok, IfOk};
 ghost use Rattle.std.specs.Option.{option_map};
 ghost use Rattle.cd_syntax.specs.PlainTree.{plain};
 ghost use Rattle.cd_type_reader.specs.Machine as machine;
-ghost use Rattle.cd_type_reader.specs.PlainMachine.{plain_part, plain_around, plain_chain, plain_frame, plain_frames, plain_state, plain_fault};
+ghost use Rattle.cd_type_reader.specs.PlainMachine.{plain_part, plain_chain, plain_frame, plain_frames, plain_state, plain_fault};
 ghost use Rattle.cd_type_reader.specs.Reading.{IsReading, made};
 
+use crate::bounds::{number, one_letter};
 use crate::frame::{Around, Frame, begun, tree_end};
-use crate::part::{Chain, Part, chain_with};
-use crate::state::{Fault, Outcome, Place, State, settled};
-use crate::step::{number, one_letter};
+use crate::part::{Chain, Part};
+use crate::put::put;
+use crate::state::{Fault, Outcome, Place, State};
 use cd_syntax::tokens::Token;
 use cd_syntax::type_tree::Tree;
 use std::alloc::{AllocError, Global};
@@ -26,8 +27,8 @@ pub enum Reading {
     TooDeep(usize),
 }
 
-/// Reads the type that tokens write, all of them, without sequences and XML; at most `most` of the forms that
-/// are counted may be open at a place.
+/// Reads the type that tokens write, all of them; at most `most` of the forms that are counted may be open at a
+/// place.
 ///
 /// # Errors
 ///
@@ -77,15 +78,7 @@ impl State {
             Place::After(chain) => ended(alloc, chain, top, below),
             Place::Low(value, from, to) => ended_with(alloc, number(&value, from, to), top, below),
             Place::Letter(c, from, to) => ended_with(alloc, one_letter(c, from, to), top, below),
-            Place::Before
-            | Place::Bound(_, _)
-            | Place::Most(_)
-            | Place::LetterBound(_, _)
-            | Place::NameNext(_, _)
-            | Place::NameRead(_, _, _, _)
-            | Place::FieldNext(_)
-            | Place::LabelRead(_, _, _)
-            | Place::FieldsEnd(_) => Ok(None),
+            _ => Ok(None),
         }
     }
 }
@@ -97,10 +90,22 @@ fn ended_with(
     top: Box<Frame>,
     below: Vec<Box<Frame>>,
 ) -> Result<Option<Tree>, AllocError>
-    ensures { IfOk result (λ found. option_map plain found ≡ machine.ended (machine.chain_with (plain_frame top.value).pending (plain_part one)) (machine.settled (plain_frame top.value)) (plain_frames below.items)) }
+    ensures { IfOk result (λ found. option_map plain found ≡ machine.finish_put (machine.put (plain_part one) (plain_frame top.value) (plain_frames below.items))) }
 {
-    let (pending, top) = settled(top);
-    let chain = chain_with(alloc, pending, one)?;
+    match put(alloc, one, top, below)? {
+        Outcome::Next(state) => ended_at(alloc, state),
+        Outcome::Stopped(_) => Ok(None),
+    }
+}
+
+// The tree, where a simple type ends with the tokens.
+fn ended_at(alloc: Global, state: State) -> Result<Option<Tree>, AllocError>
+    ensures { IfOk result (λ found. option_map plain found ≡ machine.finish_put (Ok (plain_state state))) }
+{
+    let State { place, top, below } = state;
+    let Place::After(chain) = place else {
+        return Ok(None);
+    };
     ended(alloc, chain, top, below)
 }
 

@@ -1,11 +1,11 @@
-ghost use Rattle.std.specs.Prelude.{◌≡◌, List, [], ◌∷◌, Option, Some, None, Result, Ok, Err, map, IfOk};
-ghost use Rattle.std.specs.Option.{option_map};
-ghost use Rattle.cd_syntax.specs.PlainTree.{plain};
+ghost use Rattle.std.specs.Prelude.{◌≡◌, ◌∷◌, Err, IfOk};
 ghost use Rattle.cd_type_reader.specs.Machine as machine;
-ghost use Rattle.cd_type_reader.specs.PlainMachine.{plain_part, plain_chain, plain_pending, plain_around, plain_frame, plain_frames, plain_place, plain_state, plain_outcome};
+ghost use Rattle.cd_type_reader.specs.PlainMachine.{plain_around, plain_frame, plain_frames, plain_place, plain_outcome};
 
-use crate::frame::{Around, Frame, Opened};
-use crate::part::{Chain, Part, chain_with};
+use crate::frame::{Around, Frame, Opened, begun};
+use crate::part::{Chain, Part};
+use crate::regular::RegularPart;
+use crate::tagged::Tagged;
 use cd_syntax::name::Name;
 use cd_syntax::type_tree::{Declaration, Tree};
 use std::alloc::{AllocError, Global};
@@ -37,6 +37,20 @@ pub(crate) enum Place {
     LabelRead(Opened, Name, usize),
     /// Within a record, after `..`.
     FieldsEnd(Opened),
+    /// Before an item of a sequence; with true the sequence may end, of which nothing is read.
+    ItemNext(bool),
+    /// After a group, or with false after a postfix, which no other one follows.
+    RegularRead(RegularPart, bool),
+    /// After `<`, which stands at this byte.
+    TagNext(usize),
+    /// Before an attribute; with true a `;` may stand.
+    AttributeNext(Tagged, bool),
+    /// After the label of an attribute.
+    AttributeLabel(Tagged, Name, usize),
+    /// After `..` among attributes.
+    AttributesEnd(Tagged),
+    /// After attributes in parentheses.
+    ContentNext(usize, Box<Tree>, Box<Tree>),
 }
 
 /// Where the machine stands, and in what.
@@ -83,25 +97,20 @@ pub(crate) fn too_deep() -> Outcome
     Outcome::Stopped(Fault::TooDeep)
 }
 
-/// A simple type was read.
-pub(crate) fn put(
+/// A tree begins in the top one, where there is room.
+pub(crate) fn open_tree(
     alloc: Global,
-    one: Part,
+    room: Option<usize>,
+    around: Around,
     top: Box<Frame>,
-    below: Vec<Box<Frame>>,
+    mut below: Vec<Box<Frame>>,
 ) -> Result<Outcome, AllocError>
-    ensures { IfOk result (λ outcome. plain_outcome outcome ≡ machine.put (plain_part one) (plain_frame top.value) (plain_frames below.items)) }
+    ensures { IfOk result (λ outcome. plain_outcome outcome ≡ machine.opened room (λ room. machine.at_place machine.Before (machine.frame room (plain_around around)) (plain_frame top.value ∷ plain_frames below.items))) }
 {
-    let (pending, top) = settled(top);
-    let chain = chain_with(alloc, pending, one)?;
-    Ok(at_place(Place::After(chain), top, below))
-}
-
-/// A frame without the meet that is pending, and that meet.
-pub(crate) fn settled(mut top: Box<Frame>) -> (Option<(Chain, bool)>, Box<Frame>)
-    ensures pending { plain_pending result.0 ≡ plain_pending top.value.pending }
-    ensures frame { plain_frame result.1.value ≡ machine.settled (plain_frame top.value) }
-{
-    let pending = top.pending.take();
-    (pending, top)
+    let Some(room) = room else {
+        return Ok(too_deep());
+    };
+    below.push(top)?;
+    let inner = Box::new(alloc, begun(room, around))?;
+    Ok(at_place(Place::Before, inner, below))
 }
