@@ -30,7 +30,7 @@ pub enum Status {
     Naming,
     /// The typing rules do not type the program.
     IllTyped,
-    /// The command or the text is not built.
+    /// The command is not built.
     NotBuilt,
     /// The document is not of the input type.
     NotInput,

@@ -5,28 +5,20 @@ use Rattle.cd_base.specs.declared.status.Status.{Status}
 use Rattle.cd_base.specs.Faults.{Rose}
 use Rattle.cd_base.specs.FilesState.{FilesState}
 use Rattle.cd_syntax.specs.declared.tokens.LexError.TheVariants.{BadChar, OpenText, OpenComment, TooWide, Memory}
-use Rattle.cd_syntax.specs.SyntaxFaults.{AType, SomeDeclarations}
 use Rattle.cd_syntax.specs.TypeTree.{Declarations, NoDeclaration}
 use Rattle.cd_driver.specs.Command.{Bytes, SubTypes, Give}
-use Rattle.cd_driver.specs.Texts.{Against, Lexical, Syntax, TooDeep, Naming, NotBuilt, IsToldOfType, IsToldOfDeclarations}
+use Rattle.cd_driver.specs.Texts.{Against, Lexical, Syntax, TooDeep, Naming}
 use Rattle.cd_driver.specs.Reply.{Reply, refusal}
 use Rattle.cd_driver.specs.World.{World}
 use Rattle.cd_driver.specs.Answer.{Disk, Answer, SubAnswer, SubTypesAnswer, FileRefusal, no_form, sub, sub_types, command_not_built, yes, no, first_refused, second_refused, file_refused, on_texts, unread, large, encoding, refused}
 use Rattle.cd_driver.specs.Ending.{Met, unmarked, marked, Delivered, whole, out_refused, err_refused, out_cut, err_cut, Ending, answered, no_memory, Completes}
-use Rattle.cd_driver.specs.Causes.{GiveTexts, alone, with_file, StandsAgainst, in_file, in_first, in_second, by_command, by_text, Cause}
-use Rattle.cd_driver.proofs.OneRefusal.{no_memory as memory_stands_not}
+use Rattle.cd_driver.specs.Causes.{GiveTexts, alone, with_file, StandsAgainst, in_file, in_first, in_second, Cause}
 
 -- a file that is marked is the latest whose read failed
 read_failed : (before after : FilesState) (disk : Disk) (name : Bytes) → Met before after disk → disk.marked ≡ Some name
     → Rose before.faults after.faults × (after.last ≡ Some name)
 read_failed before after _ name (unmarked same) is = absurd cc
 read_failed before after _ name (marked other rose last) is = (rose, subst (λ marked. after.last ≡ marked) is last)
-
--- want of memory stands against no text
-stands_no_memory : (words : List Bytes) (disk : Disk) → StandsAgainst words disk (Lexical Memory) → ⊥
-stands_no_memory words disk (in_file file text1 text2 give text has refuses) = memory_stands_not SomeDeclarations IsToldOfDeclarations text refuses
-stands_no_memory words disk (in_first declared text1 text2 give refuses) = memory_stands_not AType (IsToldOfType declared) text1 refuses
-stands_no_memory words disk (in_second declared text1 text2 give first is refuses) = memory_stands_not AType (IsToldOfType declared) text2 refuses
 
 module _ (words : List Bytes) (disk : Disk) (before after : World) (met : Met before.files after.files disk) where
   -- what stands against a text is the cause of what is said of it
@@ -35,11 +27,10 @@ module _ (words : List Bytes) (disk : Disk) (before after : World) (met : Met be
   refused_cause origin text (Lexical (OpenText place)) stands = record { disk = disk; met = met; against = _; kind = (_, refl); stands = stands }
   refused_cause origin text (Lexical (OpenComment place)) stands = record { disk = disk; met = met; against = _; kind = (_, refl); stands = stands }
   refused_cause origin text (Lexical (TooWide place)) stands = record { disk = disk; met = met; against = _; kind = (_, refl); stands = stands }
-  refused_cause origin text (Lexical Memory) stands = absurd (stands_no_memory words disk stands)
+  refused_cause origin text (Lexical Memory) stands = record { disk = disk; met = met; against = _; kind = (_, refl); stands = stands }
   refused_cause origin text (Syntax place) stands = record { disk = disk; met = met; against = _; kind = (_, refl); stands = stands }
   refused_cause origin text (TooDeep place) stands = record { disk = disk; met = met; against = _; kind = (_, refl); stands = stands }
   refused_cause origin text (Naming fault) stands = record { disk = disk; met = met; against = _; kind = (_, refl); stands = stands }
-  refused_cause origin text NotBuilt stands = by_text (record { disk = disk; met = met; against = _; kind = refl; stands = stands })
 
   file_cause : (file text1 text2 : Bytes) → Give words (SubTypes file text1 text2) → (reply : Reply) → FileRefusal disk file reply → Cause words before after reply.status
   file_cause file text1 text2 give _ (unread is) =
@@ -82,7 +73,7 @@ module _ (words : List Bytes) (disk : Disk) (before after : World) (met : Met be
   answer_cause _ (no_form none) = none
   answer_cause _ (sub text1 text2 give reply answers) = sub_cause NoDeclaration text1 text2 (alone text1 text2 give) reply answers
   answer_cause _ (sub_types file text1 text2 give reply answers) = sub_types_cause file text1 text2 give reply answers
-  answer_cause _ (command_not_built command give is) = by_command command give is
+  answer_cause _ (command_not_built command give is) = record { command = command; give = give; unbuilt = is }
 
   delivered_cause : (reply : Reply) → Answer words disk reply → (status : Status) → Delivered before after reply status → Cause words before after status
   delivered_cause reply answer _ (whole out err) = answer_cause reply answer

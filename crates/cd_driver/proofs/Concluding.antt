@@ -11,7 +11,7 @@ use Rattle.cd_driver.specs.Command.{Bytes, name_of}
 use Rattle.cd_driver.specs.Reply.{Reply, line, refusal}
 use Rattle.cd_driver.specs.World.{World, world}
 use Rattle.cd_syntax.specs.TypeTree.{Declarations, NoDeclaration}
-use Rattle.cd_driver.specs.Texts.{Against, Lexical, Syntax, TooDeep, Naming, NotBuilt}
+use Rattle.cd_driver.specs.Texts.{Against, Lexical, Syntax, TooDeep, Naming}
 use Rattle.cd_driver.specs.Answer.{Disk, Answer, SubAnswer, SubTypesAnswer, FileRefusal, no_form, sub, sub_types, command_not_built, yes, no, first_refused, second_refused, file_refused, on_texts, unread, large, encoding, refused}
 use Rattle.cd_driver.specs.Ending.{Met, unmarked, marked, Delivered, whole, out_refused, err_refused, out_cut, err_cut, Ending, answered, no_memory, Completes}
 use Rattle.cd_driver.specs.Headline.{NothingFailed, IsAnswered, Headline, told_files}
@@ -34,7 +34,6 @@ refusal_speaks origin text (Lexical Memory) out err = line_some _ err
 refusal_speaks origin text (Syntax place) out err = line_some _ err
 refusal_speaks origin text (TooDeep place) out err = line_some _ err
 refusal_speaks origin text (Naming fault) out err = line_some _ err
-refusal_speaks origin text NotBuilt out err = line_some _ err
 
 file_speaks : (disk : Disk) (name : Bytes) (reply : Reply) → FileRefusal disk name reply → reply.out ≡ [] → reply.err ≡ [] → ⊥
 file_speaks disk name _ (unread is) out err = line_some (codes "cannot read " ++ name) err

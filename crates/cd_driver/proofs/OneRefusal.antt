@@ -1,32 +1,20 @@
 -- At most one thing stands against a text, but for the name that is told of a naming fault, and none against a text that reads.
-use Rattle.std.proofs.Common.{◌≡◌, ℕ, true, List, length, refl, sym, ap, subst, ◌∙◌}
+use Rattle.std.proofs.Common.{◌≡◌, List, length, refl, sym, ap, subst, ◌∙◌}
 use Rattle.std.specs.Str.{chars}
-use Rattle.std.proofs.lemmas.Bool.{true≢false}
 use Rattle.cd_syntax.specs.declared.tokens.Token.{Token}
-use Rattle.cd_syntax.specs.declared.tokens.LexError.TheVariants.{Memory}
 use Rattle.cd_syntax.specs.TypeTree.{Tree, Declarations}
 use Rattle.cd_syntax.specs.TypeGrammar.{IsTree, AreDeclared}
 use Rattle.cd_syntax.specs.SyntaxFaults.{Form, AType, SomeDeclarations, IsSyntaxFault, IsDepthFault}
-use Rattle.cd_syntax.specs.Faults.{Fails, here, after_dropped, after_token}
 use Rattle.cd_model.specs.Written.{Written}
 use Rattle.cd_names.specs.Faults.{Fault}
 use Rattle.cd_lex.proofs.ReadingIsOne.{one_list, one_fault, not_both as spelled_or_not}
 use Rattle.cd_type_reader.proofs.OneTree.{one_tree}
 use Rattle.cd_driver.specs.Command.{Bytes}
 use Rattle.cd_driver.specs.Reply.{refusal}
-use Rattle.cd_driver.specs.Texts.{Against, Lexical, Syntax, TooDeep, Naming, HasTokens, HasBuiltTokens, holds_unbuilt, Refuses, lexical, unbuilt_sign, syntax, too_deep, naming}
+use Rattle.cd_driver.specs.Texts.{Against, Lexical, Syntax, TooDeep, Naming, HasTokens, Refuses, lexical, syntax, too_deep, naming}
 use Rattle.cd_driver.specs.Texts.{ReadsAs, Declares, RefusesType, RefusesDeclarations, IsToldOfType, IsToldOfDeclarations, IsFaultOfType, IsFaultOfDeclarations, type_of}
 use Rattle.cd_driver.proofs.OneFault.{syntax_one, depth_one, not_both, written_no_syntax, written_no_depth}
 use Rattle.cd_driver.proofs.OneDeclarations.{one_declared}
-
--- want of memory is no fault of a text
-memory_is_none : (joined : _) (at : ℕ) (text : List ℕ) → Fails joined at text Memory → ⊥
-memory_is_none _ _ _ (here joined at text _ breaks) = elim breaks [ ]
-memory_is_none _ _ _ (after_dropped joined at written text _ dropped fails) = memory_is_none _ _ _ fails
-memory_is_none _ _ _ (after_token joined at written text kind _ writes fails) = memory_is_none _ _ _ fails
-
-pub no_memory : (form : Form) (told : List Token → Fault → Type 0) (text : Bytes) → Refuses form told text (Lexical Memory) → ⊥
-no_memory form told text (lexical _ fails) = memory_is_none _ _ _ fails
 
 -- the same thing stands against a text, or a naming fault in each case
 data IsAlike : (a b : Against) → Type 0 where
@@ -39,39 +27,20 @@ one_status origin text _ _ (both_naming a b) = refl
 
 module _ (form : Form) (told : List Token → Fault → Type 0) (writes : (tokens : List Token) (fault : Fault) → told tokens fault → form 1000 tokens) (text : Bytes) where
   -- the text is spelled by the same tokens
-  same_tokens : (first second : List Token) → HasBuiltTokens text first → HasBuiltTokens text second → second ≡ first
-  same_tokens first second spelled other = one_list (chars text) second first other.spells spelled.spells
-
-  -- tokens that hold a sign that isn't built, and tokens that don't
-  signs_or_not : (first second : List Token) → HasTokens text first → holds_unbuilt first ≡ true → HasBuiltTokens text second → ⊥
-  signs_or_not first second spelled holds built =
-      true≢false (sym holds ∙ ap holds_unbuilt (one_list (chars text) first second spelled built.spells) ∙ built.signs)
+  same_tokens : (first second : List Token) → HasTokens text first → HasTokens text second → second ≡ first
+  same_tokens first second spelled other = one_list (chars text) second first other spelled
 
   one_refusal : (a b : Against) → Refuses form told text a → Refuses form told text b → IsAlike a b
   one_refusal _ _ (lexical a_f a_fails) (lexical b_f b_fails) =
       same _ _ (ap Lexical (one_fault (chars text) a_f b_f a_fails b_fails))
-  one_refusal _ _ (lexical a_f a_fails) (unbuilt_sign b_ts b_spelled b_holds) =
-      absurd (spelled_or_not (chars text) b_ts a_f b_spelled a_fails)
   one_refusal _ _ (lexical a_f a_fails) (syntax b_ts b_spelled b_p b_fault) =
-      absurd (spelled_or_not (chars text) b_ts a_f b_spelled.spells a_fails)
+      absurd (spelled_or_not (chars text) b_ts a_f b_spelled a_fails)
   one_refusal _ _ (lexical a_f a_fails) (too_deep b_ts b_spelled b_p b_fault) =
-      absurd (spelled_or_not (chars text) b_ts a_f b_spelled.spells a_fails)
+      absurd (spelled_or_not (chars text) b_ts a_f b_spelled a_fails)
   one_refusal _ _ (lexical a_f a_fails) (naming b_ts b_spelled b_fault b_told) =
-      absurd (spelled_or_not (chars text) b_ts a_f b_spelled.spells a_fails)
-  one_refusal _ _ (unbuilt_sign a_ts a_spelled a_holds) (lexical b_f b_fails) =
-      absurd (spelled_or_not (chars text) a_ts b_f a_spelled b_fails)
-  one_refusal _ _ (unbuilt_sign a_ts a_spelled a_holds) (unbuilt_sign b_ts b_spelled b_holds) =
-      same _ _ refl
-  one_refusal _ _ (unbuilt_sign a_ts a_spelled a_holds) (syntax b_ts b_spelled b_p b_fault) =
-      absurd (signs_or_not a_ts b_ts a_spelled a_holds b_spelled)
-  one_refusal _ _ (unbuilt_sign a_ts a_spelled a_holds) (too_deep b_ts b_spelled b_p b_fault) =
-      absurd (signs_or_not a_ts b_ts a_spelled a_holds b_spelled)
-  one_refusal _ _ (unbuilt_sign a_ts a_spelled a_holds) (naming b_ts b_spelled b_fault b_told) =
-      absurd (signs_or_not a_ts b_ts a_spelled a_holds b_spelled)
+      absurd (spelled_or_not (chars text) b_ts a_f b_spelled a_fails)
   one_refusal _ _ (syntax a_ts a_spelled a_p a_fault) (lexical b_f b_fails) =
-      absurd (spelled_or_not (chars text) a_ts b_f a_spelled.spells b_fails)
-  one_refusal _ _ (syntax a_ts a_spelled a_p a_fault) (unbuilt_sign b_ts b_spelled b_holds) =
-      absurd (signs_or_not b_ts a_ts b_spelled b_holds a_spelled)
+      absurd (spelled_or_not (chars text) a_ts b_f a_spelled b_fails)
   one_refusal _ _ (syntax a_ts a_spelled a_p a_fault) (syntax b_ts b_spelled b_p b_fault) =
       same _ _ (ap Syntax (syntax_one form 1000 a_ts (length text) a_p b_p a_fault
       (subst (λ ts. IsSyntaxFault form 1000 ts (length text) b_p) (same_tokens a_ts b_ts a_spelled b_spelled) b_fault)))
@@ -82,9 +51,7 @@ module _ (form : Form) (told : List Token → Fault → Type 0) (writes : (token
       absurd (written_no_syntax form 1000 a_ts (length text) a_p
       (subst (form 1000) (same_tokens a_ts b_ts a_spelled b_spelled) (writes b_ts b_fault b_told)) a_fault)
   one_refusal _ _ (too_deep a_ts a_spelled a_p a_fault) (lexical b_f b_fails) =
-      absurd (spelled_or_not (chars text) a_ts b_f a_spelled.spells b_fails)
-  one_refusal _ _ (too_deep a_ts a_spelled a_p a_fault) (unbuilt_sign b_ts b_spelled b_holds) =
-      absurd (signs_or_not b_ts a_ts b_spelled b_holds a_spelled)
+      absurd (spelled_or_not (chars text) a_ts b_f a_spelled b_fails)
   one_refusal _ _ (too_deep a_ts a_spelled a_p a_fault) (syntax b_ts b_spelled b_p b_fault) =
       absurd (not_both form 1000 a_ts (length text) b_p a_p
       (subst (λ ts. IsSyntaxFault form 1000 ts (length text) b_p) (same_tokens a_ts b_ts a_spelled b_spelled) b_fault) a_fault)
@@ -95,9 +62,7 @@ module _ (form : Form) (told : List Token → Fault → Type 0) (writes : (token
       absurd (written_no_depth form 1000 a_ts (length text) a_p
       (subst (form 1000) (same_tokens a_ts b_ts a_spelled b_spelled) (writes b_ts b_fault b_told)) a_fault)
   one_refusal _ _ (naming a_ts a_spelled a_fault a_told) (lexical b_f b_fails) =
-      absurd (spelled_or_not (chars text) a_ts b_f a_spelled.spells b_fails)
-  one_refusal _ _ (naming a_ts a_spelled a_fault a_told) (unbuilt_sign b_ts b_spelled b_holds) =
-      absurd (signs_or_not b_ts a_ts b_spelled b_holds a_spelled)
+      absurd (spelled_or_not (chars text) a_ts b_f a_spelled b_fails)
   one_refusal _ _ (naming a_ts a_spelled a_fault a_told) (syntax b_ts b_spelled b_p b_fault) =
       absurd (written_no_syntax form 1000 a_ts (length text) b_p (writes a_ts a_fault a_told)
       (subst (λ ts. IsSyntaxFault form 1000 ts (length text) b_p) (same_tokens a_ts b_ts a_spelled b_spelled) b_fault))
@@ -108,10 +73,9 @@ module _ (form : Form) (told : List Token → Fault → Type 0) (writes : (token
       both_naming a_fault b_fault
 
   -- nothing stands against tokens that are of the form, where no naming fault is told of what they write
-  stands_not : (tokens : List Token) → HasBuiltTokens text tokens → form 1000 tokens → ((fault : Fault) → told tokens fault → ⊥)
+  stands_not : (tokens : List Token) → HasTokens text tokens → form 1000 tokens → ((fault : Fault) → told tokens fault → ⊥)
       → (against : Against) → Refuses form told text against → ⊥
-  stands_not tokens spelled written sound _ (lexical f fails) = spelled_or_not (chars text) tokens f spelled.spells fails
-  stands_not tokens spelled written sound _ (unbuilt_sign ts other holds) = signs_or_not ts tokens other holds spelled
+  stands_not tokens spelled written sound _ (lexical f fails) = spelled_or_not (chars text) tokens f spelled fails
   stands_not tokens spelled written sound _ (syntax ts other p fault) =
       written_no_syntax form 1000 tokens (length text) p written
       (subst (λ ts. IsSyntaxFault form 1000 ts (length text) p) (same_tokens tokens ts spelled other) fault)
@@ -161,13 +125,13 @@ declares_unrefused text declared declares against refuses =
 pub reads_one : (declared : Declarations) (text : Bytes) (first second : Written) → ReadsAs declared text first → ReadsAs declared text second
     → first ≡ second
 reads_one declared text first second one other =
-    let same_tokens = one_list (chars text) other.tokens one.tokens other.spelled.spells one.spelled.spells in
+    let same_tokens = one_list (chars text) other.tokens one.tokens other.spelled one.spelled in
     let same_tree = one_tree 1000 1000 one.tokens one.tree other.tree one.written
     (subst (λ ts. IsTree 1000 ts other.tree) same_tokens other.written) in
     one.means ∙ ap (type_of declared) same_tree ∙ sym other.means
 
 pub declares_one : (text : Bytes) (first second : Declarations) → Declares text first → Declares text second → first ≡ second
 declares_one text first second one other =
-    let same_tokens = one_list (chars text) other.tokens one.tokens other.spelled.spells one.spelled.spells in
+    let same_tokens = one_list (chars text) other.tokens one.tokens other.spelled one.spelled in
     one_declared 1000 1000 one.tokens first second one.written
     (subst (λ ts. AreDeclared 1000 ts second) same_tokens other.written)

@@ -15,8 +15,8 @@ use Rattle.cd_parse_types.specs.declared.error.ParseError.TheVariants as fault
 use Rattle.cd_parse_types.proofs.MadeWell.{text_makes_type, text_makes_declarations}
 use Rattle.cd_driver.specs.Command.{Bytes}
 use Rattle.cd_driver.specs.Comparing.{AreSound, IsSound}
-use Rattle.cd_driver.specs.Texts.{Against, Lexical, Syntax, TooDeep, Naming, NotBuilt, Refuses, lexical, unbuilt_sign, syntax, too_deep, naming}
-use Rattle.cd_driver.specs.Texts.{HasBuiltTokens, ReadsAs, Declares, type_of}
+use Rattle.cd_driver.specs.Texts.{Against, Lexical, Syntax, TooDeep, Naming, Refuses, lexical, syntax, too_deep, naming}
+use Rattle.cd_driver.specs.Texts.{HasTokens, ReadsAs, Declares, type_of}
 use Rattle.cd_driver.specs.Refusal.{against, IsAgainstTokens, IsOfFault, IsOfNames}
 use Rattle.cd_driver.specs.declared.refusal.Refusal.{Refusal}
 use Rattle.cd_driver.specs.declared.refusal.Refusal.TheVariants as refusal
@@ -25,13 +25,12 @@ module _ (form : Form) (told : List Token → Fault → Type 0) (text : Bytes) w
   -- what stands against the tokens of the text stands against the text
   pub tokens_refused : (is : Against) → IsAgainstTokens text is → Refuses form told text is
   tokens_refused (Lexical fault) stands = lexical fault stands
-  tokens_refused NotBuilt stands = unbuilt_sign stands.0 stands.1 stands.2
   tokens_refused (Syntax place) stands = absurd stands
   tokens_refused (TooDeep place) stands = absurd stands
   tokens_refused (Naming fault) stands = absurd stands
 
   -- and so does the first fault of the tokens
-  pub fault_refused : (tokens : List Token) → HasBuiltTokens text tokens → (error : ParseError) → IsFault form 1000 tokens (length text) error
+  pub fault_refused : (tokens : List Token) → HasTokens text tokens → (error : ParseError) → IsFault form 1000 tokens (length text) error
       → (found : Refusal) → IsOfFault error (Ok found) → Refuses form told text (against found)
   fault_refused tokens spelled (fault.Syntax place) is found means =
       let same : found ≡ refusal.Syntax place = cc in
@@ -42,7 +41,7 @@ module _ (form : Form) (told : List Token → Fault → Type 0) (text : Bytes) w
   fault_refused tokens spelled fault.Memory is found means = absurd (false≢true means)
 
   -- and the naming fault that is told of what they write
-  pub names_refused : (tokens : List Token) → HasBuiltTokens text tokens → (IsSuch : Fault → Type 0)
+  pub names_refused : (tokens : List Token) → HasTokens text tokens → (IsSuch : Fault → Type 0)
       → ((fault : Fault) → IsTold IsSuch fault → told tokens fault) → (error : NameError) → IsToldError IsSuch error
       → (found : Refusal) → IsOfNames error (Ok found) → Refuses form told text (against found)
   names_refused tokens spelled IsSuch tells (name_fault.Fault fault name at) is found means =
@@ -54,7 +53,7 @@ module _ (form : Form) (told : List Token → Fault → Type 0) (text : Bytes) w
 -- declarations that a text reads as are sound, and so is a type
 pub declares_sound : (text : Bytes) (declared : Declarations) → Declares text declared → AreSound declared
 declares_sound text declared declares = record {
-  well_made = text_makes_declarations (chars text) declares.tokens 1000 declared declares.spelled.spells declares.written;
+  well_made = text_makes_declarations (chars text) declares.tokens 1000 declared declares.spelled declares.written;
   sound = declares.sound;
 }
 
@@ -62,6 +61,6 @@ pub reads_sound : (declared : Declarations) (text : Bytes) (is : Tree) → Reads
 reads_sound declared text is reads =
     let same : reads.tree ≡ is = sym (ap (λ type. type.tree) reads.means) in
     subst (IsSound declared) same (record {
-      well_made = text_makes_type (chars text) reads.tokens 1000 reads.tree reads.spelled.spells reads.written;
+      well_made = text_makes_type (chars text) reads.tokens 1000 reads.tree reads.spelled reads.written;
       sound = reads.sound;
     })

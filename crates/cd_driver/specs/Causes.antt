@@ -10,7 +10,7 @@ use Rattle.cd_syntax.specs.TypeTree.{Declarations, NoDeclaration}
 use Rattle.cd_model.specs.Written.{Written}
 use Rattle.cd_names.specs.Faults.{Fault}
 use Rattle.cd_driver.specs.Command.{Bytes, Command, Sub, SubTypes, Give, HaveNoForm}
-use Rattle.cd_driver.specs.Texts.{Against, Lexical, Syntax, TooDeep, Naming, NotBuilt, ReadsAs, Declares, RefusesType, RefusesDeclarations}
+use Rattle.cd_driver.specs.Texts.{Against, Lexical, Syntax, TooDeep, Naming, ReadsAs, Declares, RefusesType, RefusesDeclarations}
 use Rattle.cd_driver.specs.Within.{IsIn, IsOutside, IsWithin}
 use Rattle.cd_driver.specs.Reply.{Reply}
 use Rattle.cd_driver.specs.World.{World}
@@ -107,10 +107,11 @@ IsLarge bytes = LARGEST < length bytes
 abbrev pub IsNotText : Bytes → Type 0
 IsNotText bytes = (length bytes ≤ LARGEST) × (IsUtf8 bytes → ⊥)
 
--- the words give a command that isn't built, or a text that isn't
-pub data IsNotBuilt (words : List Bytes) (before after : World) : Type 0 where
-  by_command : (command : Command) → Give words command → CommandIsNotBuilt command → IsNotBuilt words before after
-  by_text : IsRefused words before after (λ against. against ≡ NotBuilt) → IsNotBuilt words before after
+-- the words give a command that isn't built
+pub record IsNotBuilt (words : List Bytes) : Type 0 where
+  pub command : Command
+  pub give : Give words command
+  pub unbuilt : CommandIsNotBuilt command
 
 -- the count of faults rose at a sink for which an answer has a text
 pub record SinkFailed (words : List Bytes) (before after : World) : Type 0 where
@@ -135,5 +136,5 @@ Cause words before after status.Lexical = IsRefused words before after IsLexical
 Cause words before after status.Syntax = IsRefused words before after IsSyntax
 Cause words before after status.TooDeep = IsRefused words before after IsTooDeep
 Cause words before after status.Naming = IsRefused words before after IsNaming
-Cause words before after status.NotBuilt = IsNotBuilt words before after
+Cause words before after status.NotBuilt = IsNotBuilt words
 Cause words before after other = ⊥

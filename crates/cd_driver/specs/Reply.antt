@@ -10,7 +10,7 @@ use Rattle.cd_driver.specs.Position.{position}
 use Rattle.cd_names.specs.Faults.{Fault}
 use Rattle.cd_names.specs.declared.fault.NameFault.{NameFault}
 use Rattle.cd_names.specs.declared.fault.NameFault.TheVariants.{Unknown, Twice, Unguarded}
-use Rattle.cd_driver.specs.Texts.{Against, Lexical, Syntax, TooDeep, Naming, NotBuilt}
+use Rattle.cd_driver.specs.Texts.{Against, Lexical, Syntax, TooDeep, Naming}
 
 pub record Reply : Type 0 where
   pub status : Status
@@ -32,9 +32,9 @@ complains status text = record { status = status; out = []; err = line text }
 abbrev pub usage : Reply
 usage = complains Usage (codes "usage: cduce sub [--types FILE] T1 T2, member FILE DOC T, check FILE, run [--steps N] FILE DOC, work N")
 
--- what isn't built: a command by its first word, or a text by its origin
+-- a command that isn't built, by its first word
 abbrev pub not_built : Bytes → Reply
-not_built origin = complains IsNotBuilt (origin ++ codes ": not built")
+not_built name = complains IsNotBuilt (name ++ codes ": not built")
 
 -- files that can't be read, that are too large, and that are UTF-8 just up to a byte
 abbrev pub cannot_read : Bytes → Reply
@@ -56,7 +56,7 @@ lexical origin text (BadChar place) = at_place IsLexical origin text place (code
 lexical origin text (OpenText place) = at_place IsLexical origin text place (codes "text not closed")
 lexical origin text (OpenComment place) = at_place IsLexical origin text place (codes "comment not closed")
 lexical origin text (TooWide place) = at_place IsLexical origin text place (codes "number too wide")
-lexical origin text Memory = not_built origin
+lexical origin text Memory = complains IsLexical origin
 
 -- a naming fault of this name
 abbrev pub naming_message : NameFault → Bytes → Bytes
@@ -73,4 +73,3 @@ refusal origin text (Lexical fault) = lexical origin text fault
 refusal origin text (Syntax place) = at_place IsSyntax origin text place (codes "syntax")
 refusal origin text (TooDeep place) = at_place IsTooDeep origin text place (codes "too deep")
 refusal origin text (Naming fault) = naming origin text fault
-refusal origin text NotBuilt = not_built origin

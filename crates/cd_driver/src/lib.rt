@@ -21,6 +21,8 @@ use std::alloc::Global;
 
 mod answer;
 mod compare;
+#[cfg(test)]
+mod document_tests;
 mod file;
 pub mod laws;
 mod message;

@@ -41,10 +41,10 @@ pub(crate) fn usage(alloc: Global) -> Result<Message, AllocError>
     Ok(complaint(Status::Usage, String::from_str(alloc, USAGE)?))
 }
 
-pub(crate) fn not_built(alloc: Global, origin: &str) -> Result<Message, AllocError>
-    ensures { IfOk result (λ message. reply_of message ≡ reply.not_built origin.now) }
+pub(crate) fn not_built(alloc: Global, command: &str) -> Result<Message, AllocError>
+    ensures { IfOk result (λ message. reply_of message ≡ reply.not_built command.now) }
 {
-    let text = format!(in alloc; "{origin}: not built\n")?;
+    let text = format!(in alloc; "{command}: not built\n")?;
     Ok(complaint(Status::NotBuilt, text))
 }
 
@@ -83,7 +83,6 @@ pub(crate) fn refused(
         Refusal::Syntax(at) => at_place(alloc, Status::Syntax, origin, text, at, "syntax"),
         Refusal::TooDeep(at) => at_place(alloc, Status::TooDeep, origin, text, at, "too deep"),
         Refusal::Naming { fault, name, at } => naming(alloc, origin, text, fault, &name, at),
-        Refusal::NotBuilt => not_built(alloc, origin),
     }
 }
 

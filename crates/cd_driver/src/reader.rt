@@ -1,15 +1,14 @@
 ghost use Rattle.std.specs.Prelude.{◌≡◌, IfOk, MatchResult};
 ghost use Rattle.cd_syntax.specs.PlainTree.{plain, plain_declarations};
 ghost use Rattle.cd_driver.specs.Refusal.{against, IsAgainstTokens, IsOfFault, IsOfNames};
-ghost use Rattle.cd_driver.specs.Texts.{ReadsAs, Declares, HasBuiltTokens, RefusesType, RefusesDeclarations, type_of, is_unbuilt as is_unbuilt_of, holds_unbuilt as holds_unbuilt_of};
+ghost use Rattle.cd_driver.specs.Texts.{ReadsAs, Declares, HasTokens, RefusesType, RefusesDeclarations, type_of};
 
 use crate::refusal::Refusal;
 use cd_lex::lex;
 use cd_names::error::NameError;
 use cd_names::{check_declarations, check_type};
 use cd_parse_types::{ParseError, parse_declarations, parse_type};
-use cd_syntax::sign::Sign;
-use cd_syntax::tokens::{LexError, Token, TokenKind};
+use cd_syntax::tokens::{LexError, Token};
 use cd_syntax::type_tree::{Declarations, Tree};
 use std::alloc::{AllocError, Global};
 
@@ -81,31 +80,13 @@ fn refusal_of_names(error: NameError) -> Result<Refusal, AllocError>
     }
 }
 
-// The tokens of a text, where all their forms are built.
+// The tokens of a text.
 fn tokens(alloc: Global, text: &str) -> Result<Result<Vec<Token>, Refusal>, AllocError>
-    ensures { IfOk result (λ read. MatchResult read (λ tokens. HasBuiltTokens text.now tokens.items) (λ refusal. IsAgainstTokens text.now (against refusal))) }
+    ensures { IfOk result (λ read. MatchResult read (λ tokens. HasTokens text.now tokens.items) (λ refusal. IsAgainstTokens text.now (against refusal))) }
 {
-    let tokens = match lex(alloc, text) {
-        Ok(tokens) => tokens,
-        Err(LexError::Memory) => return Err(AllocError),
-        Err(fault) => return Ok(Err(Refusal::Lexical(fault))),
-    };
-    if holds_unbuilt(tokens.as_slice()) {
-        return Ok(Err(Refusal::NotBuilt));
+    match lex(alloc, text) {
+        Ok(tokens) => Ok(Ok(tokens)),
+        Err(LexError::Memory) => Err(AllocError),
+        Err(fault) => Ok(Err(Refusal::Lexical(fault))),
     }
-    Ok(Ok(tokens))
-}
-
-// Whether one of the tokens is of a form that is not built.
-fn holds_unbuilt(tokens: &[Token]) -> bool
-    ensures { result ≡ holds_unbuilt_of tokens.now }
-{
-    tokens.iter().any(|token| is_unbuilt(&token.kind))
-}
-
-// The signs of sequences and XML.
-fn is_unbuilt(kind: &TokenKind) -> bool
-    ensures { result ≡ is_unbuilt_of kind.now }
-{
-    matches!(kind, TokenKind::Sign(Sign::OpenBracket | Sign::Less))
 }

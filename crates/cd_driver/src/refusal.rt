@@ -20,6 +20,4 @@ pub(crate) enum Refusal {
         /// Where it stands.
         at: usize,
     },
-    /// It is of a form that is not built.
-    NotBuilt,
 }

@@ -12,7 +12,7 @@ const USAGE: &str =
 
 // A call: its words with `;` between, the status, and the texts on output and on errors.
 #[derive(Drop)]
-struct Row {
+pub(crate) struct Row {
     words: &'static str,
     status: Status,
     out: &'static str,
@@ -20,7 +20,7 @@ struct Row {
 }
 
 // Words that are answered on output.
-fn says(words: &'static str, status: Status, out: &'static str) -> Row {
+pub(crate) fn says(words: &'static str, status: Status, out: &'static str) -> Row {
     Row {
         words,
         status,
@@ -30,7 +30,7 @@ fn says(words: &'static str, status: Status, out: &'static str) -> Row {
 }
 
 // Words that are answered on errors.
-fn complains(words: &'static str, status: Status, err: &'static str) -> Row {
+pub(crate) fn complains(words: &'static str, status: Status, err: &'static str) -> Row {
     Row {
         words,
         status,
@@ -55,7 +55,7 @@ fn no_files(alloc: Global) -> MemoryFiles {
     MemoryFiles::new(alloc, Vec::new(alloc), Vec::new(alloc))
 }
 
-fn check(rt: &impl Abort, alloc: Global, rows: &[Row]) -> Result<(), AllocError> {
+pub(crate) fn check(rt: &impl Abort, alloc: Global, rows: &[Row]) -> Result<(), AllocError> {
     for row in rows {
         let name = row.words;
         let words = words_of(alloc, name)?;
@@ -274,7 +274,7 @@ fn decides_pairs(rt: HostRuntime) -> Result<(), Fail> {
     Ok(())
 }
 
-// Characters, atoms, texts, records, functions, and names.
+// Characters, atoms, texts, sequences, XML elements, records, functions, and names.
 #[test]
 fn decides_each_kind(rt: HostRuntime) -> Result<(), Fail> {
     let rows = [
@@ -285,6 +285,11 @@ fn decides_each_kind(rt: HostRuntime) -> Result<(), Fail> {
         says("sub;\"ab\";String", Status::Done, "yes\n"),
         says("sub;\"ab\";'a'", Status::No, "no: \"ab\"\n"),
         says("sub;1 & (2 | `a);2", Status::Done, "yes\n"),
+        says("sub;[];2", Status::No, "no: []\n"),
+        says("sub;2;<a>1", Status::No, "no: 2\n"),
+        says("sub;<a x=1>[1 2];2", Status::No, "no: <a x=1>[1 2]\n"),
+        says("sub;[Int* Bool? Int*];[(Int|Bool)*]", Status::Done, "yes\n"),
+        says("sub;<a x=Int>[];<a x=?Int ..>_", Status::Done, "yes\n"),
         says("sub;{a=1};2", Status::No, "no: {a=1}\n"),
         says("sub;{a=1};{a=Int ..}", Status::Done, "yes\n"),
         says("sub;{};{a=?Int}", Status::Done, "yes\n"),
@@ -374,7 +379,7 @@ fn tells_an_element(rt: HostRuntime) -> Result<(), Fail> {
     Ok(())
 }
 
-// 1,000 parentheses may stand one within the other, and not one more; one after the other there may be more.
+// 1,000 parentheses, brackets or tags may stand one within the other, and not one more; one after the other there may be more.
 #[test]
 fn reads_a_thousand_parentheses(rt: HostRuntime) -> Result<(), Fail> {
     let alloc = rt.alloc();
@@ -382,7 +387,10 @@ fn reads_a_thousand_parentheses(rt: HostRuntime) -> Result<(), Fail> {
         let close = ")".repeat(alloc, count)?;
         let nested = format!(in alloc; "{}7{close}", "(".repeat(alloc, count)?)?;
         let pairs = format!(in alloc; "{}7{close}", "(1,".repeat(alloc, count)?)?;
-        for text in [nested, pairs] {
+        let brackets = "]".repeat(alloc, count)?;
+        let lists = format!(in alloc; "{}7{brackets}", "[".repeat(alloc, count)?)?;
+        let elements = format!(in alloc; "{}7", "<a>".repeat(alloc, count)?)?;
+        for text in [nested, pairs, lists, elements] {
             assert_eq!(rt; status_of(alloc, text.as_str())?, status);
         }
         let flat = format!(in alloc; "{}7", "(7)|".repeat(alloc, count)?)?;
@@ -436,9 +444,10 @@ fn tells_what_stands_against_a_text(rt: HostRuntime) -> Result<(), Fail> {
         complains("sub;1;\"a", Status::Lexical, "T2:1:1: text not closed\n"),
         complains("sub;\"\\q\";0", Status::Lexical, "T1:1:2: bad character\n"),
         complains("sub;} \";0", Status::Lexical, "T1:1:3: text not closed\n"),
-        complains("sub;[];2", Status::NotBuilt, "T1: not built\n"),
-        complains("sub;) [;2", Status::NotBuilt, "T1: not built\n"),
-        complains("sub;2;<a>1", Status::NotBuilt, "T2: not built\n"),
+        complains("sub;) [;2", Status::Syntax, "T1:1:1: syntax\n"),
+        complains("sub;[;$", Status::Syntax, "T1:1:2: syntax\n"),
+        complains("sub;] $;2", Status::Lexical, "T1:1:3: bad character\n"),
+        complains("sub;2;<> \"", Status::Lexical, "T2:1:4: text not closed\n"),
         complains("sub;(* é *) x;2", Status::Syntax, "T1:1:9: syntax\n"),
         complains("sub;1 |\n\n  | 2;2", Status::Syntax, "T1:3:3: syntax\n"),
         complains("sub;\r\n1\r);2", Status::Syntax, "T1:2:3: syntax\n"),
@@ -524,12 +533,21 @@ fn reads_a_file_of_declarations(rt: HostRuntime) -> Result<(), Fail> {
         ("", "1", "0--9", Status::Done, "yes\n"),
         (" (* no type *)\n", "1", "2", Status::No, "no: 1\n"),
         ("type A = 1", "(", "[", Status::Syntax, "T1:1:2: syntax\n"),
+        ("type A = [1]", "(", "[", Status::Syntax, "T1:1:2: syntax\n"),
+        ("type A = [1]", "A", "[Int]", Status::Done, "yes\n"),
         (
-            "type A = [1]",
+            "type A = [1",
             "(",
             "[",
-            Status::NotBuilt,
-            "t.cd: not built\n",
+            Status::Syntax,
+            "t.cd:1:12: syntax\n",
+        ),
+        (
+            "type A = ] <a>\n$",
+            "(",
+            "[",
+            Status::Lexical,
+            "t.cd:2:1: bad character\n",
         ),
         (
             "type A = 1\ntype = 2",
@@ -548,7 +566,7 @@ fn reads_a_file_of_declarations(rt: HostRuntime) -> Result<(), Fail> {
             "t.cd:1:10: text not closed\n",
         ),
         ("", "(", "[", Status::Syntax, "T1:1:2: syntax\n"),
-        ("", "1", "[", Status::NotBuilt, "T2: not built\n"),
+        ("", "1", "[", Status::Syntax, "T2:1:2: syntax\n"),
         (
             "",
             "{a=Int; a=Int}",
