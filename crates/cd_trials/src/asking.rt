@@ -94,9 +94,9 @@ fn asked(
     Ok((status, text_of(alloc, out.bytes())?))
 }
 
-// Whether an element can be written as a type: sequences, XML elements and functions cannot so far.
+// Whether an element can be written as a type: functions cannot.
 fn is_type(element: &str) -> bool {
-    !element.contains('[') && !element.contains('<') && !element.contains("fun{")
+    !element.contains("fun{")
 }
 
 // Expects that the element that was told is in the first type and outside the second.

@@ -8,10 +8,14 @@ mod asking;
 #[cfg(test)]
 mod batches;
 #[cfg(test)]
+mod documents;
+#[cfg(test)]
 mod records;
 #[cfg(test)]
 mod recursive;
 #[cfg(test)]
 mod rows;
+#[cfg(test)]
+mod sequences;
 #[cfg(test)]
 mod worlds;

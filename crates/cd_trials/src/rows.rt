@@ -4,7 +4,7 @@ use cd_base::status::Status;
 use std::test::Fail;
 
 // Two types, the status, and how the text on output or on errors begins.
-const ROWS: [(&str, &str, Status, &str); 28] = [
+const ROWS: [(&str, &str, Status, &str); 36] = [
     ("0--5", "0--9", Status::Done, "yes\n"),
     ("0--5", "0--4", Status::No, "no: 5\n"),
     ("Empty", "Empty", Status::Done, "yes\n"),
@@ -85,7 +85,15 @@ const ROWS: [(&str, &str, Status, &str); 28] = [
         Status::No,
         "no: {a=",
     ),
-    ("[]", "2", Status::NotBuilt, "T1: not built\n"),
+    ("[]", "2", Status::No, "no: []\n"),
+    ("X where X = (Int,X) | []", "[Int*]", Status::Done, "yes\n"),
+    ("[Int*]", "X where X = (Int,X) | []", Status::Done, "yes\n"),
+    ("[Int* Bool? Int*]", "[(Int|Bool)*]", Status::Done, "yes\n"),
+    ("[(Int|Bool)*]", "[Int* Bool? Int*]", Status::No, "no: ["),
+    ("['ab']", "\"ab\"", Status::Done, "yes\n"),
+    ("[Int*?]", "[Int*]", Status::Done, "yes\n"),
+    ("<a x=Int>[]", "<a x=?Int ..>_", Status::Done, "yes\n"),
+    ("'ab'", "String", Status::Syntax, "T1:1:1: syntax\n"),
     ("(1,", "2", Status::Syntax, "T1:1:4: syntax\n"),
     (
         "1 (* x",

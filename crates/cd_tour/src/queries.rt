@@ -1,0 +1,91 @@
+//! The queries of the tour.
+
+/// Words for the program, and what its answer to them means.
+pub(crate) struct Query {
+    pub(crate) words: &'static [&'static str],
+    pub(crate) meaning: &'static str,
+}
+
+/// Queries on the files of the folder in which the tour runs.
+pub(crate) const QUERIES: [Query; 10] = [
+    Query {
+        words: &["sub", "--types", "address.cd", "Book", "LaterBook"],
+        meaning: "Each address book is one of the later version too, so those that are written stay valid.",
+    },
+    Query {
+        words: &["sub", "--types", "address.cd", "LaterBook", "Book"],
+        meaning: "The other way it is not so: this book has a phone that does not say of which kind it is.",
+    },
+    Query {
+        words: &[
+            "sub",
+            "--types",
+            "book.cd",
+            "[Title Author+ Chapter*]",
+            "[_*]",
+        ],
+        meaning: "A content model is a set of sequences, and `[_*]` holds all sequences.",
+    },
+    Query {
+        words: &["sub", "--types", "book.cd", "Isbn", "String"],
+        meaning: "A text is a sequence of characters, so a type for some texts is a content model too.",
+    },
+    Query {
+        words: &["sub", "--types", "book.cd", "Chapter", "LaterChapter"],
+        meaning: "The order of children counts: in this chapter a note stands after a paragraph.",
+    },
+    Query {
+        words: &[
+            "sub",
+            "--types",
+            "book.cd",
+            "[(Para | Note)*]",
+            "[Para* Note*]",
+        ],
+        meaning: "In `(Para | Note)*` the two may stand in any order, and here a note stands before a paragraph.",
+    },
+    Query {
+        words: &[
+            "sub",
+            "--types",
+            "book.cd",
+            "Para | Note",
+            "<_ ..>[(Char | Emph)*]",
+        ],
+        meaning: "`<_ ..>` is an element of any name with any attributes, so both kinds are among them.",
+    },
+    Query {
+        words: &[
+            "sub",
+            "--types",
+            "book.cd",
+            "Chapter \\ (PlainChapter | NotedChapter)",
+            "Empty",
+        ],
+        meaning: "No chapter is left beside those without notes and those with some, so these are all cases.",
+    },
+    Query {
+        words: &["sub", "--types", "letter.cd", "Letter", "Any"],
+        meaning: "A fault in a file is told with its line and column: there `]` should stand.",
+    },
+    Query {
+        words: &["sub", "--types", "book.cd", "Chapter", "Appendix"],
+        meaning: "The second type is a name that the file does not declare.",
+    },
+];
+
+/// Queries on the two versions of a schema, `schema.cd` and `schema2.cd`, which stand in one file.
+pub(crate) const OF_VERSIONS: [Query; 3] = [
+    Query {
+        words: &["sub", "--types", "schemas.cd", "Section", "Section2"],
+        meaning: "Each section of the schema, whatever stands in it, is one of the later version too.",
+    },
+    Query {
+        words: &["sub", "--types", "schemas.cd", "Section2", "Section"],
+        meaning: "The later version allows more in sections, as here.",
+    },
+    Query {
+        words: &["sub", "--types", "schemas.cd", "Article", "Article2"],
+        meaning: "Not each article stays valid: the later version is stricter in what is said of a document.",
+    },
+];
