@@ -1,5 +1,5 @@
 -- A call that ended with the status of an answer wrote it whole.
-use Rattle.std.proofs.Common.{◌≡◌, List, refl}
+use Rattle.std.proofs.Common.{◌≡◌, List, refl, subst}
 use Rattle.cd_base.specs.declared.status.Status.{Status}
 use Rattle.cd_base.specs.declared.status.Status.TheVariants.{WriteFault, NoMemory}
 use Rattle.cd_driver.specs.Command.{Bytes}
@@ -28,5 +28,5 @@ ended words disk before after met _ (no_memory out err) no_fault some_memory = a
 
 pub is_whole : (words given : List Bytes) → given ≡ words → (before after : World) (status : Status) → Completes given before after status
     → (status ≡ WriteFault → ⊥) → (status ≡ NoMemory → ⊥) → IsAnswered words before after status
-is_whole words _ refl before after status completes no_fault some_memory =
-    ended words completes.disk before after completes.met status completes.ending no_fault some_memory
+is_whole words given same before after status completes no_fault some_memory = subst (λ words. IsAnswered words before after status) same
+    (ended given completes.disk before after completes.met status completes.ending no_fault some_memory)

@@ -1,10 +1,12 @@
 //! Worked rows: words, and just what is answered to them.
 use crate::asking::answer;
 use cd_base::status::Status;
+use std::alloc::{AllocError, Global};
+use std::process::Abort;
 use std::test::Fail;
 
 // Two types, the status, and how the text on output or on errors begins.
-const ROWS: [(&str, &str, Status, &str); 36] = [
+const ROWS: [(&str, &str, Status, &str); 28] = [
     ("0--5", "0--9", Status::Done, "yes\n"),
     ("0--5", "0--4", Status::No, "no: 5\n"),
     ("Empty", "Empty", Status::Done, "yes\n"),
@@ -86,14 +88,6 @@ const ROWS: [(&str, &str, Status, &str); 36] = [
         "no: {a=",
     ),
     ("[]", "2", Status::No, "no: []\n"),
-    ("X where X = (Int,X) | []", "[Int*]", Status::Done, "yes\n"),
-    ("[Int*]", "X where X = (Int,X) | []", Status::Done, "yes\n"),
-    ("[Int* Bool? Int*]", "[(Int|Bool)*]", Status::Done, "yes\n"),
-    ("[(Int|Bool)*]", "[Int* Bool? Int*]", Status::No, "no: ["),
-    ("['ab']", "\"ab\"", Status::Done, "yes\n"),
-    ("[Int*?]", "[Int*]", Status::Done, "yes\n"),
-    ("<a x=Int>[]", "<a x=?Int ..>_", Status::Done, "yes\n"),
-    ("'ab'", "String", Status::Syntax, "T1:1:1: syntax\n"),
     ("(1,", "2", Status::Syntax, "T1:1:4: syntax\n"),
     (
         "1 (* x",
@@ -103,16 +97,49 @@ const ROWS: [(&str, &str, Status, &str); 36] = [
     ),
 ];
 
+// The same, of sequences, texts and XML types.
+const ROWS_OF_SEQUENCES: [(&str, &str, Status, &str); 8] = [
+    ("X where X = (Int,X) | []", "[Int*]", Status::Done, "yes\n"),
+    ("[Int*]", "X where X = (Int,X) | []", Status::Done, "yes\n"),
+    ("[Int* Bool? Int*]", "[(Int|Bool)*]", Status::Done, "yes\n"),
+    ("[(Int|Bool)*]", "[Int* Bool? Int*]", Status::No, "no: ["),
+    ("['ab']", "\"ab\"", Status::Done, "yes\n"),
+    ("[Int*?]", "[Int*]", Status::Done, "yes\n"),
+    ("<a x=Int>[]", "<a x=?Int ..>_", Status::Done, "yes\n"),
+    ("'ab'", "String", Status::Syntax, "T1:1:1: syntax\n"),
+];
+
+// Expects this answer to two types.
+fn expect(
+    rt: &impl Abort,
+    alloc: Global,
+    first: &str,
+    second: &str,
+    status: Status,
+    beginning: &str,
+) -> Result<(), AllocError> {
+    let (answered, text) = answer(alloc, first, second)?;
+    assert_eq!(rt; answered, status, "{first}");
+    assert!(rt;
+        text.as_str().starts_with(beginning),
+        "{first}: {}",
+        text.as_str()
+    );
+    Ok(())
+}
+
 #[test]
 fn worked_rows(rt: HostRuntime) -> Result<(), Fail> {
     for (first, second, status, beginning) in ROWS {
-        let (answered, text) = answer(rt.alloc(), first, second)?;
-        assert_eq!(rt; answered, status, "{first}");
-        assert!(rt;
-            text.as_str().starts_with(beginning),
-            "{first}: {}",
-            text.as_str()
-        );
+        expect(&rt, rt.alloc(), first, second, status, beginning)?;
+    }
+    Ok(())
+}
+
+#[test]
+fn worked_rows_of_sequences(rt: HostRuntime) -> Result<(), Fail> {
+    for (first, second, status, beginning) in ROWS_OF_SEQUENCES {
+        expect(&rt, rt.alloc(), first, second, status, beginning)?;
     }
     Ok(())
 }
