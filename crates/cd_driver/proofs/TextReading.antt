@@ -15,21 +15,14 @@ use Rattle.cd_parse_types.specs.declared.error.ParseError.TheVariants as fault
 use Rattle.cd_parse_types.proofs.MadeWell.{text_makes_type, text_makes_declarations}
 use Rattle.cd_driver.specs.Command.{Bytes}
 use Rattle.cd_driver.specs.Comparing.{AreSound, IsSound}
-use Rattle.cd_driver.specs.Texts.{Against, Lexical, Syntax, TooDeep, Naming, Refuses, lexical, syntax, too_deep, naming}
+use Rattle.cd_driver.specs.Texts.{Refuses, syntax, too_deep, naming}
 use Rattle.cd_driver.specs.Texts.{HasTokens, ReadsAs, Declares, type_of}
-use Rattle.cd_driver.specs.Refusal.{against, IsAgainstTokens, IsOfFault, IsOfNames}
+use Rattle.cd_driver.specs.Refusal.{against, IsOfFault, IsOfNames}
 use Rattle.cd_driver.specs.declared.refusal.Refusal.{Refusal}
 use Rattle.cd_driver.specs.declared.refusal.Refusal.TheVariants as refusal
 
 module _ (form : Form) (told : List Token → Fault → Type 0) (text : Bytes) where
-  -- what stands against the tokens of the text stands against the text
-  pub tokens_refused : (is : Against) → IsAgainstTokens text is → Refuses form told text is
-  tokens_refused (Lexical fault) stands = lexical fault stands
-  tokens_refused (Syntax place) stands = absurd stands
-  tokens_refused (TooDeep place) stands = absurd stands
-  tokens_refused (Naming fault) stands = absurd stands
-
-  -- and so does the first fault of the tokens
+  -- the first fault of the tokens stands against the text
   pub fault_refused : (tokens : List Token) → HasTokens text tokens → (error : ParseError) → IsFault form 1000 tokens (length text) error
       → (found : Refusal) → IsOfFault error (Ok found) → Refuses form told text (against found)
   fault_refused tokens spelled (fault.Syntax place) is found means =
@@ -40,7 +33,7 @@ module _ (form : Form) (told : List Token → Fault → Type 0) (text : Bytes) w
       subst (λ f. Refuses form told text (against f)) (sym same) (too_deep tokens spelled place is)
   fault_refused tokens spelled fault.Memory is found means = absurd (false≢true means)
 
-  -- and the naming fault that is told of what they write
+  -- and so does the naming fault that is told of what they write
   pub names_refused : (tokens : List Token) → HasTokens text tokens → (IsSuch : Fault → Type 0)
       → ((fault : Fault) → IsTold IsSuch fault → told tokens fault) → (error : NameError) → IsToldError IsSuch error
       → (found : Refusal) → IsOfNames error (Ok found) → Refuses form told text (against found)

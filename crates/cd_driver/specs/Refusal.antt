@@ -1,13 +1,10 @@
 -- What the code finds against a text, as the definitions say it.
-use Rattle.std.specs.Prelude.{◌≡◌, false, Result, Ok, IsErr}
-use Rattle.std.specs.Str.{chars}
+use Rattle.std.specs.Prelude.{◌≡◌, Result, Ok, IsErr}
 use Rattle.std.specs.declared.alloc.AllocError.{AllocError}
-use Rattle.cd_syntax.specs.Faults.{Fails}
 use Rattle.cd_names.specs.declared.error.NameError.{NameError}
 use Rattle.cd_names.specs.declared.error.NameError.TheVariants as names
 use Rattle.cd_parse_types.specs.declared.error.ParseError.{ParseError}
 use Rattle.cd_parse_types.specs.declared.error.ParseError.TheVariants as fault
-use Rattle.cd_driver.specs.Command.{Bytes}
 use Rattle.cd_driver.specs.Texts.{Against, Lexical, Syntax, TooDeep, Naming}
 use Rattle.cd_driver.specs.declared.refusal.Refusal.{Refusal}
 use Rattle.cd_driver.specs.declared.refusal.Refusal.TheVariants as refusal
@@ -17,13 +14,6 @@ against (refusal.Lexical fault) = Lexical fault
 against (refusal.Syntax place) = Syntax place
 against (refusal.TooDeep place) = TooDeep place
 against (refusal.Naming fault name at) = Naming (record { fault = fault; name = name; at = at })
-
--- it stands against the tokens of the text, whatever they are to write
-abbrev pub IsAgainstTokens : Bytes → Against → Type 0
-IsAgainstTokens text (Lexical fault) = Fails false 0 (chars text) fault
-IsAgainstTokens text (Syntax place) = ⊥
-IsAgainstTokens text (TooDeep place) = ⊥
-IsAgainstTokens text (Naming fault) = ⊥
 
 -- what a fault of syntax is against its text
 abbrev pub IsOfFault : ParseError → Result Refusal AllocError → Type 0

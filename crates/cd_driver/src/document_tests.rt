@@ -27,6 +27,7 @@ fn reads_sequences(rt: HostRuntime) -> Result<(), Fail> {
         complains("sub;['ab' & Char];0", Status::Syntax, "T1:1:7: syntax\n"),
         complains("sub;[('ab') & Char];0", Status::Syntax, "T1:1:9: syntax\n"),
         complains("sub;[(1 | 2*) \\ 1];0", Status::Syntax, "T1:1:11: syntax\n"),
+        complains("sub;[Int X*];0", Status::Naming, "T1:1:6: unknown name X\n"),
         says("sub;[(0 | Bool) & Int];2", Status::No, "no: [0]\n"),
         says("sub;[1|2 & 3];0", Status::No, "no: [1]\n"),
         says("sub;[(('a')) & Char];0", Status::No, "no: \"a\"\n"),

@@ -1,6 +1,8 @@
-ghost use Rattle.std.specs.Prelude.{◌≡◌, IfOk, MatchResult};
+ghost use Rattle.std.specs.Prelude.{◌≡◌, false, IfOk, MatchResult};
+ghost use Rattle.std.specs.Str.{chars};
+ghost use Rattle.cd_syntax.specs.Faults.{Fails};
 ghost use Rattle.cd_syntax.specs.PlainTree.{plain, plain_declarations};
-ghost use Rattle.cd_driver.specs.Refusal.{against, IsAgainstTokens, IsOfFault, IsOfNames};
+ghost use Rattle.cd_driver.specs.Refusal.{against, IsOfFault, IsOfNames};
 ghost use Rattle.cd_driver.specs.Texts.{ReadsAs, Declares, HasTokens, RefusesType, RefusesDeclarations, type_of};
 
 use crate::refusal::Refusal;
@@ -24,7 +26,7 @@ pub(crate) fn read_type(
 {
     let tokens = match tokens(alloc, text)? {
         Ok(tokens) => tokens,
-        Err(refusal) => return Ok(Err(refusal)),
+        Err(fault) => return Ok(Err(Refusal::Lexical(fault))),
     };
     let tree = match parse_type(alloc, tokens.as_slice(), text.len()) {
         Ok(tree) => tree,
@@ -47,7 +49,7 @@ pub(crate) fn read_declarations(
 {
     let tokens = match tokens(alloc, text)? {
         Ok(tokens) => tokens,
-        Err(refusal) => return Ok(Err(refusal)),
+        Err(fault) => return Ok(Err(Refusal::Lexical(fault))),
     };
     let declared = match parse_declarations(alloc, tokens.as_slice(), text.len()) {
         Ok(declared) => declared,
@@ -80,13 +82,13 @@ fn refusal_of_names(error: NameError) -> Result<Refusal, AllocError>
     }
 }
 
-// The tokens of a text.
-fn tokens(alloc: Global, text: &str) -> Result<Result<Vec<Token>, Refusal>, AllocError>
-    ensures { IfOk result (λ read. MatchResult read (λ tokens. HasTokens text.now tokens.items) (λ refusal. IsAgainstTokens text.now (against refusal))) }
+// The tokens of a text, or its first lexical fault.
+fn tokens(alloc: Global, text: &str) -> Result<Result<Vec<Token>, LexError>, AllocError>
+    ensures { IfOk result (λ read. MatchResult read (λ tokens. HasTokens text.now tokens.items) (λ fault. Fails false 0 (chars text.now) fault)) }
 {
     match lex(alloc, text) {
         Ok(tokens) => Ok(Ok(tokens)),
         Err(LexError::Memory) => Err(AllocError),
-        Err(fault) => Ok(Err(Refusal::Lexical(fault))),
+        Err(fault) => Ok(Err(fault)),
     }
 }

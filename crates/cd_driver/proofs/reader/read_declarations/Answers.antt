@@ -1,13 +1,11 @@
 use Rattle.cd_syntax.specs.PlainTree.{plain_declarations}
 use Rattle.cd_syntax.specs.SyntaxFaults.{SomeDeclarations}
-use Rattle.cd_driver.specs.Texts.{IsToldOfDeclarations, IsFaultOfDeclarations}
-use Rattle.cd_driver.specs.Refusal.{against}
-use Rattle.cd_driver.proofs.TextReading.{tokens_refused, fault_refused, names_refused}
+use Rattle.cd_driver.specs.Texts.{lexical, IsToldOfDeclarations, IsFaultOfDeclarations}
+use Rattle.cd_driver.proofs.TextReading.{fault_refused, names_refused}
 use Rattle.cd_driver.proofs.reader.read_declarations.Goals as goal
 
 pub returns-in-Err : goal.returns-in-Err
-returns-in-Err c =
-    tokens_refused SomeDeclarations IsToldOfDeclarations c.args.text.now (against c.in-Err.refusal) (rw c.in-Err.is at c.in_ok-tokens.ensures)
+returns-in-Err c = lexical c.in-Err.fault (rw c.in-Err.is at c.in_ok-tokens.ensures)
 
 pub returns-in-Err-parse_declarations : goal.returns-in-Err-parse_declarations
 returns-in-Err-parse_declarations c =

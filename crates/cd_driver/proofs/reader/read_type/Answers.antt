@@ -1,13 +1,11 @@
 use Rattle.cd_syntax.specs.PlainTree.{plain, plain_declarations}
 use Rattle.cd_syntax.specs.SyntaxFaults.{AType}
-use Rattle.cd_driver.specs.Texts.{IsToldOfType, IsFaultOfType}
-use Rattle.cd_driver.specs.Refusal.{against}
-use Rattle.cd_driver.proofs.TextReading.{tokens_refused, fault_refused, names_refused}
+use Rattle.cd_driver.specs.Texts.{lexical, IsToldOfType, IsFaultOfType}
+use Rattle.cd_driver.proofs.TextReading.{fault_refused, names_refused}
 use Rattle.cd_driver.proofs.reader.read_type.Goals as goal
 
 pub returns-in-Err : goal.returns-in-Err
-returns-in-Err c =
-    tokens_refused AType (IsToldOfType (plain_declarations c.args.declared.now)) c.args.text.now (against c.in-Err.refusal) (rw c.in-Err.is at c.in_ok-tokens.ensures)
+returns-in-Err c = lexical c.in-Err.fault (rw c.in-Err.is at c.in_ok-tokens.ensures)
 
 pub returns-in-Err-parse_type : goal.returns-in-Err-parse_type
 returns-in-Err-parse_type c =
