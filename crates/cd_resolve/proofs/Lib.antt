@@ -14,7 +14,6 @@ pub mod LinksRows
 pub mod LinksKnown
 pub mod EndsOfTrees
 pub mod EndsOfNames
-pub mod Layers
 pub mod OverNodes
 pub mod LeafRows
 pub mod LinksDeclared
