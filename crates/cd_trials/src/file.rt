@@ -1,0 +1,94 @@
+//! A file of data: what may be in it, and how its rows are put and counted.
+use crate::question::{apart_differs, within_differs};
+use crate::row::row_differs;
+use crate::values::{list, pair, text};
+use anyhow::{Context, Result, bail};
+use std::io;
+use toml::Table;
+
+// The members of a file, of a row and of questions, with their types.
+const FILE: [(&str, &str); 2] = [("row", "array"), ("questions", "array")];
+
+const ROW: [(&str, &str); 9] = [
+    ("words", "array"),
+    ("status", "integer"),
+    ("out", "string"),
+    ("err", "string"),
+    ("times", "integer"),
+    ("files", "table"),
+    ("bytes", "table"),
+    ("failing_reads", "array"),
+    ("failing_puts", "array"),
+];
+
+const QUESTIONS: [(&str, &str); 3] = [("types", "string"), ("within", "array"), ("apart", "array")];
+
+/// How many rows were put, and how many of them differ.
+#[derive(Drop)]
+pub(crate) struct Tally {
+    pub(crate) rows: u64,
+    pub(crate) differ: u64,
+}
+
+impl Tally {
+    // Counts a row, and prints how it differs, if it does.
+    fn count(&mut self, rt: &impl Print, name: &str, difference: Option<String>) -> io::Result<()> {
+        self.rows = self.rows.saturating_add(1);
+        if let Some(difference) = difference {
+            self.differ = self.differ.saturating_add(1);
+            println!(rt; "{name}:{difference}")?;
+        }
+        Ok(())
+    }
+}
+
+/// Puts the rows of a file, and the pairs of its questions.
+pub(crate) fn put_file(
+    rt: &(impl Print + AllocGlobal),
+    name: &str,
+    file: &Table,
+    tally: &mut Tally,
+) -> Result<()> {
+    check(file, &FILE)?;
+    for row in list(file.get("row")) {
+        let row = row.as_table().context("a row is no table")?;
+        check(row, &ROW)?;
+        tally.count(rt, name, row_differs(rt.alloc(), row)?)?;
+    }
+    for questions in list(file.get("questions")) {
+        let questions = questions.as_table().context("questions are no table")?;
+        check(questions, &QUESTIONS)?;
+        put_questions(rt, name, questions, tally)?;
+    }
+    Ok(())
+}
+
+// Puts the pairs of questions.
+fn put_questions(
+    rt: &(impl Print + AllocGlobal),
+    name: &str,
+    questions: &Table,
+    tally: &mut Tally,
+) -> io::Result<()> {
+    let types = text(questions.get("types"));
+    for asked in list(questions.get("within")) {
+        let (first, second) = pair(asked);
+        tally.count(rt, name, within_differs(rt.alloc(), types, first, second)?)?;
+    }
+    for asked in list(questions.get("apart")) {
+        let (first, second) = pair(asked);
+        tally.count(rt, name, apart_differs(rt.alloc(), types, first, second)?)?;
+    }
+    Ok(())
+}
+
+// Fails if a member of a table has another name or another type than these.
+fn check(table: &Table, known: &[(&str, &str)]) -> Result<()> {
+    for (name, value) in table {
+        let (name, kind) = (name.as_str(), value.type_str());
+        if !known.iter().any(|entry| entry.0 == name && entry.1 == kind) {
+            bail!("{name} is unknown, or should be no {kind}");
+        }
+    }
+    Ok(())
+}
