@@ -1,6 +1,7 @@
 -- The words and the files decide the status of an answer.
-use Rattle.std.proofs.Common.{◌≡◌, ◌<◌, ◌≤◌, true, List, [], ◌∷◌, Some, length, refl, sym, ap, subst, ◌∙◌, arith}
+use Rattle.std.proofs.Common.{◌≡◌, ◌<◌, ◌≤◌, true, List, [], ◌∷◌, Some, length, refl, sym, ap, subst, ◌∙◌, ◌⊎◌, inl, inr, arith}
 use Rattle.std.specs.Prelude.{codes}
+use Rattle.cd_base.specs.declared.status.Status.TheVariants.{ReadFault}
 use Rattle.std.specs.Str.{bytes_eq, IsUtf8}
 use Rattle.std.proofs.lemmas.Bool.{true≢false}
 use Rattle.cd_syntax.specs.Element.{Element, IsElement}
@@ -11,7 +12,7 @@ use Rattle.cd_driver.specs.Command.{Bytes, Command, Sub, SubTypes, Member, Check
 use Rattle.cd_driver.specs.Texts.{ReadsAs, Declares, RefusesDeclarations}
 use Rattle.cd_driver.specs.Within.{IsIn, IsOutside, IsWithin}
 use Rattle.cd_driver.specs.Reply.{Reply, refusal}
-use Rattle.cd_driver.specs.Answer.{Disk, Has, HasText, LARGEST, AreTold, Answer, SubAnswer, SubTypesAnswer, FileRefusal, CommandIsNotBuilt, no_form, sub, sub_types, command_not_built, yes, no, first_refused, second_refused, file_refused, on_texts, unread, large, encoding, refused}
+use Rattle.cd_driver.specs.Answer.{Disk, Has, HasText, LARGEST, FileIsKnown, Answer, SubAnswer, SubTypesAnswer, FileRefusal, CommandIsNotBuilt, no_form, sub, sub_types, command_not_built, yes, no, first_refused, second_refused, file_refused, on_texts, unread, large, encoding, refused}
 use Rattle.cd_driver.proofs.OneRefusal.{one_type_refusal, one_declarations_refusal, reads_unrefused, declares_unrefused, reads_one, declares_one}
 
 -- no types are within each other and separated by an element
@@ -46,6 +47,15 @@ module _ (declared : Declarations) (text1 text2 : Bytes) where
   sub_one _ _ (second_refused c c_is against stands) (no a b a_is b_is element is inside outside) = absurd (reads_unrefused declared text2 b b_is against stands)
   sub_one _ _ (second_refused c c_is against stands) (first_refused other stands') = absurd (reads_unrefused declared text1 c c_is other stands')
   sub_one _ _ (second_refused c c_is against stands) (second_refused a a_is other stands') = one_type_refusal declared (codes "T2") text2 against other stands stands'
+
+-- a file that can't be read decides it
+unread_alone : (disk : Disk) (file text1 text2 : Bytes) → disk.marked ≡ Some file
+    → (reply : Reply) → SubTypesAnswer disk file text1 text2 reply → reply.status ≡ ReadFault
+unread_alone disk file text1 text2 marked _ (file_refused _ (unread _)) = refl
+unread_alone disk file text1 text2 marked _ (file_refused _ (large bytes has is)) = absurd (has.read marked)
+unread_alone disk file text1 text2 marked _ (file_refused _ (encoding bytes has size is)) = absurd (has.read marked)
+unread_alone disk file text1 text2 marked _ (file_refused _ (refused text has against stands)) = absurd (has.has.read marked)
+unread_alone disk file text1 text2 marked _ (on_texts text has declared declares reply answers) = absurd (has.has.read marked)
 
 -- the file and its bytes, which are told, decide it too
 module _ (disk : Disk) (file all : Bytes) (told : disk.told file ≡ Some all) where
@@ -153,7 +163,14 @@ sub_types_is_built words file text1 text2 is (RunSteps units other document) giv
     true≢false (sym same ∙ other)
 sub_types_is_built words file text1 text2 is (Work size) give no_build = let other = give.1 in cc
 
-module _ (words : List Bytes) (disk : Disk) (told : AreTold words disk) where
+-- a file decides it, as far as it is known
+file_decides : (disk : Disk) (file text1 text2 : Bytes) → (disk.marked ≡ Some file) ⊎ ((bytes : Bytes) × (disk.told file ≡ Some bytes))
+    → (r s : Reply) → SubTypesAnswer disk file text1 text2 r → SubTypesAnswer disk file text1 text2 s → r.status ≡ s.status
+file_decides disk file text1 text2 (inl marked) r s answers answers' =
+    unread_alone disk file text1 text2 marked r answers ∙ sym (unread_alone disk file text1 text2 marked s answers')
+file_decides disk file text1 text2 (inr told) r s answers answers' = sub_types_one disk file told.0 told.1 text1 text2 r s answers answers'
+
+module _ (words : List Bytes) (disk : Disk) (known : FileIsKnown words disk) where
   pub one_status : (r s : Reply) → Answer words disk r → Answer words disk s → r.status ≡ s.status
   one_status _ _ (no_form none) (no_form none') = refl
   one_status _ _ (no_form none) (sub text1 text2 give reply answers) = absurd (none (Sub text1 text2) give)
@@ -173,8 +190,7 @@ module _ (words : List Bytes) (disk : Disk) (told : AreTold words disk) where
       let same : other ≡ file = cc in
       let first : c ≡ a = cc in
       let second : d ≡ b = cc in
-      let bytes = told file a b give in
-      sub_types_one disk file bytes.0 bytes.1 a b r s answers
+      file_decides disk file a b (known file a b give) r s answers
       (subst (λ f. SubTypesAnswer disk f a b s) same (subst (λ x. SubTypesAnswer disk other a x s) second (subst (λ x. SubTypesAnswer disk other x d s) first answers')))
   one_status _ _ (sub_types file text1 text2 give reply answers) (command_not_built command give' is) = absurd (sub_types_is_built words file text1 text2 give command give' is)
   one_status _ _ (command_not_built command give is) (no_form none) = absurd (none command give)

@@ -1,5 +1,5 @@
 -- The answers of the program.
-use Rattle.std.specs.Prelude.{◌≡◌, ℕ, ◌<◌, ◌≤◌, List, Option, Some, IfSome, ◌++◌, length, codes, encode_utf8_all}
+use Rattle.std.specs.Prelude.{◌≡◌, ℕ, ◌<◌, ◌≤◌, List, Option, Some, IfSome, ◌⊎◌, ◌++◌, length, codes, encode_utf8_all}
 use Rattle.std.specs.Str.{IsUtf8}
 use Rattle.std.specs.Str.Lossy.{utf8_valid_len}
 use Rattle.cd_base.specs.declared.status.Status.TheVariants.{Done, No}
@@ -84,6 +84,7 @@ pub data Answer (words : List Bytes) (disk : Disk) : Reply → Type 0 where
   sub_types : (file text1 text2 : Bytes) → Give words (SubTypes file text1 text2)
       → (reply : Reply) → SubTypesAnswer disk file text1 text2 reply → Answer words disk reply
 
--- the file that the words name, if any, is told
-abbrev pub AreTold : List Bytes → Disk → Type 0
-AreTold words disk = (file text1 text2 : Bytes) → Give words (SubTypes file text1 text2) → (bytes : Bytes) × (disk.told file ≡ Some bytes)
+-- the file that the words name, if any, can't be read, or is told
+abbrev pub FileIsKnown : List Bytes → Disk → Type 0
+FileIsKnown words disk = (file text1 text2 : Bytes) → Give words (SubTypes file text1 text2)
+    → (disk.marked ≡ Some file) ⊎ ((bytes : Bytes) × (disk.told file ≡ Some bytes))

@@ -21,8 +21,6 @@ use std::alloc::Global;
 
 mod answer;
 mod compare;
-#[cfg(test)]
-mod document_tests;
 mod file;
 pub mod laws;
 mod message;
@@ -30,8 +28,6 @@ pub mod position;
 mod reader;
 mod refusal;
 mod request;
-#[cfg(test)]
-mod tests;
 
 /// Does what the words ask, which are the program's arguments without its name, and answers the status
 /// that the program ends with. An answer has a text for `out` or for `err`, which is made whole before

@@ -19,9 +19,9 @@ pub(crate) fn read_type(
     alloc: Global,
     declared: &Declarations,
     text: &str,
-) -> Result<Result<Tree, Refusal>, AllocError>
+) -> Result<Result<Box<Tree>, Refusal>, AllocError>
     ensures { IfOk result (λ read. MatchResult read
-        (λ is. ReadsAs (plain_declarations declared.now) text.now (type_of (plain_declarations declared.now) (plain is)))
+        (λ is. ReadsAs (plain_declarations declared.now) text.now (type_of (plain_declarations declared.now) (plain is.value)))
         (λ refusal. RefusesType (plain_declarations declared.now) text.now (against refusal))) }
 {
     let tokens = match tokens(alloc, text)? {
@@ -29,7 +29,7 @@ pub(crate) fn read_type(
         Err(fault) => return Ok(Err(Refusal::Lexical(fault))),
     };
     let tree = match parse_type(alloc, tokens.as_slice(), text.len()) {
-        Ok(tree) => tree,
+        Ok(tree) => Box::new(alloc, tree)?,
         Err(error) => return Ok(Err(refusal_of(error)?)),
     };
     if let Err(error) = check_type(alloc, declared, &tree) {

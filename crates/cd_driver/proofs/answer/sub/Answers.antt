@@ -1,9 +1,10 @@
-use Rattle.std.proofs.Common.{refl, ◌≡◌}
+use Rattle.std.proofs.Common.{refl, sym, subst, ◌≡◌}
 use Rattle.std.specs.Prelude.{codes}
 use Rattle.cd_syntax.specs.PlainTree.{plain, plain_declarations}
 use Rattle.cd_driver.specs.Reply.{refusal}
 use Rattle.cd_driver.specs.Refusal.{against}
 use Rattle.cd_driver.specs.Texts.{type_of}
+use Rattle.cd_driver.specs.Comparing.{IsSound}
 use Rattle.cd_driver.specs.Answer.{SubAnswer, first_refused, second_refused}
 use Rattle.cd_driver.proofs.Answering.{replies, compared}
 use Rattle.cd_driver.proofs.TextReading.{reads_sound}
@@ -22,7 +23,7 @@ returns-in-Err-2 c =
     let first_is = rw c.in-Ok.is at c.in_ok-left.ensures in
     let stands = rw c.in-Err-2.is at c.in_ok-right.ensures in
     replies c.refused-in-Err-2.result (refusal (codes "T2") c.args.second.now (against c.in-Err-2.refusal)) (SubAnswer declared c.args.first.now c.args.second.now) c.refused-in-Err-2.ensures
-    (second_refused (type_of declared (plain c.in-Ok.left)) first_is (against c.in-Err-2.refusal) stands)
+    (second_refused (type_of declared (plain c.in-Ok.left.value)) first_is (against c.in-Err-2.refusal) stands)
 
 -- types that texts read as are sound
 pub compare-requires : goal.compare-requires
@@ -34,8 +35,8 @@ compare-requires c =
       (
         c.requires,
         (
-          reads_sound declared c.args.first.now (plain c.in-Ok.left) first_is,
-          reads_sound declared c.args.second.now (plain c.in-Ok-2.right) second_is,
+          subst (λ t. IsSound declared (plain t)) (sym c.deref.ensures) (reads_sound declared c.args.first.now (plain c.in-Ok.left.value) first_is),
+          subst (λ t. IsSound declared (plain t)) (sym c.deref-2.ensures) (reads_sound declared c.args.second.now (plain c.in-Ok-2.right.value) second_is),
         ),
       ),
     )
@@ -45,5 +46,5 @@ returns c =
     let declared = plain_declarations c.args.declared.now in
     let first_is = rw c.in-Ok.is at c.in_ok-left.ensures in
     let second_is = rw c.in-Ok-2.is at c.in_ok-right.ensures in
-    compared declared c.args.first.now c.args.second.now (type_of declared (plain c.in-Ok.left)) (type_of declared (plain c.in-Ok-2.right))
-    first_is second_is c.compare.result c.compare.ensures
+    compared declared c.args.first.now c.args.second.now (type_of declared (plain c.in-Ok.left.value)) (type_of declared (plain c.in-Ok-2.right.value))
+    first_is second_is c.compare.result (rw c.deref.ensures at (rw c.deref-2.ensures at c.compare.ensures))

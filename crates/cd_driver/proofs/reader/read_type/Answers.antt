@@ -1,3 +1,4 @@
+use Rattle.std.proofs.Common.{◌≡◌}
 use Rattle.cd_syntax.specs.PlainTree.{plain, plain_declarations}
 use Rattle.cd_syntax.specs.SyntaxFaults.{AType}
 use Rattle.cd_driver.specs.Texts.{lexical, IsToldOfType, IsFaultOfType}
@@ -20,6 +21,7 @@ returns-in-Err-check_type c =
     let tree = plain c.in-Ok-parse_type.tree in
     let spelled = rw c.in-Ok.is at c.in_ok-tokens.ensures in
     let written = rw c.as_slice.ensures.value at c.in-Ok-parse_type.ensures.tree in
+    let same : c.in_ok-tree-in-Ok-parse_type.tree.value ≡ c.in-Ok-parse_type.tree = c.in_ok-tree-in-Ok-parse_type.ensures.ok in
     names_refused AType (IsToldOfType declared) c.args.text.now c.in-Ok.tokens.items spelled (IsFaultOfType declared tree)
-    (λ fault told. (tree, written, told)) c.in-Err-check_type.error c.in-Err-check_type.ensures.fault
+    (λ fault told. (tree, written, told)) c.in-Err-check_type.error (rw same at (rw c.deref.ensures at c.in-Err-check_type.ensures.fault))
     c.in_ok-refusal_of_names.field-0 c.in_ok-refusal_of_names.ensures
