@@ -1,11 +1,13 @@
 use crate::fault::NameFault;
 use cd_syntax::name::Name;
 use std::alloc::AllocError;
+use thiserror::Error;
 
 /// Why the names of what is written are refused.
-#[derive(Debug, Drop)]
+#[derive(Debug, Drop, Error)]
 pub enum NameError {
     /// A fault, the name that it is told of, and its place.
+    #[error("{fault}: {name}")]
     Fault {
         /// What is wrong.
         fault: NameFault,
@@ -14,7 +16,8 @@ pub enum NameError {
         /// Where it stands.
         at: usize,
     },
-    /// Want of memory.
+    /// Memory ran out.
+    #[error("memory ran out")]
     Memory,
 }
 

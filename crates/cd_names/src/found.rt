@@ -10,7 +10,7 @@ use cd_syntax::type_tree::Declarations;
 use std::alloc::{AllocError, Global};
 
 /// A fault, the name that it is told of, and its place.
-#[derive(Clone, Copy, Debug)]
+#[derive(Clone, Copy)]
 pub(crate) struct Told<'t> {
     pub(crate) fault: NameFault,
     pub(crate) name: &'t Name,
@@ -18,14 +18,14 @@ pub(crate) struct Told<'t> {
 }
 
 /// A declared name: the first of its name in the list of this number.
-#[derive(Clone, Copy, Debug)]
+#[derive(Clone, Copy)]
 pub(crate) struct Id<'t> {
     pub(crate) list: usize,
     pub(crate) name: &'t Name,
 }
 
 /// One declared name leads to another, which is declared at this place.
-#[derive(Clone, Copy, Debug)]
+#[derive(Clone, Copy)]
 pub(crate) struct Link<'t> {
     pub(crate) start: Id<'t>,
     pub(crate) to: Id<'t>,
@@ -33,14 +33,14 @@ pub(crate) struct Link<'t> {
 }
 
 /// Where a name is declared: the number of the list, and the place.
-#[derive(Clone, Copy, Debug)]
+#[derive(Clone, Copy)]
 pub(crate) struct Place {
     pub(crate) list: usize,
     pub(crate) at: usize,
 }
 
 /// The faults so far, the lists of declarations, and the links between declared names.
-#[derive(Debug, Drop)]
+#[derive(Drop)]
 pub(crate) struct Found<'t> {
     pub(crate) faults: Vec<Told<'t>>,
     pub(crate) lists: Vec<&'t Declarations>,

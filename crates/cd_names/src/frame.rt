@@ -8,7 +8,7 @@ use cd_syntax::name::Name;
 use cd_syntax::type_tree::Declarations;
 
 /// A list of declarations, its names in their order, and its number.
-#[derive(Clone, Copy, Debug)]
+#[derive(Clone, Copy)]
 pub(crate) struct Frame<'t, 'n> {
     pub(crate) declarations: &'t Declarations,
     pub(crate) names: &'n NameIndex<'t>,

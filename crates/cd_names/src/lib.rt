@@ -12,8 +12,6 @@ mod least;
 mod lookup;
 mod order;
 mod ranks;
-#[cfg(test)]
-mod tests;
 mod walk;
 
 pub use check::{check_declarations, check_type};
