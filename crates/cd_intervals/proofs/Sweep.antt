@@ -5,7 +5,8 @@ use Rattle.cd_intervals.specs.declared.interval.Interval.{Interval}
 use Rattle.cd_intervals.specs.declared.combine.Operation.{Operation}
 use Rattle.cd_intervals.specs.declared.combine.Operation.TheVariants.{Union, Intersection, Difference}
 use Rattle.cd_intervals.specs.Interval.{holds}
-use Rattle.cd_intervals.specs.Rises.{LEAST, GREATEST, IsRising}
+use Rattle.cd_syntax.specs.Integer.{LEAST, GREATEST}
+use Rattle.cd_intervals.specs.Rises.{IsRising}
 use Rattle.cd_intervals.specs.Combine.{keeps_of, IsAhead, IsSwept}
 use Rattle.cd_intervals.proofs.Rising.{holds_before, holds_after, rises_later}
 

@@ -4,7 +4,8 @@ use Rattle.cd_intervals.specs.declared.interval.Interval.{Interval}
 use Rattle.cd_intervals.specs.declared.combine.Operation.{Operation}
 use Rattle.cd_intervals.specs.declared.combine.Operation.TheVariants.{Union, Intersection, Difference}
 use Rattle.cd_intervals.specs.Interval.{holds}
-use Rattle.cd_intervals.specs.Rises.{LEAST, GREATEST, Rises}
+use Rattle.cd_syntax.specs.Integer.{LEAST, GREATEST}
+use Rattle.cd_intervals.specs.Rises.{Rises}
 
 -- whether the operation keeps a number that the left set holds or not, and the right one
 abbrev pub keeps_of : Operation → Bool → Bool → Bool

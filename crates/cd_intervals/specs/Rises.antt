@@ -1,13 +1,7 @@
 -- Intervals in rising order, with at least one number between any two.
-use Rattle.std.specs.Prelude.{ℤ, pos, negsuc, ◌+ℤ◌, ◌≤ℤ◌, List, [], ◌∷◌}
+use Rattle.std.specs.Prelude.{ℤ, pos, ◌+ℤ◌, ◌≤ℤ◌, List, [], ◌∷◌}
+use Rattle.cd_syntax.specs.Integer.{LEAST, GREATEST}
 use Rattle.cd_intervals.specs.declared.interval.Interval.{Interval}
-
--- the least and the greatest number of 128 bits
-abbrev pub LEAST : ℤ
-LEAST = negsuc 170141183460469231731687303715884105727
-
-abbrev pub GREATEST : ℤ
-GREATEST = pos 170141183460469231731687303715884105727
 
 -- the intervals hold a number each, begin at `from` or later, and each leaves a number free before the next, or before `to`
 abbrev pub Rises : ℤ → List Interval → ℤ → Type 0

@@ -8,7 +8,7 @@ use std::marker::Model;
 
 /// A set of atoms: finitely many, or all but finitely many. A contract sees whether it is all but those
 /// that are listed, and the names that are listed.
-#[derive(Debug, Drop)]
+#[derive(Drop)]
 pub struct AtomSet {
     all_but: bool,
     names: Vec<String>,
@@ -252,110 +252,4 @@ fn longest(names: &Vec<String>) -> usize
         longest = longest.max(name.as_str().len());
     }
     longest
-}
-
-#[cfg(test)]
-mod tests {
-    use super::*;
-    use std::test::Fail;
-
-    // The set of two atoms, or of all but the two.
-    fn of_two(first: &AtomSet, second: &AtomSet, all_but: bool) -> Result<AtomSet, AllocError> {
-        let both = first.union(second)?;
-        if all_but {
-            return AtomSet::all(*both.names.allocator()).minus(&both);
-        }
-        Ok(both)
-    }
-
-    fn held(set: &AtomSet) -> [bool; 4] {
-        [
-            set.contains("a"),
-            set.contains("b"),
-            set.contains("c"),
-            set.contains("d_1"),
-        ]
-    }
-
-    // Sets of `a` and `b`, and of `b` and `c`, or of all but those: each of the four cases.
-    #[test]
-    fn combines(rt: HostRuntime) -> Result<(), Fail> {
-        let a = AtomSet::one(rt.alloc(), "a")?;
-        let b = AtomSet::one(rt.alloc(), "b")?;
-        let c = AtomSet::one(rt.alloc(), "c")?;
-        let (yes, no) = (true, false);
-        let rows = [
-            (
-                (no, no),
-                [yes, yes, yes, no],
-                [no, yes, no, no],
-                [yes, no, no, no],
-            ),
-            (
-                (no, yes),
-                [yes, yes, no, yes],
-                [yes, no, no, no],
-                [no, yes, no, no],
-            ),
-            (
-                (yes, no),
-                [no, yes, yes, yes],
-                [no, no, yes, no],
-                [no, no, no, yes],
-            ),
-            (
-                (yes, yes),
-                [yes, no, yes, yes],
-                [no, no, no, yes],
-                [no, no, yes, no],
-            ),
-        ];
-        for (all_but, union, intersection, difference) in rows {
-            let left = of_two(&a, &b, all_but.0)?;
-            let right = of_two(&b, &c, all_but.1)?;
-            assert_eq!(rt; (left.all_but(), right.all_but()), all_but);
-            assert_eq!(rt; held(&left.union(&right)?), union);
-            assert_eq!(rt; held(&left.intersect(&right)?), intersection);
-            assert_eq!(rt; held(&left.minus(&right)?), difference);
-            assert_eq!(rt; held(&left.copy()?), held(&left));
-            assert_eq!(rt; left.minus(&left)?.is_empty(), true);
-        }
-        Ok(())
-    }
-
-    // A member of a set of all but some is none of those.
-    #[test]
-    fn finds_a_member(rt: HostRuntime) -> Result<(), Fail> {
-        let b = AtomSet::one(rt.alloc(), "b")?;
-        let all = AtomSet::all(rt.alloc());
-        let short = AtomSet::one(rt.alloc(), "a")?.union(&AtomSet::one(rt.alloc(), "aa")?)?;
-        let rest = all.minus(&short.union(&b)?)?;
-        let rows = [
-            (AtomSet::empty(rt.alloc()), None),
-            (all, Some("a")),
-            (b, Some("b")),
-            (rest, Some("aaa")),
-        ];
-        for (set, member) in rows {
-            assert_eq!(rt; set.some_member()?.as_deref(), member);
-            assert_eq!(rt; set.is_empty(), member.is_none());
-        }
-        Ok(())
-    }
-
-    // The list is in the order in which the names came.
-    #[test]
-    fn lists(rt: HostRuntime) -> Result<(), Fail> {
-        let first = AtomSet::one(rt.alloc(), "b")?.union(&AtomSet::one(rt.alloc(), "aa")?)?;
-        let set = AtomSet::all(rt.alloc()).minus(&first)?;
-        let set = set.minus(&AtomSet::one(rt.alloc(), "aa")?)?;
-        for set in [set.copy()?, set] {
-            assert_eq!(rt; set.all_but(), true);
-            assert_eq!(rt;
-                [set.listed(0), set.listed(1), set.listed(2)],
-                [Some("b"), Some("aa"), None]
-            );
-        }
-        Ok(())
-    }
 }

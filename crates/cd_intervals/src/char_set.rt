@@ -12,7 +12,7 @@ use std::marker::Model;
 
 /// A set of characters. A contract sees its intervals, in rising order and with a character left out
 /// between any two. U+E000 is the next character after U+D7FF.
-#[derive(Debug, Drop)]
+#[derive(Drop)]
 pub struct CharSet {
     numbers: Vec<Interval>,
 }
@@ -170,109 +170,4 @@ fn character(number: i128) -> char
         number + 0x800
     };
     char::from_u32(code as u32).unwrap()
-}
-
-#[cfg(test)]
-mod tests {
-    use super::*;
-    use std::test::Fail;
-
-    // Each call answers, and at the edges and across the gap too.
-    #[test]
-    fn combines(rt: HostRuntime) -> Result<(), Fail> {
-        let (least, below, above, most) = ('\0', '\u{D7FF}', '\u{E000}', '\u{10FFFF}');
-        let rows = [
-            (
-                ('a', 'f'),
-                ('a', 'e'),
-                Some(('a', 'f')),
-                Some(('a', 'e')),
-                Some(('f', 'f')),
-            ),
-            (
-                ('a', 'c'),
-                ('d', 'e'),
-                Some(('a', 'e')),
-                None,
-                Some(('a', 'c')),
-            ),
-            (('f', 'e'), ('b', 'b'), Some(('b', 'b')), None, None),
-            (
-                (least, below),
-                (above, most),
-                Some((least, most)),
-                None,
-                Some((least, below)),
-            ),
-            (
-                (least, most),
-                (above, most),
-                Some((least, most)),
-                Some((above, most)),
-                Some((least, below)),
-            ),
-            (
-                (least, most),
-                (least, below),
-                Some((least, most)),
-                Some((least, below)),
-                Some((above, most)),
-            ),
-            (
-                (below, above),
-                (above, above),
-                Some((below, above)),
-                Some((above, above)),
-                Some((below, below)),
-            ),
-            (
-                (least, most),
-                (most, most),
-                Some((least, most)),
-                Some((most, most)),
-                Some((least, '\u{10FFFE}')),
-            ),
-        ];
-        for (left, right, union, intersection, difference) in rows {
-            let left = CharSet::interval(rt.alloc(), left.0, left.1)?;
-            let right = CharSet::interval(rt.alloc(), right.0, right.1)?;
-            let both = left.union(&right)?;
-            assert_eq!(rt; (both.piece(0), both.piece(1)), (union, None));
-            assert_eq!(rt; left.intersect(&right)?.piece(0), intersection);
-            assert_eq!(rt; left.minus(&right)?.piece(0), difference);
-            assert_eq!(rt; left.minus(&right)?.is_empty(), difference.is_none());
-            assert_eq!(rt; left.copy()?.piece(0), left.piece(0));
-        }
-        Ok(())
-    }
-
-    // A difference in the middle leaves two pieces, and the union with the middle joins them again.
-    #[test]
-    fn splits_and_joins(rt: HostRuntime) -> Result<(), Fail> {
-        let all = CharSet::interval(rt.alloc(), '\0', '\u{10FFFF}')?;
-        let middle = CharSet::interval(rt.alloc(), 'b', '\u{E000}')?;
-        let sides = all.minus(&middle)?;
-        let pieces = [sides.piece(0), sides.piece(1), sides.piece(2)];
-        assert_eq!(rt;
-            pieces,
-            [Some(('\0', 'a')), Some(('\u{E001}', '\u{10FFFF}')), None]
-        );
-        assert_eq!(rt; sides.union(&middle)?.piece(0), all.piece(0));
-        assert_eq!(rt;
-            [
-                sides.contains('a'),
-                sides.contains('\u{D7FF}'),
-                sides.contains('\u{E001}')
-            ],
-            [true, false, true]
-        );
-        assert_eq!(rt;
-            (
-                sides.some_member(),
-                CharSet::empty(rt.alloc()).some_member()
-            ),
-            (Some('\0'), None)
-        );
-        Ok(())
-    }
 }

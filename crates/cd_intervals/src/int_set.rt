@@ -10,7 +10,7 @@ use std::marker::Model;
 
 /// A set of integers of 128 bits. A contract sees its intervals, in rising order and with a number left
 /// out between any two.
-#[derive(Debug, Drop)]
+#[derive(Drop)]
 pub struct IntSet {
     intervals: Vec<Interval>,
 }
@@ -121,67 +121,5 @@ impl IntSet {
             other.intervals.as_slice(),
         )?;
         Ok(IntSet { intervals })
-    }
-}
-
-#[cfg(test)]
-mod tests {
-    use super::*;
-    use std::test::Fail;
-
-    // Each call answers, and at the edges of 128 bits too.
-    #[test]
-    fn combines(rt: HostRuntime) -> Result<(), Fail> {
-        let (least, most) = (i128::MIN, i128::MAX);
-        let rows = [
-            ((0, 5), (0, 4), Some((0, 5)), Some((0, 4)), Some((5, 5))),
-            ((0, 5), (0, 9), Some((0, 9)), Some((0, 5)), None),
-            ((0, 2), (3, 4), Some((0, 4)), None, Some((0, 2))),
-            ((5, 4), (1, 1), Some((1, 1)), None, None),
-            (
-                (least, most),
-                (0, most),
-                Some((least, most)),
-                Some((0, most)),
-                Some((least, -1)),
-            ),
-            (
-                (least, most),
-                (least, least),
-                Some((least, most)),
-                Some((least, least)),
-                Some((least + 1, most)),
-            ),
-        ];
-        for (left, right, union, intersection, difference) in rows {
-            let left = IntSet::interval(rt.alloc(), left.0, left.1)?;
-            let right = IntSet::interval(rt.alloc(), right.0, right.1)?;
-            assert_eq!(rt; left.union(&right)?.piece(0), union);
-            assert_eq!(rt; left.intersect(&right)?.piece(0), intersection);
-            assert_eq!(rt; left.minus(&right)?.piece(0), difference);
-            assert_eq!(rt; left.minus(&right)?.is_empty(), difference.is_none());
-            assert_eq!(rt; left.copy()?.piece(0), left.piece(0));
-        }
-        Ok(())
-    }
-
-    // A difference in the middle leaves two pieces, and the union with the middle joins them again.
-    #[test]
-    fn splits_and_joins(rt: HostRuntime) -> Result<(), Fail> {
-        let all = IntSet::interval(rt.alloc(), 0, 9)?;
-        let middle = IntSet::interval(rt.alloc(), 4, 5)?;
-        let sides = all.minus(&middle)?;
-        let pieces = [sides.piece(0), sides.piece(1), sides.piece(2)];
-        assert_eq!(rt; pieces, [Some((0, 3)), Some((6, 9)), None]);
-        assert_eq!(rt; sides.union(&middle)?.piece(0), Some((0, 9)));
-        assert_eq!(rt;
-            [sides.contains(3), sides.contains(4), sides.contains(6)],
-            [true, false, true]
-        );
-        assert_eq!(rt;
-            (sides.some_member(), IntSet::empty(rt.alloc()).some_member()),
-            (Some(0), None)
-        );
-        Ok(())
     }
 }

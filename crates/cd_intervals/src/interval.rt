@@ -1,5 +1,5 @@
 /// The integers from `low` to `high`, both among them; none where `low` is above `high`.
-#[derive(Clone, Copy, Debug, PartialEq, Eq)]
+#[derive(Clone, Copy, PartialEq, Eq)]
 pub struct Interval {
     pub low: i128,
     pub high: i128,

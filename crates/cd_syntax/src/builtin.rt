@@ -1,5 +1,5 @@
 /// The name of a type that is built in.
-#[derive(Clone, Copy, Debug, PartialEq, Eq)]
+#[derive(Clone, Copy, PartialEq, Eq)]
 pub enum BuiltinName {
     /// `Empty`: nothing.
     Empty,

@@ -9,8 +9,5 @@ pub mod laws;
 mod make;
 pub mod name;
 pub mod sign;
-#[cfg(test)]
-mod tests;
 pub mod tokens;
-mod tree_copy;
 pub mod type_tree;

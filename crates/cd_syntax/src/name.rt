@@ -3,6 +3,7 @@ ghost use Rattle.std.specs.Str.{chars};
 ghost use Rattle.cd_syntax.specs.Name.{first, only, is_type_name as is_type_name_of};
 
 use std::alloc::{AllocError, Global};
+use std::fmt;
 use std::marker::Model;
 
 /// A text, which a contract sees as the list of its characters: a word, a label, the name of an atom, or
@@ -94,5 +95,11 @@ impl Name {
         ensures { IfOk result (λ name. name ≡ self.now) }
     {
         Name::of(*self.text.allocator(), self.as_str())
+    }
+}
+
+impl fmt::Display for Name {
+    fn fmt<W: fmt::Write>(&self, f: &mut fmt::Formatter<W>) -> fmt::Result {
+        f.write_str(self.text.as_str())
     }
 }

@@ -1,5 +1,5 @@
 /// A sign of a text.
-#[derive(Clone, Copy, Debug, PartialEq, Eq)]
+#[derive(Clone, Copy, PartialEq, Eq)]
 pub enum Sign {
     /// `*--`, before the upper bound of an interval that has no lower one.
     StarTo,

@@ -5,7 +5,7 @@ use thiserror::Error;
 
 /// Where a form stands in a text: the byte offset of its first character, and that of what follows its
 /// last one.
-#[derive(Clone, Copy, Debug, PartialEq, Eq)]
+#[derive(Clone, Copy, PartialEq, Eq)]
 pub struct Span {
     /// The first byte.
     pub from: usize,
@@ -14,7 +14,7 @@ pub struct Span {
 }
 
 /// A token of a text, and where it stands.
-#[derive(Debug, Drop)]
+#[derive(Drop)]
 pub struct Token {
     /// What it is.
     pub kind: TokenKind,
@@ -23,7 +23,7 @@ pub struct Token {
 }
 
 /// What a token is.
-#[derive(Debug, Drop)]
+#[derive(Drop)]
 pub enum TokenKind {
     /// A word: an ASCII letter or `_`, and then ASCII letters, digits and `_`.
     Word(Name),

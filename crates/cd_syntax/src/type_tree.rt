@@ -9,7 +9,7 @@ use crate::tokens::Span;
 
 /// A type or a pattern as it is written, and where. A chain at one level is one node, whatever its length.
 #[cycle(type_tree)]
-#[derive(Debug, Drop)]
+#[derive(Drop)]
 pub struct Tree {
     /// From the first character of its first token to the end of its last one.
     pub span: Span,
@@ -19,7 +19,7 @@ pub struct Tree {
 
 /// What a type or a pattern is.
 #[cycle(type_tree)]
-#[derive(Debug, Drop)]
+#[derive(Drop)]
 pub enum TreeKind {
     /// A type that is built in.
     Builtin(BuiltinName),
@@ -58,21 +58,21 @@ pub enum TreeKind {
 
 /// A list of trees.
 #[cycle(type_tree)]
-#[derive(Debug, Drop)]
+#[derive(Drop)]
 pub struct Trees {
     pub(crate) items: Vec<Tree>,
 }
 
 /// A list of trees with their signs.
 #[cycle(type_tree)]
-#[derive(Debug, Drop)]
+#[derive(Drop)]
 pub struct Signed {
     pub(crate) items: Vec<SignedTree>,
 }
 
 /// A tree after `&` or `\`.
 #[cycle(type_tree)]
-#[derive(Debug, Drop)]
+#[derive(Drop)]
 pub struct SignedTree {
     /// `&` and not `\`.
     pub kept: bool,
@@ -82,14 +82,14 @@ pub struct SignedTree {
 
 /// A list of fields.
 #[cycle(type_tree)]
-#[derive(Debug, Drop)]
+#[derive(Drop)]
 pub struct FieldTrees {
     pub(crate) items: Vec<FieldTree>,
 }
 
 /// A field of a record.
 #[cycle(type_tree)]
-#[derive(Debug, Drop)]
+#[derive(Drop)]
 pub struct FieldTree {
     /// Its label.
     pub label: Name,
@@ -103,14 +103,14 @@ pub struct FieldTree {
 
 /// A list of declarations.
 #[cycle(type_tree)]
-#[derive(Debug, Drop)]
+#[derive(Drop)]
 pub struct Declarations {
     pub(crate) items: Vec<Declaration>,
 }
 
 /// A declaration of a type.
 #[cycle(type_tree)]
-#[derive(Debug, Drop)]
+#[derive(Drop)]
 pub struct Declaration {
     /// Its name.
     pub name: Name,
@@ -122,7 +122,7 @@ pub struct Declaration {
 
 /// A regular expression of a sequence, and where it stands.
 #[cycle(type_tree)]
-#[derive(Debug, Drop)]
+#[derive(Drop)]
 pub struct RegTree {
     /// From the first character of its first token to the end of its last one.
     pub span: Span,
@@ -132,7 +132,7 @@ pub struct RegTree {
 
 /// What a regular expression is.
 #[cycle(type_tree)]
-#[derive(Debug, Drop)]
+#[derive(Drop)]
 pub enum RegKind {
     /// No item.
     Nothing,
@@ -150,13 +150,13 @@ pub enum RegKind {
 
 /// A list of regular expressions.
 #[cycle(type_tree)]
-#[derive(Debug, Drop)]
+#[derive(Drop)]
 pub struct RegTrees {
     pub(crate) items: Vec<RegTree>,
 }
 
 /// A postfix of a regular expression.
-#[derive(Clone, Copy, Debug, PartialEq, Eq)]
+#[derive(Clone, Copy, PartialEq, Eq)]
 pub enum Post {
     /// `*`: any number of times, as often as can be.
     Star,

@@ -1,6 +1,6 @@
 use Rattle.std.proofs.Common.{arith}
 use Rattle.std.proofs.lemmas.Int.{ints, to_z-of_z}
-use Rattle.cd_intervals.specs.Rises.{LEAST}
+use Rattle.cd_syntax.specs.Integer.{LEAST}
 use Rattle.cd_intervals.proofs.Rising.{rises_append}
 use Rattle.cd_intervals.proofs.combine.end.Goals as goal
 
