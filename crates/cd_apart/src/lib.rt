@@ -5,8 +5,6 @@ pub mod apart;
 mod asking;
 mod parts;
 pub mod reduced;
-#[cfg(test)]
-mod tests;
 
 pub use apart::are_apart;
 pub use reduced::reduced_clause;

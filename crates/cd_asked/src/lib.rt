@@ -2,7 +2,5 @@
 #![tactic(auto)]
 
 pub mod asked;
-#[cfg(test)]
-mod tests;
 
 pub use asked::{Asked, QuestionId};

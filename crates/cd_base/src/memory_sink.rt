@@ -85,28 +85,3 @@ fn refusal(failing: &[(u64, usize)], put: u64) -> Option<usize>
         .find(|entry| entry.0 == put)
         .map(|entry| entry.1)
 }
-
-#[cfg(test)]
-mod tests {
-    use super::*;
-    use std::test::Fail;
-
-    // The second put keeps two bytes and fails, the third keeps all of its bytes and fails.
-    #[test]
-    fn refuses_as_planned(rt: HostRuntime) -> Result<(), Fail> {
-        let mut sink = MemorySink::new(rt.alloc(), vec![in rt.alloc(); (2, 2), (3, 9), (2, 0)]?);
-        let puts = [
-            ("yes", Ok(()), "yes"),
-            ("no: 5", Err(PutError::Failed), "yesno"),
-            ("!", Err(PutError::Failed), "yesno!"),
-            ("", Ok(()), "yesno!"),
-            ("?", Ok(()), "yesno!?"),
-        ];
-        for (text, want, held) in puts {
-            assert_eq!(rt; sink.put(text.as_bytes()), want, "{text}");
-            assert_eq!(rt; sink.bytes(), held.as_bytes());
-        }
-        assert_eq!(rt; sink.faults, 2);
-        Ok(())
-    }
-}

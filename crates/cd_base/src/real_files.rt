@@ -89,37 +89,3 @@ fn front<R: Read + Drop>(alloc: Global, reader: R, most: usize) -> io::Result<Ve
     bytes.truncate(most);
     Ok(bytes)
 }
-
-#[cfg(test)]
-mod tests {
-    use super::*;
-    use std::test::Fail;
-    use std::{env, fs, process};
-
-    // The front of a file is read, and a missing file and a folder are told as faults.
-    #[test]
-    fn reads_fronts_and_counts_faults(rt: HostRuntime) -> Result<(), Fail> {
-        let folder = env::temp_dir(&rt)?;
-        let id = process::id(rt.process());
-        let path = format!(in rt.alloc(); "{}/cd_base_{id}", folder.display())?;
-        fs::write(&rt, path.as_str(), "0123456789")?;
-        let mut files = RealFiles::new(rt.alloc(), rt);
-        for (most, want) in [(0, ""), (4, "0123"), (10, "0123456789"), (11, "0123456789")] {
-            let front = files.read(path.as_str(), most)?;
-            assert_eq!(rt; front.as_slice(), want.as_bytes(), "the first {most}");
-        }
-        fs::remove_file(&rt, path.as_str())?;
-        assert_eq!(rt; files.faults, 0);
-        assert_eq!(rt; files.read(path.as_str(), 4).err(), Some(ReadError::Failed));
-        assert_eq!(rt; files.faults, 1);
-        assert_eq!(rt; files.read("/", 4).err(), Some(ReadError::Failed));
-        assert_eq!(rt; files.faults, 2);
-        assert!(rt;
-            files
-                .last
-                .as_ref()
-                .map_or(false, |last| last.as_str() == "/")
-        );
-        Ok(())
-    }
-}

@@ -72,20 +72,3 @@ impl Sink for RealSink {
         Ok(())
     }
 }
-
-#[cfg(test)]
-mod tests {
-    use super::*;
-    use std::test::Fail;
-
-    // Both streams take bytes, and no fault is counted.
-    #[test]
-    fn takes_bytes(rt: HostRuntime) -> Result<(), Fail> {
-        let mut output = RealSink::output(rt.stdout());
-        let mut errors = RealSink::errors(rt.stderr());
-        output.put(b"to output\n")?;
-        errors.put(b"to errors\n")?;
-        assert_eq!(rt; (output.faults, errors.faults), (0, 0));
-        Ok(())
-    }
-}

@@ -8,4 +8,3 @@ pub mod Sequences
 pub mod WholeRows
 pub mod Letters
 pub mod Writes
-pub mod Words

@@ -9,7 +9,7 @@ use cd_syntax::name::Name;
 use std::alloc::{AllocError, Global};
 
 /// A table of elements, to which elements are only added.
-#[derive(Debug, Drop)]
+#[derive(Drop)]
 pub struct Elements {
     shapes: Vec<Shape>,
     ghost sound: { AreShapes [] shapes.items } by { shapes_prop [] shapes.items },

@@ -10,8 +10,6 @@ mod rows;
 mod sequence;
 pub mod shape;
 mod task;
-#[cfg(test)]
-mod tests;
 mod text;
 
 pub use elements::Elements;

@@ -8,7 +8,7 @@ use std::alloc::{AllocError, Global};
 use std::marker::Model;
 
 /// A text to which characters are added at the end. A contract sees the list of its characters.
-#[derive(Debug, Drop)]
+#[derive(Drop)]
 pub(crate) struct Output {
     text: String,
 }

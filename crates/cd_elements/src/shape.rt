@@ -7,11 +7,11 @@ use std::alloc::AllocError;
 use std::marker::Model;
 
 /// The number of an element in its table.
-#[derive(Clone, Copy, Debug, Default, PartialEq, Eq, PartialOrd, Ord, Hash)]
+#[derive(Clone, Copy, Default, PartialEq, Eq, PartialOrd, Ord, Hash)]
 pub struct ElementId(pub usize);
 
 /// An element over the elements of its table.
-#[derive(Debug, Drop)]
+#[derive(Drop)]
 pub enum Shape {
     /// An integer.
     Int(i128),
@@ -30,7 +30,7 @@ pub enum Shape {
 }
 
 /// The fields of a record, by rising label. A contract sees them in a list.
-#[derive(Debug, Drop)]
+#[derive(Drop)]
 pub struct Parts {
     items: Vec<(Name, ElementId)>,
 }
@@ -79,7 +79,7 @@ impl Parts {
 
 /// The pairs of a function: an argument and its result, or none where the function fails at it. A contract
 /// sees them in a list.
-#[derive(Debug, Drop)]
+#[derive(Drop)]
 pub struct Pairs {
     items: Vec<(ElementId, Option<ElementId>)>,
 }

@@ -10,7 +10,7 @@ use cd_syntax::name::Name;
 use std::alloc::{AllocError, Global};
 
 /// A text that stands between elements or after them.
-#[derive(Clone, Copy, Debug)]
+#[derive(Clone, Copy)]
 pub(crate) enum Mark {
     Comma,
     Semicolon,

@@ -1,7 +1,7 @@
 use cd_elements::ElementId;
 
 /// Whether a question has an element.
-#[derive(Clone, Copy, Debug, PartialEq, Eq)]
+#[derive(Clone, Copy, PartialEq, Eq)]
 pub enum Verdict {
     /// It has none.
     Empty,

@@ -23,7 +23,7 @@ use cd_sets::question::Question;
 use std::alloc::{AllocError, Global};
 
 /// What is known of a question by its clauses alone.
-#[derive(Debug, Drop)]
+#[derive(Drop)]
 pub enum Expansion {
     /// It has this element.
     Element(Shape),

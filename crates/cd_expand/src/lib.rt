@@ -7,8 +7,6 @@ pub mod needs;
 mod numbering;
 mod of_clause;
 mod rows;
-#[cfg(test)]
-mod tests;
 
 pub use expansion::{Expansion, expand};
 pub use needs::{Cell, Needs, Row, Way};

@@ -3,7 +3,7 @@ use cd_syntax::name::Name;
 use std::marker::Model;
 
 /// A way to meet a need: the questions that all have to have elements. A contract sees their numbers in a list.
-#[derive(Debug, Drop)]
+#[derive(Drop)]
 pub struct Way {
     questions: Vec<QuestionId>,
 }
@@ -36,7 +36,7 @@ impl Way {
 }
 
 /// What a row says of one label.
-#[derive(Debug, Drop)]
+#[derive(Drop)]
 pub struct Cell {
     /// The label.
     pub label: Name,
@@ -47,7 +47,7 @@ pub struct Cell {
 }
 
 /// A row of a clause of records: what may stand at some labels, and what has to stand at some other label.
-#[derive(Debug, Drop)]
+#[derive(Drop)]
 pub struct Row {
     /// What may stand at the labels that some type names.
     pub cells: Vec<Cell>,
@@ -56,7 +56,7 @@ pub struct Row {
 }
 
 /// What a clause needs to have an element. Of each need one way has to be gone.
-#[derive(Debug, Drop)]
+#[derive(Drop)]
 pub enum Needs {
     /// A pair is needed: of each way the questions of the two parts.
     Pair(Vec<Way>),

@@ -8,7 +8,7 @@ use std::alloc::AllocError;
 use std::marker::Model;
 
 /// What a record type says of one label.
-#[derive(Clone, Copy, Debug, PartialEq, Eq)]
+#[derive(Clone, Copy, PartialEq, Eq)]
 pub struct Field {
     /// Whether the field may be absent.
     pub optional: bool,
@@ -17,7 +17,7 @@ pub struct Field {
 }
 
 /// Labels, which rise strictly, and what a record type says of each. A contract sees them in a list.
-#[derive(Debug, Drop)]
+#[derive(Drop)]
 pub struct FieldList {
     items: Vec<(Name, Field)>,
 }
@@ -67,7 +67,7 @@ impl FieldList {
 }
 
 /// A record type: its fields, and the node for all other labels, at which there is nothing or what is in that node.
-#[derive(Debug, Drop)]
+#[derive(Drop)]
 pub struct Fields {
     /// What it says of the labels that it names.
     pub named: FieldList,

@@ -10,7 +10,7 @@ use std::alloc::{AllocError, Global};
 
 /// What a node of a graph holds. Node numbers stand only under constructors.
 #[cycle(formula)]
-#[derive(Debug, Drop)]
+#[derive(Drop)]
 pub enum Formula {
     /// Nothing.
     None,
@@ -40,7 +40,7 @@ pub enum Formula {
 
 /// A list of formulas.
 #[cycle(formula)]
-#[derive(Debug, Drop)]
+#[derive(Drop)]
 pub struct Formulas {
     items: Vec<Formula>,
 }

@@ -16,7 +16,7 @@ use cd_sets::question::Question;
 use std::alloc::{AllocError, Global};
 
 /// A graph of types: a list of formulas, each under the number of its place, which begins with the built-in nodes.
-#[derive(Debug, Drop)]
+#[derive(Drop)]
 pub struct Graph {
     formulas: Formulas,
     ghost sound: { ∥ IsGraph (plain_list formulas) ∥₁ },

@@ -7,8 +7,6 @@ pub mod formula;
 pub mod graph;
 pub mod laws;
 mod make;
-#[cfg(test)]
-mod tests;
 
 pub use formula::{Formula, Formulas};
 pub use graph::Graph;

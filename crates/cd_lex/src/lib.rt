@@ -8,8 +8,6 @@ mod number;
 mod piece;
 mod quoted;
 mod signs;
-#[cfg(test)]
-mod tests;
 mod word;
 
 pub use cd_syntax::tokens::{LexError, Span, Token, TokenKind};

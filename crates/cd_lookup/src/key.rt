@@ -6,7 +6,7 @@ use cd_syntax::name::Name;
 use std::hash::{Hash, Hasher};
 
 /// A name by which its place is looked up.
-#[derive(Clone, Copy, Debug)]
+#[derive(Clone, Copy)]
 pub(crate) struct Key<'t> {
     pub(crate) name: &'t Name,
 }

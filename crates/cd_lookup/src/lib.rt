@@ -4,8 +4,6 @@
 mod declarations;
 mod key;
 pub mod name_index;
-#[cfg(test)]
-mod tests;
 
 pub use declarations::declared_names;
 pub use name_index::NameIndex;

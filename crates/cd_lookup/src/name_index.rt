@@ -10,7 +10,7 @@ use std::alloc::{AllocError, Global};
 use std::marker::Model;
 
 /// Names in the order in which they were added, a name as often as it was. A contract sees them in a list.
-#[derive(Debug, Drop)]
+#[derive(Drop)]
 pub struct NameIndex<'t> {
     names: Vec<&'t Name>,
     places: IndexMap<Key<'t>, usize>,

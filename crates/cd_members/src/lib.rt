@@ -8,8 +8,6 @@ mod living;
 mod making;
 mod parts;
 mod record;
-#[cfg(test)]
-mod tests;
 mod tuple;
 
 pub use making::member;

@@ -6,5 +6,3 @@ pub mod parts;
 mod parts_of;
 mod split;
 mod split_in_three;
-#[cfg(test)]
-mod tests;

@@ -6,7 +6,7 @@ use cd_sets::node_id::NodeId;
 
 /// What a question says of the things of one kind: a set of a basic kind; of another kind, the formulas that a thing is in, and
 /// those that it is outside.
-#[derive(Debug, Drop)]
+#[derive(Drop)]
 pub enum Clause {
     /// These integers.
     Ints(IntSet),

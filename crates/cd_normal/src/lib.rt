@@ -12,8 +12,6 @@ mod literal;
 mod normal;
 mod part;
 mod side;
-#[cfg(test)]
-mod tests;
 mod told;
 
 pub use normal::clauses;

@@ -5,8 +5,6 @@ ghost use Rattle.std.specs.Prelude.{ℕ, ◌<◌, map, length, IfOk};
 ghost use Rattle.cd_order.specs.Order.{AreRows, Ends, IsOrder};
 
 mod search;
-#[cfg(test)]
-mod tests;
 
 use crate::search::Search;
 use std::alloc::{AllocError, Global};

@@ -10,7 +10,7 @@ use cd_type_reader::{Reading, read};
 use std::alloc::Global;
 
 /// The form that is read.
-#[derive(Clone, Copy, Debug, PartialEq, Eq)]
+#[derive(Clone, Copy, PartialEq, Eq)]
 pub enum Mode {
     /// A type.
     TypeText,

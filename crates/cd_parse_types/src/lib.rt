@@ -5,8 +5,6 @@ pub mod declarations;
 pub mod error;
 pub mod front;
 pub mod laws;
-#[cfg(test)]
-mod tests;
 pub mod types;
 
 pub use declarations::parse_declarations;

@@ -8,5 +8,3 @@ mod labels;
 mod reasons;
 pub mod row;
 pub mod split;
-#[cfg(test)]
-mod tests;

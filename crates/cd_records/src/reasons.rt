@@ -9,14 +9,14 @@ use cd_syntax::name::Name;
 use std::alloc::{AllocError, Global};
 
 /// A refused record type, and the label for which a record is outside it; without one that is a label that no type names.
-#[derive(Clone, Copy, Debug)]
+#[derive(Clone, Copy)]
 pub(crate) struct Chosen<'t> {
     pub(crate) refused: &'t Fields,
     pub(crate) reason: Option<&'t Name>,
 }
 
 /// Each refused type, with its reason.
-#[derive(Debug, Drop)]
+#[derive(Drop)]
 pub(crate) struct Choice<'t> {
     pub(crate) reasons: Vec<Chosen<'t>>,
 }

@@ -10,8 +10,6 @@ mod next;
 pub mod regular;
 mod rename;
 mod states;
-#[cfg(test)]
-mod tests;
 
 pub use automaton::sequence_nodes;
 pub use regular::{Reg, Regs};

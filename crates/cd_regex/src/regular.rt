@@ -5,7 +5,7 @@ use cd_sets::node_id::NodeId;
 
 /// A regular expression over nodes.
 #[cycle(regular)]
-#[derive(Debug, Drop)]
+#[derive(Drop)]
 pub enum Reg {
     /// No item.
     Nothing,
@@ -25,7 +25,7 @@ pub enum Reg {
 
 /// A list of regular expressions.
 #[cycle(regular)]
-#[derive(Debug, Drop)]
+#[derive(Drop)]
 pub struct Regs {
     pub(crate) items: Vec<Reg>,
 }

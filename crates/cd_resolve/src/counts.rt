@@ -1,6 +1,6 @@
 /// How many nodes there are: those that tables may name, all that stand before theirs, and then those of their names and
 /// of their shapes.
-#[derive(Clone, Copy, Debug)]
+#[derive(Clone, Copy)]
 pub(crate) struct Counts {
     /// The nodes that places may be at.
     pub(crate) nodes: usize,

@@ -7,8 +7,6 @@ pub mod laws;
 mod make;
 mod rows;
 mod sequences;
-#[cfg(test)]
-mod tests;
 mod types;
 
 pub use cd_shapes::names::Names;

@@ -25,7 +25,7 @@ use cd_syntax::type_tree::{Declarations, Tree};
 use std::alloc::{AllocError, Global};
 
 /// Formulas to be put after those of a graph, and the node of each declared name.
-#[derive(Debug, Drop)]
+#[derive(Drop)]
 pub struct Batch {
     /// The formulas.
     pub formulas: Formulas,
@@ -34,7 +34,7 @@ pub struct Batch {
 }
 
 /// Formulas to be put after those of a graph, and the node of a type.
-#[derive(Debug, Drop)]
+#[derive(Drop)]
 pub struct TypeBatch {
     /// The formulas.
     pub formulas: Formulas,

@@ -18,7 +18,7 @@ use std::hash::{Hash, Hasher};
 use std::marker::Model;
 
 /// A set of node numbers. A contract sees them in a list that rises strictly.
-#[derive(Debug, Drop)]
+#[derive(Drop)]
 pub struct IdSet {
     ids: SmallVec<NodeId, 4>,
 }

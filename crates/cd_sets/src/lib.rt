@@ -6,5 +6,3 @@ pub mod laws;
 pub mod node_id;
 pub mod question;
 pub mod subsets;
-#[cfg(test)]
-mod tests;

@@ -11,7 +11,7 @@ use std::hash::{Hash, Hasher};
 use std::marker::Model;
 
 /// A question: is there an element in each node of `pos` and in none of `neg`?
-#[derive(Debug, Drop)]
+#[derive(Drop)]
 pub struct Question {
     /// The nodes that the element is to be in.
     pub pos: IdSet,
@@ -81,7 +81,7 @@ impl Hash for Question {
 }
 
 /// A list of questions, which a contract sees as the list.
-#[derive(Debug, Drop)]
+#[derive(Drop)]
 pub struct Questions {
     items: Vec<Question>,
 }

@@ -11,7 +11,7 @@ use std::alloc::{AllocError, Global};
 use std::rc::Rc;
 
 /// A list of declarations, its names in their order, and the number of its first name.
-#[derive(Debug, Drop)]
+#[derive(Drop)]
 pub(crate) struct Frame<'t> {
     pub(crate) declarations: &'t Declarations,
     pub(crate) names: Rc<NameIndex<'t>>,

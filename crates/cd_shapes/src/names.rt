@@ -7,7 +7,7 @@ use cd_syntax::name::Name;
 use std::marker::Model;
 
 /// Names, and the node that each of them has. A contract sees the list of these pairs.
-#[derive(Debug, Drop)]
+#[derive(Drop)]
 pub struct Names {
     items: Vec<(Name, NodeId)>,
 }

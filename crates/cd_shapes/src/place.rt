@@ -1,7 +1,7 @@
 use cd_sets::node_id::NodeId;
 
 /// Where the type of something written is found.
-#[derive(Clone, Copy, Debug, PartialEq, Eq)]
+#[derive(Clone, Copy, PartialEq, Eq)]
 pub enum Place {
     /// At a node: of a built-in type, or one that a name was given.
     Node(NodeId),
@@ -12,7 +12,7 @@ pub enum Place {
 }
 
 /// What a record type says of one label.
-#[derive(Clone, Copy, Debug, PartialEq, Eq)]
+#[derive(Clone, Copy, PartialEq, Eq)]
 pub struct FieldPlace {
     /// Whether the field may be absent.
     pub optional: bool,

@@ -5,7 +5,7 @@ use cd_sets::node_id::NodeId;
 use cd_syntax::name::Name;
 
 /// What a written tree is, by the places of its parts.
-#[derive(Debug, Drop)]
+#[derive(Drop)]
 pub enum Shape {
     /// A set of integers, of characters or of atoms.
     Leaf(Formula),

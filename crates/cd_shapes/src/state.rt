@@ -24,14 +24,14 @@ use cd_syntax::type_tree::Declarations;
 use std::alloc::{AllocError, Global};
 
 /// What a chain is made of: of pairs, as a tuple, or of functions, as a chain of arrows.
-#[derive(Clone, Copy, Debug)]
+#[derive(Clone, Copy)]
 pub(crate) enum Joint {
     Pairs,
     Arrows,
 }
 
 /// The lists of declarations that were met, each with those round it, the number of their names, and the shapes.
-#[derive(Debug, Drop)]
+#[derive(Drop)]
 pub(crate) struct State<'t> {
     pub(crate) lists: Vec<Vec<Frame<'t>>>,
     pub(crate) names: usize,

@@ -2,7 +2,7 @@ use crate::place::Place;
 use crate::shape::Shape;
 
 /// What is read of written types: where the type of each declared name is found, and the shapes.
-#[derive(Debug, Drop)]
+#[derive(Drop)]
 pub struct Tables {
     /// The place of the type of each declared name, by its number.
     pub roots: Vec<Place>,

@@ -15,7 +15,7 @@ use cd_syntax::type_tree::Tree;
 use std::alloc::{AllocError, Global};
 
 /// What is read of tokens.
-#[derive(Debug, Drop)]
+#[derive(Drop)]
 pub enum Reading {
     /// The type that all of them write.
     Whole(Tree),
