@@ -6,8 +6,8 @@ use Rattle.cd_sets.specs.declared.node_id.NodeId.{NodeId}
 use Rattle.cd_intervals.specs.declared.interval.Interval.{Interval}
 use Rattle.cd_intervals.specs.Characters.{CharInterval}
 use Rattle.cd_intervals.specs.Atoms.{Atoms as AtomSet}
-use Rattle.cd_syntax.specs.Element as element
-use Rattle.cd_syntax.specs.Element.{Element, IsElement}
+use Rattle.cd_model.specs.Thing as thing
+use Rattle.cd_model.specs.Thing.{Thing, IsElement}
 use Rattle.cd_model.specs.BuiltIns.{built_ins}
 use Rattle.cd_model.specs.Each.{Each}
 use Rattle.cd_model.specs.Formula.{Graph}
@@ -26,22 +26,22 @@ use Rattle.cd_apart.specs.Emptiness.{IsEmpty, ArePairsApart, AreXmlsApart}
 module _ (graph : Graph) where
   -- no element is in a clause for which this one stands
   abbrev HasNone : CodeClause → Type 0
-  HasNone clause = (e : Element) → IsElement e → (of : Clause) → Stands clause of → IsInClause (kind_of e) (reader graph e) of → ⊥
+  HasNone clause = (e : Thing) → IsElement e → (of : Clause) → Stands clause of → IsInClause (kind_of e) (reader graph e) of → ⊥
 
   no_integer : (set : List Interval) → HoldsNothing (code.Ints set) → HasNone (code.Ints set)
-  no_integer set nothing (element.Integer z) is (Ints wanted refused) stands inside =
+  no_integer set nothing (thing.Integer z) is (Ints wanted refused) stands inside =
       true≢false (sym ((stands z is).1 (inside.1, inside.2)) ∙ nothing z)
   no_integer set nothing _ is (Ints wanted refused) stands inside = absurd cc
   no_integer set nothing _ is _ stands inside = absurd stands
 
   no_character : (set : List CharInterval) → HoldsNothing (code.Chars set) → HasNone (code.Chars set)
-  no_character set nothing (element.Character c) is (Chars wanted refused) stands inside =
+  no_character set nothing (thing.Character c) is (Chars wanted refused) stands inside =
       true≢false (sym ((stands c is).1 (inside.1, inside.2)) ∙ nothing c is)
   no_character set nothing _ is (Chars wanted refused) stands inside = absurd cc
   no_character set nothing _ is _ stands inside = absurd stands
 
   no_atom : (set : AtomSet) → HoldsNothing (code.Atoms set) → HasNone (code.Atoms set)
-  no_atom set nothing (element.Atom name) is (Atoms wanted refused) stands inside =
+  no_atom set nothing (thing.Atom name) is (Atoms wanted refused) stands inside =
       true≢false (sym ((stands name is).1 (inside.1, inside.2)) ∙ nothing name is)
   no_atom set nothing _ is (Atoms wanted refused) stands inside = absurd cc
   no_atom set nothing _ is _ stands inside = absurd stands
@@ -54,11 +54,11 @@ module _ (graph : Graph) where
   empty_by_set _ nothing = absurd nothing
 
   -- where nodes are one part of each thing of a list and are apart, no element is in that part of each
-  part_out : {X : Type 0} (part : X → NodeId) (xs : List X) → AreApart graph (map part xs) → (e : Element) → IsElement e
+  part_out : {X : Type 0} (part : X → NodeId) (xs : List X) → AreApart graph (map part xs) → (e : Thing) → IsElement e
       → Each (λ x. answers graph e (part x) true) xs → ⊥
   part_out part xs apart e is inside = apart e is (each_of_map part (λ id. answers graph e id true) xs inside)
 
-  no_pair : (pairs : List Pair) → ArePairsApart graph pairs → (first second : Element) → IsElement (element.Pair first second)
+  no_pair : (pairs : List Pair) → ArePairsApart graph pairs → (first second : Thing) → IsElement (thing.Pair first second)
       → Each (λ parts. answers graph first parts.0 true × answers graph second parts.1 true) pairs → ⊥
   no_pair pairs (inl apart) first second is inside = part_out (λ parts. parts.0) pairs apart first is.0
       (each_weaker (λ parts. answers graph first parts.0 true × answers graph second parts.1 true)
@@ -68,7 +68,7 @@ module _ (graph : Graph) where
       (λ parts. answers graph second parts.1 true) (λ parts both. both.1) pairs inside)
 
   pairs_out : (pos neg : Vec Pair Global) → ArePairsApart graph pos.items → HasNone (code.Pairs pos neg)
-  pairs_out pos neg apart (element.Pair first second) is (Pairs wanted refused) stands inside =
+  pairs_out pos neg apart (thing.Pair first second) is (Pairs wanted refused) stands inside =
       no_pair wanted (subst (ArePairsApart graph) stands.0 apart) first second is inside.1
   pairs_out pos neg apart _ is (Pairs wanted refused) stands inside = absurd cc
   pairs_out pos neg apart _ is _ stands inside = absurd stands
@@ -79,12 +79,12 @@ module _ (graph : Graph) where
 
   module _ (begins : (more : Graph) × (graph ≡ built_ins ++ more)) where
     -- an element is in the three parts of each of these
-    abbrev InParts : (tag attributes content : Element) → List Triple → Type 0
+    abbrev InParts : (tag attributes content : Thing) → List Triple → Type 0
     InParts tag attributes content xmls =
         Each (λ parts. answers graph tag parts.0 true × answers graph attributes parts.1 true × answers graph content parts.2 true) xmls
 
-    no_xml : (xmls : List Triple) → AreXmlsApart graph xmls → (tag attributes content : Element)
-        → IsElement (element.Xml tag attributes content) → InParts tag attributes content xmls → ⊥
+    no_xml : (xmls : List Triple) → AreXmlsApart graph xmls → (tag attributes content : Thing)
+        → IsElement (thing.Xml tag attributes content) → InParts tag attributes content xmls → ⊥
     no_xml xmls (inl apart) tag attributes content is inside = apart tag is.2 (
       tag_in graph begins tag is.0,
       each_of_map (λ parts. parts.0) (λ id. answers graph tag id true) xmls
@@ -99,7 +99,7 @@ module _ (graph : Graph) where
         (each_weaker _ (λ parts. answers graph content parts.2 true) (λ parts all. all.2) xmls inside)
 
     xmls_out : (pos neg : Vec Triple Global) → AreXmlsApart graph pos.items → HasNone (code.Xmls pos neg)
-    xmls_out pos neg apart (element.Xml tag attributes content) is (Xmls wanted refused) stands inside =
+    xmls_out pos neg apart (thing.Xml tag attributes content) is (Xmls wanted refused) stands inside =
         no_xml wanted (subst (AreXmlsApart graph) stands.0 apart) tag attributes content is inside.1
     xmls_out pos neg apart _ is (Xmls wanted refused) stands inside = absurd cc
     xmls_out pos neg apart _ is _ stands inside = absurd stands

@@ -2,7 +2,7 @@
 use Rattle.std.proofs.Common.{true, List, [], ◌∷◌, inl, inr}
 use Rattle.cd_sets.specs.declared.node_id.NodeId.{NodeId}
 use Rattle.cd_sets.specs.declared.question.Question.{Question}
-use Rattle.cd_syntax.specs.Element.{Element, IsElement}
+use Rattle.cd_model.specs.Thing.{Thing, IsElement}
 use Rattle.cd_model.specs.Each.{Each, One}
 use Rattle.cd_model.specs.Formula.{Graph}
 use Rattle.cd_model.specs.Kinds.{kind_of}
@@ -24,7 +24,7 @@ module _ (graph : Graph) where
   -- an element in a question is in one of the clauses, if they cover those of the question
   pub held_by_one : (question : Question) (clauses : List Clause)
       → ((is : rules.Clause) → IsClauseOfQuestion graph question is → Covers clauses is)
-      → (e : Element) → IsElement e → asked (answers graph e) question true → One (IsHeld graph e) clauses
+      → (e : Thing) → IsElement e → asked (answers graph e) question true → One (IsHeld graph e) clauses
   held_by_one question clauses covers e is asking =
       let of = (clauses_exact (kind_of e) (reader graph e) (kind_of_element graph e) (is_elsewhere graph e) graph question).0 asking in
       by_cover of.0 of.2 (covers of.0 of.1)
@@ -34,13 +34,13 @@ module _ (graph : Graph) where
           one_weaker (λ clause. Stands clause of) (IsHeld graph e) (λ clause stands. (of, stands, inside)) clauses one
       by_cover of inside (inr nothing) = absurd (empty_by_set graph nothing.0 nothing.2 e is (of, nothing.1, inside))
 
-  none_held : (clauses : List Clause) → Each (IsEmpty graph) clauses → (e : Element) → IsElement e → One (IsHeld graph e) clauses → ⊥
+  none_held : (clauses : List Clause) → Each (IsEmpty graph) clauses → (e : Thing) → IsElement e → One (IsHeld graph e) clauses → ⊥
   none_held [] empty e is one = elim one [ ]
   none_held (clause ∷ clauses) empty e is (inl held) = empty.0 e is held
   none_held (clause ∷ clauses) empty e is (inr later) = none_held clauses empty.1 e is later
 
   -- nodes are apart where each element in all of them is in one of some clauses that are empty
   pub apart_by_clauses : (ids : List NodeId) (clauses : List Clause)
-      → ((e : Element) → IsElement e → Each (λ id. answers graph e id true) ids → One (IsHeld graph e) clauses)
+      → ((e : Thing) → IsElement e → Each (λ id. answers graph e id true) ids → One (IsHeld graph e) clauses)
       → Each (IsEmpty graph) clauses → AreApart graph ids
   apart_by_clauses ids clauses held empty e is inside = none_held clauses empty e is (held e is inside)

@@ -1,6 +1,6 @@
 -- Clauses, pairs and XML types that no element is in.
 use Rattle.std.specs.Prelude.{◌⊎◌, List, ◌∷◌, map}
-use Rattle.cd_syntax.specs.Element.{Element, IsElement}
+use Rattle.cd_model.specs.Thing.{Thing, IsElement}
 use Rattle.cd_model.specs.BuiltIns.{ATOM, RECORD}
 use Rattle.cd_model.specs.Formula.{Graph}
 use Rattle.cd_model.specs.Kinds.{kind_of}
@@ -12,12 +12,12 @@ use Rattle.cd_normal.specs.declared.clause.Clause.{Clause}
 use Rattle.cd_normal.specs.Standing.{Stands}
 
 -- an element is in a clause for which one of the code stands
-abbrev pub IsHeld : Graph → Element → Clause → Type 0
+abbrev pub IsHeld : Graph → Thing → Clause → Type 0
 IsHeld graph is clause = (of : rules.Clause) × Stands clause of × IsInClause (kind_of is) (reader graph is) of
 
 -- no element is
 abbrev pub IsEmpty : Graph → Clause → Type 0
-IsEmpty graph clause = (is : Element) → IsElement is → IsHeld graph is clause → ⊥
+IsEmpty graph clause = (is : Thing) → IsElement is → IsHeld graph is clause → ⊥
 
 -- no pair is in all of these, since their first parts are apart, or their second parts
 abbrev pub ArePairsApart : Graph → List Pair → Type 0

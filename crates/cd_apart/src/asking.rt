@@ -1,6 +1,6 @@
 //! The clauses of what is in all of some nodes.
 ghost use Rattle.std.specs.Prelude.{◌<◌, true, length, IfOk};
-ghost use Rattle.cd_syntax.specs.Element.{Element, IsElement};
+ghost use Rattle.cd_model.specs.Thing.{Thing, IsElement};
 ghost use Rattle.cd_model.specs.Each.{Each, One};
 ghost use Rattle.cd_model.specs.Membership.{answers};
 ghost use Rattle.cd_graph.specs.Nodes.{nodes};
@@ -22,7 +22,7 @@ pub(crate) fn clauses_of_all(
 ) -> Result<Vec<Clause>, AllocError>
     requires { Each (λ id. id.0 < length (nodes graph.now)) ids.now }
     ensures within { IfOk result (λ clauses. Each (IsWithin (length (nodes graph.now))) clauses.items) }
-    ensures held { IfOk result (λ clauses. (is : Element) → IsElement is → Each (λ id. answers (nodes graph.now) is id true) ids.now
+    ensures held { IfOk result (λ clauses. (is : Thing) → IsElement is → Each (λ id. answers (nodes graph.now) is id true) ids.now
         → One (IsHeld (nodes graph.now) is) clauses.items) }
 {
     // The contract of this call says that the graph is sound.

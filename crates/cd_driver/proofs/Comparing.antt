@@ -6,7 +6,7 @@ use Rattle.std.proofs.lemmas.Str.{encodes-chars}
 use Rattle.std.specs.declared.alloc.AllocError.{AllocError}
 use Rattle.cd_base.specs.declared.status.Status.TheVariants.{No}
 use Rattle.cd_sets.specs.declared.node_id.NodeId.{NodeId}
-use Rattle.cd_syntax.specs.Element.{Element}
+use Rattle.cd_model.specs.Thing.{Thing}
 use Rattle.cd_model.specs.Canonical.{canonical}
 use Rattle.cd_model.specs.Each.{Each}
 use Rattle.cd_model.specs.Formula.{Graph, IsFormula, IsGraph}
@@ -48,7 +48,7 @@ of_types_told graph first second type other stands stands_too (Ok message) told 
 of_types_told graph first second type other stands stands_too (Err error) told = tt
 
 -- an element that was found is in the first node and outside the second
-pub found : (graph : Graph) (table : List Element) (first second : NodeId) (id : ElementId)
+pub found : (graph : Graph) (table : List Thing) (first second : NodeId) (id : ElementId)
     → IsExact graph table (question (first ∷ []) (second ∷ [])) (Inhabited id)
     → ComparesNodes graph first second (says No (codes "no: " ++ encode_utf8_all (canonical (element_at table id))))
 found graph table first second id exact = outside (element_at table id) exact.1 exact.2.0.0 exact.2.1.0

@@ -4,7 +4,7 @@ use Rattle.std.specs.Prelude.{codes}
 use Rattle.cd_base.specs.declared.status.Status.TheVariants.{ReadFault}
 use Rattle.std.specs.Str.{bytes_eq, IsUtf8}
 use Rattle.std.proofs.lemmas.Bool.{true≢false}
-use Rattle.cd_syntax.specs.Element.{Element, IsElement}
+use Rattle.cd_model.specs.Thing.{Thing, IsElement}
 use Rattle.cd_syntax.specs.TypeTree.{Declarations, NoDeclaration}
 use Rattle.cd_model.specs.Written.{Written}
 use Rattle.cd_model.proofs.WrittenApart.{not_both}
@@ -16,13 +16,13 @@ use Rattle.cd_driver.specs.Answer.{Disk, Has, HasText, LARGEST, FileIsKnown, Ans
 use Rattle.cd_driver.proofs.OneRefusal.{one_type_refusal, one_declarations_refusal, reads_unrefused, declares_unrefused, reads_one, declares_one}
 
 -- no types are within each other and separated by an element
-not_within : (first second : Written) → IsWithin first second → (element : Element) → IsElement element → IsIn element first → IsOutside element second → ⊥
+not_within : (first second : Written) → IsWithin first second → (element : Thing) → IsElement element → IsIn element first → IsOutside element second → ⊥
 not_within first second within element is inside outside = not_both second element (within element is inside) outside
 
 -- the texts of `sub`, and the declarations that they see, decide the status
 module _ (declared : Declarations) (text1 text2 : Bytes) where
   apart : {A : Type 0} (a b c d : Written) → ReadsAs declared text1 a → ReadsAs declared text2 b → ReadsAs declared text1 c → ReadsAs declared text2 d
-      → IsWithin a b → (element : Element) → IsElement element → IsIn element c → IsOutside element d → A
+      → IsWithin a b → (element : Thing) → IsElement element → IsIn element c → IsOutside element d → A
   apart a b c d a_is b_is c_is d_is within element is inside outside =
       let first = reads_one declared text1 c a c_is a_is in
       let second = reads_one declared text2 d b d_is b_is in

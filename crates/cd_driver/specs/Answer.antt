@@ -3,7 +3,7 @@ use Rattle.std.specs.Prelude.{◌≡◌, ℕ, ◌<◌, ◌≤◌, List, Option, 
 use Rattle.std.specs.Str.{IsUtf8}
 use Rattle.std.specs.Str.Lossy.{utf8_valid_len}
 use Rattle.cd_base.specs.declared.status.Status.TheVariants.{Done, No}
-use Rattle.cd_syntax.specs.Element.{Element, IsElement}
+use Rattle.cd_model.specs.Thing.{Thing, IsElement}
 use Rattle.cd_syntax.specs.TypeTree.{Declarations, NoDeclaration}
 use Rattle.cd_model.specs.Canonical.{canonical}
 use Rattle.cd_model.specs.Written.{Written}
@@ -54,7 +54,7 @@ pub data SubAnswer (declared : Declarations) (text1 text2 : Bytes) : Reply → T
       → SubAnswer declared text1 text2 (says Done (codes "yes"))
   -- no, with the canonical text of an element that is in the first type and outside the second
   no : (first second : Written) → ReadsAs declared text1 first → ReadsAs declared text2 second
-      → (element : Element) → IsElement element → IsIn element first → IsOutside element second
+      → (element : Thing) → IsElement element → IsIn element first → IsOutside element second
       → SubAnswer declared text1 text2 (says No (codes "no: " ++ encode_utf8_all (canonical element)))
 
 -- the answers of `sub` with a file of declarations, which is taken first

@@ -5,7 +5,7 @@ use Rattle.cd_base.specs.declared.status.Status.{Status}
 use Rattle.cd_base.specs.declared.status.Status.TheVariants as status
 use Rattle.cd_base.specs.Faults.{Rose}
 use Rattle.cd_syntax.specs.declared.tokens.LexError.{LexError}
-use Rattle.cd_syntax.specs.Element.{Element, IsElement}
+use Rattle.cd_model.specs.Thing.{Thing, IsElement}
 use Rattle.cd_syntax.specs.TypeTree.{Declarations, NoDeclaration}
 use Rattle.cd_model.specs.Written.{Written}
 use Rattle.cd_names.specs.Faults.{Fault}
@@ -46,7 +46,7 @@ pub record IsNo (words : List Bytes) (before after : World) : Type 0 where
   pub first : Written
   pub second : Written
   pub ask : Ask words before after first second
-  pub element : Element
+  pub element : Thing
   pub exists : IsElement element
   pub inside : IsIn element first
   pub outside : IsOutside element second

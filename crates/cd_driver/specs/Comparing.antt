@@ -2,7 +2,7 @@
 use Rattle.std.specs.Prelude.{Bool, true, false, ◌++◌, codes, encode_utf8_all}
 use Rattle.cd_base.specs.declared.status.Status.TheVariants.{Done, No}
 use Rattle.cd_sets.specs.declared.node_id.NodeId.{NodeId}
-use Rattle.cd_syntax.specs.Element.{Element, IsElement}
+use Rattle.cd_model.specs.Thing.{Thing, IsElement}
 use Rattle.cd_syntax.specs.TypeTree.{Tree, Declarations}
 use Rattle.cd_syntax.specs.WellMade.{IsWellMade, AreWellMadeDeclarations}
 use Rattle.cd_model.specs.Canonical.{canonical}
@@ -24,9 +24,9 @@ pub record IsSound (declared : Declarations) (is : Tree) : Type 0 where
   pub sound : (fault : Fault) → IsFaultOfType declared is fault → ⊥
 
 -- what is told of two types by their answers at elements: each element of the first is in the second, or this one is outside
-pub data Compares (first second : Element → Bool → Type 0) : Reply → Type 0 where
-  within : ((is : Element) → IsElement is → first is true → second is true) → Compares first second (says Done (codes "yes"))
-  outside : (element : Element) → IsElement element → first element true → second element false
+pub data Compares (first second : Thing → Bool → Type 0) : Reply → Type 0 where
+  within : ((is : Thing) → IsElement is → first is true → second is true) → Compares first second (says Done (codes "yes"))
+  outside : (element : Thing) → IsElement element → first element true → second element false
       → Compares first second (says No (codes "no: " ++ encode_utf8_all (canonical element)))
 
 -- the same of two nodes of a graph, and of two written types

@@ -7,8 +7,8 @@ use Rattle.std.proofs.lemmas.Str.{chars-nil}
 use Rattle.cd_model.specs.Canonical.{Text, part_text, plainly, nil_written, atom_written, canonical, written, field_texts}
 use Rattle.cd_model.specs.Canonical.{pair_texts}
 use Rattle.cd_syntax.specs.Name.{Name}
-use Rattle.cd_syntax.specs.Element as element
-use Rattle.cd_syntax.specs.Element.{Element, Pairs}
+use Rattle.cd_model.specs.Thing as thing
+use Rattle.cd_model.specs.Thing.{Thing, Pairs}
 use Rattle.cd_elements.specs.declared.shape.ElementId.{ElementId}
 use Rattle.cd_elements.specs.Table.{element_at, fields_of, pair_before, result_at, pairs_of}
 use Rattle.cd_elements.specs.Tasks.{text_in, part_in}
@@ -17,19 +17,19 @@ use Rattle.cd_elements.specs.Rows.{part_text_in, result_text_in, pair_text_in}
 pub no_characters : chars [] ≡ []
 no_characters = chars-nil
 
-pub fields_written : (table : List Element) (parts : List (Name × ElementId))
+pub fields_written : (table : List Thing) (parts : List (Name × ElementId))
     → field_texts (fields_of table parts) ≡ map (part_text_in table) parts
 fields_written table [] = refl
 fields_written table (part ∷ parts) = ap (λ rest. part_text_in table part ∷ rest) (fields_written table parts)
 
-pub pairs_written : (table : List Element) (pairs : List (ElementId × Option ElementId))
+pub pairs_written : (table : List Thing) (pairs : List (ElementId × Option ElementId))
     → pair_texts (pairs_of table pairs) ≡ map (pair_text_in table) pairs
 pairs_written table [] = refl
 pairs_written table (pair ∷ pairs) =
     pair_first (element_at table pair.0) (text_in table pair.0) (pairs_of table pairs) pair.1
     ∙ ap (λ rest. pair_text_in table pair ∷ rest) (pairs_written table pairs)
   where
-    pair_first : (argument : Element) (text : Text) (rest : Pairs) (id : Option ElementId)
+    pair_first : (argument : Thing) (text : Text) (rest : Pairs) (id : Option ElementId)
         → pair_texts (pair_before argument (result_at table id) rest)
         ≡ (canonical argument ++ result_text_in table id) ∷ pair_texts rest
     pair_first argument text rest None = refl
@@ -45,16 +45,16 @@ atom_part name = either (bytes_eq name (codes "nil"))
     either true = refl
     either false = refl
 
-part_written : (one : Element) → part_text (written one).part ≡ canonical one
-part_written (element.Integer n) = refl
-part_written (element.Character c) = refl
-part_written (element.Atom name) = atom_part name
-part_written (element.Pair first second) = refl
-part_written (element.Xml tag attributes content) = refl
-part_written (element.Record fields) = refl
-part_written (element.Function pairs) = refl
+part_written : (one : Thing) → part_text (written one).part ≡ canonical one
+part_written (thing.Integer n) = refl
+part_written (thing.Character c) = refl
+part_written (thing.Atom name) = atom_part name
+part_written (thing.Pair first second) = refl
+part_written (thing.Xml tag attributes content) = refl
+part_written (thing.Record fields) = refl
+part_written (thing.Function pairs) = refl
 
-pub parts_written : (table : List Element) (ids : List ElementId)
+pub parts_written : (table : List Thing) (ids : List ElementId)
     → map part_text (map (part_in table) ids) ≡ map (text_in table) ids
 parts_written table [] = refl
 parts_written table (id ∷ ids) = cc (part_written (element_at table id), parts_written table ids)

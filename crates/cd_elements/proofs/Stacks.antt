@@ -1,10 +1,10 @@
 -- A stack of tasks with one more.
 use Rattle.std.proofs.Common.{◌≡◌, List, [], ◌∷◌, ◌++◌, append-nil, append_assoc, sym, ap, ◌∙◌}
-use Rattle.cd_syntax.specs.Element.{Element}
+use Rattle.cd_model.specs.Thing.{Thing}
 use Rattle.cd_elements.specs.declared.task.Task.{Task}
 use Rattle.cd_elements.specs.Tasks.{task_text, stack_text}
 
-pub stack_push : (table : List Element) (tasks : List Task) (task : Task)
+pub stack_push : (table : List Thing) (tasks : List Task) (task : Task)
     → stack_text table (tasks ++ task ∷ []) ≡ task_text table task ++ stack_text table tasks
 stack_push table [] task = sym (append-nil (task_text table task))
 stack_push table (first ∷ tasks) task =

@@ -5,8 +5,8 @@ use Rattle.std.specs.Prelude.{IfSome, Result, Ok, Err, is_ok, if◌then◌else�
 use Rattle.std.proofs.lemmas.List.{get_or_append_left, get_or_at, length_push}
 use Rattle.cd_model.specs.Each.{Each}
 use Rattle.cd_syntax.specs.Name.{Name}
-use Rattle.cd_syntax.specs.Element as element
-use Rattle.cd_syntax.specs.Element.{Element, Fields, Pairs, NoField, IsAtom, IsRecord, IsElement, AreFields, ArePairs}
+use Rattle.cd_model.specs.Thing as thing
+use Rattle.cd_model.specs.Thing.{Thing, Fields, Pairs, NoField, IsAtom, IsRecord, IsElement, AreFields, ArePairs}
 use Rattle.cd_elements.specs.declared.shape.ElementId.{ElementId}
 use Rattle.cd_elements.specs.declared.shape.Shape.{Shape}
 use Rattle.cd_elements.specs.declared.shape.Shape.TheVariants.{Int, Char, Atom, Pair, Xml, Record, Fun}
@@ -16,12 +16,12 @@ use Rattle.cd_elements.specs.Table.{IsShape, elements_from}
 use Rattle.cd_elements.specs.Sound.{IsRanged, AreShapes}
 
 -- more shapes after some
-pub from_append : (table : List Element) (shapes more : List Shape)
+pub from_append : (table : List Thing) (shapes more : List Shape)
     → elements_from table (shapes ++ more) ≡ elements_from (elements_from table shapes) more
 from_append table [] more = refl
 from_append table (shape ∷ shapes) more = from_append (table ++ element_by table shape ∷ []) shapes more
 
-pub length_from : (table : List Element) (shapes : List Shape)
+pub length_from : (table : List Thing) (shapes : List Shape)
     → length (elements_from table shapes) ≡ length table + length shapes
 length_from table [] = omega arith
 length_from table (shape ∷ shapes) =
@@ -30,31 +30,31 @@ length_from table (shape ∷ shapes) =
     omega arith
 
 -- what stands in a table stands there when it has grown
-at_grown : (table more : List Element) (id : ElementId) → Names table id → element_at (table ++ more) id ≡ element_at table id
-at_grown table more id is = get_or_append_left table more (element.Atom []) id.0 is
+at_grown : (table more : List Thing) (id : ElementId) → Names table id → element_at (table ++ more) id ≡ element_at table id
+at_grown table more id is = get_or_append_left table more (thing.Atom []) id.0 is
 
-in_grown : (table more : List Element) (id : ElementId) → Names table id → Names (table ++ more) id
+in_grown : (table more : List Thing) (id : ElementId) → Names table id → Names (table ++ more) id
 in_grown table more id is = omega (arith, length-append table more)
 
-fields_grown : (table more : List Element) (parts : List (Name × ElementId)) → Each (λ part. Names table part.1) parts
+fields_grown : (table more : List Thing) (parts : List (Name × ElementId)) → Each (λ part. Names table part.1) parts
     → fields_of (table ++ more) parts ≡ fields_of table parts
 fields_grown table more [] are = refl
 fields_grown table more (part ∷ parts) are =
     cc (at_grown table more part.1 are.0, fields_grown table more parts are.1)
 
-result_grown : (table more : List Element) (id : Option ElementId) → IsResult table id
+result_grown : (table more : List Thing) (id : Option ElementId) → IsResult table id
     → result_at (table ++ more) id ≡ result_at table id
 result_grown table more None is = refl
 result_grown table more (Some id) is = ap Some (at_grown table more id is)
 
-pairs_grown : (table more : List Element) (pairs : List (ElementId × Option ElementId))
+pairs_grown : (table more : List Thing) (pairs : List (ElementId × Option ElementId))
     → Each (λ pair. Names table pair.0 × IsResult table pair.1) pairs
     → pairs_of (table ++ more) pairs ≡ pairs_of table pairs
 pairs_grown table more [] are = refl
 pairs_grown table more (pair ∷ pairs) are =
     cc (at_grown table more pair.0 are.0.0, result_grown table more pair.1 are.0.1, pairs_grown table more pairs are.1)
 
-pub element_grown : (table more : List Element) (shape : Shape) → IsShape table shape
+pub element_grown : (table more : List Thing) (shape : Shape) → IsShape table shape
     → element_by (table ++ more) shape ≡ element_by table shape
 element_grown table more (Int n) is = refl
 element_grown table more (Char c) is = refl
@@ -62,26 +62,26 @@ element_grown table more (Atom name) is = refl
 element_grown table more (Pair first second) is = cc (at_grown table more first is.0, at_grown table more second is.1)
 element_grown table more (Xml tag attributes content) is =
     cc (at_grown table more tag is.0, at_grown table more attributes is.1, at_grown table more content is.2)
-element_grown table more (Record parts) is = ap element.Record (fields_grown table more parts is.1)
-element_grown table more (Fun pairs) is = ap element.Function (pairs_grown table more pairs is)
+element_grown table more (Record parts) is = ap thing.Record (fields_grown table more parts is.1)
+element_grown table more (Fun pairs) is = ap thing.Function (pairs_grown table more pairs is)
 
-parts_grown : (table more : List Element) (parts : List (Name × ElementId)) → Each (λ part. Names table part.1) parts
+parts_grown : (table more : List Thing) (parts : List (Name × ElementId)) → Each (λ part. Names table part.1) parts
     → Each (λ part. Names (table ++ more) part.1) parts
 parts_grown table more [] are = tt
 parts_grown table more (part ∷ parts) are = (in_grown table more part.1 are.0, parts_grown table more parts are.1)
 
-is_result_grown : (table more : List Element) (id : Option ElementId) → IsResult table id → IsResult (table ++ more) id
+is_result_grown : (table more : List Thing) (id : Option ElementId) → IsResult table id → IsResult (table ++ more) id
 is_result_grown table more None is = tt
 is_result_grown table more (Some id) is = in_grown table more id is
 
-are_pairs_grown : (table more : List Element) (pairs : List (ElementId × Option ElementId))
+are_pairs_grown : (table more : List Thing) (pairs : List (ElementId × Option ElementId))
     → Each (λ pair. Names table pair.0 × IsResult table pair.1) pairs
     → Each (λ pair. Names (table ++ more) pair.0 × IsResult (table ++ more) pair.1) pairs
 are_pairs_grown table more [] are = tt
 are_pairs_grown table more (pair ∷ pairs) are =
     ((in_grown table more pair.0 are.0.0, is_result_grown table more pair.1 are.0.1), are_pairs_grown table more pairs are.1)
 
-pub shape_grown : (table more : List Element) (shape : Shape) → IsShape table shape → IsShape (table ++ more) shape
+pub shape_grown : (table more : List Thing) (shape : Shape) → IsShape table shape → IsShape (table ++ more) shape
 shape_grown table more (Int n) is = tt
 shape_grown table more (Char c) is = tt
 shape_grown table more (Atom name) is = is
@@ -97,8 +97,8 @@ shape_grown table more (Record parts) is = (is.0, parts_grown table more parts i
 shape_grown table more (Fun pairs) is = are_pairs_grown table more pairs is
 
 -- a table after more shapes is itself and more
-pub grows : (table : List Element) (shapes : List Shape)
-    → (more : List Element) × (elements_from table shapes ≡ table ++ more)
+pub grows : (table : List Thing) (shapes : List Shape)
+    → (more : List Thing) × (elements_from table shapes ≡ table ++ more)
 grows table [] = ([], sym (append-nil table))
 grows table (shape ∷ shapes) =
     let one = element_by table shape in
@@ -106,11 +106,11 @@ grows table (shape ∷ shapes) =
     (one ∷ rest.0, rest.1 ∙ append_assoc table (one ∷ []) rest.0)
 
 -- the shape of each number is one of the table, and stands for the element there
-pub record IsShapeAt (table : List Element) (shape : Shape) (index : ℕ) : Type 0 where
+pub record IsShapeAt (table : List Thing) (shape : Shape) (index : ℕ) : Type 0 where
   pub sound : IsShape table shape
-  pub element : element_by table shape ≡ get_or table index (element.Atom [])
+  pub element : element_by table shape ≡ get_or table index (thing.Atom [])
 
-pub shape_at : (table : List Element) (shapes : List Shape) (index : ℕ) (default : Shape) → AreShapes table shapes
+pub shape_at : (table : List Thing) (shapes : List Shape) (index : ℕ) (default : Shape) → AreShapes table shapes
     → index < length shapes
     → IsShapeAt (elements_from table shapes) (get_or shapes index default) (length table + index)
 shape_at table [] index default are lt = absurd (omega arith)
@@ -123,7 +123,7 @@ shape_at table (shape ∷ shapes) zero default are lt =
     subst (λ after. IsShapeAt after shape (length table + 0)) (sym whole) record {
       sound = shape_grown table (one ∷ more.0) shape are.0;
       element = element_grown table (one ∷ more.0) shape are.0
-          ∙ sym (get_or_at table one more.0 (element.Atom []) (length table + 0) at);
+          ∙ sym (get_or_at table one more.0 (thing.Atom []) (length table + 0) at);
     }
 shape_at table (shape ∷ shapes) (suc index) default are lt =
     let one = element_by table shape in
@@ -132,7 +132,7 @@ shape_at table (shape ∷ shapes) (suc index) default are lt =
     subst (λ place. IsShapeAt (elements_from table (shape ∷ shapes)) (get_or shapes index default) place) at rest
 
 -- one more shape
-pub shapes_push : (table : List Element) (shapes : List Shape) (shape : Shape) → AreShapes table shapes
+pub shapes_push : (table : List Thing) (shapes : List Shape) (shape : Shape) → AreShapes table shapes
     → IsShape (elements_from table shapes) shape
     → IsRanged shape → AreShapes table (shapes ++ shape ∷ [])
 shapes_push table [] shape are is ranged = (is, ranged, tt)
@@ -140,44 +140,44 @@ shapes_push table (first ∷ shapes) shape are is ranged =
     (are.0, are.1, shapes_push (table ++ element_by table first ∷ []) shapes shape are.2 is ranged)
 
 -- the shapes of a table are elements of the model
-element_is : (table : List Element) (id : ElementId) → Each IsElement table → Names table id → IsElement (element_at table id)
+element_is : (table : List Thing) (id : ElementId) → Each IsElement table → Names table id → IsElement (element_at table id)
 element_is table id are names = at table id.0 are names
   where
-    at : (all : List Element) (index : ℕ) → Each IsElement all → index < length all → IsElement (get_or all index (element.Atom []))
+    at : (all : List Thing) (index : ℕ) → Each IsElement all → index < length all → IsElement (get_or all index (thing.Atom []))
     at [] index are lt = absurd (omega arith)
     at (first ∷ rest) zero are lt = are.0
     at (first ∷ rest) (suc index) are lt = at rest index are.1 (omega arith)
 
-labels_rise : (table : List Element) (before : Option Name) (parts : List (Name × ElementId)) → AreRisingLabels before parts
-    → element.LabelsRise before (fields_of table parts)
+labels_rise : (table : List Thing) (before : Option Name) (parts : List (Name × ElementId)) → AreRisingLabels before parts
+    → thing.LabelsRise before (fields_of table parts)
 labels_rise table before [] rise = tt
 labels_rise table before (part ∷ parts) rise = (rise.1, labels_rise table (Some part.0) parts rise.2)
 
-fields_are : (table : List Element) (before : Option Name) (parts : List (Name × ElementId)) → Each IsElement table
+fields_are : (table : List Thing) (before : Option Name) (parts : List (Name × ElementId)) → Each IsElement table
     → AreRisingLabels before parts → Each (λ part. Names table part.1) parts → AreFields (fields_of table parts)
 fields_are table before [] are rise names = tt
 fields_are table before (part ∷ parts) are rise names =
     (rise.0, element_is table part.1 are names.0, fields_are table (Some part.0) parts are rise.2 names.1)
 
-pair_is : (argument : Element) (result : Option Element) (rest : Pairs) → IsElement argument → IfSome result IsElement
+pair_is : (argument : Thing) (result : Option Thing) (rest : Pairs) → IsElement argument → IfSome result IsElement
     → ArePairs rest
     → ArePairs (pair_before argument result rest)
 pair_is argument None rest is found are = (is, are)
 pair_is argument (Some result) rest is found are = (is, found, are)
 
-result_is : (table : List Element) (id : Option ElementId) → Each IsElement table → IsResult table id
+result_is : (table : List Thing) (id : Option ElementId) → Each IsElement table → IsResult table id
     → IfSome (result_at table id) IsElement
 result_is table None are names = tt
 result_is table (Some id) are names = element_is table id are names
 
-pairs_are : (table : List Element) (pairs : List (ElementId × Option ElementId)) → Each IsElement table
+pairs_are : (table : List Thing) (pairs : List (ElementId × Option ElementId)) → Each IsElement table
     → Each (λ pair. Names table pair.0 × IsResult table pair.1) pairs → ArePairs (pairs_of table pairs)
 pairs_are table [] are names = tt
 pairs_are table (pair ∷ pairs) are names =
     pair_is (element_at table pair.0) (result_at table pair.1) (pairs_of table pairs)
     (element_is table pair.0 are names.0.0) (result_is table pair.1 are names.0.1) (pairs_are table pairs are names.1)
 
-shape_is : (table : List Element) (shape : Shape) → Each IsElement table → IsShape table shape → IsRanged shape
+shape_is : (table : List Thing) (shape : Shape) → Each IsElement table → IsShape table shape → IsRanged shape
     → IsElement (element_by table shape)
 shape_is table (Int n) are is ranged = ranged
 shape_is table (Char c) are is ranged = ranged
@@ -188,11 +188,11 @@ shape_is table (Xml tag attributes content) are is ranged =
 shape_is table (Record parts) are is ranged = (labels_rise table None parts is.0, fields_are table None parts are is.0 is.1)
 shape_is table (Fun pairs) are is ranged = pairs_are table pairs are is
 
-each_push : (all : List Element) (one : Element) → Each IsElement all → IsElement one → Each IsElement (all ++ one ∷ [])
+each_push : (all : List Thing) (one : Thing) → Each IsElement all → IsElement one → Each IsElement (all ++ one ∷ [])
 each_push [] one are is = (is, tt)
 each_push (first ∷ rest) one are is = (are.0, each_push rest one are.1 is)
 
-pub elements_are : (table : List Element) (shapes : List Shape) → Each IsElement table → AreShapes table shapes
+pub elements_are : (table : List Thing) (shapes : List Shape) → Each IsElement table → AreShapes table shapes
     → Each IsElement (elements_from table shapes)
 elements_are table [] are sound = are
 elements_are table (shape ∷ shapes) are sound =
@@ -213,7 +213,7 @@ pub shape_read : (shapes : List Shape) (index : ℕ) (shape : Shape) → AreShap
     → shape ≡ get_or shapes index shape → IsShapeAt (elements_from [] shapes) shape index
 shape_read shapes index shape are within is =
     let lt : index < length shapes = omega (arith, length_from [] shapes) in
-    let place : length {A = Element} [] + index ≡ index = omega arith in
+    let place : length {A = Thing} [] + index ≡ index = omega arith in
     let found = shape_at [] shapes index shape are lt in
     let placed = subst (IsShapeAt (elements_from [] shapes) (get_or shapes index shape)) place found in
     subst (λ one. IsShapeAt (elements_from [] shapes) one index) (sym is) placed

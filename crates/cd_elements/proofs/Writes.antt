@@ -2,12 +2,12 @@
 use Rattle.std.proofs.Common.{◌≡◌, ◌<◌, List, [], ◌++◌, length, length-append, refl, ap, sym, ◌∙◌, append_assoc, append-nil}
 use Rattle.std.proofs.Common.{arith}
 use Rattle.cd_model.specs.Canonical.{Text}
-use Rattle.cd_syntax.specs.Element.{Element}
+use Rattle.cd_model.specs.Thing.{Thing}
 use Rattle.cd_elements.specs.declared.task.Tasks.{Tasks}
 use Rattle.cd_elements.specs.Tasks.{tasks_text, PutsIn}
 use Rattle.cd_elements.specs.Writing.{Writes}
 
-module _ (table : List Element) (text output : Text) (tasks : Tasks) (new_output : Text) where
+module _ (table : List Thing) (text output : Text) (tasks : Tasks) (new_output : Text) where
   pub begun : (opening rest : Text) (new_tasks : Tasks) → text ≡ opening ++ rest → 0 < length opening
       → PutsIn table rest tasks new_tasks
       → new_output ≡ output ++ opening → Writes table text output tasks new_output new_tasks

@@ -4,8 +4,9 @@ use Rattle.std.proofs.Props.{props}
 use Rattle.std.specs.Coded.{×_prop, Unit-prop}
 use Rattle.cd_model.specs.Each.{Each}
 use Rattle.cd_syntax.specs.Name.{Name}
-use Rattle.cd_syntax.specs.Element as element
-use Rattle.cd_syntax.specs.Element.{Element, IsAtom, IsRecord, IsAbove}
+use Rattle.cd_model.specs.Thing as thing
+use Rattle.cd_model.specs.Thing.{Thing, IsAtom, IsRecord}
+use Rattle.cd_syntax.specs.Name.{IsAbove}
 use Rattle.cd_elements.specs.declared.shape.ElementId.{ElementId}
 use Rattle.cd_elements.specs.declared.shape.Shape.{Shape}
 use Rattle.cd_elements.specs.declared.shape.Shape.TheVariants.{Int, Char, Atom, Pair, Xml, Record, Fun}
@@ -25,19 +26,19 @@ labels_prop : (before : Option Name) (parts : List (Name × ElementId)) → IsPr
 labels_prop before [] = Unit-prop
 labels_prop before (part ∷ parts) = hlevel (props, above_prop before part.0, labels_prop (Some part.0) parts)
 
-result_prop : (table : List Element) (id : Option ElementId) → IsProp (IsResult table id)
+result_prop : (table : List Thing) (id : Option ElementId) → IsProp (IsResult table id)
 result_prop table None = Unit-prop
 result_prop table (Some id) = hlevel props
 
-atom_prop : (one : Element) → IsProp (IsAtom one)
-atom_prop (element.Atom name) = Unit-prop
+atom_prop : (one : Thing) → IsProp (IsAtom one)
+atom_prop (thing.Atom name) = Unit-prop
 atom_prop _ = hlevel
 
-record_prop : (one : Element) → IsProp (IsRecord one)
-record_prop (element.Record fields) = Unit-prop
+record_prop : (one : Thing) → IsProp (IsRecord one)
+record_prop (thing.Record fields) = Unit-prop
 record_prop _ = hlevel
 
-shape_prop : (table : List Element) (shape : Shape) → IsProp (IsShape table shape)
+shape_prop : (table : List Thing) (shape : Shape) → IsProp (IsShape table shape)
 shape_prop table (Int n) = Unit-prop
 shape_prop table (Char c) = Unit-prop
 shape_prop table (Atom name) = hlevel props
@@ -54,7 +55,7 @@ ranged_prop (Int n) = hlevel props
 ranged_prop (Char c) = hlevel props
 ranged_prop _ = Unit-prop
 
-pub shapes_prop : (table : List Element) (shapes : List Shape) → IsProp (AreShapes table shapes)
+pub shapes_prop : (table : List Thing) (shapes : List Shape) → IsProp (AreShapes table shapes)
 shapes_prop table [] = Unit-prop
 shapes_prop table (shape ∷ shapes) =
     hlevel (shape_prop table shape, ranged_prop shape, shapes_prop (table ++ element_by table shape ∷ []) shapes)

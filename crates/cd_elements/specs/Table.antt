@@ -2,56 +2,56 @@
 use Rattle.std.specs.Prelude.{◌<◌, List, [], ◌∷◌, ◌++◌, Option, Some, None, length, slice_index_or}
 use Rattle.cd_model.specs.Each.{Each}
 use Rattle.cd_syntax.specs.Name.{Name, IsLabel}
-use Rattle.cd_syntax.specs.Element as element
-use Rattle.cd_syntax.specs.Element.{Element, Fields, NoField, Field, Pairs, NoPair, Maps, Fails, IsAtom, IsRecord}
+use Rattle.cd_model.specs.Thing as thing
+use Rattle.cd_model.specs.Thing.{Thing, Fields, NoField, Field, Pairs, NoPair, Maps, Fails, IsAtom, IsRecord}
 use Rattle.cd_elements.specs.declared.shape.ElementId.{ElementId}
 use Rattle.cd_elements.specs.declared.shape.Shape.{Shape}
 use Rattle.cd_elements.specs.declared.shape.Shape.TheVariants.{Int, Char, Atom, Pair, Xml, Record, Fun}
 use Rattle.cd_elements.specs.Parts.{HasLabels}
 
 -- the element of a number; a number that names none stands for an atom without a name, which is no element
-abbrev pub element_at : List Element → ElementId → Element
-element_at table id = slice_index_or table id.0 (element.Atom [])
+abbrev pub element_at : List Thing → ElementId → Thing
+element_at table id = slice_index_or table id.0 (thing.Atom [])
 
-abbrev pub fields_of : List Element → List (Name × ElementId) → Fields
+abbrev pub fields_of : List Thing → List (Name × ElementId) → Fields
 fields_of table [] = NoField
 fields_of table (part ∷ parts) = Field part.0 (element_at table part.1) (fields_of table parts)
 
 -- a pair maps where it has a result
-abbrev pub pair_before : Element → Option Element → Pairs → Pairs
+abbrev pub pair_before : Thing → Option Thing → Pairs → Pairs
 pair_before argument None rest = Fails argument rest
 pair_before argument (Some result) rest = Maps argument result rest
 
-abbrev pub result_at : List Element → Option ElementId → Option Element
+abbrev pub result_at : List Thing → Option ElementId → Option Thing
 result_at table None = None
 result_at table (Some id) = Some (element_at table id)
 
-abbrev pub pairs_of : List Element → List (ElementId × Option ElementId) → Pairs
+abbrev pub pairs_of : List Thing → List (ElementId × Option ElementId) → Pairs
 pairs_of table [] = NoPair
 pairs_of table (pair ∷ pairs) = pair_before (element_at table pair.0) (result_at table pair.1) (pairs_of table pairs)
 
 -- a shape as an element, its parts taken from the table
-abbrev pub element_by : List Element → Shape → Element
-element_by table (Int n) = element.Integer n
-element_by table (Char c) = element.Character c
-element_by table (Atom name) = element.Atom name
-element_by table (Pair first second) = element.Pair (element_at table first) (element_at table second)
+abbrev pub element_by : List Thing → Shape → Thing
+element_by table (Int n) = thing.Integer n
+element_by table (Char c) = thing.Character c
+element_by table (Atom name) = thing.Atom name
+element_by table (Pair first second) = thing.Pair (element_at table first) (element_at table second)
 element_by table (Xml tag attributes content) =
-    element.Xml (element_at table tag) (element_at table attributes) (element_at table content)
-element_by table (Record parts) = element.Record (fields_of table parts)
-element_by table (Fun pairs) = element.Function (pairs_of table pairs)
+    thing.Xml (element_at table tag) (element_at table attributes) (element_at table content)
+element_by table (Record parts) = thing.Record (fields_of table parts)
+element_by table (Fun pairs) = thing.Function (pairs_of table pairs)
 
 -- the number names an element of the table
-abbrev pub Names : List Element → ElementId → Type 0
+abbrev pub Names : List Thing → ElementId → Type 0
 Names table id = id.0 < length table
 
-abbrev pub IsResult : List Element → Option ElementId → Type 0
+abbrev pub IsResult : List Thing → Option ElementId → Type 0
 IsResult table None = Unit {0}
 IsResult table (Some id) = Names table id
 
 -- A shape is one of the table where its parts are in the table, its names are atoms or rising labels, a tag is an atom and
 -- attributes are a record
-abbrev pub IsShape : List Element → Shape → Type 0
+abbrev pub IsShape : List Thing → Shape → Type 0
 IsShape table (Int n) = Unit {0}
 IsShape table (Char c) = Unit {0}
 IsShape table (Atom name) = IsLabel name
@@ -63,6 +63,6 @@ IsShape table (Record parts) = HasLabels parts × Each (λ part. Names table par
 IsShape table (Fun pairs) = Each (λ pair. Names table pair.0 × IsResult table pair.1) pairs
 
 -- the table after more shapes, each over the elements before it
-abbrev pub elements_from : List Element → List Shape → List Element
+abbrev pub elements_from : List Thing → List Shape → List Thing
 elements_from table [] = table
 elements_from table (shape ∷ shapes) = elements_from (table ++ element_by table shape ∷ []) shapes

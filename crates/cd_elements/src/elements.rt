@@ -19,7 +19,7 @@ impl Elements {
     ghost use Rattle.std.specs.Prelude.{◌≡◌, ◌<◌, List, [], ◌∷◌, ◌++◌, length, OnOk, OnErr, IfOk, MatchOption};
     ghost use Rattle.cd_model.specs.Canonical.{canonical};
     ghost use Rattle.cd_model.specs.Each.{Each};
-    ghost use Rattle.cd_syntax.specs.Element.{Atom, IsElement};
+    ghost use Rattle.cd_model.specs.Thing.{Atom, IsElement};
     ghost use Rattle.cd_elements.specs.Table.{IsShape, element_at, element_by};
     ghost use Rattle.cd_elements.specs.Elements.{table};
 

@@ -1,7 +1,7 @@
 //! What is left to be written of a text.
 ghost use Rattle.std.specs.Prelude.{◌≡◌, List, [], OnOk, MatchOption};
 ghost use Rattle.std.specs.Str.{chars};
-ghost use Rattle.cd_syntax.specs.Element.{Element as AnElement};
+ghost use Rattle.cd_model.specs.Thing.{Element as AnElement};
 ghost use Rattle.cd_elements.specs.Marks.{mark_text};
 ghost use Rattle.cd_elements.specs.Tasks.{task_text, tasks_text, text_in, Puts};
 

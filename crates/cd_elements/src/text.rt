@@ -1,7 +1,7 @@
 //! The canonical text of an element. A stack of tasks has what is left to be written.
 ghost use Rattle.std.specs.Prelude.{◌≡◌, ◌<◌, ◌++◌, length, map, OnOk, IfOk};
 ghost use Rattle.cd_model.specs.Canonical.{canonical, written, atom_written, row_text, sequence_text, pieces_of};
-ghost use Rattle.cd_syntax.specs.Element.{Xml as AnXml, Record as ARecord, Function as AFunction};
+ghost use Rattle.cd_model.specs.Thing.{Xml as AnXml, Record as ARecord, Function as AFunction};
 ghost use Rattle.cd_elements.specs.Table.{element_at, fields_of, pairs_of};
 ghost use Rattle.cd_elements.specs.Elements.{table};
 ghost use Rattle.cd_elements.specs.Tasks.{task_text, text_in, part_in};

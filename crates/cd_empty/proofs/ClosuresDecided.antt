@@ -2,14 +2,14 @@
 use Rattle.std.proofs.Common.{◌≡◌, ℕ, ◌<◌, true, false, List, [], ◌∷◌, ◌++◌, ◌⊎◌, inl, inr, refl, subst, map, length}
 use Rattle.cd_sets.specs.declared.node_id.NodeId.{NodeId}
 use Rattle.cd_sets.specs.declared.question.Question.{Question}
-use Rattle.cd_syntax.specs.Element as element
-use Rattle.cd_syntax.specs.Element.{Element, IsElement}
+use Rattle.cd_model.specs.Thing as thing
+use Rattle.cd_model.specs.Thing.{Thing, IsElement}
 use Rattle.cd_model.specs.BuiltIns.{built_ins}
 use Rattle.cd_model.specs.Each.{Each}
 use Rattle.cd_model.specs.Formula.{Graph, IsGraph}
 use Rattle.cd_model.specs.Kinds.{kind_of}
 use Rattle.cd_model.specs.Membership.{mapping, reader, AllMap}
-use Rattle.cd_model.specs.Value.{ArrowOf}
+use Rattle.cd_model.specs.Interfaces.{ArrowOf}
 use Rattle.cd_model.proofs.Apart.{not_both}
 use Rattle.cd_model.proofs.Decided.{in_or_outside, both_or, swapped, maps_or}
 use Rattle.cd_rules.specs.Clauses.{Arrows, Pair, IsInClause}
@@ -30,22 +30,22 @@ use Rattle.cd_empty.proofs.WaysMade.{arrow_needs_made}
 
 -- a function is in an arrow or outside it, and not both
 module _ (graph : Graph) (argument result : NodeId) where
-  in_or_out : (pairs : element.Pairs) → mapping graph pairs argument result true ⊎ mapping graph pairs argument result false
-  in_or_out element.NoPair = inl refl
-  in_or_out (element.Maps from to rest) =
+  in_or_out : (pairs : thing.Pairs) → mapping graph pairs argument result true ⊎ mapping graph pairs argument result false
+  in_or_out thing.NoPair = inl refl
+  in_or_out (thing.Maps from to rest) =
       maps_or (in_or_outside graph from argument) (in_or_outside graph to result) (in_or_out rest)
-  in_or_out (element.Fails from rest) = both_or (swapped (in_or_outside graph from argument)) (in_or_out rest)
+  in_or_out (thing.Fails from rest) = both_or (swapped (in_or_outside graph from argument)) (in_or_out rest)
 
-  not_in_and_out : (pairs : element.Pairs) → mapping graph pairs argument result true → mapping graph pairs argument result false → ⊥
-  not_in_and_out element.NoPair is out = cc
-  not_in_and_out (element.Maps from to rest) is out = elim out [
+  not_in_and_out : (pairs : thing.Pairs) → mapping graph pairs argument result true → mapping graph pairs argument result false → ⊥
+  not_in_and_out thing.NoPair is out = cc
+  not_in_and_out (thing.Maps from to rest) is out = elim out [
     | inl both ↦ elim is.0 [
       | inl outside ↦ not_both graph from argument both.0 outside
       | inr inside ↦ not_both graph to result inside both.1
     ]
     | inr later ↦ not_in_and_out rest is.1 later
   ]
-  not_in_and_out (element.Fails from rest) is out =
+  not_in_and_out (thing.Fails from rest) is out =
       elim out [ inl inside ↦ not_both graph from argument inside is.0 | inr later ↦ not_in_and_out rest is.1 later ]
 
 -- the arrows of an interface as pairs of nodes
@@ -87,8 +87,8 @@ module _ (graph more : Graph) (begins : graph ≡ built_ins ++ more) (sound : Is
     counterexample : HasMember graph (Arrows (arrows_of interface) refused) → AllMap graph interface argument result → ⊥
     counterexample member all = by_kind member.0 member.1 member.2
       where
-        by_kind : (is : Element) → IsElement is → IsInClause (kind_of is) (reader graph is) (Arrows (arrows_of interface) refused) → ⊥
-        by_kind (element.Function pairs) is within = not_in_and_out graph argument result pairs
+        by_kind : (is : Thing) → IsElement is → IsInClause (kind_of is) (reader graph is) (Arrows (arrows_of interface) refused) → ⊥
+        by_kind (thing.Function pairs) is within = not_in_and_out graph argument result pairs
             (all pairs is (map_of_each (λ (arrow : ArrowOf). (arrow.argument, arrow.result))
             (λ (parts : Pair). mapping graph pairs parts.0 parts.1 true) interface within.1)) within.2.0
         by_kind _ is within = cc
@@ -97,7 +97,7 @@ module _ (graph more : Graph) (begins : graph ≡ built_ins ++ more) (sound : Is
     all_of_none none pairs is each = by_side (in_or_out graph argument result pairs)
       where
         supplied : mapping graph pairs argument result false → HasAllNeeds (HasElement graph) (Arrows (arrows_of interface) refused)
-        supplied out = member_supplies graph (more, begins) (Arrows (arrows_of interface) refused) (element.Function pairs) is (
+        supplied out = member_supplies graph (more, begins) (Arrows (arrows_of interface) refused) (thing.Function pairs) is (
           refl,
           each_of_map (λ (arrow : ArrowOf). (arrow.argument, arrow.result)) (λ (parts : Pair). mapping graph pairs parts.0 parts.1 true)
               interface each,

@@ -5,8 +5,8 @@ use Rattle.std.proofs.Props.{props}
 use Rattle.std.proofs.Math.Logic.{∥∥₁_elim, ∥∥₁_map}
 use Rattle.cd_sets.specs.declared.node_id.NodeId.{NodeId}
 use Rattle.cd_sets.specs.declared.question.Question.{Question}
-use Rattle.cd_syntax.specs.Element as element
-use Rattle.cd_syntax.specs.Element.{Element, IsElement}
+use Rattle.cd_model.specs.Thing as thing
+use Rattle.cd_model.specs.Thing.{Thing, IsElement}
 use Rattle.cd_model.specs.BuiltIns.{built_ins}
 use Rattle.cd_model.specs.Each.{Each}
 use Rattle.cd_model.specs.Formula.{Graph}
@@ -39,14 +39,14 @@ each_had fact had (one ∷ rest) known =
     (had one (∥∥₁_map known (λ each. each.0)), each_had fact had rest (∥∥₁_map known (λ each. each.1)))
 
 -- an element is in a node, or outside it, where that is known
-inside_had : (graph : Graph) (is : Element) (id : NodeId) → ∥ answers graph is id true ∥₁ → answers graph is id true
+inside_had : (graph : Graph) (is : Thing) (id : NodeId) → ∥ answers graph is id true ∥₁ → answers graph is id true
 inside_had graph is id known = by_side (in_or_outside graph is id)
   where
     by_side : answers graph is id true ⊎ answers graph is id false → answers graph is id true
     by_side (inl inside) = inside
     by_side (inr outside) = absurd (∥∥₁_elim known never_in_two_ways (λ inside. not_both graph is id inside outside))
 
-outside_had : (graph : Graph) (is : Element) (id : NodeId) → ∥ answers graph is id false ∥₁ → answers graph is id false
+outside_had : (graph : Graph) (is : Thing) (id : NodeId) → ∥ answers graph is id false ∥₁ → answers graph is id false
 outside_had graph is id known = by_side (in_or_outside graph is id)
   where
     by_side : answers graph is id true ⊎ answers graph is id false → answers graph is id false
@@ -54,7 +54,7 @@ outside_had graph is id known = by_side (in_or_outside graph is id)
     by_side (inr outside) = outside
 
 -- and in a question
-asked_had : (graph : Graph) (is : Element) (question : Question) → ∥ asked (answers graph is) question true ∥₁
+asked_had : (graph : Graph) (is : Thing) (question : Question) → ∥ asked (answers graph is) question true ∥₁
     → asked (answers graph is) question true
 asked_had graph is question known = (
   each_had (λ id. answers graph is id true) (inside_had graph is) question.pos (∥∥₁_map known (λ both. both.0)),
@@ -62,7 +62,7 @@ asked_had graph is question known = (
 )
 
 -- so what a mark says can be had
-mark_had : (graph : Graph) (table : List Element) (question : Question) (mark : Option ElementId)
+mark_had : (graph : Graph) (table : List Thing) (question : Question) (mark : Option ElementId)
     → ∥ IsMarked graph table question mark ∥₁ → IsMarked graph table question mark
 mark_had graph table question None known = tt
 mark_had graph table question (Some id) known = (
@@ -70,7 +70,7 @@ mark_had graph table question (Some id) known = (
   asked_had graph (element_at table id) question (∥∥₁_map known (λ both. both.1)),
 )
 
-module _ (graph : Graph) (begins : (more : Graph) × (graph ≡ built_ins ++ more)) (table : List Element) (sound : Each IsElement table) where
+module _ (graph : Graph) (begins : (more : Graph) × (graph ≡ built_ins ++ more)) (table : List Thing) (sound : Each IsElement table) where
   -- no element and no value is in a question of a family that is known to be closed, since it stays closed in longer graphs
   none_in : (family : List Question) → Each (AsksNodes (length graph)) family → ∥ IsClosed graph family ∥₁
       → (question : Question) → IsOfFamily question family → HasNoElement graph question × HasNoValue graph question
@@ -93,7 +93,7 @@ module _ (graph : Graph) (begins : (more : Graph) × (graph ≡ built_ins ++ mor
   )
   marked_exact (question ∷ questions) (Some id ∷ marks) known none =
       let mark = mark_had graph table question (Some id) (∥∥₁_map known (λ both. both.0)) in (
-        (mark.0, each_at IsElement table id.0 (element.Atom []) sound mark.0, mark.1),
+        (mark.0, each_at IsElement table id.0 (thing.Atom []) sound mark.0, mark.1),
         marked_exact questions marks (∥∥₁_map known (λ both. both.1)) none,
       )
 
@@ -105,7 +105,7 @@ module _ (graph : Graph) (begins : (more : Graph) × (graph ≡ built_ins ++ mor
       (none_in (unmarked questions marks) (each_of_unmarked (AsksNodes (length graph)) questions marks asks) closed)
 
 -- a verdict that is kept among exact ones is exact
-pub kept_exact : (graph : Graph) (table : List Element) (kept : List (Question × Verdict)) (question : Question) (verdict : Verdict)
+pub kept_exact : (graph : Graph) (table : List Thing) (kept : List (Question × Verdict)) (question : Question) (verdict : Verdict)
     → Each (λ one. IsExact graph table one.0 one.1) kept → IsKept kept question verdict → IsExact graph table question verdict
 kept_exact graph table [] question verdict exact is = elim is [ ]
 kept_exact graph table (one ∷ kept) question verdict exact (inl same) =
@@ -113,7 +113,7 @@ kept_exact graph table (one ∷ kept) question verdict exact (inl same) =
 kept_exact graph table (one ∷ kept) question verdict exact (inr later) = kept_exact graph table kept question verdict exact.1 later
 
 -- the questions that are kept as empty are those without a mark
-pub family_unmarked : (graph : Graph) (table : List Element) (questions : List Question) (marks : List (Option ElementId))
+pub family_unmarked : (graph : Graph) (table : List Thing) (questions : List Question) (marks : List (Option ElementId))
     → AreMarked graph table questions marks → family (with_verdicts questions marks) ≡ unmarked questions marks
 family_unmarked graph table [] marks are = refl
 family_unmarked graph table (question ∷ questions) [] are = absurd are

@@ -3,8 +3,8 @@ use Rattle.std.proofs.Common.{◌≡◌, ℕ, List, [], ◌∷◌, ◌++◌, Opt
 use Rattle.std.proofs.Common.{MatchOption, zero, suc, length, get_or, refl, ap, arith, length-append}
 use Rattle.std.proofs.lemmas.List.{get_or_append_left}
 use Rattle.std.specs.Option.{option_map}
-use Rattle.cd_syntax.specs.Element as element
-use Rattle.cd_syntax.specs.Element.{Element, IsAtom, IsRecord}
+use Rattle.cd_model.specs.Thing as thing
+use Rattle.cd_model.specs.Thing.{Thing, IsAtom, IsRecord}
 use Rattle.cd_asked.specs.declared.asked.QuestionId.{QuestionId}
 use Rattle.cd_elements.specs.declared.shape.ElementId.{ElementId}
 use Rattle.cd_elements.specs.Table.{Names, element_at}
@@ -14,8 +14,8 @@ use Rattle.cd_members.specs.Marks.{AreNumbers, mark_of, marked}
 use Rattle.cd_members.specs.Making.{AreOfWay, IsFit}
 use Rattle.cd_rules.proofs.Ones.{each_weaker}
 
-module _ (table more : List Element) where
-  abbrev IsNumberOf : List Element → Option ElementId → Type 0
+module _ (table more : List Thing) where
+  abbrev IsNumberOf : List Thing → Option ElementId → Type 0
   IsNumberOf all mark = MatchOption mark (Unit {0}) (λ id. Names all id)
 
   number_kept : (mark : Option ElementId) → IsNumberOf table mark → IsNumberOf (table ++ more) mark
@@ -29,7 +29,7 @@ module _ (table more : List Element) where
   element_kept : (mark : Option ElementId) → IsNumberOf table mark
       → option_map (element_at (table ++ more)) mark ≡ option_map (element_at table) mark
   element_kept None is = refl
-  element_kept (Some id) is = ap Some (get_or_append_left table more (element.Atom []) id.0 is)
+  element_kept (Some id) is = ap Some (get_or_append_left table more (thing.Atom []) id.0 is)
 
   number_at : (marks : List (Option ElementId)) (place : ℕ) → AreNumbers table marks → IsNumberOf table (get_or marks place None)
   number_at [] place are = tt
@@ -40,7 +40,7 @@ module _ (table more : List Element) where
     marked_kept : (id : QuestionId) → marked (table ++ more) marks id ≡ marked table marks id
     marked_kept id = element_kept (mark_of marks id) (number_at marks id.0 are)
 
-    way_before : (way : List QuestionId) (parts : List Element) → AreOfWay (table ++ more) marks way parts → AreOfWay table marks way parts
+    way_before : (way : List QuestionId) (parts : List Thing) → AreOfWay (table ++ more) marks way parts → AreOfWay table marks way parts
     way_before [] [] of = tt
     way_before (id ∷ way) (is ∷ parts) of = (sym_of (marked_kept id) of.0, way_before way parts of.1)
       where
@@ -48,8 +48,8 @@ module _ (table more : List Element) where
         sym_of first second = cc
     way_before _ _ of = absurd of
 
-    abbrev IsFitXml : List Element → List QuestionId → Type 0
-    IsFitXml all way = (length way ≡ 3) × ((tag attributes content : Element) → AreOfWay all marks way (tag ∷ attributes ∷ content ∷ [])
+    abbrev IsFitXml : List Thing → List QuestionId → Type 0
+    IsFitXml all way = (length way ≡ 3) × ((tag attributes content : Thing) → AreOfWay all marks way (tag ∷ attributes ∷ content ∷ [])
         → IsAtom tag × IsRecord attributes)
 
     xml_kept : (way : List QuestionId) → IsFitXml table way → IsFitXml (table ++ more) way

@@ -3,8 +3,8 @@ use Rattle.std.proofs.Common.{◌≡◌, List, [], ◌∷◌, Option, Some, None
 use Rattle.std.proofs.Props.{props}
 use Rattle.std.specs.Coded.{×_prop, Unit-prop}
 use Rattle.cd_syntax.specs.Name.{IsLabel}
-use Rattle.cd_syntax.specs.Element as element
-use Rattle.cd_syntax.specs.Element.{Element, IsAtom, IsRecord}
+use Rattle.cd_model.specs.Thing as thing
+use Rattle.cd_model.specs.Thing.{Thing, IsAtom, IsRecord}
 use Rattle.cd_model.specs.Each.{Each, One}
 use Rattle.cd_asked.specs.declared.asked.QuestionId.{QuestionId}
 use Rattle.cd_elements.specs.declared.shape.ElementId.{ElementId}
@@ -26,19 +26,19 @@ either_once first second apart (inl one) (inr other) = absurd (apart one other)
 either_once first second apart (inr one) (inl other) = absurd (apart other one)
 either_once first second apart (inr one) (inr other) = ap inr (second one other)
 
-number_once : (table : List Element) (mark : Option ElementId) → IsProp (MatchOption mark (Unit {0}) (λ id. Names table id))
+number_once : (table : List Thing) (mark : Option ElementId) → IsProp (MatchOption mark (Unit {0}) (λ id. Names table id))
 number_once table None = Unit-prop
 number_once table (Some id) = hlevel props
 
-pub numbers_once : (table : List Element) (marks : List (Option ElementId)) → IsProp (AreNumbers table marks)
+pub numbers_once : (table : List Thing) (marks : List (Option ElementId)) → IsProp (AreNumbers table marks)
 numbers_once table marks = each_once (λ mark. MatchOption mark (Unit {0}) (λ id. Names table id)) (number_once table) marks
 
-atom_once : (one : Element) → IsProp (IsAtom one)
-atom_once (element.Atom name) = Unit-prop
+atom_once : (one : Thing) → IsProp (IsAtom one)
+atom_once (thing.Atom name) = Unit-prop
 atom_once _ = hlevel
 
-record_once : (one : Element) → IsProp (IsRecord one)
-record_once (element.Record fields) = Unit-prop
+record_once : (one : Thing) → IsProp (IsRecord one)
+record_once (thing.Record fields) = Unit-prop
 record_once _ = hlevel
 
 label_once : (name : List _) → IsProp (IsLabel name)
@@ -58,9 +58,9 @@ one_or_two_once way =
     let one : IsProp (length way ≡ 1) = hlevel props in
     either_once one (two_once way) (λ first second. omega arith)
 
-module _ (table : List Element) (marks : List (Option ElementId)) where
+module _ (table : List Thing) (marks : List (Option ElementId)) where
   abbrev IsFitXml : List QuestionId → Type 0
-  IsFitXml way = (length way ≡ 3) × ((tag attributes content : Element) → AreOfWay table marks way (tag ∷ attributes ∷ content ∷ [])
+  IsFitXml way = (length way ≡ 3) × ((tag attributes content : Thing) → AreOfWay table marks way (tag ∷ attributes ∷ content ∷ [])
       → IsAtom tag × IsRecord attributes)
 
   xml_once : (way : List QuestionId) → IsProp (IsFitXml way)

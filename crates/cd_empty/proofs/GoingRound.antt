@@ -2,7 +2,7 @@
 use Rattle.std.proofs.Common.{◌≡◌, ℕ, zero, suc, ◌+◌, ◌<◌, ◌≤◌, Bool, true, false, ◌||◌, List, [], ◌∷◌}
 use Rattle.std.proofs.Common.{Option, Some, None, Vec, Global, length, get_or, set, map, drop, refl, sym, ap, ◌∙◌, subst, arith}
 use Rattle.std.proofs.lemmas.List.{length-drop, length-map, get_or-drop, get_or-map, drop_more, drop_all}
-use Rattle.cd_syntax.specs.Element.{Element}
+use Rattle.cd_model.specs.Thing.{Thing}
 use Rattle.cd_model.specs.Each.{Each}
 use Rattle.cd_elements.specs.declared.shape.ElementId.{ElementId}
 use Rattle.cd_expand.specs.declared.needs.Needs.{Needs}
@@ -55,7 +55,7 @@ module _ (marks : List (Option ElementId)) (first : ℕ) (cases : List (List Nee
       (sym (drop_more (drop first marks) place None enough)) half
 
 -- at its start
-pub round_at_start : (table : List Element) (marks : List (Option ElementId)) (first : ℕ) (cases : List (List Needs))
+pub round_at_start : (table : List Thing) (marks : List (Option ElementId)) (first : ℕ) (cases : List (List Needs))
     → CanBeSettled table marks first cases → (left : ℕ) → length cases ≤ left → IsSoFar marks first cases left false marks
 round_at_start table marks first cases can left over =
     let no_marks : drop left (drop first marks) ≡ [] =
@@ -63,7 +63,7 @@ round_at_start table marks first cases can left over =
     let half : AreStuck marks [] (drop left cases) = subst (AreStuck marks []) (sym (drop_all left cases over)) tt in
     (refl, subst (λ (all : List (Option ElementId)). AreStuck marks all (drop left cases)) (sym no_marks) half)
 
-module _ {table now : List Element} {marks here : List (Option ElementId)} {first : ℕ} {cases : List (List Needs)}
+module _ {table now : List Thing} {marks here : List (Option ElementId)} {first : ℕ} {cases : List (List Needs)}
     (can : CanBeSettled table marks first cases) (further : IsFurther table marks first cases now here) where
   pub can_here : CanBeSettled now here first cases
   can_here = can_still table marks first cases can now here further
@@ -88,7 +88,7 @@ module _ {table now : List Element} {marks here : List (Option ElementId)} {firs
   round_at_end left false none so_far =
       subst (λ (left : ℕ). AreStuck here (drop left (drop first here)) (drop left cases)) none so_far.1
 
-  module _ (after : List Element) (grown : Grows now after) (there : List (Option ElementId)) where
+  module _ (after : List Thing) (grown : Grows now after) (there : List (Option ElementId)) where
     -- with no mark more the table may be larger
     pub further_unmarked : there ≡ here → IsFurther table marks first cases after there
     further_unmarked same = subst (IsFurther table marks first cases after) (sym same)

@@ -5,7 +5,7 @@ use Rattle.std.specs.Prelude.{slice_get}
 use Rattle.std.proofs.lemmas.List.{length-append, length-take-le, take-append-drop, drop-append-le}
 use Rattle.std.proofs.Math.ListN.{drop_of_length-le}
 use Rattle.cd_sets.specs.declared.question.Question.{Question}
-use Rattle.cd_syntax.specs.Element.{Element}
+use Rattle.cd_model.specs.Thing.{Thing}
 use Rattle.cd_model.specs.Each.{Each}
 use Rattle.cd_model.specs.Formula.{Graph}
 use Rattle.cd_rules.specs.Family.{AsksNodes}
@@ -71,13 +71,13 @@ drop_seam all xs ys place same is =
     let within : place ≤ length xs = omega arith in
     sym (ap (drop place) same ∙ drop-append-le place xs ys within ∙ ap (λ zs. zs ++ ys) (drop_of_length-le xs past))
 
-module _ (graph : Graph) (old_table : List Element) (old_asked : List Question) (old_marks : List (Option ElementId)) where
+module _ (graph : Graph) (old_table : List Thing) (old_asked : List Question) (old_marks : List (Option ElementId)) where
   -- the questions that had a mark
   abbrev pub before : List Question
   before = take (length old_marks) old_asked
 
   -- some questions after those are gone over: they have marks, which were added, and what their clauses need is known
-  pub record GoneOver (table : List Element) (asked : List Question) (marks : List (Option ElementId)) (cases : List (List Needs))
+  pub record GoneOver (table : List Thing) (asked : List Question) (marks : List (Option ElementId)) (cases : List (List Needs))
       : Type 0 where
     pub questions : List Question
     pub left : List Question
@@ -104,7 +104,7 @@ module _ (graph : Graph) (old_table : List Element) (old_asked : List Question) 
     table_grows = grows_not old_table;
   }
 
-  module _ (within : length old_marks ≤ length old_asked) (table : List Element) (asked : List Question)
+  module _ (within : length old_marks ≤ length old_asked) (table : List Thing) (asked : List Question)
       (marks : List (Option ElementId)) (cases : List (List Needs)) (over : GoneOver table asked marks cases) where
     -- they have as many marks
     count : length (before ++ over.questions) ≡ length marks
@@ -121,7 +121,7 @@ module _ (graph : Graph) (old_table : List Element) (old_asked : List Question) 
     pub one_over : (place : ℕ) → length marks ≡ place → (question : Question) → slice_get asked place ≡ Some question
         → (new_asked : List Question) → AsksMore graph asked new_asked
         → (expansion : Expansion) → IsExpansion graph new_asked question expansion
-        → (new_table : List Element) → Grows table new_table
+        → (new_table : List Thing) → Grows table new_table
         → (new_marks : List (Option ElementId)) (new_cases : List (List Needs))
         → IsPlaced new_table expansion marks new_marks cases new_cases → GoneOver new_table new_asked new_marks new_cases
     one_over place after question next new_asked more expansion is new_table grows new_marks new_cases placed =

@@ -5,7 +5,7 @@ use Rattle.std.specs.Prelude.{◌↔◌}
 use Rattle.std.proofs.Math.Logic.{∥∥₁_map}
 use Rattle.cd_sets.specs.declared.node_id.NodeId.{NodeId}
 use Rattle.cd_sets.specs.declared.question.Question.{Question}
-use Rattle.cd_syntax.specs.Element.{Element}
+use Rattle.cd_model.specs.Thing.{Thing}
 use Rattle.cd_model.specs.Each.{Each}
 use Rattle.cd_model.specs.Formula.{Graph}
 use Rattle.cd_model.specs.Membership.{asked, answers}
@@ -34,10 +34,10 @@ each_of_unmarked fact (question ∷ questions) (Some id ∷ marks) each = each_o
 -- an element answers so at the nodes of one graph as it does in another
 abbrev pub AnswersAlike : (nodes : ℕ) → (one other : Graph) → Type 0
 AnswersAlike nodes one other =
-    (is : Element) (id : NodeId) (answer : Bool) → id.0 < nodes → answers one is id answer ↔ answers other is id answer
+    (is : Thing) (id : NodeId) (answer : Bool) → id.0 < nodes → answers one is id answer ↔ answers other is id answer
 
-module _ (graph other : Graph) (alike : AnswersAlike (length graph) graph other) (table : List Element) where
-  asked_alike : (is : Element) (question : Question) → AsksNodes (length graph) question → asked (answers graph is) question true
+module _ (graph other : Graph) (alike : AnswersAlike (length graph) graph other) (table : List Thing) where
+  asked_alike : (is : Thing) (question : Question) → AsksNodes (length graph) question → asked (answers graph is) question true
       → asked (answers other is) question true
   asked_alike is question asks asking = (
     each_of_two (λ id. id.0 < length graph) (λ id. answers graph is id true) (λ id. answers other is id true)
@@ -63,7 +63,7 @@ asks_more count more larger question asks = (
   each_weaker (λ id. id.0 < count) (λ id. id.0 < more) (λ id below. omega arith) question.neg asks.1,
 )
 
-still_fits : (graph more : Graph) (table : List Element) (decider : Decider) → AnswersAlike (length graph) graph (graph ++ more)
+still_fits : (graph more : Graph) (table : List Thing) (decider : Decider) → AnswersAlike (length graph) graph (graph ++ more)
     → Fits graph table decider → Fits (graph ++ more) table decider
 still_fits graph more table decider alike fits = record {
   asks = each_weaker (AsksNodes (length graph)) (AsksNodes (length (graph ++ more)))
@@ -79,7 +79,7 @@ still_fits graph more table decider alike fits = record {
     settled_ask = each_of_first (AsksNodes (length graph)) decider.settled decider.asked fits.asks
 
 -- So a decider fits what a call left of its graph, which put formulas after it or left it as it was
-pub fits_extended : {T E : Type 0} (graph batch other : Graph) (table : List Element) (decider : Decider) (result : Result T E)
+pub fits_extended : {T E : Type 0} (graph batch other : Graph) (table : List Thing) (decider : Decider) (result : Result T E)
     → OnOk result (other ≡ graph ++ batch) → OnOk result (AnswersAlike (length graph) graph other) → OnErr result (other ≡ graph)
     → ∥ Fits graph table decider ∥₁ → ∥ Fits other table decider ∥₁
 fits_extended graph batch other table decider (Ok one) added alike kept known =

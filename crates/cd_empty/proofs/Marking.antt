@@ -7,7 +7,7 @@ use Rattle.std.proofs.lemmas.Option.{slice_get-get_or, get_or_from_slice_get, sl
 use Rattle.std.proofs.Math.Logic.{∥∥₁_map}
 use mathlib.Core.Logic.{∥∥₁_elim}
 use Rattle.cd_sets.specs.declared.question.Question.{Question}
-use Rattle.cd_syntax.specs.Element.{Element, IsElement}
+use Rattle.cd_model.specs.Thing.{Thing, IsElement}
 use Rattle.cd_model.specs.BuiltIns.{built_ins}
 use Rattle.cd_model.specs.Each.{Each, One}
 use Rattle.cd_model.specs.Formula.{Graph}
@@ -73,8 +73,8 @@ IsOfClause graph asked_all question needs = (clause reduced : Clause) × IsClaus
     × IsReduced graph clause reduced × NamesLabels reduced × Names asked_all needs reduced
 
 -- an element that is made for needs of a reduced clause of a question is in the clause, and so in the question
-made_is_asked : (graph : Graph) (begins : (more : Graph) × (graph ≡ built_ins ++ more)) (table : List Element) (asked_all : List Question)
-    (marks : List (Option ElementId)) → AreMarked graph table asked_all marks → (question : Question) (is : Element) → IsElement is
+made_is_asked : (graph : Graph) (begins : (more : Graph) × (graph ≡ built_ins ++ more)) (table : List Thing) (asked_all : List Question)
+    (marks : List (Option ElementId)) → AreMarked graph table asked_all marks → (question : Question) (is : Thing) → IsElement is
     → (needs : Needs) → IsMade table marks needs is × IsOfClause graph asked_all question needs
     → asked (answers graph is) question true
 made_is_asked graph begins table asked_all marks are question is sound needs made =
@@ -83,13 +83,13 @@ made_is_asked graph begins table asked_all marks are question is sound needs mad
     (clauses_exact (kind_of is) (reader graph is) (kind_of_element graph is) (is_elsewhere graph is) graph question).1
     (of.0, of.2, reduced_held graph begins of.0 of.1 is of.3 sound held)
 
-made_is_marked : (graph : Graph) (begins : (more : Graph) × (graph ≡ built_ins ++ more)) (table : List Element) (asked_all : List Question)
+made_is_marked : (graph : Graph) (begins : (more : Graph) × (graph ≡ built_ins ++ more)) (table : List Thing) (asked_all : List Question)
     (marks : List (Option ElementId)) → AreMarked graph table asked_all marks → (question : Question) (all : List Needs)
-    → AreOfClauses graph asked_all question all → (after : List Element) (id : ElementId) → IsMadeFor table marks all after id
+    → AreOfClauses graph asked_all question all → (after : List Thing) (id : ElementId) → IsMadeFor table marks all after id
     → IsMarked graph after question (Some id)
 made_is_marked graph begins table asked_all marks are question all of after id made =
-    let larger : List Element = table ++ made.made.0 in
-    let is : Element = element_at after id in
+    let larger : List Thing = table ++ made.made.0 in
+    let is : Thing = element_at after id in
     let one : One (λ needs. IsMade larger marks needs is × IsOfClause graph asked_all question needs) all =
     one_with_each (λ needs. IsMade larger marks needs is) (IsOfClause graph asked_all question) all made.made.1 of in (
       made.named,
@@ -98,12 +98,12 @@ made_is_marked graph begins table asked_all marks are question all of after id m
           made.sound) all one,
     )
 
-module _ (table : List Element) (marks : List (Option ElementId)) (first : ℕ) (cases : List (List Needs)) where
+module _ (table : List Thing) (marks : List (Option ElementId)) (first : ℕ) (cases : List (List Needs)) where
   -- a larger table
-  pub further_by_growth : (after : List Element) → Grows table after → IsFurther table marks first cases after marks
+  pub further_by_growth : (after : List Thing) → Grows table after → IsFurther table marks first cases after marks
   further_by_growth after grown = record {
     marked = λ graph rest asked_all begins are expanded. (
-      subst (λ (all : List Element). AreMarked graph all asked_all marks) (sym grown.1)
+      subst (λ (all : List Thing). AreMarked graph all asked_all marks) (sym grown.1)
           (marked_in_longer graph table grown.0 asked_all marks are),
       expanded,
     );
@@ -113,7 +113,7 @@ module _ (table : List Element) (marks : List (Option ElementId)) (first : ℕ) 
   }
 
   -- one more mark
-  module _ (after : List Element) (grown : Grows table after) (place : ℕ) (d : List Needs) (id : ElementId)
+  module _ (after : List Thing) (grown : Grows table after) (place : ℕ) (d : List Needs) (id : ElementId)
       (within : place < length cases) (none : IsUnmarked marks (first + place))
       (made : IsMadeFor table marks (get_or cases place d) after id) where
     marked_by_step : (graph rest : Graph) (asked_all : List Question) → graph ≡ built_ins ++ rest → AreMarked graph table asked_all marks
@@ -130,7 +130,7 @@ module _ (table : List Element) (marks : List (Option ElementId)) (first : ℕ) 
         ∙ ap Some (sym (get_or-drop first asked_all place question)
         ∙ get_or_from_slice_get (drop first asked_all) place question question here.1) in
         let still : AreMarked graph after asked_all marks =
-        subst (λ (all : List Element). AreMarked graph all asked_all marks) (sym grown.1)
+        subst (λ (all : List Thing). AreMarked graph all asked_all marks) (sym grown.1)
         (marked_in_longer graph table grown.0 asked_all marks are) in
         marked_set graph after asked_all marks number question id still asks
         (made_is_marked graph (rest, begins) table asked_all marks are question (get_or cases place d) here.2 after id made)
@@ -149,7 +149,7 @@ module _ (table : List Element) (marks : List (Option ElementId)) (first : ℕ) 
     }
 
   -- on and on
-  pub further_again : (after last : List Element) (now then : List (Option ElementId)) → IsFurther table marks first cases after now
+  pub further_again : (after last : List Thing) (now then : List (Option ElementId)) → IsFurther table marks first cases after now
       → IsFurther after now first cases last then → IsFurther table marks first cases last then
   further_again after last now then one next = record {
     marked = λ graph rest asked_all begins are expanded.
@@ -162,7 +162,7 @@ module _ (table : List Element) (marks : List (Option ElementId)) (first : ℕ) 
 
   module _ (can : CanBeSettled table marks first cases) where
     -- what can be settled can be settled further on
-    pub can_still : (after : List Element) (now : List (Option ElementId)) → IsFurther table marks first cases after now
+    pub can_still : (after : List Thing) (now : List (Option ElementId)) → IsFurther table marks first cases after now
         → CanBeSettled after now first cases
     can_still after now further = ∥∥₁_map can (λ is.
         let next = further.marked is.0 is.1.0 is.2.0 is.1.1 is.2.1 is.2.2 in (is.0, is.1, (is.2.0, next.0, next.1)))

@@ -4,7 +4,7 @@ use Rattle.std.proofs.Props.{props}
 use Rattle.std.proofs.Math.Logic.{∥∥₁_elim, ∥∥₁_map}
 use Rattle.std.proofs.lemmas.List.{append-nil, length-take, take-append-le, take_all}
 use Rattle.cd_sets.specs.declared.question.Question.{Question}
-use Rattle.cd_syntax.specs.Element.{Element}
+use Rattle.cd_model.specs.Thing.{Thing}
 use Rattle.cd_model.specs.BuiltIns.{built_ins}
 use Rattle.cd_model.specs.Each.{Each}
 use Rattle.cd_model.specs.Formula.{Graph}
@@ -38,13 +38,13 @@ pub record IsCounted (decider : Decider) : Type 0 where
   pub asked : decider.settled ≤ length decider.asked
   pub marked : decider.settled ≤ length decider.marks.items
 
-pub counted : (graph : Graph) (table : List Element) (decider : Decider) → ∥ Fits graph table decider ∥₁ → IsCounted decider
+pub counted : (graph : Graph) (table : List Thing) (decider : Decider) → ∥ Fits graph table decider ∥₁ → IsCounted decider
 counted graph table decider known = record {
   asked = ∥∥₁_elim known (hlevel props) (λ fits. fits.all_asked);
   marked = ∥∥₁_elim known (hlevel props) (λ fits. fits.all_marked);
 }
 
-pub asking : (graph : Graph) (table : List Element) (decider : Decider) → ∥ Fits graph table decider ∥₁
+pub asking : (graph : Graph) (table : List Thing) (decider : Decider) → ∥ Fits graph table decider ∥₁
     → Each (AsksNodes (length graph)) decider.asked
 asking graph table decider known = asks_had (length graph) decider.asked (∥∥₁_map known (λ fits. fits.asks))
 
@@ -78,7 +78,7 @@ as_long list number full = omega (arith, full, length-take number list)
 full_front : {X : Type 0} (list : List X) (number : ℕ) → number ≤ length list → length (take number list) ≡ number
 full_front list number within = omega (arith, within, length-take number list)
 
-pub fits_after : (graph : Graph) (table : List Element) (before after : Decider) → KeepsSettled before after
+pub fits_after : (graph : Graph) (table : List Thing) (before after : Decider) → KeepsSettled before after
     → Each (AsksNodes (length graph)) after.asked → Fits graph table before → Fits graph table after
 fits_after graph table before after keeps asks fits = record {
   asks = asks;
@@ -92,13 +92,13 @@ fits_after graph table before after keeps asks fits = record {
       (subst (λ (marks : List (Option ElementId)). IsClosed graph (unmarked (settled_questions before) marks)) (sym keeps.marks) fits.closed);
 }
 
-pub fits_longer : (graph : Graph) (table longer : List Element) (decider : Decider) → (more : List Element) × (longer ≡ table ++ more)
+pub fits_longer : (graph : Graph) (table longer : List Thing) (decider : Decider) → (more : List Thing) × (longer ≡ table ++ more)
     → Fits graph table decider → Fits graph longer decider
 fits_longer graph table longer decider more fits = record {
   asks = fits.asks;
   all_asked = fits.all_asked;
   all_marked = fits.all_marked;
-  marked = subst (λ (longer : List Element). AreMarked graph longer (settled_questions decider) (settled_marks decider)) (sym more.1)
+  marked = subst (λ (longer : List Thing). AreMarked graph longer (settled_questions decider) (settled_marks decider)) (sym more.1)
       (marked_in_longer graph table more.0 (settled_questions decider) (settled_marks decider) fits.marked);
   closed = fits.closed;
 }
@@ -110,7 +110,7 @@ all_ask count before after asks more =
     subst (Each (AsksNodes count)) (sym more.1) (each_of_lists (AsksNodes count) before more.0 asks more.2)
 
 -- Where a call only asks and marks more, what is settled is kept, and the decider fits
-module _ (graph : Graph) (table : List Element) (before after : Decider) (known : ∥ Fits graph table before ∥₁)
+module _ (graph : Graph) (table : List Thing) (before after : Decider) (known : ∥ Fits graph table before ∥₁)
     (count : after.settled ≡ before.settled)
     (more : (more : List Question) × (after.asked ≡ before.asked ++ more) × Each (AsksNodes (length graph)) more)
     (marks : take before.settled after.marks.items ≡ take before.settled before.marks.items) where
@@ -125,7 +125,7 @@ module _ (graph : Graph) (table : List Element) (before after : Decider) (known 
       (all_ask (length graph) before.asked after.asked (asking graph table before known) more))
 
 -- What is collected for a decider has its marks, what its clauses need is known, and so it can be settled
-module _ (graph : Graph) (table longer : List Element) (before : Decider) (few : length before.marks.items ≤ before.settled)
+module _ (graph : Graph) (table longer : List Thing) (before : Decider) (few : length before.marks.items ≤ before.settled)
     (asked : List Question) (marks : List (Option ElementId)) (cases given : List (List Needs)) (same : given ≡ cases)
     (marked : AreMarked graph table (take (length before.marks.items) before.asked) before.marks.items → AreMarked graph longer asked marks)
     (expanded : AreExpanded graph asked (drop (length before.marks.items) asked) (drop (length before.marks.items) marks) cases) where
@@ -172,7 +172,7 @@ more_verdicts before after settles = (
 )
 
 -- Where there is nothing more to make, a decider that settles all fits
-pub fits_all : (graph : Graph) (table longest : List Element) (before after : Decider) (cases : List (List Needs)) → SettlesAll before after
+pub fits_all : (graph : Graph) (table longest : List Thing) (before after : Decider) (cases : List (List Needs)) → SettlesAll before after
     → Each (AsksNodes (length graph)) after.asked
     → AreMarked graph longest after.asked after.marks.items
     × AreExpanded graph after.asked (drop before.settled after.asked) (drop before.settled after.marks.items) cases

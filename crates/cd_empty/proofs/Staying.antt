@@ -4,8 +4,8 @@ use Rattle.std.proofs.Common.{inl, inr, sym, subst, arith}
 use Rattle.std.proofs.lemmas.List.{get_or_at, length_push}
 use Rattle.cd_sets.specs.declared.question.Question.{Question}
 use Rattle.cd_syntax.specs.Name.{Name}
-use Rattle.cd_syntax.specs.Element as element
-use Rattle.cd_syntax.specs.Element.{Element}
+use Rattle.cd_model.specs.Thing as thing
+use Rattle.cd_model.specs.Thing.{Thing}
 use Rattle.cd_model.specs.Formula.{Graph}
 use Rattle.cd_model.specs.Membership.{asked, answers}
 use Rattle.cd_rules.specs.Clauses.{Clause, Pairs, Xmls, Records, Arrows, IsClauseOfQuestion}
@@ -130,7 +130,7 @@ expanded_count graph asked (question ∷ questions) (mark ∷ marks) (all ∷ ca
 expanded_count graph asked _ _ _ are = absurd are
 
 -- when more elements are made, one more question may have its mark
-pub are_marked_push : (graph : Graph) (table new more : List Element) → new ≡ table ++ more → (questions : List Question)
+pub are_marked_push : (graph : Graph) (table new more : List Thing) → new ≡ table ++ more → (questions : List Question)
     (marks : List (Option ElementId)) (question : Question) (mark : Option ElementId) → AreMarked graph table questions marks
     → IsMarked graph new question mark → AreMarked graph new (questions ++ question ∷ []) (marks ++ mark ∷ [])
 are_marked_push graph table new more grown questions marks question mark are is =
@@ -138,10 +138,10 @@ are_marked_push graph table new more grown questions marks question mark are is 
     along_push (IsMarked graph new) questions marks question mark (subst (λ all. AreMarked graph all questions marks) (sym grown) still) is
 
 -- the element that is added last is at its number
-pub has_last : (graph : Graph) (table new : List Element) (question : Question) (id : ElementId) (is : Element) → id.0 ≡ length table
+pub has_last : (graph : Graph) (table new : List Thing) (question : Question) (id : ElementId) (is : Thing) → id.0 ≡ length table
     → new ≡ table ++ is ∷ [] → asked (answers graph is) question true → IsMarked graph new question (Some id)
 has_last graph table new question id is number same has = subst (λ all. IsMarked graph all question (Some id)) (sym same) (
   omega (arith, length_push table is, number),
   subst (λ one. asked (answers graph one) question true)
-      (sym (get_or_at table is [] (element.Atom []) id.0 (sym number))) has,
+      (sym (get_or_at table is [] (thing.Atom []) id.0 (sym number))) has,
 )

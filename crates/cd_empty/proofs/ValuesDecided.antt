@@ -12,8 +12,9 @@ use Rattle.cd_model.specs.Each.{Each}
 use Rattle.cd_model.specs.Formula as formula
 use Rattle.cd_model.specs.Formula.{Formula, Formulas, NoFormula, AFormula, Field, Graph, IsFormula, AreFormulas, IsGraph, formula_at, field_of}
 use Rattle.cd_model.specs.Membership.{Answers, Reader, Labelled, Mapping, holds, each_holds, one_holds, integer_reader, character_reader, atom_reader, pair_reader, xml_reader, record_reader, function_reader, closure_mapping, value_reader, value_labelled, value_answers}
-use Rattle.cd_model.specs.Value as value
-use Rattle.cd_model.specs.Value.{Value, ArrowOf, IsValue, AreValues}
+use Rattle.cd_model.specs.Thing as thing
+use Rattle.cd_model.specs.Interfaces.{Interfaces, ArrowOf}
+use Rattle.cd_model.specs.Thing.{Thing, IsValue, AreValues}
 use Rattle.cd_model.proofs.Decided.{swapped, both_or, three_or, either_decided}
 use Rattle.cd_model.proofs.Labels.{IsOneOf, names_of, named_or_not, all_or_fails}
 use Rattle.cd_empty.proofs.ClosuresDecided.{all_map_or_not}
@@ -115,19 +116,19 @@ module _ (nodes : ℕ) where
   record_decides names labelled ends decides _ sound = inr refl
 
 -- the labels of a record, which has fields at these alone
-abbrev labels_of : value.Fields → List Name
-labels_of value.NoField = []
-labels_of (value.Field label is rest) = label ∷ labels_of rest
+abbrev labels_of : thing.Fields → List Name
+labels_of thing.NoField = []
+labels_of (thing.Field label is rest) = label ∷ labels_of rest
 
-fields_end : (nodes : ℕ) (graph : Graph) (fields : value.Fields) → EndsAfter nodes (labels_of fields) (value_labelled graph fields)
-fields_end nodes graph value.NoField label = inr (λ field free. free)
-fields_end nodes graph (value.Field name is rest) label =
+fields_end : (nodes : ℕ) (graph : Graph) (fields : thing.Fields) → EndsAfter nodes (labels_of fields) (value_labelled graph interfaces fields)
+fields_end nodes graph thing.NoField label = inr (λ field free. free)
+fields_end nodes graph (thing.Field name is rest) label =
     by_name (cases_Bool (bytes_eq name label)) (fields_end nodes graph rest label)
   where
     by_name : (bytes_eq name label ≡ true) ⊎ (bytes_eq name label ≡ false)
-        → IsOneOf (labels_of rest) label ⊎ ((field : Field) → field.optional ≡ true → value_labelled graph rest label field true)
+        → IsOneOf (labels_of rest) label ⊎ ((field : Field) → field.optional ≡ true → value_labelled graph interfaces rest label field true)
         → IsOneOf (name ∷ labels_of rest) label
-        ⊎ ((field : Field) → field.optional ≡ true → value_labelled graph (value.Field name is rest) label field true)
+        ⊎ ((field : Field) → field.optional ≡ true → value_labelled graph interfaces (thing.Field name is rest) label field true)
     by_name (inl same) later = inl (inl ((bytes_eq-Decides name label).0 same))
     by_name (inr other) (inl one) = inl (inr one)
     by_name (inr other) (inr absent) = inr (λ field free. rw other (absent field free))
@@ -143,39 +144,39 @@ module _ (graph more : Graph) (begins : graph ≡ built_ins ++ more) (sound : Is
   abbrev nodes : ℕ
   nodes = length graph
 
-  as_read : (is : Value) → DecidesForms nodes (value_reader graph is) → Decides nodes (value_answers graph is)
+  as_read : (interfaces : Interfaces) (is : Thing) → DecidesForms nodes (value_reader graph interfaces is) → Decides nodes (value_answers graph interfaces is)
   as_read is decides id below =
-      holds_decided nodes (value_reader graph is) decides (formula_at graph id) (formula_is_sound nodes graph id.0 sound)
+      holds_decided nodes (value_reader graph interfaces is) decides (formula_at graph id) (formula_is_sound nodes graph id.0 sound)
 
   closure_decides : (interface : List ArrowOf) → Each (λ arrow. (arrow.argument.0 < nodes) × (arrow.result.0 < nodes)) interface
-      → DecidesArrows nodes (closure_mapping graph interface)
+      → DecidesArrows nodes (closure_mapping graph interfaces function)
   closure_decides interface below argument result from_below to_below =
       all_map_or_not graph more begins sound interface argument result below from_below to_below
 
   -- by recursion on the value
   mutual
-    value_decides : (is : Value) → IsValue nodes is → Decides nodes (value_answers graph is)
-    value_decides (value.Integer n) whole = as_read (value.Integer n) (integer_decides nodes n)
-    value_decides (value.Character c) whole = as_read (value.Character c) (character_decides nodes c)
-    value_decides (value.Atom name) whole = as_read (value.Atom name) (atom_decides nodes name)
-    value_decides (value.Pair first second) whole = as_read (value.Pair first second)
-        (pair_decides nodes (value_answers graph first) (value_answers graph second)
+    value_decides : (interfaces : Interfaces) (is : Thing) → IsValue nodes is → Decides nodes (value_answers graph interfaces is)
+    value_decides (thing.Integer n) whole = as_read (thing.Integer n) (integer_decides nodes n)
+    value_decides (thing.Character c) whole = as_read (thing.Character c) (character_decides nodes c)
+    value_decides (thing.Atom name) whole = as_read (thing.Atom name) (atom_decides nodes name)
+    value_decides (thing.Pair first second) whole = as_read (thing.Pair first second)
+        (pair_decides nodes (value_answers graph interfaces first) (value_answers graph interfaces second)
         (value_decides first whole.0) (value_decides second whole.1))
-    value_decides (value.Xml tag attributes content) whole = as_read (value.Xml tag attributes content)
-        (xml_decides nodes (value_answers graph tag) (value_answers graph attributes) (value_answers graph content)
+    value_decides (thing.Xml tag attributes content) whole = as_read (thing.Xml tag attributes content)
+        (xml_decides nodes (value_answers graph interfaces tag) (value_answers graph interfaces attributes) (value_answers graph interfaces content)
         (value_decides tag whole.2) (value_decides attributes whole.3) (value_decides content whole.4))
-    value_decides (value.Record fields) whole = as_read (value.Record fields)
-        (record_decides nodes (labels_of fields) (value_labelled graph fields)
+    value_decides (thing.Record fields) whole = as_read (thing.Record fields)
+        (record_decides nodes (labels_of fields) (value_labelled graph interfaces fields)
         (fields_end nodes graph fields) (fields_decide fields whole.1))
-    value_decides (value.Closure function interface environment) whole = as_read (value.Closure function interface environment)
-        (function_decides nodes (closure_mapping graph interface) (closure_decides interface whole.0))
+    value_decides (thing.Closure function environment) whole = as_read (thing.Closure function environment)
+        (function_decides nodes (closure_mapping graph interfaces function) (closure_decides interface whole.0))
 
-    fields_decide : (fields : value.Fields) → AreValues nodes fields → DecidesLabels nodes (value_labelled graph fields)
-    fields_decide value.NoField are = λ label field below. cases_Bool field.optional
-    fields_decide (value.Field name is rest) are = λ label field below.
+    fields_decide : (fields : thing.Fields) → AreValues nodes fields → DecidesLabels nodes (value_labelled graph interfaces fields)
+    fields_decide thing.NoField are = λ label field below. cases_Bool field.optional
+    fields_decide (thing.Field name is rest) are = λ label field below.
         either_decided (bytes_eq name label) (value_decides is are.0 field.node below) (fields_decide rest are.1 label field below)
 
   -- Each value is in a node or outside it
-  pub value_in_or_outside : (is : Value) → IsValue nodes is → (id : NodeId) → id.0 < nodes
-      → value_answers graph is id true ⊎ value_answers graph is id false
+  pub value_in_or_outside : (interfaces : Interfaces) (is : Thing) → IsValue nodes is → (id : NodeId) → id.0 < nodes
+      → value_answers graph interfaces is id true ⊎ value_answers graph interfaces is id false
   value_in_or_outside is whole = value_decides is whole

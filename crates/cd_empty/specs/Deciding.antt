@@ -1,7 +1,7 @@
 -- What is known of questions while they are decided.
 use Rattle.std.specs.Prelude.{◌≡◌, ◌++◌, ℕ, List, [], ◌∷◌, Option, Some, None, drop}
 use Rattle.cd_sets.specs.declared.question.Question.{Question}
-use Rattle.cd_syntax.specs.Element.{Element}
+use Rattle.cd_model.specs.Thing.{Thing}
 use Rattle.cd_model.specs.BuiltIns.{built_ins}
 use Rattle.cd_model.specs.Each.{Each}
 use Rattle.cd_model.specs.Formula.{Graph}
@@ -29,6 +29,6 @@ abbrev pub AreStuck : (marks : List (Option ElementId)) → List (Option Element
 AreStuck marks = Along (λ mark all. mark ≡ None → Each (IsStuck marks) all)
 
 -- there is a graph, which begins with the built-in nodes, and there are questions, for which these are marks and needs
-abbrev pub CanBeSettled : List Element → (marks : List (Option ElementId)) → (first : ℕ) → List (List Needs) → Type 0
+abbrev pub CanBeSettled : List Thing → (marks : List (Option ElementId)) → (first : ℕ) → List (List Needs) → Type 0
 CanBeSettled table marks first cases = ∥ ((graph : Graph) × ((more : Graph) × (graph ≡ built_ins ++ more))
     × ((asked : List Question) × AreMarked graph table asked marks × AreExpanded graph asked (drop first asked) (drop first marks) cases)) ∥₁

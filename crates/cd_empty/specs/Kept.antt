@@ -1,7 +1,7 @@
 -- What a decider keeps.
 use Rattle.std.specs.Prelude.{◌≤◌, List, [], ◌∷◌, Option, Some, None, length, take}
 use Rattle.cd_sets.specs.declared.question.Question.{Question}
-use Rattle.cd_syntax.specs.Element.{Element}
+use Rattle.cd_model.specs.Thing.{Thing}
 use Rattle.cd_model.specs.Each.{Each}
 use Rattle.cd_model.specs.Formula.{Graph}
 use Rattle.cd_elements.specs.declared.shape.ElementId.{ElementId}
@@ -32,7 +32,7 @@ kept decider = with_verdicts (settled_questions decider) (settled_marks decider)
 
 -- A decider fits a graph and a table of elements where all that is asked asks nodes of the graph, where what is settled has its marks, and
 -- these are elements of the questions, and where the settled questions without a mark are a closed family
-pub record Fits (graph : Graph) (table : List Element) (decider : Decider) : Type 0 where
+pub record Fits (graph : Graph) (table : List Thing) (decider : Decider) : Type 0 where
   pub asks : Each (AsksNodes (length graph)) decider.asked
   pub all_asked : decider.settled ≤ length decider.asked
   pub all_marked : decider.settled ≤ length decider.marks.items

@@ -2,7 +2,7 @@
 use Rattle.std.specs.Prelude.{◌≡◌, ◌<◌, ◌++◌, ℕ, suc, Bool, true, false, List}
 use Rattle.std.specs.Prelude.{[], ◌∷◌, Option, Some, None, length, take, drop, slice_set}
 use Rattle.cd_sets.specs.declared.question.Question.{Question}
-use Rattle.cd_syntax.specs.Element.{Element, IsElement}
+use Rattle.cd_model.specs.Thing.{Thing, IsElement}
 use Rattle.cd_model.specs.BuiltIns.{built_ins}
 use Rattle.cd_model.specs.Each.{Each, One}
 use Rattle.cd_model.specs.Formula.{Graph}
@@ -25,14 +25,14 @@ IsUnmarked marks place = HasNoMark marks (record { 0 = place })
 
 -- An element of the table that is there in the end has what one of these needs asks for. It is made of elements of a table that
 -- began as the first one
-pub record IsMadeFor (table : List Element) (marks : List (Option ElementId)) (all : List Needs) (after : List Element)
+pub record IsMadeFor (table : List Thing) (marks : List (Option ElementId)) (all : List Needs) (after : List Thing)
     (id : ElementId) : Type 0 where
   pub named : Names after id
   pub sound : IsElement (element_at after id)
-  pub made : (more : List Element) × One (λ needs. IsMade (table ++ more) marks needs (element_at after id)) all
+  pub made : (more : List Thing) × One (λ needs. IsMade (table ++ more) marks needs (element_at after id)) all
 
 -- one question was marked with such an element, or it has a mark, or there is nothing to make for it
-abbrev pub IsStep : List Element → (marks : List (Option ElementId)) → (place : ℕ) → List Needs → Bool → (after : List Element)
+abbrev pub IsStep : List Thing → (marks : List (Option ElementId)) → (place : ℕ) → List Needs → Bool → (after : List Thing)
     → (now : List (Option ElementId)) → Type 0
 IsStep table marks place all true after now = (id : ElementId) × IsUnmarked marks place × (now ≡ slice_set marks place (Some id))
     × IsMadeFor table marks all after id
@@ -40,14 +40,14 @@ IsStep table marks place all false after now = (now ≡ marks) × (IsUnmarked ma
 
 -- Marks went on to others over a larger table: what they were marks of, in a graph with the built-in nodes, they are still marks of, and
 -- those before the first place, and how many there are, stayed
-pub record IsFurther (table : List Element) (marks : List (Option ElementId)) (first : ℕ) (cases : List (List Needs))
-    (after : List Element) (now : List (Option ElementId)) : Type 0 where
+pub record IsFurther (table : List Thing) (marks : List (Option ElementId)) (first : ℕ) (cases : List (List Needs))
+    (after : List Thing) (now : List (Option ElementId)) : Type 0 where
   pub marked : (graph more : Graph) (asked : List Question) → graph ≡ built_ins ++ more → AreMarked graph table asked marks
       → AreExpanded graph asked (drop first asked) (drop first marks) cases
       → AreMarked graph after asked now × AreExpanded graph asked (drop first asked) (drop first now) cases
   pub count : length now ≡ length marks
   pub kept : take first now ≡ take first marks
-  pub grows : (more : List Element) × (after ≡ table ++ more)
+  pub grows : (more : List Thing) × (after ≡ table ++ more)
 
 -- so far in a round fewer questions are without a mark, or none was marked, and there is nothing to make for those after the ones left
 abbrev pub IsSoFar : (marks : List (Option ElementId)) → (first : ℕ) → List (List Needs) → (left : ℕ) → (made : Bool)

@@ -1,7 +1,7 @@
 -- What a contract sees of a world.
 use Rattle.std.specs.Prelude.{List}
 use Rattle.cd_sets.specs.declared.question.Question.{Question}
-use Rattle.cd_syntax.specs.Element.{Element}
+use Rattle.cd_model.specs.Thing.{Thing}
 use Rattle.cd_model.specs.Formula.{Graph}
 use Rattle.cd_graph.specs.Nodes.{nodes}
 use Rattle.cd_elements.specs.Elements.{table}
@@ -13,7 +13,7 @@ use Rattle.cd_empty.specs.Kept as decider
 abbrev pub graph_of : World → Graph
 graph_of world = nodes world.graph
 
-abbrev pub table_of : World → List Element
+abbrev pub table_of : World → List Thing
 table_of world = table world.elements
 
 abbrev pub kept : World → List (Question × Verdict)

@@ -1,26 +1,26 @@
 -- Questions with their verdicts.
 use Rattle.std.specs.Prelude.{◌≡◌, ◌++◌, true, List, [], ◌∷◌, length}
 use Rattle.cd_sets.specs.declared.question.Question.{Question}
-use Rattle.cd_syntax.specs.Element.{Element, IsElement}
+use Rattle.cd_model.specs.Thing.{Thing, IsElement, IsValue}
 use Rattle.cd_model.specs.Each.{One}
 use Rattle.cd_model.specs.Formula.{Graph}
 use Rattle.cd_model.specs.Membership.{asked, answers, value_answers}
-use Rattle.cd_model.specs.Value.{Value, IsValue}
+use Rattle.cd_model.specs.Interfaces.{Interfaces}
 use Rattle.cd_elements.specs.Table.{Names, element_at}
 use Rattle.cd_empty.specs.declared.verdict.Verdict.{Verdict}
 use Rattle.cd_empty.specs.declared.verdict.Verdict.TheVariants.{Empty, Inhabited}
 
 -- no element is in a question
 abbrev pub HasNoElement : Graph → Question → Type 0
-HasNoElement graph question = (is : Element) → IsElement is → asked (answers graph is) question true → ⊥
+HasNoElement graph question = (is : Thing) → IsElement is → asked (answers graph is) question true → ⊥
 
 -- no value is in a question, whose closures may have arrows of any graph that begins with this one
 abbrev pub HasNoValue : Graph → Question → Type 0
 HasNoValue graph question =
-    (more : Graph) (is : Value) → IsValue (length (graph ++ more)) is → asked (value_answers (graph ++ more) is) question true → ⊥
+    (more : Graph) (interfaces : Interfaces) (is : Thing) → IsValue (length (graph ++ more)) is → asked (value_answers (graph ++ more) is) question true → ⊥
 
 -- a verdict is exact: the question has no element, or it has this one of the table
-abbrev pub IsExact : Graph → List Element → Question → Verdict → Type 0
+abbrev pub IsExact : Graph → List Thing → Question → Verdict → Type 0
 IsExact graph table question Empty = HasNoElement graph question × HasNoValue graph question
 IsExact graph table question (Inhabited id) =
     Names table id × IsElement (element_at table id) × asked (answers graph (element_at table id)) question true

@@ -1,7 +1,7 @@
 //! The questions that a question leads to.
 ghost use Rattle.std.specs.Prelude.{◌≡◌, ◌++◌, ◌≤◌, List, Option, drop, length, map, take, OnOk, IfOk};
 ghost use Rattle.cd_sets.specs.declared.question.Question.{Question as AQuestion};
-ghost use Rattle.cd_syntax.specs.Element.{Element as AnElement};
+ghost use Rattle.cd_model.specs.Thing.{Element as AnElement};
 ghost use Rattle.cd_model.specs.Each.{Each};
 ghost use Rattle.cd_model.specs.Formula.{Graph as PlainGraph};
 ghost use Rattle.cd_graph.specs.Nodes.{nodes};

@@ -25,12 +25,13 @@ impl World {
     ghost use Rattle.std.specs.Prelude.{◌≡◌, ◌+◌, ◌<◌, ◌++◌, [], ◌∷◌, true, List, length, IfOk, OnOk, OnErr, MatchOption};
     ghost use Rattle.cd_sets.specs.declared.node_id.NodeId.{NodeId as AnId};
     ghost use Rattle.cd_sets.specs.declared.question.Question.{Question as AQuestion};
-    ghost use Rattle.cd_syntax.specs.Element.{Element as AnElement, IsElement};
+    ghost use Rattle.cd_model.specs.Thing.{Element as AnElement, IsElement};
     ghost use Rattle.cd_model.specs.BuiltIns.{built_ins};
     ghost use Rattle.cd_model.specs.Each.{Each};
     ghost use Rattle.cd_model.specs.Formula.{Graph as PlainGraph, IsFormula, IsGraph};
     ghost use Rattle.cd_model.specs.Membership.{answers, value_answers};
-    ghost use Rattle.cd_model.specs.Value.{Value as AValue, IsValue};
+    ghost use Rattle.cd_model.specs.Interfaces.{Interfaces};
+ghost use Rattle.cd_model.specs.Thing.{IsValue};
     ghost use Rattle.cd_graph.specs.PlainFormula.{plain_list};
     ghost use Rattle.cd_rules.specs.Family.{AsksNodes, IsClosed};
     ghost use Rattle.cd_rules.specs.Needs.{question};

@@ -1,7 +1,7 @@
 -- What is known of a question once its clauses are looked at.
 use Rattle.std.specs.Prelude.{◌⊎◌, true, List, [], ◌∷◌}
 use Rattle.cd_sets.specs.declared.question.Question.{Question}
-use Rattle.cd_syntax.specs.Element.{Element, IsElement}
+use Rattle.cd_model.specs.Thing.{Thing, IsElement}
 use Rattle.cd_model.specs.Each.{Each, One}
 use Rattle.cd_model.specs.Formula.{Graph}
 use Rattle.cd_model.specs.Membership.{asked, answers}
@@ -13,12 +13,12 @@ use Rattle.cd_rules.specs.Needs.{AreNeeds}
 use Rattle.cd_rules.specs.Reduced.{IsReduced}
 use Rattle.cd_expand.specs.declared.needs.Needs.{Needs}
 use Rattle.cd_expand.specs.declared.expansion.Expansion.{Expansion}
-use Rattle.cd_expand.specs.declared.expansion.Expansion.TheVariants.{Element as AnElement, Clauses}
+use Rattle.cd_expand.specs.declared.expansion.Expansion.TheVariants.{Thing as AnElement, Clauses}
 use Rattle.cd_expand.specs.Named.{Names}
 
 -- what a shape makes over any table is an element of the question
 abbrev pub HasShape : Graph → Question → Shape → Type 0
-HasShape graph question shape = (table : List Element) → IsShape table shape × IsElement (element_by table shape)
+HasShape graph question shape = (table : List Thing) → IsShape table shape × IsElement (element_by table shape)
     × asked (answers graph (element_by table shape)) question true
 
 -- each of the needs is that of a reduced clause of the question

@@ -6,7 +6,7 @@ use Rattle.std.proofs.lemmas.Slice.Eq.{bytes_eq-Decides}
 use Rattle.std.specs.Coded.{×_prop, Unit-prop}
 use mathlib.Core.Logic.{∥∥₁_elim}
 use Rattle.cd_syntax.specs.Name.{Name, IsLabel, is_word}
-use Rattle.cd_syntax.specs.Element.{IsAbove}
+use Rattle.cd_syntax.specs.Name.{IsAbove}
 use Rattle.cd_model.specs.Each.{Each}
 use Rattle.cd_model.specs.Formula.{Formula, Formulas, Nothing, Everything, Ints, Chars, Atoms, Pair, Xml, Record, Arrow, And, Or, Not, NoFormula, AFormula, Field, Graph, AreRisingLabels, IsFormula, AreFormulas, IsGraph}
 use Rattle.cd_model.specs.BuiltIns.{built_ins}
@@ -40,8 +40,8 @@ mutual
   formula_in_one_way nodes (Pair first second) = hlevel props
   formula_in_one_way nodes (Xml tag attributes content) = hlevel props
   formula_in_one_way nodes (Record named rest) =
-      let fields : IsProp (Each (λ field. field.1.node.0 < nodes) named) =
-      each_in_one_way (λ field. field.1.node.0 < nodes) (λ field. hlevel props) named in
+      let fields : IsProp (Each (λ field. field.1.type.0 < nodes) named) =
+      each_in_one_way (λ field. field.1.type.0 < nodes) (λ field. hlevel props) named in
       hlevel (labels_in_one_way None named, fields, props)
   formula_in_one_way nodes (Arrow argument result) = hlevel props
   formula_in_one_way nodes (And formulas) = formulas_in_one_way nodes formulas
@@ -92,7 +92,7 @@ mutual
   still_formula nodes more larger (Pair first second) sound = (omega arith, omega arith)
   still_formula nodes more larger (Xml tag attributes content) sound = (omega arith, omega arith, omega arith)
   still_formula nodes more larger (Record named rest) sound =
-      let below : (limit : ℕ) → Name × Field → Type 0 = λ limit field. field.1.node.0 < limit in
+      let below : (limit : ℕ) → Name × Field → Type 0 = λ limit field. field.1.type.0 < limit in
       (sound.0, each_also (below nodes) (below more) (λ field small. omega arith) named sound.1, omega arith)
   still_formula nodes more larger (Arrow argument result) sound = (omega arith, omega arith)
   still_formula nodes more larger (And formulas) sound = still_formulas nodes more larger formulas sound

@@ -9,7 +9,7 @@ use Rattle.cd_graph.specs.declared.formula.Formulas.{Formulas as CodeFormulas, F
 
 -- what a record type says of one label, and of some
 abbrev pub plain_field : CodeField → Field
-plain_field field = record { optional = field.optional; node = field.node }
+plain_field field = record { optional = field.optional; type = field.node }
 
 abbrev pub plain_named : List (Name × CodeField) → List (Name × Field)
 plain_named fields = map (λ field. (field.0, plain_field field.1)) fields

@@ -1,10 +1,10 @@
 ghost use Rattle.std.specs.Prelude.{◌≡◌, ◌+◌, ◌<◌, ◌++◌, ◌↔◌, Bool, List, map, take, length, IfOk, OnOk, OnErr};
 ghost use Rattle.cd_sets.specs.declared.node_id.NodeId.{NodeId as AnId};
-ghost use Rattle.cd_syntax.specs.Element.{Element};
+ghost use Rattle.cd_model.specs.Thing.{Thing};
 ghost use Rattle.cd_model.specs.Each.{Each};
 ghost use Rattle.cd_model.specs.Formula.{Graph as PlainGraph, IsFormula, IsGraph, formula_at};
 ghost use Rattle.cd_model.specs.BuiltIns.{built_ins as built_in_formulas};
-ghost use Rattle.cd_model.specs.Value.{Value, IsValue};
+ghost use Rattle.cd_model.specs.Interfaces.{Interfaces};
 ghost use Rattle.cd_model.specs.Membership.{asked, holds, reader, value_reader, answers, value_answers};
 ghost use Rattle.cd_graph.specs.PlainFormula.{plain, plain_list};
 ghost use Rattle.cd_graph.specs.Questions.{inside, outside, question_formula};
@@ -41,10 +41,10 @@ impl Graph {
         requires { Each (IsFormula (length (nodes self.old) + length (plain_list batch))) (plain_list batch) }
         ensures first { IfOk result (λ first. first.0 ≡ length (nodes self.old)) }
         ensures added { OnOk result (nodes self.new ≡ nodes self.old ++ plain_list batch) }
-        ensures elements { OnOk result ((is : Element) (id : AnId) (answer : Bool) → id.0 < length (nodes self.old)
+        ensures elements { OnOk result ((is : Thing) (id : AnId) (answer : Bool) → id.0 < length (nodes self.old)
             → answers (nodes self.old) is id answer ↔ answers (nodes self.new) is id answer) }
-        ensures values { OnOk result ((is : Value) (id : AnId) (answer : Bool) → IsValue (length (nodes self.old)) is → id.0 < length (nodes self.old)
-            → value_answers (nodes self.old) is id answer ↔ value_answers (nodes self.new) is id answer) }
+        ensures values { OnOk result ((interfaces : Interfaces) (is : Thing) (id : AnId) (answer : Bool) → id.0 < length (nodes self.old)
+            → value_answers (nodes self.old) interfaces is id answer ↔ value_answers (nodes self.new) interfaces is id answer) }
         ensures kept { OnErr result (nodes self.new ≡ nodes self.old) }
     {
         let first = NodeId(self.len());
@@ -73,12 +73,12 @@ impl Graph {
     pub fn formula_of(&self, question: &Question) -> Result<Formula, AllocError>
         requires pos { Each (λ id. id.0 < length (nodes self.now)) question.now.pos }
         requires neg { Each (λ id. id.0 < length (nodes self.now)) question.now.neg }
-        ensures elements { IfOk result (λ formula. (is : Element) (answer : Bool)
+        ensures elements { IfOk result (λ formula. (is : Thing) (answer : Bool)
             → asked (answers (nodes self.now) is) question.now answer
             ↔ holds (reader (nodes self.now) is) (plain formula) answer) }
-        ensures values { IfOk result (λ formula. (is : Value) (answer : Bool)
-            → asked (value_answers (nodes self.now) is) question.now answer
-            ↔ holds (value_reader (nodes self.now) is) (plain formula) answer) }
+        ensures values { IfOk result (λ formula. (interfaces : Interfaces) (is : Thing) (answer : Bool)
+            → asked (value_answers (nodes self.now) interfaces is) question.now answer
+            ↔ holds (value_reader (nodes self.now) interfaces is) (plain formula) answer) }
         ensures sound { IfOk result (λ formula. IsFormula (length (nodes self.now)) (plain formula)) }
     {
         self.joined(question)

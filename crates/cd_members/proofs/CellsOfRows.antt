@@ -3,7 +3,7 @@ use Rattle.std.proofs.Common.{◌≡◌, sym, ◌∙◌, ap, subst, true, List, 
 use Rattle.std.specs.Option.{option_map}
 use Rattle.std.proofs.lemmas.Option.{same_Some}
 use Rattle.cd_syntax.specs.Name.{Name}
-use Rattle.cd_syntax.specs.Element.{Element}
+use Rattle.cd_model.specs.Thing.{Thing}
 use Rattle.cd_model.specs.Each.{Each, One}
 use Rattle.cd_elements.specs.declared.shape.ElementId.{ElementId}
 use Rattle.cd_elements.specs.Table.{element_at}
@@ -18,7 +18,7 @@ use Rattle.cd_members.proofs.PutFields.{at, at_there, at_elsewhere}
 abbrev pub IsFree : List Cell → Name → Type 0
 IsFree cells label = One (λ cell. cell.label ≡ label) cells → ⊥
 
-module _ (table : List Element) (marks : List (Option ElementId)) where
+module _ (table : List Thing) (marks : List (Option ElementId)) where
   -- at the labels of the cells fields are in the cells, and at others they have what they had
   pub record FitCells (cells : List Cell) (before after : List (Name × ElementId)) : Type 0 where
     pub inside : Each (λ cell. IsInCell table marks cell (at table after cell.label)) cells

@@ -2,7 +2,7 @@
 use Rattle.std.proofs.Common.{◌≡◌, true, List, [], ◌∷◌, ◌++◌, map, length, Option, ◌⊎◌, inl, inr, refl, sym, subst}
 use Rattle.cd_sets.specs.declared.question.Question.{Question}
 use Rattle.cd_syntax.specs.Name.{Name, IsLabel}
-use Rattle.cd_syntax.specs.Element.{Element, IsAtom, IsRecord}
+use Rattle.cd_model.specs.Thing.{Thing, IsAtom, IsRecord}
 use Rattle.cd_model.specs.BuiltIns.{built_ins, ATOM, RECORD}
 use Rattle.cd_model.specs.Each.{Each}
 use Rattle.cd_model.specs.Formula.{Graph}
@@ -102,16 +102,16 @@ row_labelled questions row of names labelled = (
   named_differ questions row.cells.items of.cells names.0 labelled.1,
 )
 
-module _ (graph more : Graph) (begins : graph ≡ built_ins ++ more) (table : List Element) (questions : List Question)
+module _ (graph more : Graph) (begins : graph ≡ built_ins ++ more) (table : List Thing) (questions : List Question)
     (marks : List (Option ElementId)) (are : AreMarked graph table questions marks) where
   -- of XML the elements of the first question are atoms, and those of the second records
   xml_fit : (wanted : List Triple) (ids : List QuestionId) (given : List Triple × List Triple × List Triple)
       → NamesWay questions ids (xml_way wanted given)
-      → (length ids ≡ 3) × ((tag attributes content : Element) → AreOfWay table marks ids (tag ∷ attributes ∷ content ∷ [])
+      → (length ids ≡ 3) × ((tag attributes content : Thing) → AreOfWay table marks ids (tag ∷ attributes ∷ content ∷ [])
       → IsAtom tag × IsRecord attributes)
   xml_fit wanted ids given names = (three_long (IsNumber questions) ids _ _ _ names, parts)
     where
-      parts : (tag attributes content : Element) → AreOfWay table marks ids (tag ∷ attributes ∷ content ∷ [])
+      parts : (tag attributes content : Thing) → AreOfWay table marks ids (tag ∷ attributes ∷ content ∷ [])
           → IsAtom tag × IsRecord attributes
       parts tag attributes content of =
           let has = way_has graph table questions marks are ids (xml_way wanted given) (tag ∷ attributes ∷ content ∷ [])
@@ -130,7 +130,7 @@ module _ (graph more : Graph) (begins : graph ≡ built_ins ++ more) (table : Li
   named_is_fit (Pair ways) (Pairs wanted refused) names labels = ways_fit questions (λ ids. length ids ≡ 2) (pair_way wanted)
       (splits refused) (λ ids given names. two_long (IsNumber questions) ids _ _ names) ways.items names
   named_is_fit (Xml ways) (Xmls wanted refused) names labels = ways_fit questions
-      (λ ids. (length ids ≡ 3) × ((tag attributes content : Element)
+      (λ ids. (length ids ≡ 3) × ((tag attributes content : Thing)
       → AreOfWay table marks ids (tag ∷ attributes ∷ content ∷ []) → IsAtom tag × IsRecord attributes))
       (xml_way wanted) (splits_in_three refused) (xml_fit wanted) ways.items names
   named_is_fit (Function needs) (Arrows wanted refused) names labels = along_each_back

@@ -4,8 +4,8 @@ use Rattle.std.proofs.Common.{slice_get, length-append, sym, subst, arith}
 use Rattle.std.proofs.lemmas.List.{get_or_append_left}
 use Rattle.std.proofs.lemmas.Option.{same_Some}
 use Rattle.cd_sets.specs.declared.question.Question.{Question}
-use Rattle.cd_syntax.specs.Element as element
-use Rattle.cd_syntax.specs.Element.{Element}
+use Rattle.cd_model.specs.Thing as thing
+use Rattle.cd_model.specs.Thing.{Thing}
 use Rattle.cd_model.specs.Formula.{Graph}
 use Rattle.cd_model.specs.Membership.{asked, answers}
 use Rattle.cd_asked.specs.declared.asked.QuestionId.{QuestionId}
@@ -15,21 +15,21 @@ use Rattle.cd_expand.specs.Named.{IsNumber}
 use Rattle.cd_members.specs.Marks.{IsMarked, AreMarked}
 
 -- the element of a number in the table is the one in the longer table
-pub at_longer : (table more : List Element) (id : ElementId) → Names table id
+pub at_longer : (table more : List Thing) (id : ElementId) → Names table id
     → element_at (table ++ more) id ≡ element_at table id
-at_longer table more id names = get_or_append_left table more (element.Atom []) id.0 names
+at_longer table more id names = get_or_append_left table more (thing.Atom []) id.0 names
 
 -- a question's mark is right in a longer table
-mark_in_longer : (graph : Graph) (table more : List Element) (question : Question) (mark : Option ElementId)
+mark_in_longer : (graph : Graph) (table more : List Thing) (question : Question) (mark : Option ElementId)
     → IsMarked graph table question mark → IsMarked graph (table ++ more) question mark
 mark_in_longer graph table more question None is = tt
 mark_in_longer graph table more question (Some id) is = (
   omega (arith, length-append table more, is.0),
-  subst (λ (one : Element). asked (answers graph one) question true) (sym (at_longer table more id is.0)) is.1,
+  subst (λ (one : Thing). asked (answers graph one) question true) (sym (at_longer table more id is.0)) is.1,
 )
 
 -- and so are all marks
-pub marked_in_longer : (graph : Graph) (table more : List Element) (questions : List Question)
+pub marked_in_longer : (graph : Graph) (table more : List Thing) (questions : List Question)
     (marks : List (Option ElementId))
     → AreMarked graph table questions marks → AreMarked graph (table ++ more) questions marks
 marked_in_longer graph table more [] [] are = tt
@@ -38,7 +38,7 @@ marked_in_longer graph table more (question ∷ questions) (mark ∷ marks) are 
 marked_in_longer graph table more _ _ are = absurd are
 
 -- a mark at the place of a question that it is right for
-set_at_place : (graph : Graph) (table : List Element) (questions : List Question) (marks : List (Option ElementId))
+set_at_place : (graph : Graph) (table : List Thing) (questions : List Question) (marks : List (Option ElementId))
     (place : ℕ) (question : Question) (mark : Option ElementId) → AreMarked graph table questions marks
     → slice_get questions place ≡ Some question → IsMarked graph table question mark
     → AreMarked graph table questions (set marks place mark)
@@ -50,7 +50,7 @@ set_at_place graph table (first ∷ questions) (old ∷ marks) (suc place) quest
     (are.0, set_at_place graph table questions marks place question mark are.1 number is)
 
 -- one more question is marked
-pub marked_set : (graph : Graph) (table : List Element) (questions : List Question) (marks : List (Option ElementId))
+pub marked_set : (graph : Graph) (table : List Thing) (questions : List Question) (marks : List (Option ElementId))
     (id : QuestionId) (question : Question) (element : ElementId) → AreMarked graph table questions marks
     → IsNumber questions id question → IsMarked graph table question (Some element)
     → AreMarked graph table questions (set marks id.0 (Some element))

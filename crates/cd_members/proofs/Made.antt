@@ -1,8 +1,8 @@
 -- What is made of the elements of questions, as needs say, is in the clause whose needs these are.
 use Rattle.std.proofs.Common.{List, map, Option, refl}
 use Rattle.cd_sets.specs.declared.question.Question.{Question}
-use Rattle.cd_syntax.specs.Element as element
-use Rattle.cd_syntax.specs.Element.{Element, IsElement}
+use Rattle.cd_model.specs.Thing as thing
+use Rattle.cd_model.specs.Thing.{Thing, IsElement}
 use Rattle.cd_model.specs.Formula.{Graph}
 use Rattle.cd_model.specs.Kinds.{kind_of}
 use Rattle.cd_model.specs.Membership.{reader}
@@ -21,30 +21,30 @@ use Rattle.cd_members.proofs.MadeFunctions.{function_made}
 use Rattle.cd_members.proofs.MadeRecords.{record_made}
 
 -- an element is in a clause
-abbrev Is : Graph → Element → Clause → Type 0
+abbrev Is : Graph → Thing → Clause → Type 0
 Is graph is clause = IsInClause (kind_of is) (reader graph is) clause
 
 -- what is made is in the clause
-pub made_is_in : (graph : Graph) (table : List Element) (questions : List Question) (marks : List (Option ElementId))
+pub made_is_in : (graph : Graph) (table : List Thing) (questions : List Question) (marks : List (Option ElementId))
     → AreMarked graph table questions marks → (needs : Needs) (clause : Clause) → Names questions needs clause
-    → (is : Element) → IsElement is → IsMade table marks needs is → IsInClause (kind_of is) (reader graph is) clause
+    → (is : Thing) → IsElement is → IsMade table marks needs is → IsInClause (kind_of is) (reader graph is) clause
 made_is_in graph table questions marks are (Pair ways) (Pairs wanted refused) names is element_is made = by_kind is made
   where
-    by_kind : (is : Element) → IsMade table marks (Pair ways) is → Is graph is (Pairs wanted refused)
-    by_kind (element.Pair first second) made =
+    by_kind : (is : Thing) → IsMade table marks (Pair ways) is → Is graph is (Pairs wanted refused)
+    by_kind (thing.Pair first second) made =
         pair_made graph table questions marks are wanted refused ways.items first second names made
     by_kind _ made = absurd made
 made_is_in graph table questions marks are (Xml ways) (Xmls wanted refused) names is element_is made = by_kind is made
   where
-    by_kind : (is : Element) → IsMade table marks (Xml ways) is → Is graph is (Xmls wanted refused)
-    by_kind (element.Xml tag attributes content) made =
+    by_kind : (is : Thing) → IsMade table marks (Xml ways) is → Is graph is (Xmls wanted refused)
+    by_kind (thing.Xml tag attributes content) made =
         xml_made graph table questions marks are wanted refused ways.items tag attributes content names made
     by_kind _ made = absurd made
 made_is_in graph table questions marks are (Function needs) (Arrows wanted refused) names is element_is made =
     by_kind is element_is made
   where
-    by_kind : (is : Element) → IsElement is → IsMade table marks (Function needs) is → Is graph is (Arrows wanted refused)
-    by_kind (element.Function pairs) element_is made =
+    by_kind : (is : Thing) → IsElement is → IsMade table marks (Function needs) is → Is graph is (Arrows wanted refused)
+    by_kind (thing.Function pairs) element_is made =
         let arrows = function_made graph table questions marks are wanted refused (map (λ need. need.items) needs.items) pairs
         (along_of_map (λ need. need.items) (NamesNeed questions) needs.items
         (map (λ one. map (arrow_way one) (splits wanted)) refused) names) element_is made in
@@ -52,8 +52,8 @@ made_is_in graph table questions marks are (Function needs) (Arrows wanted refus
     by_kind _ element_is made = absurd made
 made_is_in graph table questions marks are (Record rows) (Records wanted refused) names is element_is made = by_kind is made
   where
-    by_kind : (is : Element) → IsMade table marks (Record rows) is → Is graph is (Records wanted refused)
-    by_kind (element.Record fields) made = (elements_exact graph wanted refused fields).1
+    by_kind : (is : Thing) → IsMade table marks (Record rows) is → Is graph is (Records wanted refused)
+    by_kind (thing.Record fields) made = (elements_exact graph wanted refused fields).1
         (record_made graph table questions marks are fields wanted refused rows.items names made)
     by_kind _ made = absurd made
 made_is_in graph table questions marks are _ _ names is element_is made = absurd names

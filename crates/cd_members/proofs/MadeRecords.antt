@@ -4,8 +4,8 @@ use Rattle.std.proofs.Common.{refl, sym, ◌∙◌, subst}
 use Rattle.cd_sets.specs.declared.node_id.NodeId.{NodeId}
 use Rattle.cd_sets.specs.declared.question.Question.{Question}
 use Rattle.cd_syntax.specs.Name.{Name}
-use Rattle.cd_syntax.specs.Element as element
-use Rattle.cd_syntax.specs.Element.{Element}
+use Rattle.cd_model.specs.Thing as thing
+use Rattle.cd_model.specs.Thing.{Thing}
 use Rattle.cd_model.specs.Each.{Each, One}
 use Rattle.cd_model.specs.Formula.{Graph}
 use Rattle.cd_model.specs.Membership.{answers}
@@ -30,14 +30,14 @@ use Rattle.cd_members.proofs.MarksOf.{marked_has}
 use Rattle.cd_members.proofs.MadeOfWays.{Has}
 
 -- what is in a question of nodes is in that of the wanted ones among them
-wanted_has : (graph : Graph) (pos neg : List NodeId) (is : Element) → Has graph (question pos neg) is
+wanted_has : (graph : Graph) (pos neg : List NodeId) (is : Thing) → Has graph (question pos neg) is
     → Has graph (question pos []) is
 wanted_has graph pos neg is has =
     asked_of_each (answers graph is) pos [] (each_of_asked (answers graph is) pos neg has).0 tt
 
 -- what is in one of the other questions of a row may stand at each label of no cell
 abbrev IsEverywhere : Graph → rows.Row → Type 0
-IsEverywhere graph row = Each (λ question. (is : Element) → Has graph question is → Has graph row.every is) row.some
+IsEverywhere graph row = Each (λ question. (is : Thing) → Has graph question is → Has graph row.every is) row.some
 
 -- it is so in each row of record types
 all_everywhere : (graph : Graph) (wanted refused : List RecordType) → Each (IsEverywhere graph) (rows_of wanted refused)
@@ -50,23 +50,23 @@ all_everywhere graph wanted refused =
     row_everywhere : (labels : List Name) (reasons : Reasons) → IsEverywhere graph (row_of labels wanted reasons)
     row_everywhere labels reasons =
         each_of_map (λ (type : RecordType). question (map (λ type. type.rest) wanted) (type.rest ∷ []))
-        (λ one. (is : Element) → Has graph one is → Has graph (question (map (λ type. type.rest) wanted) []) is)
+        (λ one. (is : Thing) → Has graph one is → Has graph (question (map (λ type. type.rest) wanted) []) is)
         (types_elsewhere reasons)
-        (each_of_all (λ (type : RecordType). (is : Element)
+        (each_of_all (λ (type : RecordType). (is : Thing)
         → Has graph (question (map (λ type. type.rest) wanted) (type.rest ∷ [])) is
         → Has graph (question (map (λ type. type.rest) wanted) []) is)
         (λ type is has. wanted_has graph (map (λ type. type.rest) wanted) (type.rest ∷ []) is has)
         (types_elsewhere reasons))
 
-module _ (graph : Graph) (table : List Element) (questions : List Question) (marks : List (Option ElementId))
+module _ (graph : Graph) (table : List Thing) (questions : List Question) (marks : List (Option ElementId))
     (are : AreMarked graph table questions marks) where
   -- what is in a cell of the code is in the cell of the rules
-  cell_has : (cell : Cell) (of : Name × rows.Cell) → NamesCell questions cell of → (there : Option Element)
+  cell_has : (cell : Cell) (of : Name × rows.Cell) → NamesCell questions cell of → (there : Option Thing)
       → IsInCell table marks cell there → rule.IsInCell (answers graph) there of.1
   cell_has cell of names None is = sym names.1 ∙ is
   cell_has cell of names (Some one) is = marked_has graph table questions marks are cell.value of.1.value one names.2 is
 
-  module _ (fields : element.Fields) where
+  module _ (fields : thing.Fields) where
     cell_made : (cell : Cell) (of : Name × rows.Cell) → NamesCell questions cell of
         → IsInCell table marks cell (element_at fields cell.label)
         → rule.IsInCell (answers graph) (element_at fields of.0) of.1
@@ -86,7 +86,7 @@ module _ (graph : Graph) (table : List Element) (questions : List Question) (mar
 
       -- an element of a question that stands at a label
       abbrev HasThere : Name → Question → Type 0
-      HasThere label of_question = (is : Element) × Has graph of_question is × (element_at fields label ≡ Some is)
+      HasThere label of_question = (is : Thing) × Has graph of_question is × (element_at fields label ≡ Some is)
 
       there : (label : Name) (id : QuestionId) (question : Question) → IsNumber questions id question
           → HasAt table marks fields label id → HasThere label question
@@ -101,7 +101,7 @@ module _ (graph : Graph) (table : List Element) (questions : List Question) (mar
           let is = there label id of_question number at in (
             label,
             none_named label none,
-            subst (λ (what : Option Element).
+            subst (λ (what : Option Thing).
                 rule.IsInCell (answers graph) what (record { absent = false; value = of_question })) (sym is.2) is.1,
           )
 
@@ -109,19 +109,19 @@ module _ (graph : Graph) (table : List Element) (questions : List Question) (mar
       every : IsEverywhere graph of → (label : Name)
           → (element_at fields label ≡ None) ⊎ One (HasAt table marks fields label) row.some.items
           → rule.IsInCell (answers graph) (element_at fields label) (record { absent = true; value = of.every })
-      every everywhere label (inl none) = subst (λ (what : Option Element).
+      every everywhere label (inl none) = subst (λ (what : Option Thing).
           rule.IsInCell (answers graph) what (record { absent = true; value = of.every })) (sym none) refl
       every everywhere label (inr one) = one_leads
-          (λ question. HasThere label question × ((is : Element) → Has graph question is → Has graph of.every is))
+          (λ question. HasThere label question × ((is : Thing) → Has graph question is → Has graph of.every is))
           by_question of.some
-          (one_with_each (HasThere label) (λ question. (is : Element) → Has graph question is → Has graph of.every is)
+          (one_with_each (HasThere label) (λ question. (is : Thing) → Has graph question is → Has graph of.every is)
           of.some (along_one (IsNumber questions) (HasAt table marks fields label) (HasThere label) (there label)
           row.some.items of.some names.1 one) everywhere)
         where
           by_question : (question : Question)
-              → HasThere label question × ((is : Element) → Has graph question is → Has graph of.every is)
+              → HasThere label question × ((is : Thing) → Has graph question is → Has graph of.every is)
               → rule.IsInCell (answers graph) (element_at fields label) (record { absent = true; value = of.every })
-          by_question of_question (is, leads) = subst (λ (what : Option Element).
+          by_question of_question (is, leads) = subst (λ (what : Option Thing).
               rule.IsInCell (answers graph) what (record { absent = true; value = of.every })) (sym is.2) (leads is.0 is.1)
 
       -- so the record is in the row

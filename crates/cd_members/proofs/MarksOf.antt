@@ -3,7 +3,7 @@ use Rattle.std.proofs.Common.{◌≡◌, ℕ, zero, suc, true, List, [], ◌∷�
 use Rattle.std.proofs.Common.{slice_get, slice_index_or, option_map, inl, inr, refl, subst}
 use Rattle.std.proofs.lemmas.Option.{same_Some}
 use Rattle.cd_sets.specs.declared.question.Question.{Question}
-use Rattle.cd_syntax.specs.Element.{Element}
+use Rattle.cd_model.specs.Thing.{Thing}
 use Rattle.cd_model.specs.Formula.{Graph}
 use Rattle.cd_model.specs.Membership.{asked, answers}
 use Rattle.cd_rules.specs.Family.{IsOfFamily}
@@ -14,16 +14,16 @@ use Rattle.cd_expand.specs.Named.{IsNumber}
 use Rattle.cd_members.specs.Marks.{mark_of, marked, IsMarked, AreMarked, unmarked}
 
 -- the element of a mark is in the question
-of_mark : (graph : Graph) (table : List Element) (question : Question) (mark : Option ElementId) (is : Element)
+of_mark : (graph : Graph) (table : List Thing) (question : Question) (mark : Option ElementId) (is : Thing)
     → IsMarked graph table question mark → option_map (element_at table) mark ≡ Some is
     → asked (answers graph is) question true
 of_mark graph table question None is of same = absurd cc
 of_mark graph table question (Some id) is of same =
-    subst (λ (one : Element). asked (answers graph one) question true) (same_Some (element_at table id) is same) of.1
+    subst (λ (one : Thing). asked (answers graph one) question true) (same_Some (element_at table id) is same) of.1
 
 -- so is the element of the mark at a place
-at_place : (graph : Graph) (table : List Element) (questions : List Question) (marks : List (Option ElementId))
-    → AreMarked graph table questions marks → (place : ℕ) (question : Question) (is : Element)
+at_place : (graph : Graph) (table : List Thing) (questions : List Question) (marks : List (Option ElementId))
+    → AreMarked graph table questions marks → (place : ℕ) (question : Question) (is : Thing)
     → slice_get questions place ≡ Some question
     → option_map (element_at table) (slice_index_or marks place None) ≡ Some is → asked (answers graph is) question true
 at_place graph table [] marks are place question is number same = absurd cc
@@ -34,8 +34,8 @@ at_place graph table (first ∷ questions) (mark ∷ marks) are (suc place) ques
     at_place graph table questions marks are.1 place question is number same
 
 -- the element that a question is marked with is in the question
-pub marked_has : (graph : Graph) (table : List Element) (questions : List Question) (marks : List (Option ElementId))
-    → AreMarked graph table questions marks → (id : QuestionId) (question : Question) (is : Element)
+pub marked_has : (graph : Graph) (table : List Thing) (questions : List Question) (marks : List (Option ElementId))
+    → AreMarked graph table questions marks → (id : QuestionId) (question : Question) (is : Thing)
     → IsNumber questions id question → marked table marks id ≡ Some is → asked (answers graph is) question true
 marked_has graph table questions marks are id = at_place graph table questions marks are id.0
 

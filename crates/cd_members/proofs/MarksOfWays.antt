@@ -2,7 +2,7 @@
 use Rattle.std.proofs.Common.{◌≡◌, refl, sym, ◌∙◌, ap, subst, ℕ, zero, suc, get_or, length, append_assoc, append-nil}
 use Rattle.std.proofs.Common.{List, [], ◌∷◌, ◌++◌, map, Option, Some, None, inl, inr, MatchOption}
 use Rattle.std.specs.Option.{option_map}
-use Rattle.cd_syntax.specs.Element.{Element}
+use Rattle.cd_model.specs.Thing.{Thing}
 use Rattle.cd_model.specs.Each.{Each, One}
 use Rattle.cd_asked.specs.declared.asked.QuestionId.{QuestionId}
 use Rattle.cd_elements.specs.declared.shape.ElementId.{ElementId}
@@ -59,7 +59,7 @@ module _ (marks : List (Option ElementId)) where
   same_length (question ∷ way) [] are = elim are [ ]
   same_length (question ∷ way) (id ∷ ids) are = ap suc (same_length way ids are.1)
 
-  module _ (table : List Element) where
+  module _ (table : List Thing) where
     -- their elements are those of the way
     pub elements_of_way : (way : List QuestionId) (ids : List ElementId) → AreMarks marks way ids
         → AreOfWay table marks way (map (element_at table) ids)

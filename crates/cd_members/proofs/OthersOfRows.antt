@@ -6,7 +6,7 @@ use Rattle.std.proofs.lemmas.Bool.{cases_Bool}
 use Rattle.std.proofs.lemmas.Option.{same_Some}
 use Rattle.std.proofs.lemmas.Slice.Eq.{bytes_eq-Decides}
 use Rattle.cd_syntax.specs.Name.{Name}
-use Rattle.cd_syntax.specs.Element.{Element}
+use Rattle.cd_model.specs.Thing.{Thing}
 use Rattle.cd_model.specs.Each.{Each, One}
 use Rattle.cd_rules.proofs.FreshLabels.{row_of_a, row_is_long, longest}
 use Rattle.cd_rules.proofs.Ones.{each_weaker, each_of_all, each_of_two}
@@ -41,7 +41,7 @@ longer_is_free [] label long one = elim one [ ]
 longer_is_free (cell ∷ cells) label long (inl same) = let equal = ap length same in absurd (omega arith)
 longer_is_free (cell ∷ cells) label long (inr later) = longer_is_free cells label (omega arith) later
 
-module _ (table : List Element) (marks : List (Option ElementId)) where
+module _ (table : List Thing) (marks : List (Option ElementId)) where
   -- Each of these questions has its element at a label that is longer than that; labels that are no longer have what they had, and each
   -- has that or one of the elements
   record HaveOthers (others : List QuestionId) (n : ℕ) (before after : List (Name × ElementId)) : Type 0 where

@@ -3,7 +3,7 @@ use Rattle.std.proofs.Common.{◌≡◌, subst, ap, refl, ℕ, zero, suc, map, t
 use Rattle.std.specs.Option.{option_and_then}
 use Rattle.std.proofs.lemmas.Option.{same_Some}
 use Rattle.cd_syntax.specs.Name.{Name, IsLabel}
-use Rattle.cd_syntax.specs.Element.{Element}
+use Rattle.cd_model.specs.Thing.{Thing}
 use Rattle.cd_model.specs.Each.{Each}
 use Rattle.cd_rules.proofs.FreshLabels.{row_of_a, row_is_label, longest}
 use Rattle.cd_asked.specs.declared.asked.QuestionId.{QuestionId}
@@ -93,7 +93,7 @@ module _ (marks : List (Option ElementId)) where
       row_keeps HasLabels (λ label question id parts is marked rise. put_rises None label id parts is tt rise) row parts labels same tt
 
   -- and they are of the table
-  pub parts_known : (table : List Element) → AreNumbers table marks → (row : Row) (parts : List (Name × ElementId))
+  pub parts_known : (table : List Thing) → AreNumbers table marks → (row : Row) (parts : List (Name × ElementId))
       → Each (λ cell. IsLabel cell.label) row.cells.items → parts_of marks row ≡ Some parts
       → Each (λ part. Names table part.1) parts
   parts_known table numbers row parts labels same = row_keeps (Each (λ part. Names table part.1))

@@ -9,7 +9,8 @@ use Rattle.std.proofs.lemmas.Cmp.{nat_list_cmp_total}
 use Rattle.std.proofs.lemmas.Map.Text.{is_eq-slice_cmp}
 use Rattle.std.proofs.lemmas.Slice.Eq.{bytes_eq-Decides}
 use Rattle.cd_syntax.specs.Name.{Name, IsLabel}
-use Rattle.cd_syntax.specs.Element.{Element, Fields, NoField, Field, IsAbove}
+use Rattle.cd_model.specs.Thing.{Thing, Fields, NoField, Field}
+use Rattle.cd_syntax.specs.Name.{IsAbove}
 use Rattle.cd_model.specs.Each.{Each}
 use Rattle.cd_elements.specs.declared.shape.ElementId.{ElementId}
 use Rattle.cd_elements.specs.Parts.{AreRisingLabels}
@@ -39,7 +40,7 @@ is_above label name greater = nat_list_cmp_total.antisymm name label ∙ ap orde
 found_is : (fields : Fields) (label : Name) → element_at fields label ≡ found fields label
 found_is NoField label = refl
 found_is (Field name is rest) label =
-    ap (λ (later : Option Element). if bytes_eq name label then Some is else later) (found_is rest label)
+    ap (λ (later : Option Thing). if bytes_eq name label then Some is else later) (found_is rest label)
 
 -- the labels rise still
 pub put_rises : (before : Option Name) (label : Name) (id : ElementId) (parts : List (Name × ElementId)) → IsLabel label
@@ -71,7 +72,7 @@ put_keeps fact label id (part ∷ parts) is each =
     by_order Equal later = (is, each.1)
     by_order Greater later = (each.0, later)
 
-module _ (elements : List Element) where
+module _ (elements : List Thing) where
   -- an element is put among the fields
   put_is : (label : Name) (id : ElementId) (parts : List (Name × ElementId))
       → fields_of elements (put label id parts) ≡ members.put label (table.element_at elements id) (fields_of elements parts)
@@ -91,7 +92,7 @@ module _ (elements : List Element) where
       by_order Greater later = ap (Field part.0 (table.element_at elements part.1)) later
 
   -- what some fields have at a label
-  abbrev pub at : List (Name × ElementId) → Name → Option Element
+  abbrev pub at : List (Name × ElementId) → Name → Option Thing
   at parts label = element_at (fields_of elements parts) label
 
   module _ (label : Name) (id : ElementId) (parts : List (Name × ElementId)) where

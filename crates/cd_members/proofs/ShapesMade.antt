@@ -3,7 +3,7 @@ use Rattle.std.proofs.Common.{◌≡◌, sym, ◌∙◌, ap, subst, length, map,
 use Rattle.std.specs.Option.{option_map}
 use Rattle.std.proofs.lemmas.Option.{same_Some}
 use Rattle.cd_syntax.specs.Name.{Name, IsLabel}
-use Rattle.cd_syntax.specs.Element.{Element, IsAtom, IsRecord}
+use Rattle.cd_model.specs.Thing.{Thing, IsAtom, IsRecord}
 use Rattle.cd_model.specs.Each.{Each, One}
 use Rattle.cd_rules.proofs.Asking.{each_of_map}
 use Rattle.cd_rules.proofs.Ones.{each_weaker, map_of_one}
@@ -34,12 +34,12 @@ none_by : {X : Type 0} (make : X → Shape) (found : Option X) → option_map ma
 none_by make None same = cc
 none_by make (Some x) same = absurd cc
 
-module _ (table : List Element) (marks : List (Option ElementId)) where
+module _ (table : List Thing) (marks : List (Option ElementId)) where
   -- where none is made they are stuck
   pub none_made : (needs : Needs) → IsFit table marks needs → shape_of marks needs ≡ None → IsStuck marks needs
   none_made (Pair ways) fit none = stuck_pair marks ways.items fit none
   none_made (Xml ways) fit none = stuck_xml marks ways.items (each_weaker
-      (λ way. (length way ≡ 3) × ((tag attributes content : Element) → AreOfWay table marks way (tag ∷ attributes ∷ content ∷ [])
+      (λ way. (length way ≡ 3) × ((tag attributes content : Thing) → AreOfWay table marks way (tag ∷ attributes ∷ content ∷ [])
       → IsAtom tag × IsRecord attributes)) (λ way. length way ≡ 3) (λ way both. both.0) ways.items fit) none
   none_made (Function needs) fit none = map_of_one (λ need. need.items) (IsStuckNeed marks) needs.items
       (stuck_function marks (map (λ need. need.items) needs.items) []

@@ -3,8 +3,8 @@ use Rattle.std.proofs.Common.{◌≡◌, sym, ◌∙◌, subst, ℕ, length, app
 use Rattle.std.proofs.Common.{List, [], ◌∷◌, ◌++◌, map, Option, Some, None, ◌⊎◌, inl, inr, Vec, Global}
 use Rattle.std.proofs.lemmas.Option.{same_Some}
 use Rattle.std.specs.Option.{option_and_then}
-use Rattle.cd_syntax.specs.Element as element
-use Rattle.cd_syntax.specs.Element.{Element, IsAtom, IsRecord}
+use Rattle.cd_model.specs.Thing as thing
+use Rattle.cd_model.specs.Thing.{Thing, IsAtom, IsRecord}
 use Rattle.cd_model.specs.Each.{Each, One}
 use Rattle.cd_rules.proofs.Ones.{one_weaker, one_leads, one_with_each}
 use Rattle.cd_asked.specs.declared.asked.QuestionId.{QuestionId}
@@ -87,7 +87,7 @@ module _ (marks : List (Option ElementId)) where
         | inr (pair, is, later) ↦ inr (stuck_function needs (pairs ++ pair ∷ []) fit.1 later)
       ]
 
-  module _ (table : List Element) (numbers : AreNumbers table marks) where
+  module _ (table : List Thing) (numbers : AreNumbers table marks) where
     -- the elements of what is found are those of some way of the need
     are_of_need : (ways : List (List QuestionId)) (ids : List ElementId) → living marks ways ≡ Some ids
         → AreOfNeed table marks ways (map (element_at table) ids)
@@ -121,7 +121,7 @@ module _ (marks : List (Option ElementId)) where
 
     -- where each way is of an atom, a record and what else there is
     abbrev IsXmlWay : List QuestionId → Type 0
-    IsXmlWay way = (length way ≡ 3) × ((tag attributes content : Element)
+    IsXmlWay way = (length way ≡ 3) × ((tag attributes content : Thing)
         → AreOfWay table marks way (tag ∷ attributes ∷ content ∷ []) → IsAtom tag × IsRecord attributes)
 
     pub made_xml : (ways : Vec Way Global) (one : Shape) → Each IsXmlWay ways.items
@@ -147,7 +147,7 @@ module _ (marks : List (Option ElementId)) where
     -- a pair of a function meets its need, before pairs that meet others
     abbrev IsMapping : List (List QuestionId) → ElementId × Option ElementId → Type 0
     IsMapping need pair = (Names table pair.0 × IsResult table pair.1)
-        × ((needs : List (List (List QuestionId))) (rest : element.Pairs) → ArePairsOf table marks needs rest
+        × ((needs : List (List (List QuestionId))) (rest : thing.Pairs) → ArePairsOf table marks needs rest
         → ArePairsOf table marks (need ∷ needs) (pair_before (element_at table pair.0) (result_at table pair.1) rest))
 
     made_mapping : (need : List (List QuestionId)) (pair : ElementId × Option ElementId)

@@ -1,8 +1,8 @@
 -- What is made of the elements of questions, and when there is nothing to make.
 use Rattle.std.specs.Prelude.{◌≡◌, ◌⊎◌, true, false, List, [], ◌∷◌, Option, Some, None, length, map}
 use Rattle.cd_syntax.specs.Name.{Name, IsLabel}
-use Rattle.cd_syntax.specs.Element as element
-use Rattle.cd_syntax.specs.Element.{Element, IsAtom, IsRecord}
+use Rattle.cd_model.specs.Thing as thing
+use Rattle.cd_model.specs.Thing.{Thing, IsAtom, IsRecord}
 use Rattle.cd_model.specs.Each.{Each, One}
 use Rattle.cd_asked.specs.declared.asked.QuestionId.{QuestionId}
 use Rattle.cd_elements.specs.declared.shape.ElementId.{ElementId}
@@ -19,24 +19,24 @@ abbrev pub LabelsDiffer : List Cell → Type 0
 LabelsDiffer [] = Unit {0}
 LabelsDiffer (cell ∷ cells) = (One (λ other. other.label ≡ cell.label) cells → ⊥) × LabelsDiffer cells
 
-module _ (table : List Element) (marks : List (Option ElementId)) where
+module _ (table : List Thing) (marks : List (Option ElementId)) where
   -- the questions of a way are marked with these elements
-  abbrev pub AreOfWay : List QuestionId → List Element → Type 0
+  abbrev pub AreOfWay : List QuestionId → List Thing → Type 0
   AreOfWay = Along (λ id is. marked table marks id ≡ Some is)
 
   -- and those of some way of a need
-  abbrev pub AreOfNeed : List (List QuestionId) → List Element → Type 0
+  abbrev pub AreOfNeed : List (List QuestionId) → List Thing → Type 0
   AreOfNeed ways parts = One (λ way. AreOfWay way parts) ways
 
   -- each pair of a function meets its need; it fails where a way has no result
-  abbrev pub ArePairsOf : List (List (List QuestionId)) → element.Pairs → Type 0
-  ArePairsOf [] element.NoPair = Unit {0}
-  ArePairsOf (need ∷ needs) (element.Maps from to pairs) = AreOfNeed need (from ∷ to ∷ []) × ArePairsOf needs pairs
-  ArePairsOf (need ∷ needs) (element.Fails from pairs) = AreOfNeed need (from ∷ []) × ArePairsOf needs pairs
+  abbrev pub ArePairsOf : List (List (List QuestionId)) → thing.Pairs → Type 0
+  ArePairsOf [] thing.NoPair = Unit {0}
+  ArePairsOf (need ∷ needs) (thing.Maps from to pairs) = AreOfNeed need (from ∷ to ∷ []) × ArePairsOf needs pairs
+  ArePairsOf (need ∷ needs) (thing.Fails from pairs) = AreOfNeed need (from ∷ []) × ArePairsOf needs pairs
   ArePairsOf _ _ = ⊥
 
   -- what a record has at the label of a cell: nothing, if that may be, or the element of the cell's question
-  abbrev pub IsInCell : Cell → Option Element → Type 0
+  abbrev pub IsInCell : Cell → Option Thing → Type 0
   IsInCell cell None = cell.absent ≡ true
   IsInCell cell (Some is) = marked table marks cell.value ≡ Some is
 
@@ -45,30 +45,30 @@ module _ (table : List Element) (marks : List (Option ElementId)) where
   IsOfNoCell cells label = One (λ cell. cell.label ≡ label) cells → ⊥
 
   -- a record has the element of a question at this label
-  abbrev pub HasAt : element.Fields → Name → QuestionId → Type 0
-  HasAt fields label id = (is : Element) × (marked table marks id ≡ Some is) × (element_at fields label ≡ Some is)
+  abbrev pub HasAt : thing.Fields → Name → QuestionId → Type 0
+  HasAt fields label id = (is : Thing) × (marked table marks id ≡ Some is) × (element_at fields label ≡ Some is)
 
   -- A record is of a row where it is so at each cell's label; where it has, for each of the other questions, its element at a label of no
   -- cell; and where it has nothing else
-  pub record IsOfRow (row : Row) (fields : element.Fields) : Type 0 where
+  pub record IsOfRow (row : Row) (fields : thing.Fields) : Type 0 where
     pub cells : Each (λ cell. IsInCell cell (element_at fields cell.label)) row.cells.items
     pub some : Each (λ id. (label : Name) × IsOfNoCell row.cells.items label × HasAt fields label id) row.some.items
     pub others : (label : Name) → IsOfNoCell row.cells.items label
         → (element_at fields label ≡ None) ⊎ One (HasAt fields label) row.some.items
 
   -- an element is made of the elements that questions of its needs are marked with
-  abbrev pub IsMade : Needs → Element → Type 0
-  IsMade (Pair ways) (element.Pair first second) = AreOfNeed ways.items (first ∷ second ∷ [])
-  IsMade (Xml ways) (element.Xml tag attributes content) = AreOfNeed ways.items (tag ∷ attributes ∷ content ∷ [])
-  IsMade (Function needs) (element.Function pairs) = ArePairsOf (map (λ need. need.items) needs.items) pairs
-  IsMade (Record rows) (element.Record fields) = One (λ row. IsOfRow row fields) rows.items
+  abbrev pub IsMade : Needs → Thing → Type 0
+  IsMade (Pair ways) (thing.Pair first second) = AreOfNeed ways.items (first ∷ second ∷ [])
+  IsMade (Xml ways) (thing.Xml tag attributes content) = AreOfNeed ways.items (tag ∷ attributes ∷ content ∷ [])
+  IsMade (Function needs) (thing.Function pairs) = ArePairsOf (map (λ need. need.items) needs.items) pairs
+  IsMade (Record rows) (thing.Record fields) = One (λ row. IsOfRow row fields) rows.items
   IsMade _ _ = ⊥
 
   -- Needs are fit to be made of where each way has as many questions as the element has parts, where the first and the second of XML
   -- have an atom and a record, and where the cells of a row have labels, each another one
   abbrev pub IsFit : Needs → Type 0
   IsFit (Pair ways) = Each (λ way. length way ≡ 2) ways.items
-  IsFit (Xml ways) = Each (λ way. (length way ≡ 3) × ((tag attributes content : Element) → AreOfWay way (tag ∷ attributes ∷ content ∷ [])
+  IsFit (Xml ways) = Each (λ way. (length way ≡ 3) × ((tag attributes content : Thing) → AreOfWay way (tag ∷ attributes ∷ content ∷ [])
       → IsAtom tag × IsRecord attributes)) ways.items
   IsFit (Function needs) = Each (λ need. Each (λ way. (length way ≡ 1) ⊎ (length way ≡ 2)) need.items) needs.items
   IsFit (Record rows) =

@@ -1,5 +1,5 @@
 ghost use Rattle.std.specs.Prelude.{◌≡◌, ◌<◌, ◌++◌, List, length, IfOk, MatchOption};
-ghost use Rattle.cd_syntax.specs.Element.{Element as AnElement};
+ghost use Rattle.cd_model.specs.Thing.{Element as AnElement};
 ghost use Rattle.cd_elements.specs.Elements.{table};
 ghost use Rattle.cd_elements.specs.Table.{Names, element_at};
 ghost use Rattle.cd_members.specs.Marks.{AreNumbers};

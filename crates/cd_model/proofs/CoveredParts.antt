@@ -1,12 +1,10 @@
 -- What constructors stand round in a place whose names all have a fact.
-use Rattle.std.proofs.Common.{◌≡◌, Bool, true, false, ◌++◌, ◌⊎◌, inl, inr, bytes_eq}
-use Rattle.std.proofs.lemmas.Bool.{cases_Bool}
-use Rattle.cd_syntax.specs.Name.{Name}
+use Rattle.std.proofs.Common.{◌++◌}
 use Rattle.cd_syntax.specs.TypeTree as type
 use Rattle.cd_syntax.specs.TypeTree.{Tree, Trees, NoTree, ATree}
 use Rattle.cd_model.specs.Each.{Each}
-use Rattle.cd_model.specs.Scope.{Scope, Declared, names_in, names_in_trees, names_in_fields, names_over}
-use Rattle.cd_model.specs.Written.{kind_of, tuple_rest, arrows_rest, field_of}
+use Rattle.cd_model.specs.Scope.{Scope, Declared, names_in, names_in_trees, names_over}
+use Rattle.cd_model.specs.Written.{kind_of, tuple_rest, arrows_rest}
 use Rattle.cd_model.proofs.Covered.{Covered, each_parts, covered_tree}
 
 -- the parts of an XML type
@@ -70,20 +68,3 @@ module _ (Fact : Declared → Type 0) where
       by_content : Each Fact (names_in scope tag ++ names_in scope attributes) × Each Fact (names_in scope content)
           → XmlParts Fact scope tag attributes content
       by_content parts = by_all (each_parts Fact (names_in scope tag) (names_in scope attributes) parts.0) parts.1
-
-  -- what a record type says of a label
-  pub covered_field : (scope : Scope) (fields : type.Fields) (more : Bool) (label : Name)
-      → Each Fact (names_in_fields scope fields) → Each Fact (names_over scope)
-      → Covered Fact scope (field_of fields more label).kind
-  covered_field scope type.NoField more label within over = record { within = tt; over = over }
-  covered_field scope (type.AField name at optional is rest) more label within over = by_name
-      (cases_Bool (bytes_eq name label))
-      (each_parts Fact (names_in scope is) (names_in_fields scope rest) within)
-      (λ within. covered_field scope rest more label within over)
-    where
-      by_name : (bytes_eq name label ≡ true) ⊎ (bytes_eq name label ≡ false)
-          → Each Fact (names_in scope is) × Each Fact (names_in_fields scope rest)
-          → (Each Fact (names_in_fields scope rest) → Covered Fact scope (field_of rest more label).kind)
-          → Covered Fact scope (field_of (type.AField name at optional is rest) more label).kind
-      by_name (inl equal) parts later = rw equal (covered_tree Fact scope is parts.0 over)
-      by_name (inr differs) parts later = rw differs (later parts.1)

@@ -2,24 +2,23 @@
 use Rattle.std.proofs.Common.{◌≡◌, Bool, true, false, List, [], ◌∷◌, ◌⊎◌, inl, inr, refl, subst, map, bytes_eq}
 use Rattle.std.proofs.lemmas.Bool.{cases_Bool}
 use Rattle.std.proofs.lemmas.Slice.Eq.{bytes_eq-Decides}
-use Rattle.cd_sets.specs.declared.node_id.NodeId.{NodeId}
 use Rattle.cd_syntax.specs.Name.{Name}
 use Rattle.cd_model.specs.Each.{Each, One}
-use Rattle.cd_model.specs.Formula.{Field, field_of}
+use Rattle.cd_model.specs.Types.{FieldOf, field_of}
 
 -- the label is one of these
 abbrev pub IsOneOf : List Name → Name → Type 0
 IsOneOf names label = One (λ name. name ≡ label) names
 
 -- the labels that a record type names
-abbrev pub names_of : List (Name × Field) → List Name
+abbrev pub names_of : {X : Type 0} → List (Name × FieldOf X) → List Name
 names_of named = map (λ field. field.0) named
 
 -- a record type names the label, or says of it that its field may be absent
-pub named_or_not : (named : List (Name × Field)) (rest : NodeId) (label : Name)
+pub named_or_not : {X : Type 0} (named : List (Name × FieldOf X)) (rest : X) (label : Name)
     → IsOneOf (names_of named) label ⊎ ((field_of named rest label).optional ≡ true)
 named_or_not [] rest label = inr refl
-named_or_not (field ∷ named) rest label = by_name (cases_Bool (bytes_eq field.0 label)) (named_or_not named rest label)
+named_or_not {X = X} (field ∷ named) rest label = by_name (cases_Bool (bytes_eq field.0 label)) (named_or_not named rest label)
   where
     by_name : (bytes_eq field.0 label ≡ true) ⊎ (bytes_eq field.0 label ≡ false)
         → IsOneOf (names_of named) label ⊎ ((field_of named rest label).optional ≡ true)

@@ -1,10 +1,9 @@
--- What a language answers where something is known of each thing: not both true and false, one of both, or the same as another one.
-use Rattle.std.proofs.Common.{◌≡◌, ◌⊎◌, inl, inr, ℕ, zero, suc, Bool, true, false, List, [], ◌∷◌, length, refl, ap, ◌∙◌, sym}
+-- What a language answers where something is known of each thing: not both true and false, one of both, or alike.
+use Rattle.std.proofs.Common.{◌≡◌, ◌⊎◌, ◌↔◌, inl, inr, ℕ, zero, suc, Bool, true, false, List, [], ◌∷◌, length, refl, ap, sym, subst}
 use Rattle.std.proofs.lemmas.Bool.{true≢false}
 use Rattle.cd_model.specs.Language.{Language, both, some, none, nothing, item, either, followed, turns, star, plus, optional}
-use Rattle.cd_model.proofs.Apart.{both_apart}
-use Rattle.cd_model.proofs.Decided.{both_or, one_or}
-use Rattle.cd_model.proofs.SameAnswers.{both_same, one_same}
+use Rattle.cd_model.proofs.Logic.{both_apart, both_or, one_or}
+use Rattle.cd_model.proofs.BothWays.{itself, both_agree, one_agrees}
 
 -- a fact of each of some things
 abbrev pub EachThing : {X : Type 1} → (X → Type 0) → List X → Type 0
@@ -12,10 +11,11 @@ EachThing fact [] = Unit {0}
 EachThing fact (one ∷ rest) = fact one × EachThing fact rest
 
 -- the things of two lists are alike one by one
-pub data InTurn {X Y : Type 1} (Alike : X → Y → Type 1) : List X → List Y → Type 1 where
-  ends : InTurn Alike [] []
-  goes_on : (one : X) (other : Y) (rest : List X) (others : List Y) → Alike one other → InTurn Alike rest others
-      → InTurn Alike (one ∷ rest) (other ∷ others)
+abbrev pub InTurn : {X Y : Type 1} → (X → Y → Type 0) → List X → List Y → Type 0
+InTurn Alike [] [] = Unit {0}
+InTurn Alike [] (other ∷ others) = ⊥
+InTurn Alike (one ∷ rest) [] = ⊥
+InTurn Alike (one ∷ rest) (other ∷ others) = Alike one other × InTurn Alike rest others
 
 module _ {X : Type 1} (fact : X → Type 0) where
   -- where each thing has the fact, a list is not both in the language and outside it
@@ -115,75 +115,85 @@ module _ {X : Type 1} (fact : X → Type 0) where
   optional_decides one is_one = either_decides nothing one nothing_decides is_one
 
 -- the same of both answers
-both_answers_same : (answer : Bool) {A B C D : Type 0} → A ≡ B → C ≡ D → both answer A C ≡ both answer B D
-both_answers_same true first second = both_same first second
-both_answers_same false first second = one_same first second
+both_agree_at : (answer : Bool) {A B C D : Type 0} → A ↔ B → C ↔ D → both answer A C ↔ both answer B D
+both_agree_at true first second = both_agree first second
+both_agree_at false first second = one_agrees first second
 
-some_answers_same : (answer : Bool) {A B C D : Type 0} → A ≡ B → C ≡ D → some answer A C ≡ some answer B D
-some_answers_same true first second = one_same first second
-some_answers_same false first second = both_same first second
+some_agree_at : (answer : Bool) {A B C D : Type 0} → A ↔ B → C ↔ D → some answer A C ↔ some answer B D
+some_agree_at true first second = one_agrees first second
+some_agree_at false first second = both_agree first second
 
-module _ {X Y : Type 1} (Alike : X → Y → Type 1) where
+module _ {X Y : Type 1} (Alike : X → Y → Type 0) where
   -- the same is answered of lists that are alike thing by thing
-  abbrev pub SameOver : Language X → Language Y → Type 1
-  SameOver language language' = (things : List X) (others : List Y) → InTurn Alike things others → (answer : Bool)
-      → language things answer ≡ language' others answer
+  abbrev pub AgreeOver : Language X → Language Y → Type 1
+  AgreeOver language language' = (things : List X) (others : List Y) → InTurn Alike things others → (answer : Bool)
+      → language things answer ↔ language' others answer
 
-  pub none_same : SameOver none none
-  none_same things others alike answer = refl
+  pub none_agree : AgreeOver none none
+  none_agree things others alike answer = itself
 
-  pub nothing_same : SameOver nothing nothing
-  nothing_same _ _ ends answer = refl
-  nothing_same _ _ (goes_on one other rest others is alike) answer = refl
+  pub nothing_agree : AgreeOver nothing nothing
+  nothing_agree [] [] alike answer = itself
+  nothing_agree [] (other ∷ others) alike answer = absurd alike
+  nothing_agree (one ∷ rest) [] alike answer = absurd alike
+  nothing_agree (one ∷ rest) (other ∷ others) alike answer = itself
 
-  pub item_same : (such : X → Bool → Type 0) (such' : Y → Bool → Type 0)
-      → ((one : X) (other : Y) → Alike one other → (answer : Bool) → such one answer ≡ such' other answer)
-      → SameOver (item such) (item such')
-  item_same such such' same _ _ ends answer = refl
-  item_same such such' same _ _ (goes_on one other _ _ is ends) answer = same one other is answer
-  item_same such such' same _ _ (goes_on one other _ _ is (goes_on _ _ _ _ next alike)) answer = refl
+  pub item_agree : (such : X → Bool → Type 0) (such' : Y → Bool → Type 0)
+      → ((one : X) (other : Y) → Alike one other → (answer : Bool) → such one answer ↔ such' other answer)
+      → AgreeOver (item such) (item such')
+  item_agree such such' same [] [] alike answer = itself
+  item_agree such such' same [] (other ∷ others) alike answer = absurd alike
+  item_agree such such' same (one ∷ rest) [] alike answer = absurd alike
+  item_agree such such' same (one ∷ []) (other ∷ []) alike answer = same one other alike.0 answer
+  item_agree such such' same (one ∷ []) (other ∷ next' ∷ others) alike answer = absurd alike.1
+  item_agree such such' same (one ∷ next ∷ rest) (other ∷ []) alike answer = absurd alike.1
+  item_agree such such' same (one ∷ next ∷ rest) (other ∷ next' ∷ others) alike answer = itself
 
-  pub either_same : (first second : Language X) (first' second' : Language Y) → SameOver first first' → SameOver second second'
-      → SameOver (either first second) (either first' second')
-  either_same first second first' second' is_first is_second things others alike answer =
-      some_answers_same answer (is_first things others alike answer) (is_second things others alike answer)
+  pub either_agree : (first second : Language X) (first' second' : Language Y) → AgreeOver first first' → AgreeOver second second'
+      → AgreeOver (either first second) (either first' second')
+  either_agree first second first' second' is_first is_second things others alike answer =
+      some_agree_at answer (is_first things others alike answer) (is_second things others alike answer)
 
-  after_same : (language : Language X) (language' : Language Y) (one : X) (other : Y) → Alike one other
-      → SameOver language language' → SameOver (λ things. language (one ∷ things)) (λ others. language' (other ∷ others))
-  after_same language language' one other is same things others alike answer =
-      same (one ∷ things) (other ∷ others) (goes_on one other things others is alike) answer
+  after_agree : (language : Language X) (language' : Language Y) (one : X) (other : Y) → Alike one other
+      → AgreeOver language language' → AgreeOver (λ things. language (one ∷ things)) (λ others. language' (other ∷ others))
+  after_agree language language' one other is same things others alike answer =
+      same (one ∷ things) (other ∷ others) (is, alike) answer
 
-  pub followed_same : (first second : Language X) (first' second' : Language Y) → SameOver first first' → SameOver second second'
-      → SameOver (followed first second) (followed first' second')
-  followed_same first second first' second' is_first is_second _ _ ends answer =
-      both_answers_same answer (is_first [] [] ends answer) (is_second [] [] ends answer)
-  followed_same first second first' second' is_first is_second _ _ (goes_on one other rest others is alike) answer =
-      some_answers_same answer
-      (both_answers_same answer (is_first [] [] ends answer)
-      (is_second (one ∷ rest) (other ∷ others) (goes_on one other rest others is alike) answer))
-      (followed_same (λ things. first (one ∷ things)) second (λ others. first' (other ∷ others)) second'
-      (after_same first first' one other is is_first) is_second rest others alike answer)
+  pub followed_agree : (first second : Language X) (first' second' : Language Y) → AgreeOver first first' → AgreeOver second second'
+      → AgreeOver (followed first second) (followed first' second')
+  followed_agree first second first' second' is_first is_second [] [] alike answer =
+      both_agree_at answer (is_first [] [] tt answer) (is_second [] [] tt answer)
+  followed_agree first second first' second' is_first is_second [] (other ∷ others) alike answer = absurd alike
+  followed_agree first second first' second' is_first is_second (one ∷ rest) [] alike answer = absurd alike
+  followed_agree first second first' second' is_first is_second (one ∷ rest) (other ∷ others) alike answer =
+      some_agree_at answer
+      (both_agree_at answer (is_first [] [] tt answer) (is_second (one ∷ rest) (other ∷ others) alike answer))
+      (followed_agree (λ things. first (one ∷ things)) second (λ others. first' (other ∷ others)) second'
+      (after_agree first first' one other alike.0 is_first) is_second rest others alike.1 answer)
 
-  pub turns_same : (count : ℕ) (one : Language X) (one' : Language Y) → SameOver one one'
-      → SameOver (turns count one) (turns count one')
-  turns_same count one one' is_one _ _ ends answer = refl
-  turns_same zero one one' is_one _ _ (goes_on thing other rest others is alike) answer = refl
-  turns_same (suc count) one one' is_one _ _ (goes_on thing other rest others is alike) answer =
-      followed_same (λ taken. one (thing ∷ taken)) (turns count one) (λ taken. one' (other ∷ taken)) (turns count one')
-      (after_same one one' thing other is is_one) (turns_same count one one' is_one) rest others alike answer
+  pub turns_agree : (count : ℕ) (one : Language X) (one' : Language Y) → AgreeOver one one'
+      → AgreeOver (turns count one) (turns count one')
+  turns_agree count one one' is_one [] [] alike answer = itself
+  turns_agree count one one' is_one [] (other ∷ others) alike answer = absurd alike
+  turns_agree count one one' is_one (thing ∷ rest) [] alike answer = absurd alike
+  turns_agree zero one one' is_one (thing ∷ rest) (other ∷ others) alike answer = itself
+  turns_agree (suc count) one one' is_one (thing ∷ rest) (other ∷ others) alike answer =
+      followed_agree (λ taken. one (thing ∷ taken)) (turns count one) (λ taken. one' (other ∷ taken)) (turns count one')
+      (after_agree one one' thing other alike.0 is_one) (turns_agree count one one' is_one) rest others alike.1 answer
 
   same_length : (things : List X) (others : List Y) → InTurn Alike things others → length things ≡ length others
-  same_length _ _ ends = refl
-  same_length _ _ (goes_on one other rest others is alike) = ap suc (same_length rest others alike)
+  same_length [] [] alike = refl
+  same_length [] (other ∷ others) alike = absurd alike
+  same_length (one ∷ rest) [] alike = absurd alike
+  same_length (one ∷ rest) (other ∷ others) alike = ap suc (same_length rest others alike.1)
 
-  pub star_same : (one : Language X) (one' : Language Y) → SameOver one one' → SameOver (star one) (star one')
-  star_same one one' is_one things others alike answer =
-      turns_same (length things) one one' is_one things others alike answer
-      ∙ ap (λ count. turns count one' others answer) (same_length things others alike)
+  pub star_agree : (one : Language X) (one' : Language Y) → AgreeOver one one' → AgreeOver (star one) (star one')
+  star_agree one one' is_one things others alike answer = subst (λ count. star one things answer ↔ turns count one' others answer)
+      (same_length things others alike) (turns_agree (length things) one one' is_one things others alike answer)
 
-  pub plus_same : (one : Language X) (one' : Language Y) → SameOver one one' → SameOver (plus one) (plus one')
-  plus_same one one' is_one =
-      followed_same one (star one) one' (star one') is_one (star_same one one' is_one)
+  pub plus_agree : (one : Language X) (one' : Language Y) → AgreeOver one one' → AgreeOver (plus one) (plus one')
+  plus_agree one one' is_one =
+      followed_agree one (star one) one' (star one') is_one (star_agree one one' is_one)
 
-  pub optional_same : (one : Language X) (one' : Language Y) → SameOver one one' → SameOver (optional one) (optional one')
-  optional_same one one' is_one = either_same nothing one nothing one' nothing_same is_one
+  pub optional_agree : (one : Language X) (one' : Language Y) → AgreeOver one one' → AgreeOver (optional one) (optional one')
+  optional_agree one one' is_one = either_agree nothing one nothing one' nothing_agree is_one

@@ -11,7 +11,7 @@ use Rattle.cd_model.specs.Written.{kind_of}
 use Rattle.cd_model.proofs.Covered as covered
 use Rattle.cd_model.proofs.Covered.{Covered, declared_covered}
 use Rattle.cd_model.proofs.DeclaredScope.{stands_in_a_list}
-use Rattle.cd_model.proofs.SameWritten.{AreClosed}
+use Rattle.cd_model.proofs.Places.{AreClosed}
 
 -- the name is one of these
 abbrev pub IsIn : Declared → List Declared → Type 0

@@ -1,132 +1,111 @@
 -- What regular expressions of types answer where it is known what things answer at types.
-use Rattle.std.proofs.Common.{◌≡◌, Bool, true, false, ◌⊎◌}
-use Rattle.cd_syntax.specs.TypeTree as type
-use Rattle.cd_syntax.specs.TypeTree.{Kind, Regular, regular, RegularKind, Regulars, NoRegular, ARegular}
+use Rattle.std.proofs.Common.{Bool, true, false, ◌⊎◌}
 use Rattle.cd_syntax.specs.declared.type_tree.Post.{Post}
 use Rattle.cd_syntax.specs.declared.type_tree.Post.TheVariants as post
-use Rattle.cd_model.specs.Each.{Each}
+use Rattle.cd_model.specs.Alike.{Standing, RegularsStand, RowsStand, AnswerAlike}
+use Rattle.cd_model.specs.Alike as alike
 use Rattle.cd_model.specs.Language.{Language}
-use Rattle.cd_model.specs.Scope.{Scope, Declared, names_in_regular, names_in_regular_kind, names_in_regulars, names_over}
-use Rattle.cd_model.specs.Written.{Answers, kind_of, repeated, fits, fits_kind, fits_in_turn, fits_one}
-use Rattle.cd_model.proofs.Covered.{Covered, each_parts, covered_tree}
+use Rattle.cd_model.specs.Types.{Answers, Regular, NoItem, Item, Seq, Alt, Repeat, Regulars, NoRegular, ARegular, repeated, fits, fits_in_turn, fits_one}
 use Rattle.cd_model.proofs.Languages.{ApartOver, none_apart, nothing_apart, item_apart, either_apart, followed_apart, star_apart, plus_apart, optional_apart}
 use Rattle.cd_model.proofs.Languages.{DecidesOver, none_decides, nothing_decides, item_decides, either_decides, followed_decides, star_decides, plus_decides, optional_decides}
-use Rattle.cd_model.proofs.Languages.{SameOver, none_same, nothing_same, item_same, either_same, followed_same, star_same, plus_same, optional_same}
+use Rattle.cd_model.proofs.Languages.{AgreeOver, none_agree, nothing_agree, item_agree, either_agree, followed_agree, star_agree, plus_agree, optional_agree}
 
--- not both true and false, where no thing with the fact answers both
-module _ (fact : Answers → Type 0)
-    (apart : (one : Answers) → fact one → (scope : Scope) (kind : Kind) → one scope kind true → one scope kind false → ⊥) where
-  repeated_apart : (post : Post) (one : Language Answers) → ApartOver fact one → ApartOver fact (repeated post one)
-  repeated_apart post.Star one is_one = star_apart fact one is_one
-  repeated_apart post.LazyStar one is_one = star_apart fact one is_one
-  repeated_apart post.Plus one is_one = plus_apart fact one is_one
-  repeated_apart post.LazyPlus one is_one = plus_apart fact one is_one
-  repeated_apart post.Opt one is_one = optional_apart fact one is_one
-  repeated_apart post.LazyOpt one is_one = optional_apart fact one is_one
+-- no type answers both
+abbrev pub Apart : {X : Type 0} → (X → Bool → Type 0) → Type 0
+Apart {X} answers = (x : X) → answers x true → answers x false → ⊥
 
-  mutual
-    pub fits_apart : (scope : Scope) (is : Regular) → ApartOver fact (fits scope is)
-    fits_apart scope (regular span kind) = kind_apart scope kind
+-- each type answers one of both
+abbrev pub Decides : {X : Type 0} → (X → Bool → Type 0) → Type 0
+Decides {X} answers = (x : X) → answers x true ⊎ answers x false
 
-    kind_apart : (scope : Scope) (kind : RegularKind) → ApartOver fact (fits_kind scope kind)
-    kind_apart scope type.Nothing = nothing_apart fact
-    kind_apart scope (type.Item is) =
-        item_apart fact (λ answers. answers scope (kind_of is)) (λ one known. apart one known scope (kind_of is))
-    kind_apart scope (type.Seq all) = in_turn_apart scope all
-    kind_apart scope (type.Alt all) = one_apart scope all
-    kind_apart scope (type.Repeat is post) = repeated_apart post (fits scope is) (fits_apart scope is)
-    kind_apart scope (type.Capture name is) = none_apart fact
+module _ {X : Type 0} where
+  abbrev AreApart : Language (Answers X) → Type 1
+  AreApart = ApartOver (λ (answers : Answers X). Apart answers)
 
-    in_turn_apart : (scope : Scope) (all : Regulars) → ApartOver fact (fits_in_turn scope all)
-    in_turn_apart scope NoRegular = nothing_apart fact
-    in_turn_apart scope (ARegular first rest) = followed_apart fact (fits scope first) (fits_in_turn scope rest)
-        (fits_apart scope first) (in_turn_apart scope rest)
+  abbrev AreDecided : Language (Answers X) → Type 1
+  AreDecided = DecidesOver (λ (answers : Answers X). Decides answers)
 
-    one_apart : (scope : Scope) (all : Regulars) → ApartOver fact (fits_one scope all)
-    one_apart scope NoRegular = none_apart fact
-    one_apart scope (ARegular first rest) = either_apart fact (fits scope first) (fits_one scope rest)
-        (fits_apart scope first) (one_apart scope rest)
-
--- true or false, where each thing with the fact answers one of both
-module _ (fact : Answers → Type 0)
-    (decides : (one : Answers) → fact one → (scope : Scope) (kind : Kind) → one scope kind true ⊎ one scope kind false) where
-  repeated_decides : (post : Post) (one : Language Answers) → DecidesOver fact one → DecidesOver fact (repeated post one)
-  repeated_decides post.Star one is_one = star_decides fact one is_one
-  repeated_decides post.LazyStar one is_one = star_decides fact one is_one
-  repeated_decides post.Plus one is_one = plus_decides fact one is_one
-  repeated_decides post.LazyPlus one is_one = plus_decides fact one is_one
-  repeated_decides post.Opt one is_one = optional_decides fact one is_one
-  repeated_decides post.LazyOpt one is_one = optional_decides fact one is_one
+  repeated_apart : (post : Post) (one : Language (Answers X)) → AreApart one → AreApart (repeated post one)
+  repeated_apart post.Star one is_one = star_apart _ one is_one
+  repeated_apart post.LazyStar one is_one = star_apart _ one is_one
+  repeated_apart post.Plus one is_one = plus_apart _ one is_one
+  repeated_apart post.LazyPlus one is_one = plus_apart _ one is_one
+  repeated_apart post.Opt one is_one = optional_apart _ one is_one
+  repeated_apart post.LazyOpt one is_one = optional_apart _ one is_one
 
   mutual
-    pub fits_decides : (scope : Scope) (is : Regular) → DecidesOver fact (fits scope is)
-    fits_decides scope (regular span kind) = kind_decides scope kind
+    pub fits_apart : (is : Regular X) → AreApart (fits is)
+    fits_apart NoItem = nothing_apart _
+    fits_apart (Item x) = item_apart _ (λ answers. answers x) (λ one known. known x)
+    fits_apart (Seq all) = in_turn_apart all
+    fits_apart (Alt all) = one_apart all
+    fits_apart (Repeat is post) = repeated_apart post (fits is) (fits_apart is)
 
-    kind_decides : (scope : Scope) (kind : RegularKind) → DecidesOver fact (fits_kind scope kind)
-    kind_decides scope type.Nothing = nothing_decides fact
-    kind_decides scope (type.Item is) =
-        item_decides fact (λ answers. answers scope (kind_of is)) (λ one known. decides one known scope (kind_of is))
-    kind_decides scope (type.Seq all) = in_turn_decides scope all
-    kind_decides scope (type.Alt all) = one_decides scope all
-    kind_decides scope (type.Repeat is post) = repeated_decides post (fits scope is) (fits_decides scope is)
-    kind_decides scope (type.Capture name is) = none_decides fact
+    in_turn_apart : (all : Regulars X) → AreApart (fits_in_turn all)
+    in_turn_apart NoRegular = nothing_apart _
+    in_turn_apart (ARegular first rest) =
+        followed_apart _ (fits first) (fits_in_turn rest) (fits_apart first) (in_turn_apart rest)
 
-    in_turn_decides : (scope : Scope) (all : Regulars) → DecidesOver fact (fits_in_turn scope all)
-    in_turn_decides scope NoRegular = nothing_decides fact
-    in_turn_decides scope (ARegular first rest) = followed_decides fact (fits scope first) (fits_in_turn scope rest)
-        (fits_decides scope first) (in_turn_decides scope rest)
+    one_apart : (all : Regulars X) → AreApart (fits_one all)
+    one_apart NoRegular = none_apart _
+    one_apart (ARegular first rest) = either_apart _ (fits first) (fits_one rest) (fits_apart first) (one_apart rest)
 
-    one_decides : (scope : Scope) (all : Regulars) → DecidesOver fact (fits_one scope all)
-    one_decides scope NoRegular = none_decides fact
-    one_decides scope (ARegular first rest) = either_decides fact (fits scope first) (fits_one scope rest)
-        (fits_decides scope first) (one_decides scope rest)
-
--- the same, where things that are alike answer the same at places whose names all have the fact
-module _ (Fact : Declared → Type 0) (Alike : Answers → Answers → Type 1)
-    (same : (one other : Answers) → Alike one other → (scope : Scope) (kind : Kind) → Covered Fact scope kind → (answer : Bool)
-    → one scope kind answer ≡ other scope kind answer) where
-  repeated_same : (post : Post) (one other : Language Answers) → SameOver Alike one other
-      → SameOver Alike (repeated post one) (repeated post other)
-  repeated_same post.Star one other is_one = star_same Alike one other is_one
-  repeated_same post.LazyStar one other is_one = star_same Alike one other is_one
-  repeated_same post.Plus one other is_one = plus_same Alike one other is_one
-  repeated_same post.LazyPlus one other is_one = plus_same Alike one other is_one
-  repeated_same post.Opt one other is_one = optional_same Alike one other is_one
-  repeated_same post.LazyOpt one other is_one = optional_same Alike one other is_one
+  repeated_decides : (post : Post) (one : Language (Answers X)) → AreDecided one → AreDecided (repeated post one)
+  repeated_decides post.Star one is_one = star_decides _ one is_one
+  repeated_decides post.LazyStar one is_one = star_decides _ one is_one
+  repeated_decides post.Plus one is_one = plus_decides _ one is_one
+  repeated_decides post.LazyPlus one is_one = plus_decides _ one is_one
+  repeated_decides post.Opt one is_one = optional_decides _ one is_one
+  repeated_decides post.LazyOpt one is_one = optional_decides _ one is_one
 
   mutual
-    pub fits_same : (scope : Scope) (is : Regular) → Each Fact (names_in_regular scope is) → Each Fact (names_over scope)
-        → SameOver Alike (fits scope is) (fits scope is)
-    fits_same scope (regular span kind) within over = kind_same scope kind within over
+    pub fits_decides : (is : Regular X) → AreDecided (fits is)
+    fits_decides NoItem = nothing_decides _
+    fits_decides (Item x) = item_decides _ (λ answers. answers x) (λ one known. known x)
+    fits_decides (Seq all) = in_turn_decides all
+    fits_decides (Alt all) = one_decides all
+    fits_decides (Repeat is post) = repeated_decides post (fits is) (fits_decides is)
 
-    kind_same : (scope : Scope) (kind : RegularKind) → Each Fact (names_in_regular_kind scope kind)
-        → Each Fact (names_over scope) → SameOver Alike (fits_kind scope kind) (fits_kind scope kind)
-    kind_same scope type.Nothing within over = nothing_same Alike
-    kind_same scope (type.Item is) within over =
-        item_same Alike (λ answers. answers scope (kind_of is)) (λ answers. answers scope (kind_of is))
-        (λ one other alike. same one other alike scope (kind_of is) (covered_tree Fact scope is within over))
-    kind_same scope (type.Seq all) within over = in_turn_same scope all within over
-    kind_same scope (type.Alt all) within over = one_same scope all within over
-    kind_same scope (type.Repeat is post) within over =
-        repeated_same post (fits scope is) (fits scope is) (fits_same scope is within over)
-    kind_same scope (type.Capture name is) within over = none_same Alike
+    in_turn_decides : (all : Regulars X) → AreDecided (fits_in_turn all)
+    in_turn_decides NoRegular = nothing_decides _
+    in_turn_decides (ARegular first rest) =
+        followed_decides _ (fits first) (fits_in_turn rest) (fits_decides first) (in_turn_decides rest)
 
-    in_turn_same : (scope : Scope) (all : Regulars) → Each Fact (names_in_regulars scope all) → Each Fact (names_over scope)
-        → SameOver Alike (fits_in_turn scope all) (fits_in_turn scope all)
-    in_turn_same scope NoRegular within over = nothing_same Alike
-    in_turn_same scope (ARegular first rest) within over =
-        followed_same Alike (fits scope first) (fits_in_turn scope rest) (fits scope first) (fits_in_turn scope rest)
-        (fits_same scope first parts.0 over) (in_turn_same scope rest parts.1 over)
-      where
-        parts : Each Fact (names_in_regular scope first) × Each Fact (names_in_regulars scope rest)
-        parts = each_parts Fact (names_in_regular scope first) (names_in_regulars scope rest) within
+    one_decides : (all : Regulars X) → AreDecided (fits_one all)
+    one_decides NoRegular = none_decides _
+    one_decides (ARegular first rest) = either_decides _ (fits first) (fits_one rest) (fits_decides first) (one_decides rest)
 
-    one_same : (scope : Scope) (all : Regulars) → Each Fact (names_in_regulars scope all) → Each Fact (names_over scope)
-        → SameOver Alike (fits_one scope all) (fits_one scope all)
-    one_same scope NoRegular within over = none_same Alike
-    one_same scope (ARegular first rest) within over =
-        either_same Alike (fits scope first) (fits_one scope rest) (fits scope first) (fits_one scope rest)
-        (fits_same scope first parts.0 over) (one_same scope rest parts.1 over)
-      where
-        parts : Each Fact (names_in_regular scope first) × Each Fact (names_in_regulars scope rest)
-        parts = each_parts Fact (names_in_regular scope first) (names_in_regulars scope rest) within
+module _ {X Y : Type 0} (Stands : Standing X Y) where
+  abbrev AreAlike : Language (Answers X) → Language (Answers Y) → Type 1
+  AreAlike = AgreeOver (λ (one : Answers X) (other : Answers Y). AnswerAlike Stands one other)
+
+  repeated_alike : (post : Post) (one : Language (Answers X)) (other : Language (Answers Y)) → AreAlike one other
+      → AreAlike (repeated post one) (repeated post other)
+  repeated_alike post.Star one other is_one = star_agree _ one other is_one
+  repeated_alike post.LazyStar one other is_one = star_agree _ one other is_one
+  repeated_alike post.Plus one other is_one = plus_agree _ one other is_one
+  repeated_alike post.LazyPlus one other is_one = plus_agree _ one other is_one
+  repeated_alike post.Opt one other is_one = optional_agree _ one other is_one
+  repeated_alike post.LazyOpt one other is_one = optional_agree _ one other is_one
+
+  mutual
+    pub fits_alike : (one : Regular X) (other : Regular Y) → RegularsStand Stands one other → AreAlike (fits one) (fits other)
+    fits_alike _ _ alike.no_item = nothing_agree _
+    fits_alike _ _ (alike.an_item x y is) =
+        item_agree _ (λ answers. answers x) (λ answers. answers y) (λ one other known. known x y is)
+    fits_alike _ _ (alike.in_turn one other is) = in_turn_alike one other is
+    fits_alike _ _ (alike.one_of one other is) = one_alike one other is
+    fits_alike _ _ (alike.repeat one other post is) = repeated_alike post (fits one) (fits other) (fits_alike one other is)
+
+    in_turn_alike : (one : Regulars X) (other : Regulars Y) → RowsStand Stands one other
+        → AreAlike (fits_in_turn one) (fits_in_turn other)
+    in_turn_alike _ _ alike.no_more = nothing_agree _
+    in_turn_alike _ _ (alike.one_more one other rest others is more) =
+        followed_agree _ (fits one) (fits_in_turn rest) (fits other) (fits_in_turn others)
+        (fits_alike one other is) (in_turn_alike rest others more)
+
+    one_alike : (one : Regulars X) (other : Regulars Y) → RowsStand Stands one other → AreAlike (fits_one one) (fits_one other)
+    one_alike _ _ alike.no_more = none_agree _
+    one_alike _ _ (alike.one_more one other rest others is more) =
+        either_agree _ (fits one) (fits_one rest) (fits other) (fits_one others)
+        (fits_alike one other is) (one_alike rest others more)

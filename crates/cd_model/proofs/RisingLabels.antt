@@ -7,10 +7,9 @@ use Rattle.std.specs.declared.cmp.Ordering.TheVariants.{Less}
 use Rattle.std.proofs.lemmas.Cmp.{nat_list_cmp_total}
 use Rattle.std.proofs.lemmas.Map.Text.{is_eq-slice_cmp}
 use Rattle.cd_syntax.specs.Name.{Name}
-use Rattle.cd_syntax.specs.Element as element
-use Rattle.cd_model.specs.Formula.{Graph, Field}
-use Rattle.cd_model.specs.Value as value
-use Rattle.cd_model.specs.Membership.{absent, labelled, value_labelled}
+use Rattle.std.proofs.Common.{ℕ}
+use Rattle.cd_model.specs.Thing.{Fields, NoField, Field, LabelsRise}
+use Rattle.cd_model.specs.Types.{FieldOf, Presentation, Mapping, absent, labelled}
 use Rattle.cd_model.proofs.EachLabel.{passed_over}
 
 -- no label above this one is the name
@@ -26,30 +25,16 @@ passed_later : (name before label : Name)
 passed_later name before label above passed = λ other higher.
     passed other (nat_list_cmp_total.trans before label other above higher)
 
--- in a record of elements
-nothing_passed : (graph : Graph) (fields : element.Fields) (name before : Name) (field : Field) (answer : Bool)
-    → IsPassed name before → element.LabelsRise (Some before) fields → absent field answer
-    → labelled graph fields name field answer
-nothing_passed graph element.NoField name before field answer passed rise is = is
-nothing_passed graph (element.Field label value rest) name before field answer passed rise is =
-    let later = passed_later name before label rise.0 passed in
-    passed_over (bytes_eq label name) _ _ (passed label rise.0)
-    (nothing_passed graph rest name label field answer later rise.1 is)
+module _ {X : Type 0} (at : Presentation X) (closed : ℕ → Mapping X) where
+  nothing_passed : (fields : Fields) (name before : Name) (field : FieldOf X) (answer : Bool)
+      → IsPassed name before → LabelsRise (Some before) fields → absent field answer
+      → labelled at closed fields name field answer
+  nothing_passed NoField name before field answer passed rise is = is
+  nothing_passed (Field label value rest) name before field answer passed rise is =
+      let later = passed_later name before label rise.0 passed in
+      passed_over (bytes_eq label name) _ _ (passed label rise.0)
+      (nothing_passed rest name label field answer later rise.1 is)
 
-pub nothing_more : (graph : Graph) (fields : element.Fields) (name : Name) (field : Field) (answer : Bool)
-    → element.LabelsRise (Some name) fields → absent field answer → labelled graph fields name field answer
-nothing_more graph fields name field answer = nothing_passed graph fields name name field answer (passed_itself name)
-
--- in a record of values
-no_value_passed : (graph : Graph) (fields : value.Fields) (name before : Name) (field : Field) (answer : Bool)
-    → IsPassed name before → value.AreRisingLabels (Some before) fields → absent field answer
-    → value_labelled graph fields name field answer
-no_value_passed graph value.NoField name before field answer passed rise is = is
-no_value_passed graph (value.Field label is_value rest) name before field answer passed rise is =
-    let later = passed_later name before label rise.1 passed in
-    passed_over (bytes_eq label name) _ _ (passed label rise.1)
-    (no_value_passed graph rest name label field answer later rise.2 is)
-
-pub no_value_more : (graph : Graph) (fields : value.Fields) (name : Name) (field : Field) (answer : Bool)
-    → value.AreRisingLabels (Some name) fields → absent field answer → value_labelled graph fields name field answer
-no_value_more graph fields name field answer = no_value_passed graph fields name name field answer (passed_itself name)
+  pub nothing_more : (fields : Fields) (name : Name) (field : FieldOf X) (answer : Bool)
+      → LabelsRise (Some name) fields → absent field answer → labelled at closed fields name field answer
+  nothing_more fields name field answer = nothing_passed fields name name field answer (passed_itself name)

@@ -1,9 +1,9 @@
--- The canonical text of an element.
+-- The canonical text of a thing that holds no closure, and a fixed text for closures.
 use Rattle.std.specs.Prelude.{ℕ, ◌==◌, ◌||◌, List, [], ◌∷◌, ◌++◌, Option, Some, None, map, codes, bytes_eq, nat_lt, if◌then◌else◌}
 use Rattle.std.specs.Fmt.{decimal, signed_decimal}
 use Rattle.std.specs.List.{join_by}
 use Rattle.cd_syntax.specs.Name.{Name}
-use Rattle.cd_syntax.specs.Element.{Element, Integer, Character, Atom, Pair, Xml, Record, Function, Fields, NoField, Field, Pairs, NoPair, Maps, Fails}
+use Rattle.cd_model.specs.Thing.{Thing, Integer, Character, Atom, Pair, Xml, Record, Function, Closure, Fields, NoField, Field, Pairs, NoPair, Maps, Fails}
 
 abbrev pub Text : Type 0
 Text = List ℕ
@@ -115,12 +115,12 @@ xml_written tag attributes content =
     plainly (codes "<" ++ joined (codes " ") (tag ∷ attributes.fields) ++ codes ">" ++ content.text)
 
 -- the name of a tag; what is no atom is none
-abbrev pub tag_name : Element → Name
+abbrev pub tag_name : Thing → Name
 tag_name (Atom name) = name
 tag_name _ = []
 
 abbrev mutual
-  pub written : Element → Written
+  pub written : Thing → Written
   written (Integer n) = plainly (signed_decimal n)
   written (Character c) = letter_written c
   written (Atom name) = atom_written name
@@ -128,6 +128,8 @@ abbrev mutual
   written (Xml tag attributes content) = xml_written (tag_name tag) (written attributes) (written content)
   written (Record fields) = record_written (field_texts fields)
   written (Function pairs) = plainly (codes "fun{" ++ joined (codes "; ") (pair_texts pairs) ++ codes "}")
+  -- what is printed of a closure says nothing of it
+  written (Closure function environment) = plainly (codes "<fun>")
 
   pub field_texts : Fields → List Text
   field_texts NoField = []
@@ -140,5 +142,5 @@ abbrev mutual
   pair_texts (Fails argument rest) = ((written argument).text ++ codes " => ?") ∷ pair_texts rest
 
 -- the canonical text
-abbrev pub canonical : Element → Text
+abbrev pub canonical : Thing → Text
 canonical element = (written element).text

@@ -2,12 +2,27 @@
 use Rattle.std.specs.Prelude.{ℕ, pos, true, false, List, [], ◌∷◌, ◌++◌, codes}
 use Rattle.cd_sets.specs.declared.node_id.NodeId.{NodeId}
 use Rattle.cd_syntax.specs.Integer.{LEAST, GREATEST}
-use Rattle.cd_syntax.specs.Element as element
-use Rattle.cd_syntax.specs.Element.{Element, Integer, Character, Atom}
+use Rattle.cd_model.specs.Thing as thing
+use Rattle.cd_model.specs.Thing.{Thing, Integer, Character, Atom}
 use Rattle.cd_model.specs.Formula.{Graph, formulas_of, Ints, And, Or, Not, Pair, Xml, Record, Arrow}
-use Rattle.cd_model.specs.Value as value
-use Rattle.cd_model.specs.Value.{Value}
-use Rattle.cd_model.specs.BuiltIns.{built_ins, node, atoms_of, EMPTY, ANY, INT, CHAR, RECORD, NIL}
+use Rattle.cd_model.specs.Interfaces.{Interfaces, OfNodes}
+use Rattle.cd_syntax.specs.declared.builtin.BuiltinName.TheVariants as builtin
+use Rattle.cd_model.specs.BuiltIns.{built_ins, node, node_named, atoms_of, NIL}
+
+abbrev pub EMPTY : NodeId
+EMPTY = node_named builtin.Empty
+
+abbrev pub ANY : NodeId
+ANY = node_named builtin.Any
+
+abbrev pub INT : NodeId
+INT = node_named builtin.Int
+
+abbrev pub CHAR : NodeId
+CHAR = node_named builtin.Char
+
+abbrev pub RECORD : NodeId
+RECORD = node_named builtin.Record
 
 -- `0`, `0 -> Any`, `{a=Int}`, `{a=Int ..}`, the lists of integers, `` `a ``, `<a ..>[]`, `(Int,Char)`, `0 -> 0`, `{a=?Int}`,
 -- `Int \ 0`, `0 -> Int`, `0 -> Char` and `0 -> Empty`
@@ -57,78 +72,81 @@ abbrev pub graph : Graph
 graph = built_ins ++
     Ints (record { low = pos 0; high = pos 0 } ∷ [])
     ∷ Arrow ZERO ANY
-    ∷ Record ((codes "a", record { optional = false; node = INT }) ∷ []) EMPTY
-    ∷ Record ((codes "a", record { optional = false; node = INT }) ∷ []) ANY
+    ∷ Record ((codes "a", record { optional = false; type = INT }) ∷ []) EMPTY
+    ∷ Record ((codes "a", record { optional = false; type = INT }) ∷ []) ANY
     ∷ Or (formulas_of (Pair INT INTS ∷ atoms_of (codes "nil" ∷ []) ∷ []))
     ∷ atoms_of (codes "a" ∷ [])
     ∷ Xml TAG RECORD NIL
     ∷ Pair INT CHAR
     ∷ Arrow ZERO ZERO
-    ∷ Record ((codes "a", record { optional = true; node = INT }) ∷ []) EMPTY
+    ∷ Record ((codes "a", record { optional = true; type = INT }) ∷ []) EMPTY
     ∷ And (formulas_of (Ints (record { low = LEAST; high = GREATEST } ∷ []) ∷ Not (Ints (record { low = pos 0; high = pos 0 } ∷ [])) ∷ []))
     ∷ Arrow ZERO INT
     ∷ Arrow ZERO CHAR
     ∷ Arrow ZERO EMPTY
     ∷ []
 
-abbrev pub nil : Element
+abbrev pub nil : Thing
 nil = Atom (codes "nil")
 
 -- the text of these characters
-abbrev pub text_of : List ℕ → Element
+abbrev pub text_of : List ℕ → Thing
 text_of [] = nil
-text_of (c ∷ text) = element.Pair (Character c) (text_of text)
+text_of (c ∷ text) = thing.Pair (Character c) (text_of text)
 
 -- the sequence of these items
-abbrev pub sequence_of : List Element → Element
+abbrev pub sequence_of : List Thing → Thing
 sequence_of [] = nil
-sequence_of (first ∷ rest) = element.Pair first (sequence_of rest)
+sequence_of (first ∷ rest) = thing.Pair first (sequence_of rest)
 
 -- the function that maps this integer alone
-abbrev pub function_of : ℕ → Element → Element
-function_of argument result = element.Function (element.Maps (Integer (pos argument)) result element.NoPair)
+abbrev pub function_of : ℕ → Thing → Thing
+function_of argument result = thing.Function (thing.Maps (Integer (pos argument)) result thing.NoPair)
 
 -- `{a=1}` and `{a=1; b=2}`
-abbrev pub one_field : Element
-one_field = element.Record (element.Field (codes "a") (Integer (pos 1)) element.NoField)
+abbrev pub one_field : Thing
+one_field = thing.Record (thing.Field (codes "a") (Integer (pos 1)) thing.NoField)
 
-abbrev pub two_fields : Element
-two_fields = element.Record (element.Field (codes "a") (Integer (pos 1)) (element.Field (codes "b") (Integer (pos 2)) element.NoField))
+abbrev pub two_fields : Thing
+two_fields = thing.Record (thing.Field (codes "a") (Integer (pos 1)) (thing.Field (codes "b") (Integer (pos 2)) thing.NoField))
 
 -- `fun{0 => ?}`
-abbrev pub fails_at_zero : Element
-fails_at_zero = element.Function (element.Fails (Integer (pos 0)) element.NoPair)
+abbrev pub fails_at_zero : Thing
+fails_at_zero = thing.Function (thing.Fails (Integer (pos 0)) thing.NoPair)
 
 -- `[1 2]`, and `(1, 2)`
-abbrev pub list : Element
-list = element.Pair (Integer (pos 1)) (element.Pair (Integer (pos 2)) nil)
+abbrev pub list : Thing
+list = thing.Pair (Integer (pos 1)) (thing.Pair (Integer (pos 2)) nil)
 
-abbrev pub pair : Element
-pair = element.Pair (Integer (pos 1)) (Integer (pos 2))
+abbrev pub pair : Thing
+pair = thing.Pair (Integer (pos 1)) (Integer (pos 2))
 
 -- `<a>[]`
-abbrev pub xml : Element
-xml = element.Xml (Atom (codes "a")) (element.Record element.NoField) nil
+abbrev pub xml : Thing
+xml = thing.Xml (Atom (codes "a")) (thing.Record thing.NoField) nil
 
 -- `<b>[]`, `fun{0 => 1}`, `{a='c'}`, and fields that do not rise
-abbrev pub other_xml : Element
-other_xml = element.Xml (Atom (codes "b")) (element.Record element.NoField) nil
+abbrev pub other_xml : Thing
+other_xml = thing.Xml (Atom (codes "b")) (thing.Record thing.NoField) nil
 
-abbrev pub zero_to_one : Element
-zero_to_one = element.Function (element.Maps (Integer (pos 0)) (Integer (pos 1)) element.NoPair)
+abbrev pub zero_to_one : Thing
+zero_to_one = thing.Function (thing.Maps (Integer (pos 0)) (Integer (pos 1)) thing.NoPair)
 
-abbrev pub wrong_field : Element
-wrong_field = element.Record (element.Field (codes "a") (Character 99) element.NoField)
+abbrev pub wrong_field : Thing
+wrong_field = thing.Record (thing.Field (codes "a") (Character 99) thing.NoField)
 
-abbrev pub falling_fields : Element
-falling_fields = element.Record (element.Field (codes "b") (Integer (pos 1)) (element.Field (codes "a") (Integer (pos 2)) element.NoField))
+abbrev pub falling_fields : Thing
+falling_fields = thing.Record (thing.Field (codes "b") (Integer (pos 1)) (thing.Field (codes "a") (Integer (pos 2)) thing.NoField))
 
-abbrev pub label_again : Element
-label_again = element.Record (element.Field (codes "a") (Integer (pos 1)) (element.Field (codes "a") (Integer (pos 2)) element.NoField))
+abbrev pub label_again : Thing
+label_again = thing.Record (thing.Field (codes "a") (Integer (pos 1)) (thing.Field (codes "a") (Integer (pos 2)) thing.NoField))
 
--- a closure with the arrows `0 -> Int` and `0 -> Char`, and one without arrows
-abbrev pub to_both : Value
-to_both = value.Closure 0 (record { argument = ZERO; result = INT } ∷ record { argument = ZERO; result = CHAR } ∷ []) value.NoField
+-- a closure, and interfaces in which its function has the arrows `0 -> Int` and `0 -> Char`, or none
+abbrev pub closure : Thing
+closure = thing.Closure 0 thing.NoField
 
-abbrev pub no_arrow : Value
-no_arrow = value.Closure 0 [] value.NoField
+abbrev pub to_both : Interfaces
+to_both = OfNodes graph (λ function. record { argument = ZERO; result = INT } ∷ record { argument = ZERO; result = CHAR } ∷ [])
+
+abbrev pub no_arrows : Interfaces
+no_arrows = OfNodes graph (λ function. [])

@@ -2,10 +2,13 @@
 use Rattle.std.proofs.Common.{◌≡◌, ℕ, ◌+◌, ◌-◌, ◌<◌, ◌≤◌, List, [], ◌∷◌, ◌++◌, length, map, sym, ap, subst, ◌∙◌, ◌↔◌, Bool, arith}
 use Rattle.std.proofs.lemmas.List.{length-map}
 use Rattle.cd_sets.specs.declared.node_id.NodeId.{NodeId}
+use Rattle.cd_model.specs.Interfaces.{admits}
+use Rattle.cd_model.specs.Types.{no_closure, closure_maps}
+use Rattle.cd_model.specs.Formula.{nodes}
 use Rattle.cd_model.specs.Each.{Each}
 use Rattle.cd_model.specs.Formula.{Graph, Formula, IsFormula}
 use Rattle.cd_model.specs.BuiltIns.{node}
-use Rattle.cd_model.specs.Items.{Items, NoSequence, Listed, are_in}
+use Rattle.cd_model.specs.Types.{Items, NoSequence, Listed, are_in}
 use Rattle.cd_model.specs.Membership.{Answers}
 use Rattle.cd_regex.specs.Regular.{Regular, AsksBelow, fits}
 use Rattle.cd_regex.specs.Automaton.{Next, finish, start, states, all_states, state_formula}
@@ -14,7 +17,7 @@ use Rattle.cd_regex.proofs.Ways.{same, through}
 use Rattle.cd_regex.proofs.Accepting.{accepts, ArePlaced, length-states}
 use Rattle.cd_regex.proofs.Fitting.{start_accepts}
 use Rattle.cd_regex.proofs.StateForms.{LeadTo}
-use Rattle.cd_regex.proofs.StatesInGraph.{HasStates, element_accepted, value_accepted}
+use Rattle.cd_regex.proofs.StatesInGraph.{HasStates, thing_accepted}
 use Rattle.cd_regex.proofs.SoundStates.{IsEdge, IsState, sound_all_states, sound_formulas}
 use Rattle.cd_regex.proofs.StatesInRow.{nth, state_at, row_is_placed, nth_also, formula_of_state}
 use Rattle.cd_regex.specs.declared.next.Edge.{Edge}
@@ -83,9 +86,10 @@ module _ (is : Regular) (first : ℕ) (asks : AsksBelow first is) where
     sound = formulas_are_sound;
     some = omega arith;
     elements = λ before after one answer long. through
-        (element_accepted (IsNumber first past) at (within before after) (has_states before after long) one (node first) first_is answer)
+        (thing_accepted (IsNumber first past) at (within before after) (has_states before after long) no_closure one (node first) first_is answer)
         (first_accepts (items_of (within before after) one) answer);
-    values = λ before after one answer long. through
-        (value_accepted (IsNumber first past) at (within before after) (has_states before after long) one (node first) first_is answer)
-        (first_accepts (value_items_of (within before after) one) answer);
+    values = λ before after interfaces one answer long. through
+        (thing_accepted (IsNumber first past) at (within before after) (has_states before after long)
+        (closure_maps (nodes (within before after)) (admits interfaces)) one (node first) first_is answer)
+        (first_accepts (value_items_of (within before after) interfaces one) answer);
   }

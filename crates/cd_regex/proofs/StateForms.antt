@@ -6,7 +6,7 @@ use Rattle.cd_model.specs.Each.{Each}
 use Rattle.cd_model.specs.Formula.{Formula, formulas_of, Pair, Or}
 use Rattle.cd_model.specs.BuiltIns.{atoms_of}
 use Rattle.cd_model.specs.Language.{both, some}
-use Rattle.cd_model.specs.Items.{Items, NoSequence, Listed, no_items_if, items_of_atom, with_item, are_in}
+use Rattle.cd_model.specs.Types.{Items, NoSequence, Listed, no_items_if, items_of_atom, with_item, are_in}
 use Rattle.cd_model.specs.Membership.{Answers, Reader, holds, atom_reader, pair_reader}
 use Rattle.cd_regex.specs.Automaton.{Next, edge_formula, end_formulas, state_formula}
 use Rattle.cd_regex.specs.declared.next.Edge.{Edge}

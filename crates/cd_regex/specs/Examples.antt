@@ -1,7 +1,7 @@
 -- Expressions and sequences of which laws say which fit.
 use Rattle.std.specs.Prelude.{pos, [], ◌∷◌}
-use Rattle.cd_syntax.specs.Element as element
-use Rattle.cd_syntax.specs.Element.{Element, Integer, Character}
+use Rattle.cd_model.specs.Thing as thing
+use Rattle.cd_model.specs.Thing.{Thing, Integer, Character}
 use Rattle.cd_model.specs.BuiltIns.{INT, CHAR}
 use Rattle.cd_model.specs.Examples.{nil}
 use Rattle.cd_regex.specs.Regular.{Regular, Item, Seq, Alt, Star, Plus, Opt, regulars_of}
@@ -35,24 +35,24 @@ abbrev pub both_in_turn : Regular
 both_in_turn = Star int_and_char
 
 -- `[1]`, `[1 'c']`, `[1 1]` and `[1 'c' 1 'c']`
-abbrev pub before_int : Element → Element
-before_int rest = element.Pair (Integer (pos 1)) rest
+abbrev pub before_int : Thing → Thing
+before_int rest = thing.Pair (Integer (pos 1)) rest
 
-abbrev pub before_char : Element → Element
-before_char rest = element.Pair (Character 99) rest
+abbrev pub before_char : Thing → Thing
+before_char rest = thing.Pair (Character 99) rest
 
-abbrev pub one : Element
+abbrev pub one : Thing
 one = before_int nil
 
-abbrev pub one_and_c : Element
+abbrev pub one_and_c : Thing
 one_and_c = before_int (before_char nil)
 
-abbrev pub one_and_one : Element
+abbrev pub one_and_one : Thing
 one_and_one = before_int one
 
-abbrev pub twice : Element
+abbrev pub twice : Thing
 twice = before_int (before_char one_and_c)
 
 -- `(1, 'c')`, which is no sequence
-abbrev pub pair : Element
-pair = element.Pair (Integer (pos 1)) (Character 99)
+abbrev pub pair : Thing
+pair = thing.Pair (Integer (pos 1)) (Character 99)

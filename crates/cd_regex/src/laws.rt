@@ -4,7 +4,7 @@ ghost use Rattle.cd_sets.specs.declared.node_id.NodeId.{NodeId as AnId};
 ghost use Rattle.cd_model.specs.Each.{Each};
 ghost use Rattle.cd_model.specs.BuiltIns.{built_ins};
 ghost use Rattle.cd_model.specs.Examples.{nil};
-ghost use Rattle.cd_model.specs.Items.{are_in};
+ghost use Rattle.cd_model.specs.Types.{are_in};
 ghost use Rattle.cd_regex.specs.Regular.{Regular, Nothing, Seq, Alt, Star, Opt, NoRegular, fits, items_in, AsksBelow, node_at, renamed};
 ghost use Rattle.cd_regex.specs.Sequences.{items_of};
 ghost use Rattle.cd_regex.specs.Examples as example;

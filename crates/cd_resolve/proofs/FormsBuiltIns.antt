@@ -6,15 +6,15 @@ use Rattle.std.proofs.Common.{refl, sym, subst, ap, arith, bytes_eq, rules, code
 use Rattle.cd_sets.specs.declared.node_id.NodeId.{NodeId}
 use Rattle.cd_intervals.specs.Atoms.{listing}
 use Rattle.cd_syntax.specs.declared.builtin.BuiltinName.{BuiltinName}
-use Rattle.cd_syntax.specs.Element.{Element}
+use Rattle.cd_model.specs.Thing.{Thing}
 use Rattle.cd_model.specs.Each.{Each}
 use Rattle.cd_model.specs.BuiltIns.{built_ins, node_named, node, EMPTY, NIL}
 use Rattle.cd_model.specs.Formula as formula
 use Rattle.cd_model.specs.Formula.{Graph, IsGraph, formula_at}
 use Rattle.cd_model.specs.Membership.{Reader, function_reader, closure_mapping, mapping, at_nodes, answers}
 use Rattle.cd_model.specs.Membership.{value_reader, value_labelled, value_answers}
-use Rattle.cd_model.specs.Value as value
-use Rattle.cd_model.specs.Value.{Value, ArrowOf}
+use Rattle.cd_model.specs.Thing as thing
+use Rattle.cd_model.specs.Interfaces.{Interfaces, ArrowOf}
 use Rattle.cd_model.proofs.BuiltIns.{all_map}
 use Rattle.cd_model.proofs.Extension as extension
 use Rattle.cd_model.proofs.KeptAnswers.{IsPlain, KeptAtNodes, KeptAtForms, KeptAtLabels, holds_kept}
@@ -68,36 +68,36 @@ module _ (one other : Graph) where
       (subst (λ to. mapping (built_ins ++ one) pairs EMPTY to true) (sym plain.1) (all_map one pairs))))
   closure_kept interface _ plain answer h = h
 
-  at_values : (is : Value) → KeptAtForms (value_reader (built_ins ++ one) is) (value_reader (built_ins ++ other) is)
+  at_values : (interfaces : Interfaces) (is : Thing) → KeptAtForms (value_reader (built_ins ++ one) is) (value_reader (built_ins ++ other) is)
       → KeptAtNodes (value_answers (built_ins ++ one) is) (value_answers (built_ins ++ other) is)
   at_values is = nodes_kept (value_reader (built_ins ++ one) is) (value_reader (built_ins ++ other) is)
 
   -- by recursion on the value
   mutual
-    value_kept : (is : Value) → KeptAtForms (value_reader (built_ins ++ one) is) (value_reader (built_ins ++ other) is)
-    value_kept (value.Integer n) = λ is plain answer h. h
-    value_kept (value.Character c) = λ is plain answer h. h
-    value_kept (value.Atom name) = λ is plain answer h. h
-    value_kept (value.Pair first second) =
+    value_kept : (interfaces : Interfaces) (is : Thing) → KeptAtForms (value_reader (built_ins ++ one) is) (value_reader (built_ins ++ other) is)
+    value_kept (thing.Integer n) = λ is plain answer h. h
+    value_kept (thing.Character c) = λ is plain answer h. h
+    value_kept (thing.Atom name) = λ is plain answer h. h
+    value_kept (thing.Pair first second) =
         pair_kept (at_values first (value_kept first)) (at_values second (value_kept second))
-    value_kept (value.Xml tag attributes content) = xml_kept (at_values tag (value_kept tag))
+    value_kept (thing.Xml tag attributes content) = xml_kept (at_values tag (value_kept tag))
         (at_values attributes (value_kept attributes)) (at_values content (value_kept content))
-    value_kept (value.Record fields) = record_kept (fields_kept fields)
-    value_kept (value.Closure function interface environment) = closure_kept interface
+    value_kept (thing.Record fields) = record_kept (fields_kept fields)
+    value_kept (thing.Closure function environment) = closure_kept interface
 
-    fields_kept : (fields : value.Fields)
+    fields_kept : (fields : thing.Fields)
         → KeptAtLabels (value_labelled (built_ins ++ one) fields) (value_labelled (built_ins ++ other) fields)
-    fields_kept value.NoField = λ label field below answer h. h
-    fields_kept (value.Field name is rest) = λ label field below answer.
+    fields_kept thing.NoField = λ label field below answer h. h
+    fields_kept (thing.Field name is rest) = λ label field below answer.
         either_kept (bytes_eq name label) (at_values is (value_kept is) field.node below answer)
         (fields_kept rest label field below answer)
 
-  pub kept_at : (is : Value) (id : NodeId) → id.0 < 14 → (answer : Bool)
+  pub kept_at : (interfaces : Interfaces) (is : Thing) (id : NodeId) → id.0 < 14 → (answer : Bool)
       → value_answers (built_ins ++ one) is id answer → value_answers (built_ins ++ other) is id answer
   kept_at is = at_values is (value_kept is)
 
 -- at the node of a built-in name
-pub element_at_name : (graph : Graph) → Begins graph → (is : Element) (name : BuiltinName) (answer : Bool)
+pub element_at_name : (graph : Graph) → Begins graph → (is : Thing) (name : BuiltinName) (answer : Bool)
     → answers graph is (node_named name) answer ↔ answers built_ins is (node_named name) answer
 element_at_name graph begins is name answer =
     subst (λ graph. answers graph is (node_named name) answer ↔ answers built_ins is (node_named name) answer)
@@ -106,10 +106,10 @@ element_at_name graph begins is name answer =
     kept : answers built_ins is (node_named name) answer ↔ answers (built_ins ++ begins.0) is (node_named name) answer
     kept = extension.elements built_ins begins.0 is (node_named name) answer built_ins_are_sound (named_is_built_in name)
 
-pub value_at_name : (graph : Graph) → Begins graph → (is : Value) (name : BuiltinName) (answer : Bool)
-    → value_answers graph is (node_named name) answer ↔ value_answers built_ins is (node_named name) answer
+pub value_at_name : (graph : Graph) → Begins graph → (interfaces : Interfaces) (is : Thing) (name : BuiltinName) (answer : Bool)
+    → value_answers graph interfaces is (node_named name) answer ↔ value_answers built_ins is (node_named name) answer
 value_at_name graph begins is name answer =
-    subst (λ graph. value_answers graph is (node_named name) answer ↔ value_answers built_ins is (node_named name) answer)
+    subst (λ graph. value_answers graph interfaces is (node_named name) answer ↔ value_answers built_ins is (node_named name) answer)
     (sym begins.1) (
       kept_at begins.0 [] is (node_named name) (named_is_built_in name) answer,
       kept_at [] begins.0 is (node_named name) (named_is_built_in name) answer,

@@ -1,8 +1,8 @@
 -- What answers at the nodes of sequences what its items do answers the same at written sequences.
 use Rattle.std.proofs.Common.{◌↔◌, ℕ, Bool, List, length, refl, ap, sym, subst}
 use Rattle.cd_sets.specs.declared.node_id.NodeId.{NodeId}
-use Rattle.cd_syntax.specs.Element as element
-use Rattle.cd_syntax.specs.Element.{Element}
+use Rattle.cd_model.specs.Thing as thing
+use Rattle.cd_model.specs.Thing.{Thing}
 use Rattle.cd_syntax.specs.Name.{Name}
 use Rattle.cd_syntax.specs.TypeTree as type
 use Rattle.cd_model.specs.BuiltIns.{node}
@@ -11,8 +11,7 @@ use Rattle.cd_model.specs.Items.{Items, are_in}
 use Rattle.cd_model.specs.Membership as node_level
 use Rattle.cd_model.specs.Membership.{Reader, holds}
 use Rattle.cd_model.specs.Scope.{Scope, Declared}
-use Rattle.cd_model.specs.Value as value
-use Rattle.cd_model.specs.Value.{Value}
+use Rattle.cd_model.specs.Interfaces.{Interfaces}
 use Rattle.cd_model.specs.Written as written
 use Rattle.cd_model.specs.Written.{Answers}
 use Rattle.cd_model.proofs.SameAnswers.{both_ways}
@@ -28,43 +27,43 @@ use Rattle.cd_resolve.proofs.FitsAgree.{fits_agree}
 use Rattle.cd_resolve.proofs.LanguagesAgree.{ItemsAlike, in_agrees}
 
 -- what an element, and a value, answers at a node that holds the sequences of an expression
-pub element_at : (graph : Graph) (is : Element) (id : NodeId) (regular : Regular) → HoldsAt graph id regular → (answer : Bool)
+pub element_at : (graph : Graph) (is : Thing) (id : NodeId) (regular : Regular) → HoldsAt graph id regular → (answer : Bool)
     → holds (node_level.reader graph is) (formula_at graph id) answer ↔ are_in (items_of graph is) (fits regular) answer
 element_at graph is id regular at answer = through
     (both_ways (ap (λ formula. holds (node_level.reader graph is) formula answer) at.same))
     (subst (λ graph. node_level.answers graph is (node (length at.before)) answer ↔ are_in (items_of graph is) (fits regular) answer)
     (sym at.parts) (at.holds.elements at.before at.after is answer refl))
 
-pub value_at : (graph : Graph) (is : Value) (id : NodeId) (regular : Regular) → HoldsAt graph id regular → (answer : Bool)
-    → holds (node_level.value_reader graph is) (formula_at graph id) answer ↔ are_in (value_items_of graph is) (fits regular) answer
+pub value_at : (graph : Graph) (interfaces : Interfaces) (is : Thing) (id : NodeId) (regular : Regular) → HoldsAt graph id regular → (answer : Bool)
+    → holds (node_level.value_reader graph interfaces is) (formula_at graph id) answer ↔ are_in (value_items_of graph is) (fits regular) answer
 value_at graph is id regular at answer = through
-    (both_ways (ap (λ formula. holds (node_level.value_reader graph is) formula answer) at.same))
-    (subst (λ graph. node_level.value_answers graph is (node (length at.before)) answer
+    (both_ways (ap (λ formula. holds (node_level.value_reader graph interfaces is) formula answer) at.same))
+    (subst (λ graph. node_level.value_answers graph interfaces is (node (length at.before)) answer
     ↔ are_in (value_items_of graph is) (fits regular) answer)
     (sym at.parts) (at.holds.values at.before at.after is answer refl))
 
 -- what they answer at a written sequence
-pub element_reads : (count : ℕ) (is : Element) (scope : Scope) (expression : type.Regular) (answer : Bool)
+pub element_reads : (count : ℕ) (is : Thing) (scope : Scope) (expression : type.Regular) (answer : Bool)
     → are_in (written.items count is) (written.fits scope expression) answer
     ↔ written.reader count is scope (type.Sequence expression) answer
-element_reads count (element.Integer n) scope expression answer = itself
-element_reads count (element.Character c) scope expression answer = itself
-element_reads count (element.Atom name) scope expression answer = itself
-element_reads count (element.Pair first second) scope expression answer = itself
-element_reads count (element.Xml tag attributes content) scope expression answer = itself
-element_reads count (element.Record fields) scope expression answer = itself
-element_reads count (element.Function pairs) scope expression answer = itself
+element_reads count (thing.Integer n) scope expression answer = itself
+element_reads count (thing.Character c) scope expression answer = itself
+element_reads count (thing.Atom name) scope expression answer = itself
+element_reads count (thing.Pair first second) scope expression answer = itself
+element_reads count (thing.Xml tag attributes content) scope expression answer = itself
+element_reads count (thing.Record fields) scope expression answer = itself
+element_reads count (thing.Function pairs) scope expression answer = itself
 
-pub value_reads : (graph : Graph) (count : ℕ) (is : Value) (scope : Scope) (expression : type.Regular) (answer : Bool)
+pub value_reads : (graph : Graph) (count : ℕ) (interfaces : Interfaces) (is : Thing) (scope : Scope) (expression : type.Regular) (answer : Bool)
     → are_in (written.value_items graph count is) (written.fits scope expression) answer
-    ↔ written.value_reader graph count is scope (type.Sequence expression) answer
-value_reads graph count (value.Integer n) scope expression answer = itself
-value_reads graph count (value.Character c) scope expression answer = itself
-value_reads graph count (value.Atom name) scope expression answer = itself
-value_reads graph count (value.Pair first second) scope expression answer = itself
-value_reads graph count (value.Xml tag attributes content) scope expression answer = itself
-value_reads graph count (value.Record fields) scope expression answer = itself
-value_reads graph count (value.Closure function interface environment) scope expression answer = itself
+    ↔ written.value_reader graph interfaces count is scope (type.Sequence expression) answer
+value_reads graph count (thing.Integer n) scope expression answer = itself
+value_reads graph count (thing.Character c) scope expression answer = itself
+value_reads graph count (thing.Atom name) scope expression answer = itself
+value_reads graph count (thing.Pair first second) scope expression answer = itself
+value_reads graph count (thing.Xml tag attributes content) scope expression answer = itself
+value_reads graph count (thing.Record fields) scope expression answer = itself
+value_reads graph count (thing.Closure function environment) scope expression answer = itself
 
 module _ (graph : Graph) (first : ℕ) (names : List (Name × NodeId)) (lists : List Frames) (tables : Tables) (base : Scope)
     (Fact : Declared → Type 0) (Used : Name → Type 0) (closes : Closes graph first tables) where

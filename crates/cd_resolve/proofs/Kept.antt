@@ -8,7 +8,8 @@ use Rattle.cd_model.specs.BuiltIns.{built_ins}
 use Rattle.cd_model.specs.Formula.{Graph, IsGraph}
 use Rattle.cd_model.specs.Membership.{value_answers}
 use Rattle.cd_model.specs.Scope.{tree_in}
-use Rattle.cd_model.specs.Value.{IsValue}
+use Rattle.cd_model.specs.Interfaces.{Interfaces}
+use Rattle.cd_model.specs.Thing.{IsValue}
 use Rattle.cd_model.specs.Written.{Written, StandsFor, written_value_answers}
 use Rattle.cd_model.proofs.Extension as extension
 use Rattle.cd_shapes.specs.Names.{node_of}
@@ -26,7 +27,7 @@ type_kept graph more id type sound stands = record {
   elements = λ is answer element. through (turned (extension.elements graph more is id answer sound stands.is_node))
       (stands.elements is answer element);
   values = λ after is answer. subst (λ graph. IsValue (length graph) is
-      → value_answers graph is id answer ↔ written_value_answers graph is type answer)
+      → value_answers graph interfaces is id answer ↔ written_value_answers graph is type answer)
       (sym (append_assoc graph more after)) (stands.values (more ++ after) is answer);
 }
 

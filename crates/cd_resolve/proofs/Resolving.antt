@@ -3,7 +3,7 @@ use Rattle.std.proofs.Common.{◌≡◌, ℕ, zero, suc, ◌+◌, ◌<◌, ◌�
 use Rattle.std.proofs.lemmas.List.{append_assoc, length-append}
 use Rattle.std.proofs.lemmas.Option.{slice_get_within}
 use Rattle.cd_sets.specs.declared.node_id.NodeId.{NodeId}
-use Rattle.cd_syntax.specs.Element.{Element, IsElement}
+use Rattle.cd_model.specs.Thing.{Thing, IsElement, IsValue}
 use Rattle.cd_syntax.specs.Name.{Name}
 use Rattle.cd_syntax.specs.TypeTree.{Tree, tree, Kind, Named, Declarations}
 use Rattle.cd_model.specs.BuiltIns.{built_ins, node}
@@ -11,7 +11,7 @@ use Rattle.cd_model.specs.Each.{One}
 use Rattle.cd_model.specs.Formula.{Graph, IsGraph, formula_at}
 use Rattle.cd_model.specs.Membership as node_level
 use Rattle.cd_model.specs.Scope.{Declared, names_in, names_over, names_seen}
-use Rattle.cd_model.specs.Value.{Value, IsValue}
+use Rattle.cd_model.specs.Interfaces.{Interfaces}
 use Rattle.cd_model.specs.Written as written
 use Rattle.cd_model.specs.Written.{Written, StandsFor, kind_of}
 use Rattle.cd_names.specs.Faults.{Fault, IsFault, IsFaultOfList}
@@ -182,7 +182,7 @@ module _ (declarations : Declarations) (none : (fault : Fault) → IsFaultOfList
       TheFact : Declared → Type 0
       TheFact = Fact (length old) names lists tables (declarations ∷ []) [] is root read.roots tt shaped
 
-      old_elements : (more : Graph) (e : Element) → IsElement e
+      old_elements : (more : Graph) (e : Thing) → IsElement e
           → AgreesAtNames (old ++ batch ++ more) (length old) names lists tables (declarations ∷ []) TheFact IsUsed count
           (node_level.reader (old ++ batch ++ more) e) (written.reader count e)
       old_elements more e element = subst (λ graph. AgreesAtNames graph (length old) names lists tables (declarations ∷ [])
@@ -190,11 +190,11 @@ module _ (declarations : Declarations) (none : (fault : Fault) → IsFaultOfList
           (given_elements old sound declarations (list_is_guarded declarations none) names IsUsed is_known count fits
           (length old) lists tables TheFact (batch ++ more) e element)
 
-      old_values : (more : Graph) (v : Value) → IsValue (length (old ++ batch ++ more)) v
+      old_values : (more : Graph) (interfaces : Interfaces) (v : Thing) → IsValue (length (old ++ batch ++ more)) v
           → AgreesAtNames (old ++ batch ++ more) (length old) names lists tables (declarations ∷ []) TheFact IsUsed count
           (node_level.value_reader (old ++ batch ++ more) v) (written.value_reader (old ++ batch ++ more) count v)
       old_values more v value = subst (λ graph. IsValue (length graph) v → AgreesAtNames graph (length old) names lists tables
-          (declarations ∷ []) TheFact IsUsed count (node_level.value_reader graph v) (written.value_reader graph count v))
+          (declarations ∷ []) TheFact IsUsed count (node_level.value_reader graph interfaces v) (written.value_reader graph interfaces count v))
           (sym (append_assoc old batch more))
           (given_values old sound declarations (list_is_guarded declarations none) names IsUsed is_known count fits
           (length old) lists tables TheFact (batch ++ more) v) value

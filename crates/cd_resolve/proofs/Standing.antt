@@ -2,7 +2,7 @@
 use Rattle.std.proofs.Common.{◌≡◌, ℕ, ◌<◌, Bool, [], ◌++◌, List, length, refl, ap, subst, ◌∙◌, ◌↔◌, arith}
 use Rattle.std.proofs.lemmas.List.{append-nil, append_assoc}
 use Rattle.cd_sets.specs.declared.node_id.NodeId.{NodeId}
-use Rattle.cd_syntax.specs.Element.{Element, IsElement}
+use Rattle.cd_model.specs.Thing.{Thing, IsElement, IsValue}
 use Rattle.cd_syntax.specs.Name.{Name}
 use Rattle.cd_syntax.specs.TypeTree.{Tree, tree}
 use Rattle.cd_model.specs.BuiltIns.{built_ins, EMPTY}
@@ -12,7 +12,7 @@ use Rattle.cd_model.specs.Guarded.{IsGuarded, NamesAreGuarded}
 use Rattle.cd_model.specs.Membership as node
 use Rattle.cd_model.specs.Membership.{Reader}
 use Rattle.cd_model.specs.Scope.{Scope, Declared, names_in, names_over, names_seen}
-use Rattle.cd_model.specs.Value.{Value, IsValue}
+use Rattle.cd_model.specs.Interfaces.{Interfaces}
 use Rattle.cd_model.specs.Written as written
 use Rattle.cd_model.specs.Written.{Written, Answers, StandsFor, kind_of, number_of_names, at_types}
 use Rattle.cd_model.proofs.Covered.{Covered, each_parts, covered_tree}
@@ -68,7 +68,7 @@ module _ (first : ℕ) (names : List (Name × NodeId)) (lists : List Frames) (ta
 
     -- in a graph whose nodes hold what the tables say
     module _ (graph : Graph) (begins : (more : Graph) × (graph ≡ built_ins ++ more)) (closes : Closes graph first tables)
-        (old_elements : (is : Element) → IsElement is
+        (old_elements : (is : Thing) → IsElement is
         → AgreesAtNames graph first names lists tables base Fact Used (number_of_names type)
         (node.reader graph is) (written.reader (number_of_names type) is))
       where
@@ -79,27 +79,27 @@ module _ (first : ℕ) (names : List (Name × NodeId)) (lists : List Frames) (ta
         connectives = agrees graph first names lists tables base Fact Used (λ is seen. seen.0)
             (names_seen type.scope type.tree) (λ is seen. seen.1) (number_of_names type) (omega arith) roots closes (empty_is graph begins.0 begins.1)
 
-        element_stands : (e : Element) → IsElement e → (answer : Bool)
+        element_stands : (e : Thing) → IsElement e → (answer : Bool)
             → node.answers graph e id answer ↔ written.written_answers e type answer
         element_stands e element answer = elements.element_agrees graph first names lists tables base Fact Used
             (number_of_names type) closes begins connectives old_elements e element frames (kind_of is) root (of_root graph) answer
 
-        value_stands : ((is : Value) → IsValue (length graph) is
-            → AgreesAtNames graph first names lists tables base Fact Used (number_of_names type) (node.value_reader graph is)
-            (written.value_reader graph (number_of_names type) is))
-            → (v : Value) → IsValue (length graph) v → (answer : Bool)
-            → node.value_answers graph v id answer ↔ written.written_value_answers graph v type answer
+        value_stands : ((interfaces : Interfaces) (is : Thing) → IsValue (length graph) is
+            → AgreesAtNames graph first names lists tables base Fact Used (number_of_names type) (node.value_reader graph interfaces is)
+            (written.value_reader graph interfaces (number_of_names type) is))
+            → (interfaces : Interfaces) (v : Thing) → IsValue (length graph) v → (answer : Bool)
+            → node.value_answers graph interfaces v id answer ↔ written.written_value_answers graph v type answer
         value_stands old_values v value answer = values.value_agrees graph first names lists tables base Fact Used
             (number_of_names type) closes begins connectives old_elements old_values v value frames (kind_of is) root (of_root graph) answer
 
     -- the node stands for the type, where the longer graphs hold what the tables say too
     pub stands : (graph : Graph) → (more : Graph) × (graph ≡ built_ins ++ more) → id.0 < length graph
         → ((more : Graph) → Closes (graph ++ more) first tables)
-        → ((more : Graph) (is : Element) → IsElement is
+        → ((more : Graph) (is : Thing) → IsElement is
         → AgreesAtNames (graph ++ more) first names lists tables base Fact Used (number_of_names type) (node.reader (graph ++ more) is) (written.reader (number_of_names type) is))
-        → ((more : Graph) (is : Value) → IsValue (length (graph ++ more)) is
+        → ((more : Graph) (interfaces : Interfaces) (is : Thing) → IsValue (length (graph ++ more)) is
         → AgreesAtNames (graph ++ more) first names lists tables base Fact Used (number_of_names type)
-        (node.value_reader (graph ++ more) is) (written.value_reader (graph ++ more) (number_of_names type) is))
+        (node.value_reader (graph ++ more) interfaces is) (written.value_reader (graph ++ more) interfaces (number_of_names type) is))
         → StandsFor graph id type
     stands graph begins is_node closes old_elements old_values = record {
       is_node = is_node;

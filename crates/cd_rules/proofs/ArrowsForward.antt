@@ -3,14 +3,16 @@ use Rattle.std.proofs.Common.{◌≡◌, true, false, List, [], ◌∷◌, map, 
 use Rattle.std.proofs.lemmas.Bool.{true≢false}
 use Rattle.cd_sets.specs.declared.node_id.NodeId.{NodeId}
 use Rattle.cd_sets.specs.declared.question.Question.{Question}
-use Rattle.cd_syntax.specs.Element as element
-use Rattle.cd_syntax.specs.Element.{Element, IsElement}
+use Rattle.cd_model.specs.Thing as thing
+use Rattle.cd_model.specs.Thing.{Thing, IsElement}
 use Rattle.cd_model.specs.Each.{Each, One}
 use Rattle.cd_model.specs.Formula.{Graph}
 use Rattle.cd_model.specs.Membership as node
 use Rattle.cd_model.specs.Membership.{asked, answers}
-use Rattle.cd_model.specs.Value.{ArrowOf}
-use Rattle.cd_model.proofs.Decided.{in_or_outside, both_or, swapped, maps_or}
+use Rattle.cd_model.specs.Interfaces.{Interfaces, admits}
+use Rattle.std.specs.Prelude.{ℕ}
+use Rattle.cd_model.proofs.DecidedAtNodes.{in_or_outside}
+use Rattle.cd_model.proofs.Logic.{both_or, swapped, maps_or}
 use Rattle.cd_rules.specs.Clauses.{Pair}
 use Rattle.cd_rules.specs.Needs.{question, splits, result_questions, arrow_way}
 use Rattle.cd_rules.proofs.Asking.{each_of_map, asked_of_each}
@@ -18,29 +20,29 @@ use Rattle.cd_rules.proofs.Ones.{each_weaker, one_weaker, one_of_map}
 use Rattle.cd_rules.proofs.Sides.{HaveBoth, AllToOne, one_splits, one_gives_all}
 
 -- each question that an element answers with true has the fact
-abbrev pub IsAskedFact : Graph → (Question → Type 0) → Element → Type 0
+abbrev pub IsAskedFact : Graph → (Question → Type 0) → Thing → Type 0
 IsAskedFact graph Fact is = (q : Question) → asked (answers graph is) q true → Fact q
 
 -- what each argument and each result of a function is asked has the fact
-abbrev pub PartsHave : Graph → (Question → Type 0) → element.Pairs → Type 0
-PartsHave graph Fact element.NoPair = Unit {0}
-PartsHave graph Fact (element.Maps from to rest) =
+abbrev pub PartsHave : Graph → (Question → Type 0) → thing.Pairs → Type 0
+PartsHave graph Fact thing.NoPair = Unit {0}
+PartsHave graph Fact (thing.Maps from to rest) =
     IsAskedFact graph Fact from × IsAskedFact graph Fact to × PartsHave graph Fact rest
-PartsHave graph Fact (element.Fails from rest) = IsAskedFact graph Fact from × PartsHave graph Fact rest
+PartsHave graph Fact (thing.Fails from rest) = IsAskedFact graph Fact from × PartsHave graph Fact rest
 
 -- an argument is outside of an arrow's, a result is in an arrow's, and a function is in an arrow
-abbrev pub ArgumentIsOutside : Graph → Element → Pair → Type 0
+abbrev pub ArgumentIsOutside : Graph → Thing → Pair → Type 0
 ArgumentIsOutside graph from parts = answers graph from parts.0 false
 
-abbrev pub ResultIsInside : Graph → Element → Pair → Type 0
+abbrev pub ResultIsInside : Graph → Thing → Pair → Type 0
 ResultIsInside graph to parts = answers graph to parts.1 true
 
-abbrev pub IsInArrow : Graph → element.Pairs → Pair → Type 0
+abbrev pub IsInArrow : Graph → thing.Pairs → Pair → Type 0
 IsInArrow graph pairs parts = node.mapping graph pairs parts.0 parts.1 true
 
 module _ (graph : Graph) (Fact : Question → Type 0) (refused : Pair) where
   -- an argument that is in the refused one's, and outside of those of some arrows, answers the first question of their way
-  argument_asked : (from : Element) → IsAskedFact graph Fact from → answers graph from refused.0 true
+  argument_asked : (from : Thing) → IsAskedFact graph Fact from → answers graph from refused.0 true
       → (others : List Pair) → Each (ArgumentIsOutside graph from) others
       → Fact (question (refused.0 ∷ []) (map (λ parts. parts.0) others))
   argument_asked from have is others outside =
@@ -49,7 +51,7 @@ module _ (graph : Graph) (Fact : Question → Type 0) (refused : Pair) where
       (each_of_map (λ (parts : Pair). parts.0) (λ id. answers graph from id false) others outside))
 
   -- a result that is outside of the refused one's, and in those of some arrows, answers the other questions of their way
-  result_asked : (to : Element) → IsAskedFact graph Fact to → answers graph to refused.1 false
+  result_asked : (to : Thing) → IsAskedFact graph Fact to → answers graph to refused.1 false
       → (others : List Pair) → Each (ResultIsInside graph to) others
       → Each Fact (result_questions refused others)
   result_asked to have out [] inside = tt
@@ -65,7 +67,7 @@ module _ (graph : Graph) (Fact : Question → Type 0) (refused : Pair) where
   no_result_asked others none = subst (λ others. Each Fact (result_questions refused others)) (sym none) tt
 
   -- a pair that maps a refused argument out of the refused result gives a way
-  way_of_maps : (from to : Element) → IsAskedFact graph Fact from → IsAskedFact graph Fact to
+  way_of_maps : (from to : Thing) → IsAskedFact graph Fact from → IsAskedFact graph Fact to
       → answers graph from refused.0 true → answers graph to refused.1 false
       → (wanted : List Pair) → Each (λ parts. ArgumentIsOutside graph from parts ⊎ ResultIsInside graph to parts) wanted
       → One (Each Fact) (map (arrow_way refused) (splits wanted))
@@ -77,7 +79,7 @@ module _ (graph : Graph) (Fact : Question → Type 0) (refused : Pair) where
       (splits wanted) (one_splits (ArgumentIsOutside graph from) (ResultIsInside graph to) wanted each))
 
   -- a pair that fails at a refused argument gives a way
-  way_of_fails : (from : Element) → IsAskedFact graph Fact from → answers graph from refused.0 true
+  way_of_fails : (from : Thing) → IsAskedFact graph Fact from → answers graph from refused.0 true
       → (wanted : List Pair) → Each (ArgumentIsOutside graph from) wanted
       → One (Each Fact) (map (arrow_way refused) (splits wanted))
   way_of_fails from has_from is wanted each =
@@ -88,64 +90,64 @@ module _ (graph : Graph) (Fact : Question → Type 0) (refused : Pair) where
       (one_gives_all (ArgumentIsOutside graph from) wanted each))
 
 -- a function that is in all wanted arrows and not in the refused one gives a way, by recursion on its pairs
-pub arrows_forward : (graph : Graph) (pairs : element.Pairs) (Fact : Question → Type 0) → PartsHave graph Fact pairs
+pub arrows_forward : (graph : Graph) (pairs : thing.Pairs) (Fact : Question → Type 0) → PartsHave graph Fact pairs
     → (wanted : List Pair) (refused : Pair)
     → Each (λ parts. node.mapping graph pairs parts.0 parts.1 true) wanted
     → node.mapping graph pairs refused.0 refused.1 false
     → One (Each Fact) (map (arrow_way refused) (splits wanted))
-arrows_forward graph element.NoPair Fact have wanted refused each out = absurd (true≢false (sym out))
-arrows_forward graph (element.Maps from to rest) Fact have wanted refused each (inl here) =
+arrows_forward graph thing.NoPair Fact have wanted refused each out = absurd (true≢false (sym out))
+arrows_forward graph (thing.Maps from to rest) Fact have wanted refused each (inl here) =
     way_of_maps graph Fact refused from to have.0 have.1 here.0 here.1 wanted
-    (each_weaker (IsInArrow graph (element.Maps from to rest))
+    (each_weaker (IsInArrow graph (thing.Maps from to rest))
     (λ parts. ArgumentIsOutside graph from parts ⊎ ResultIsInside graph to parts) (λ parts maps. maps.0) wanted each)
-arrows_forward graph (element.Maps from to rest) Fact have wanted refused each (inr later) =
+arrows_forward graph (thing.Maps from to rest) Fact have wanted refused each (inr later) =
     arrows_forward graph rest Fact have.2 wanted refused
-    (each_weaker (IsInArrow graph (element.Maps from to rest)) (IsInArrow graph rest) (λ parts maps. maps.1) wanted each)
+    (each_weaker (IsInArrow graph (thing.Maps from to rest)) (IsInArrow graph rest) (λ parts maps. maps.1) wanted each)
     later
-arrows_forward graph (element.Fails from rest) Fact have wanted refused each (inl here) =
+arrows_forward graph (thing.Fails from rest) Fact have wanted refused each (inl here) =
     way_of_fails graph Fact refused from have.0 here wanted
-    (each_weaker (IsInArrow graph (element.Fails from rest)) (ArgumentIsOutside graph from) (λ parts maps. maps.0)
+    (each_weaker (IsInArrow graph (thing.Fails from rest)) (ArgumentIsOutside graph from) (λ parts maps. maps.0)
     wanted each)
-arrows_forward graph (element.Fails from rest) Fact have wanted refused each (inr later) =
+arrows_forward graph (thing.Fails from rest) Fact have wanted refused each (inr later) =
     arrows_forward graph rest Fact have.1 wanted refused
-    (each_weaker (IsInArrow graph (element.Fails from rest)) (IsInArrow graph rest) (λ parts maps. maps.1) wanted each)
+    (each_weaker (IsInArrow graph (thing.Fails from rest)) (IsInArrow graph rest) (λ parts maps. maps.1) wanted each)
     later
 
 -- a function maps one node into another, or it does not
-pub mapping_decided : (graph : Graph) (pairs : element.Pairs) (argument result : NodeId)
+pub mapping_decided : (graph : Graph) (pairs : thing.Pairs) (argument result : NodeId)
     → node.mapping graph pairs argument result true ⊎ node.mapping graph pairs argument result false
-mapping_decided graph element.NoPair argument result = inl refl
-mapping_decided graph (element.Maps from to rest) argument result = maps_or (in_or_outside graph from argument)
+mapping_decided graph thing.NoPair argument result = inl refl
+mapping_decided graph (thing.Maps from to rest) argument result = maps_or (in_or_outside graph from argument)
     (in_or_outside graph to result) (mapping_decided graph rest argument result)
-mapping_decided graph (element.Fails from rest) argument result =
+mapping_decided graph (thing.Fails from rest) argument result =
     both_or (swapped (in_or_outside graph from argument)) (mapping_decided graph rest argument result)
 
 -- what holds of all elements holds of the arguments and results of a function
 pub parts_have : (graph : Graph) (Fact : Question → Type 0)
-    → ((e : Element) → IsElement e → (q : Question) → asked (answers graph e) q true → Fact q)
-    → (pairs : element.Pairs) → IsElement (element.Function pairs) → PartsHave graph Fact pairs
-parts_have graph Fact have element.NoPair sound = tt
-parts_have graph Fact have (element.Maps from to rest) sound =
+    → ((e : Thing) → IsElement e → (q : Question) → asked (answers graph e) q true → Fact q)
+    → (pairs : thing.Pairs) → IsElement (thing.Function pairs) → PartsHave graph Fact pairs
+parts_have graph Fact have thing.NoPair sound = tt
+parts_have graph Fact have (thing.Maps from to rest) sound =
     (have from sound.0, have to sound.1, parts_have graph Fact have rest sound.2)
-parts_have graph Fact have (element.Fails from rest) sound = (have from sound.0, parts_have graph Fact have rest sound.1)
+parts_have graph Fact have (thing.Fails from rest) sound = (have from sound.0, parts_have graph Fact have rest sound.1)
 
 -- where there is no way, no closure is in all wanted arrows and not in the refused one: each function that is in all
 -- arrows of its interface is in the refused one
-pub closure_forward : (graph : Graph) (interface : List ArrowOf) (Fact : Question → Type 0)
-    → ((e : Element) → IsElement e → (q : Question) → asked (answers graph e) q true → Fact q)
+pub closure_forward : (graph : Graph) (interfaces : Interfaces) (function : ℕ) (Fact : Question → Type 0)
+    → ((e : Thing) → IsElement e → (q : Question) → asked (answers graph e) q true → Fact q)
     → (wanted : List Pair) (refused : Pair)
-    → Each (λ parts. node.closure_mapping graph interface parts.0 parts.1 true) wanted
-    → node.closure_mapping graph interface refused.0 refused.1 false
+    → Each (λ parts. node.closure_mapping graph interfaces function parts.0 parts.1 true) wanted
+    → node.closure_mapping graph interfaces function refused.0 refused.1 false
     → (One (Each Fact) (map (arrow_way refused) (splits wanted)) → ⊥) → ⊥
-closure_forward graph interface Fact have wanted refused each out no_way =
+closure_forward graph interfaces function Fact have wanted refused each out no_way =
     out (λ pairs sound arrows. in_refused pairs sound arrows (mapping_decided graph pairs refused.0 refused.1))
   where
-    in_refused : (pairs : element.Pairs) → IsElement (element.Function pairs)
-        → Each (λ arrow. node.mapping graph pairs arrow.argument arrow.result true) interface
+    in_refused : (pairs : thing.Pairs) → IsElement (thing.Function pairs)
+        → admits interfaces function pairs
         → node.mapping graph pairs refused.0 refused.1 true ⊎ node.mapping graph pairs refused.0 refused.1 false
         → node.mapping graph pairs refused.0 refused.1 true
     in_refused pairs sound arrows (inl is) = is
     in_refused pairs sound arrows (inr outside) = absurd (no_way (arrows_forward graph pairs Fact
         (parts_have graph Fact have pairs sound) wanted refused
-        (each_weaker (λ (parts : Pair). node.closure_mapping graph interface parts.0 parts.1 true)
+        (each_weaker (λ (parts : Pair). node.closure_mapping graph interfaces function parts.0 parts.1 true)
         (IsInArrow graph pairs) (λ parts all. all pairs sound arrows) wanted each) outside))

@@ -2,18 +2,21 @@
 use Rattle.std.proofs.Common.{◌≡◌, ℕ, ℤ, Bool, true, false, List, [], ◌∷◌, Option, Some, None, IfSome, refl, subst}
 use Rattle.std.proofs.lemmas.Bool.{true≢false}
 use Rattle.cd_syntax.specs.Name.{Name}
-use Rattle.cd_syntax.specs.Element as element
-use Rattle.cd_syntax.specs.Element.{Element}
+use Rattle.cd_model.specs.Thing as thing
+use Rattle.cd_model.specs.Thing.{Thing}
 use Rattle.cd_model.specs.Each.{Each}
 use Rattle.cd_model.specs.Formula as formula
 use Rattle.cd_model.specs.Formula.{Formula, Graph}
-use Rattle.cd_model.specs.Kinds.{Kind, AnInteger, ACharacter, AnAtom, APair, AnXml, ARecord, AFunction}
-use Rattle.cd_model.specs.Kinds.{kind_of, kind_of_value}
+use Rattle.cd_sets.specs.declared.node_id.NodeId.{NodeId}
+use Rattle.cd_model.specs.Formula.{nodes, at_formula}
+use Rattle.cd_model.specs.Interfaces.{admits, Interfaces}
+use Rattle.cd_model.specs.Types as types
+use Rattle.cd_model.specs.Types.{Items, items_of_atom, atom_at, with_sequences, no_closure, closure_maps}
+use Rattle.cd_model.specs.Membership.{value_answers}
+use Rattle.cd_model.specs.Kinds.{Kind, AnInteger, ACharacter, AnAtom, APair, AnXml, ARecord, AFunction, kind_of}
 use Rattle.cd_model.specs.Membership as node
 use Rattle.cd_model.specs.Membership.{Reader, Answers, Labelled, Mapping, integer_reader, character_reader, atom_reader}
 use Rattle.cd_model.specs.Membership.{pair_reader, xml_reader, record_reader, function_reader, at_nodes}
-use Rattle.cd_model.specs.Value as value
-use Rattle.cd_model.specs.Value.{Value}
 use Rattle.cd_rules.specs.Choices.{Choice, Meets}
 use Rattle.cd_rules.specs.Clauses.{Clause, Ints, Chars, Atoms, Pairs, Xmls, Records, Arrows, kind_of_formula, AllOf}
 use Rattle.cd_rules.specs.Clauses.{integers_of, characters_of, atoms_of, pair_of, xml_of, record_of, arrow_of}
@@ -187,7 +190,7 @@ kind_of_atom : (name : Name) → IsOfKind AnAtom (atom_reader name)
 kind_of_atom name (formula.Atoms set) is = refl
 kind_of_atom name _ is = absurd (true≢false is)
 
-kind_of_pair : (first second : Answers) → IsOfKind APair (pair_reader first second)
+pub kind_of_pair : (first second : Answers) → IsOfKind APair (pair_reader first second)
 kind_of_pair first second (formula.Pair one other) is = refl
 kind_of_pair first second _ is = absurd (true≢false is)
 
@@ -203,29 +206,42 @@ kind_of_function : (mapping : Mapping) → IsOfKind AFunction (function_reader m
 kind_of_function mapping (formula.Arrow argument result) is = refl
 kind_of_function mapping _ is = absurd (true≢false is)
 
+-- sequences are no formulas
+kind_of_sequence : (items : Items Answers) (read : types.Reader NodeId) (kind : Kind) → IsOfKind kind (at_formula read)
+    → IsOfKind kind (at_formula (with_sequences items read))
+kind_of_sequence items read kind of (formula.Ints set) is = of (formula.Ints set) is
+kind_of_sequence items read kind of (formula.Chars set) is = of (formula.Chars set) is
+kind_of_sequence items read kind of (formula.Atoms set) is = of (formula.Atoms set) is
+kind_of_sequence items read kind of (formula.Pair a b) is = of (formula.Pair a b) is
+kind_of_sequence items read kind of (formula.Xml a b c) is = of (formula.Xml a b c) is
+kind_of_sequence items read kind of (formula.Record a b) is = of (formula.Record a b) is
+kind_of_sequence items read kind of (formula.Arrow a b) is = of (formula.Arrow a b) is
+kind_of_sequence items read kind of _ is = absurd (true≢false is)
+
 module _ (graph : Graph) where
   -- an element is in formulas of its kind alone
-  pub kind_of_element : (e : Element) (is : Formula) → node.reader graph e is true → kind_of_formula is ≡ Some (kind_of e)
-  kind_of_element (element.Integer n) = kind_of_integer n
-  kind_of_element (element.Character c) = kind_of_character c
-  kind_of_element (element.Atom name) = kind_of_atom name
-  kind_of_element (element.Pair first second) =
-      kind_of_pair (at_nodes graph (node.reader graph first)) (at_nodes graph (node.reader graph second))
-  kind_of_element (element.Xml tag attributes content) = kind_of_xml (at_nodes graph (node.reader graph tag))
+  pub kind_of_element : (e : Thing) (is : Formula) → node.reader graph e is true → kind_of_formula is ≡ Some (kind_of e)
+  kind_of_element (thing.Integer n) = kind_of_integer n
+  kind_of_element (thing.Character c) = kind_of_character c
+  kind_of_element (thing.Atom name) = kind_of_sequence (items_of_atom name) (atom_at name) AnAtom (kind_of_atom name)
+  kind_of_element (thing.Pair first second) = kind_of_sequence _ _ APair (kind_of_pair (at_nodes graph (node.reader graph first)) (at_nodes graph (node.reader graph second)))
+  kind_of_element (thing.Xml tag attributes content) = kind_of_xml (at_nodes graph (node.reader graph tag))
       (at_nodes graph (node.reader graph attributes)) (at_nodes graph (node.reader graph content))
-  kind_of_element (element.Record fields) = kind_of_record (node.labelled graph fields)
-  kind_of_element (element.Function pairs) = kind_of_function (node.mapping graph pairs)
+  kind_of_element (thing.Record fields) = kind_of_record (node.labelled graph fields)
+  kind_of_element (thing.Function pairs) = kind_of_function (node.mapping graph pairs)
+  kind_of_element (thing.Closure function environment) = kind_of_function (no_closure function)
 
   -- and so is a value
-  pub kind_of_value_read : (v : Value) (is : Formula)
-      → node.value_reader graph v is true → kind_of_formula is ≡ Some (kind_of_value v)
-  kind_of_value_read (value.Integer n) = kind_of_integer n
-  kind_of_value_read (value.Character c) = kind_of_character c
-  kind_of_value_read (value.Atom name) = kind_of_atom name
-  kind_of_value_read (value.Pair first second) =
-      kind_of_pair (at_nodes graph (node.value_reader graph first)) (at_nodes graph (node.value_reader graph second))
-  kind_of_value_read (value.Xml tag attributes content) = kind_of_xml (at_nodes graph (node.value_reader graph tag))
-      (at_nodes graph (node.value_reader graph attributes)) (at_nodes graph (node.value_reader graph content))
-  kind_of_value_read (value.Record fields) = kind_of_record (node.value_labelled graph fields)
-  kind_of_value_read (value.Closure function interface environment) =
-      kind_of_function (node.closure_mapping graph interface)
+  pub kind_of_read : (interfaces : Interfaces) (v : Thing) (is : Formula)
+      → node.value_reader graph interfaces v is true → kind_of_formula is ≡ Some (kind_of v)
+  kind_of_read interfaces (thing.Integer n) = kind_of_integer n
+  kind_of_read interfaces (thing.Character c) = kind_of_character c
+  kind_of_read interfaces (thing.Atom name) = kind_of_sequence (items_of_atom name) (atom_at name) AnAtom (kind_of_atom name)
+  kind_of_read interfaces (thing.Pair first second) = kind_of_sequence _ _ APair
+      (kind_of_pair (value_answers graph interfaces first) (value_answers graph interfaces second))
+  kind_of_read interfaces (thing.Xml tag attributes content) = kind_of_xml (value_answers graph interfaces tag)
+      (value_answers graph interfaces attributes) (value_answers graph interfaces content)
+  kind_of_read interfaces (thing.Record fields) = kind_of_record (node.value_labelled graph interfaces fields)
+  kind_of_read interfaces (thing.Function pairs) = kind_of_function (types.mapping (nodes graph) (closure_maps (nodes graph) (admits interfaces)) pairs)
+  kind_of_read interfaces (thing.Closure function environment) =
+      kind_of_function (node.closure_mapping graph interfaces function)

@@ -1,17 +1,19 @@
 -- A thing is outside each formula that is not of its kind, connectives too.
 use Rattle.std.proofs.Common.{◌≡◌, ℕ, ℤ, false, Some, refl}
 use Rattle.cd_syntax.specs.Name.{Name}
-use Rattle.cd_syntax.specs.Element as element
-use Rattle.cd_syntax.specs.Element.{Element}
+use Rattle.cd_model.specs.Thing as thing
+use Rattle.cd_model.specs.Thing.{Thing}
 use Rattle.cd_model.specs.Formula as formula
 use Rattle.cd_model.specs.Formula.{Formula, Graph}
-use Rattle.cd_model.specs.Kinds.{Kind, AnInteger, ACharacter, AnAtom, APair, AnXml, ARecord, AFunction}
-use Rattle.cd_model.specs.Kinds.{kind_of, kind_of_value}
+use Rattle.cd_sets.specs.declared.node_id.NodeId.{NodeId}
+use Rattle.cd_model.specs.Formula.{nodes, at_formula}
+use Rattle.cd_model.specs.Interfaces.{admits, Interfaces}
+use Rattle.cd_model.specs.Types as types
+use Rattle.cd_model.specs.Types.{Items, with_sequences}
+use Rattle.cd_model.specs.Kinds.{Kind, AnInteger, ACharacter, AnAtom, APair, AnXml, ARecord, AFunction, kind_of}
 use Rattle.cd_model.specs.Membership as node
 use Rattle.cd_model.specs.Membership.{Reader, Answers, Labelled, Mapping, integer_reader, character_reader, atom_reader}
 use Rattle.cd_model.specs.Membership.{pair_reader, xml_reader, record_reader, function_reader, at_nodes}
-use Rattle.cd_model.specs.Value as value
-use Rattle.cd_model.specs.Value.{Value}
 use Rattle.cd_rules.specs.Clauses.{kind_of_formula}
 
 -- a formula that is not of this kind
@@ -51,28 +53,33 @@ elsewhere_function : (mapping : Mapping) → IsElsewhere AFunction (function_rea
 elsewhere_function mapping (formula.Arrow argument result) other = absurd (other refl)
 elsewhere_function mapping _ other = refl
 
-module _ (graph : Graph) where
-  -- an element is outside formulas of other kinds
-  pub is_elsewhere : (e : Element) → IsElsewhere (kind_of e) (node.reader graph e)
-  is_elsewhere (element.Integer n) = elsewhere_integer n
-  is_elsewhere (element.Character c) = elsewhere_character c
-  is_elsewhere (element.Atom name) = elsewhere_atom name
-  is_elsewhere (element.Pair first second) =
-      elsewhere_pair (at_nodes graph (node.reader graph first)) (at_nodes graph (node.reader graph second))
-  is_elsewhere (element.Xml tag attributes content) = elsewhere_xml (at_nodes graph (node.reader graph tag))
-      (at_nodes graph (node.reader graph attributes)) (at_nodes graph (node.reader graph content))
-  is_elsewhere (element.Record fields) = elsewhere_record (node.labelled graph fields)
-  is_elsewhere (element.Function pairs) = elsewhere_function (node.mapping graph pairs)
+elsewhere_sequence : (items : Items Answers) (read : types.Reader NodeId) (kind : Kind) → IsElsewhere kind (at_formula read)
+    → IsElsewhere kind (at_formula (with_sequences items read))
+elsewhere_sequence items read kind out (formula.Ints set) other = out (formula.Ints set) other
+elsewhere_sequence items read kind out (formula.Chars set) other = out (formula.Chars set) other
+elsewhere_sequence items read kind out (formula.Atoms set) other = out (formula.Atoms set) other
+elsewhere_sequence items read kind out (formula.Pair a b) other = out (formula.Pair a b) other
+elsewhere_sequence items read kind out (formula.Xml a b c) other = out (formula.Xml a b c) other
+elsewhere_sequence items read kind out (formula.Record a b) other = out (formula.Record a b) other
+elsewhere_sequence items read kind out (formula.Arrow a b) other = out (formula.Arrow a b) other
+elsewhere_sequence items read kind out _ other = refl
 
-  -- and so is a value
-  pub value_is_elsewhere : (v : Value) → IsElsewhere (kind_of_value v) (node.value_reader graph v)
-  value_is_elsewhere (value.Integer n) = elsewhere_integer n
-  value_is_elsewhere (value.Character c) = elsewhere_character c
-  value_is_elsewhere (value.Atom name) = elsewhere_atom name
-  value_is_elsewhere (value.Pair first second) =
-      elsewhere_pair (at_nodes graph (node.value_reader graph first)) (at_nodes graph (node.value_reader graph second))
-  value_is_elsewhere (value.Xml tag attributes content) = elsewhere_xml (at_nodes graph (node.value_reader graph tag))
-      (at_nodes graph (node.value_reader graph attributes)) (at_nodes graph (node.value_reader graph content))
-  value_is_elsewhere (value.Record fields) = elsewhere_record (node.value_labelled graph fields)
-  value_is_elsewhere (value.Closure function interface environment) =
-      elsewhere_function (node.closure_mapping graph interface)
+-- an element, and a value, is outside formulas of other kinds
+module _ (graph : Graph) (closed : ℕ → Mapping) where
+  pub thing_is_elsewhere : (e : Thing) → IsElsewhere (kind_of e) (at_formula (types.reader (nodes graph) closed e))
+  thing_is_elsewhere (thing.Integer n) = elsewhere_integer n
+  thing_is_elsewhere (thing.Character c) = elsewhere_character c
+  thing_is_elsewhere (thing.Atom name) = elsewhere_sequence (types.items_of_atom name) (types.atom_at name) AnAtom (elsewhere_atom name)
+  thing_is_elsewhere (thing.Pair first second) = elsewhere_sequence _ _ APair
+      (elsewhere_pair (types.answers (nodes graph) closed first) (types.answers (nodes graph) closed second))
+  thing_is_elsewhere (thing.Xml tag attributes content) = elsewhere_xml (types.answers (nodes graph) closed tag)
+      (types.answers (nodes graph) closed attributes) (types.answers (nodes graph) closed content)
+  thing_is_elsewhere (thing.Record fields) = elsewhere_record (types.labelled (nodes graph) closed fields)
+  thing_is_elsewhere (thing.Function pairs) = elsewhere_function (types.mapping (nodes graph) closed pairs)
+  thing_is_elsewhere (thing.Closure function environment) = elsewhere_function (closed function)
+
+pub is_elsewhere : (graph : Graph) (e : Thing) → IsElsewhere (kind_of e) (node.reader graph e)
+is_elsewhere graph = thing_is_elsewhere graph types.no_closure
+
+pub value_is_elsewhere : (graph : Graph) (interfaces : Interfaces) (v : Thing) → IsElsewhere (kind_of v) (node.value_reader graph interfaces v)
+value_is_elsewhere graph interfaces = thing_is_elsewhere graph (types.closure_maps (nodes graph) (admits interfaces))

@@ -14,7 +14,7 @@ use Rattle.cd_rules.proofs.Ones.{each_weaker}
 -- whether what is at a label is as a field says: nothing where the field may be absent, or a value in its node
 abbrev pub Says : {X : Type 0} → (X → Answers) → Option X → Field → Bool → Type 0
 Says answers None field answer = field.optional ≡ answer
-Says answers (Some is) field answer = answers is field.node answer
+Says answers (Some is) field answer = answers is field.type answer
 
 -- a test that each of a list passes, and back
 all_pass : {X : Type 0} (test : X → Bool) (xs : List X) → Each (λ x. test x ≡ true) xs → list_all test xs ≡ true
@@ -40,25 +40,25 @@ module _ {X T : Type 0} (answers : X → Answers) (field : T → Field) (wanted 
   abbrev pub cell_of : Cell
   cell_of = record {
     absent = list_all (λ type. (field type).optional) wanted && list_all (λ type. not (field type).optional) refused;
-    value = question (map (λ type. (field type).node) wanted) (map (λ type. (field type).node) refused);
+    value = question (map (λ type. (field type).type) wanted) (map (λ type. (field type).type) refused);
   }
 
   -- a value that is as the types say is in the question of the cell, and back
   pub value_in : (is : X) → Each (λ type. Says answers (Some is) (field type) true) wanted
       → Each (λ type. Says answers (Some is) (field type) false) refused → asked (answers is) cell_of.value true
   value_in is inside outside =
-      asked_of_each (answers is) (map (λ type. (field type).node) wanted) (map (λ type. (field type).node) refused)
-      (each_of_map (λ type. (field type).node) (λ id. answers is id true) wanted inside)
-      (each_of_map (λ type. (field type).node) (λ id. answers is id false) refused outside)
+      asked_of_each (answers is) (map (λ type. (field type).type) wanted) (map (λ type. (field type).type) refused)
+      (each_of_map (λ type. (field type).type) (λ id. answers is id true) wanted inside)
+      (each_of_map (λ type. (field type).type) (λ id. answers is id false) refused outside)
 
   pub value_says : (is : X) → asked (answers is) cell_of.value true
       → Each (λ type. Says answers (Some is) (field type) true) wanted
       × Each (λ type. Says answers (Some is) (field type) false) refused
   value_says is asking =
-      let both = each_of_asked (answers is) (map (λ type. (field type).node) wanted)
-      (map (λ type. (field type).node) refused) asking in (
-        map_of_each (λ type. (field type).node) (λ id. answers is id true) wanted both.0,
-        map_of_each (λ type. (field type).node) (λ id. answers is id false) refused both.1,
+      let both = each_of_asked (answers is) (map (λ type. (field type).type) wanted)
+      (map (λ type. (field type).type) refused) asking in (
+        map_of_each (λ type. (field type).type) (λ id. answers is id true) wanted both.0,
+        map_of_each (λ type. (field type).type) (λ id. answers is id false) refused both.1,
       )
 
   -- what is there is in the cell

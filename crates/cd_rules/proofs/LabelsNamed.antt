@@ -14,7 +14,7 @@ use Rattle.cd_rules.specs.Rows.{field_at, with_label, labels_after, labels_of}
 
 -- what a record type says of the labels that it does not name
 abbrev pub free_field : RecordType → Field
-free_field type = record { optional = true; node = type.rest }
+free_field type = record { optional = true; type = type.rest }
 
 -- each type says no more of the label than that
 abbrev pub IsUnnamed : List RecordType → Name → Type 0
@@ -62,14 +62,14 @@ added_after (first ∷ these) labels label (inr later) =
 
 -- fields name a label, or the label's field is one that may be absent, with a value in the rest
 pub named_or_free : (named : List (Name × Field)) (rest : NodeId) (label : Name)
-    → IsOneOf (names_of named) label ⊎ (field_of named rest label ≡ record { optional = true; node = rest })
+    → IsOneOf (names_of named) label ⊎ (field_of named rest label ≡ record { optional = true; type = rest })
 named_or_free [] rest label = inr refl
 named_or_free (field ∷ named) rest label = by_name (cases_Bool (bytes_eq field.0 label)) (named_or_free named rest label)
   where
     by_name : (bytes_eq field.0 label ≡ true) ⊎ (bytes_eq field.0 label ≡ false)
-        → IsOneOf (names_of named) label ⊎ (field_of named rest label ≡ record { optional = true; node = rest })
+        → IsOneOf (names_of named) label ⊎ (field_of named rest label ≡ record { optional = true; type = rest })
         → IsOneOf (names_of (field ∷ named)) label
-        ⊎ (field_of (field ∷ named) rest label ≡ record { optional = true; node = rest })
+        ⊎ (field_of (field ∷ named) rest label ≡ record { optional = true; type = rest })
     by_name (inl same) later = inl (inl ((bytes_eq-Decides field.0 label).0 same))
     by_name (inr other) (inl one) = inl (inr one)
     by_name (inr other) (inr free) = inr (rw other free)

@@ -4,7 +4,7 @@ use Rattle.std.proofs.Common.{bytes_eq, ◌⊎◌, inl, inr, refl, sym, ◌∙�
 use Rattle.std.proofs.lemmas.Bool.{cases_Bool}
 use Rattle.std.proofs.lemmas.Slice.Eq.{bytes_eq-Decides}
 use Rattle.cd_syntax.specs.Name.{Name, IsLabel}
-use Rattle.cd_syntax.specs.Element.{Element, IsElement, Fields, NoField, LabelsRise, AreFields}
+use Rattle.cd_model.specs.Thing.{Thing, IsElement, Fields, NoField, LabelsRise, AreFields}
 use Rattle.cd_model.specs.Each.{Each}
 use Rattle.cd_model.specs.Formula.{Graph}
 use Rattle.cd_model.specs.Membership.{answers, asked}
@@ -17,7 +17,7 @@ use Rattle.cd_rules.proofs.FreshLabels.{row_of_a, row_is_long, row_is_label, len
 use Rattle.cd_rules.proofs.MembersFields.{found, put, found_there, found_elsewhere, put_rises, put_fields}
 
 -- what may stand in a cell: nothing, where that may be, or an element of its value
-abbrev pub FitsCell : Graph → Cell → Option Element → Type 0
+abbrev pub FitsCell : Graph → Cell → Option Thing → Type 0
 FitsCell graph cell None = cell.absent ≡ true
 FitsCell graph cell (Some is) = asked (answers graph is) cell.value true
 
@@ -33,9 +33,9 @@ module _ (graph : Graph) (cell_of : Name → Cell) where
       × ((label : Name) → AtLabel labels fields label)
 
   -- what fits a cell, where it is equal to what is there
-  fits : (label : Name) (one other : Option Element) → other ≡ one → FitsCell graph (cell_of label) one
+  fits : (label : Name) (one other : Option Thing) → other ≡ one → FitsCell graph (cell_of label) one
       → FitsCell graph (cell_of label) other
-  fits label one other same is = subst (λ (at : Option Element). FitsCell graph (cell_of label) at) (sym same) is
+  fits label one other same is = subst (λ (at : Option Thing). FitsCell graph (cell_of label) at) (sym same) is
 
   -- a label that is another one is none of these with it
   not_first : (first : Name) (labels : List Name) (label : Name) → bytes_eq first label ≡ false
@@ -67,7 +67,7 @@ module _ (graph : Graph) (cell_of : Name → Cell) where
       by_name (inr differ) at = at_other first labels fields fields label differ refl at
 
   -- a label with an element of its cell
-  pub with_value : (first : Name) (labels : List Name) (fields : Fields) (is : Element)
+  pub with_value : (first : Name) (labels : List Name) (fields : Fields) (is : Thing)
       → asked (answers graph is) (cell_of first).value true
       → (label : Name) → AtLabel labels fields label → AtLabel (first ∷ labels) (put first is fields) label
   with_value first labels fields is asked_so label at = by_name (cases_Bool (bytes_eq first label))
@@ -102,25 +102,25 @@ module _ (graph : Graph) (cell_of : Name → Cell) where
         λ label. with_value first labels rest.0 is asked_so label (rest.3 label),
       )
 
-module _ (Inside : Element → Type 0) (Has : RecordType → Element → Type 0)
-    (inside : (type : RecordType) (is : Element) → Has type is → Inside is)
+module _ (Inside : Thing → Type 0) (Has : RecordType → Thing → Type 0)
+    (inside : (type : RecordType) (is : Thing) → Has type is → Inside is)
     (base : Fields) (rises : LabelsRise None base) (are : AreFields base) where
   -- at a label there is what was there, or the label is longer than that and has an element that is inside
   abbrev pub IsMore : ℕ → Fields → Name → Type 0
   IsMore n fields label = (found fields label ≡ found base label)
-      ⊎ ((n < length label) × ((is : Element) × (found fields label ≡ Some is) × Inside is))
+      ⊎ ((n < length label) × ((is : Thing) × (found fields label ≡ Some is) × Inside is))
 
   -- a type has its element at a label that is longer than that
   abbrev pub HasIts : ℕ → Fields → RecordType → Type 0
   HasIts n fields type =
-      (label : Name) × (n < length label) × ((is : Element) × (found fields label ≡ Some is) × Has type is)
+      (label : Name) × (n < length label) × ((is : Thing) × (found fields label ≡ Some is) × Has type is)
 
   -- fields that have an element more for each of these types
   abbrev pub HaveMore : ℕ → List RecordType → Type 0
   HaveMore n types = (fields : Fields) × LabelsRise None fields × AreFields fields
       × ((label : Name) → IsMore n fields label) × Each (HasIts n fields) types
 
-  module _ (n : ℕ) (is : Element) (fields : Fields) where
+  module _ (n : ℕ) (is : Thing) (fields : Fields) where
     -- longer labels have what they had
     longer : (label : Name) → suc n < length label → found (put (row_of_a n) is fields) label ≡ found fields label
     longer label long = let here = row_is_long n in
@@ -156,7 +156,7 @@ module _ (Inside : Element → Type 0) (Has : RecordType → Element → Type 0)
 
   -- where each type has an element there are fields with one more for each
   pub have_more : (types : List RecordType) (n : ℕ)
-      → Each (λ type. (is : Element) × IsElement is × Has type is) types → HaveMore n types
+      → Each (λ type. (is : Thing) × IsElement is × Has type is) types → HaveMore n types
   have_more [] n each = (base, rises, are, λ label. inl refl, tt)
   have_more (type ∷ types) n (first, each) =
       let rest = have_more types (suc n) each in

@@ -1,8 +1,8 @@
 -- The needs of a clause that has a member are met: its parts are in the questions of one way of each need, or of a row.
 use Rattle.std.proofs.Common.{◌≡◌, true, false, List, [], ◌∷◌, ◌++◌, map, inr, refl}
 use Rattle.cd_sets.specs.declared.question.Question.{Question}
-use Rattle.cd_syntax.specs.Element as element
-use Rattle.cd_syntax.specs.Element.{Element, IsElement}
+use Rattle.cd_model.specs.Thing as thing
+use Rattle.cd_model.specs.Thing.{Thing, IsElement}
 use Rattle.cd_model.specs.BuiltIns.{built_ins}
 use Rattle.cd_model.specs.Each.{Each}
 use Rattle.cd_model.specs.Formula.{Graph}
@@ -21,15 +21,15 @@ use Rattle.cd_rules.proofs.XmlsForward.{xmls_forward}
 
 module _ (graph : Graph) (begins : (more : Graph) × (graph ≡ built_ins ++ more)) where
   -- what an element is asked has an element
-  asked_has : (e : Element) → IsElement e → (question : Question) → asked (answers graph e) question true → HasElement graph question
+  asked_has : (e : Thing) → IsElement e → (question : Question) → asked (answers graph e) question true → HasElement graph question
   asked_has e is question asking = (e, is, asking)
 
-  fields_have : (fields : element.Fields) → element.AreFields fields → FieldsHave graph (HasElement graph) fields
-  fields_have element.NoField are = tt
-  fields_have (element.Field name is rest) are = (asked_has is are.1, fields_have rest are.2)
+  fields_have : (fields : thing.Fields) → thing.AreFields fields → FieldsHave graph (HasElement graph) fields
+  fields_have thing.NoField are = tt
+  fields_have (thing.Field name is rest) are = (asked_has is are.1, fields_have rest are.2)
 
   -- each refused arrow's need is met
-  arrows_met : (pairs : element.Pairs) → IsElement (element.Function pairs) → (wanted refused : List Pair)
+  arrows_met : (pairs : thing.Pairs) → IsElement (thing.Function pairs) → (wanted refused : List Pair)
       → Each (λ parts. node.mapping graph pairs parts.0 parts.1 true) wanted
       → Each (λ parts. node.mapping graph pairs parts.0 parts.1 false) refused
       → Each (IsMet (HasElement graph)) (map (λ one. map (arrow_way one) (splits wanted)) refused)
@@ -39,15 +39,15 @@ module _ (graph : Graph) (begins : (more : Graph) × (graph ≡ built_ins ++ mor
     arrows_met pairs is wanted refused inside outside.1,
   )
 
-  pub member_supplies : (clause : Clause) (e : Element) → IsElement e → IsInClause (kind_of e) (reader graph e) clause
+  pub member_supplies : (clause : Clause) (e : Thing) → IsElement e → IsInClause (kind_of e) (reader graph e) clause
       → IsSupplied (HasElement graph) clause
-  member_supplies (Ints wanted refused) (element.Integer n) is within = ([], inr (n, (is, within.1, within.2), refl), tt)
+  member_supplies (Ints wanted refused) (thing.Integer n) is within = ([], inr (n, (is, within.1, within.2), refl), tt)
   member_supplies (Ints wanted refused) _ is within = absurd cc
-  member_supplies (Chars wanted refused) (element.Character c) is within = ([], inr (c, (is, within.1, within.2), refl), tt)
+  member_supplies (Chars wanted refused) (thing.Character c) is within = ([], inr (c, (is, within.1, within.2), refl), tt)
   member_supplies (Chars wanted refused) _ is within = absurd cc
-  member_supplies (Atoms wanted refused) (element.Atom name) is within = ([], inr (name, (is, within.1, within.2), refl), tt)
+  member_supplies (Atoms wanted refused) (thing.Atom name) is within = ([], inr (name, (is, within.1, within.2), refl), tt)
   member_supplies (Atoms wanted refused) _ is within = absurd cc
-  member_supplies (Pairs wanted refused) (element.Pair first second) is within = (
+  member_supplies (Pairs wanted refused) (thing.Pair first second) is within = (
     _,
     refl,
     (
@@ -57,7 +57,7 @@ module _ (graph : Graph) (begins : (more : Graph) × (graph ≡ built_ins ++ mor
     ),
   )
   member_supplies (Pairs wanted refused) _ is within = absurd cc
-  member_supplies (Xmls wanted refused) (element.Xml tag attributes content) is within = (
+  member_supplies (Xmls wanted refused) (thing.Xml tag attributes content) is within = (
     _,
     refl,
     (
@@ -68,10 +68,11 @@ module _ (graph : Graph) (begins : (more : Graph) × (graph ≡ built_ins ++ mor
     ),
   )
   member_supplies (Xmls wanted refused) _ is within = absurd cc
-  member_supplies (Records wanted refused) (element.Record fields) is within =
+  member_supplies (Records wanted refused) (thing.Record fields) is within =
       records_forward (node.labelled graph fields) (HasElement graph)
       (elements_have graph (HasElement graph) fields (fields_have fields is.1)) wanted refused within.1 within.2
   member_supplies (Records wanted refused) _ is within = absurd cc
-  member_supplies (Arrows wanted refused) (element.Function pairs) is within =
+  member_supplies (Arrows wanted refused) (thing.Function pairs) is within =
       (_, refl, arrows_met pairs is wanted refused within.1 within.2)
+  member_supplies (Arrows wanted refused) (thing.Closure function environment) is within = absurd is
   member_supplies (Arrows wanted refused) _ is within = absurd cc

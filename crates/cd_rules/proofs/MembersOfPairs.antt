@@ -1,6 +1,6 @@
 -- A clause of pairs whose need is met has a member: the pair of elements that meet the two questions of a way.
 use Rattle.std.proofs.Common.{◌≡◌, List, [], ◌∷◌, map, refl, subst}
-use Rattle.cd_syntax.specs.Element as element
+use Rattle.cd_model.specs.Thing as thing
 use Rattle.cd_model.specs.Each.{Each, One}
 use Rattle.cd_model.specs.Formula.{Graph}
 use Rattle.cd_model.specs.Membership.{answers}
@@ -25,4 +25,4 @@ pairs_have graph wanted refused has =
     let first = way.2.0 in
     let second = way.2.1.0 in
     let back = pairs_back (answers graph first.0) (answers graph second.0) wanted refused way.0 way.1 first.2 second.2 in
-    (element.Pair first.0 second.0, (first.1, second.1), (refl, back.0, back.1))
+    (thing.Pair first.0 second.0, (first.1, second.1), (refl, back.0, back.1))

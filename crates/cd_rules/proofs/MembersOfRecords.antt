@@ -2,7 +2,7 @@
 use Rattle.std.proofs.Common.{◌≡◌, Bool, true, false, if◌then◌else◌, List, [], ◌∷◌, ◌++◌, map, bytes_eq, ◌⊎◌, refl}
 use Rattle.std.specs.List.{list_any}
 use Rattle.cd_syntax.specs.Name.{Name, IsLabel}
-use Rattle.cd_syntax.specs.Element as element
+use Rattle.cd_model.specs.Thing as thing
 use Rattle.cd_model.specs.Each.{Each, One}
 use Rattle.cd_model.specs.Formula.{Graph, Field}
 use Rattle.cd_model.proofs.Labels.{names_of}
@@ -61,7 +61,7 @@ row_has graph wanted refused wanted_labels refused_labels (reasons, living, know
     (types_elsewhere reasons) (longest labels)
     (map_of_each (λ (type : RecordType). question (map (λ type. type.rest) wanted) (type.rest ∷ [])) (HasElement graph)
     (types_elsewhere reasons) living.1) in (
-      element.Record more.0,
+      thing.Record more.0,
       (more.1, more.2),
       (
         refl,

@@ -3,7 +3,7 @@ use Rattle.std.proofs.Common.{List, inl, inr, refl, subst}
 use Rattle.cd_intervals.specs.declared.interval.Interval.{Interval}
 use Rattle.cd_intervals.specs.Characters.{CharInterval}
 use Rattle.cd_intervals.specs.Atoms.{Atoms as AtomSet}
-use Rattle.cd_syntax.specs.Element as element
+use Rattle.cd_model.specs.Thing as thing
 use Rattle.cd_model.specs.Each.{Each}
 use Rattle.cd_model.specs.Formula.{Graph}
 use Rattle.cd_rules.specs.Clauses.{Ints, Chars, Atoms}
@@ -21,18 +21,18 @@ pub integers_have : (graph : Graph) (wanted refused : List (List Interval))
     → HasAllNeeds (HasElement graph) (Ints wanted refused) → HasMember graph (Ints wanted refused)
 integers_have graph wanted refused has =
     let member = member_of_met graph _ has.0 has.1 has.2 in
-    (element.Integer member.0, member.1.0, (refl, member.1.1, member.1.2))
+    (thing.Integer member.0, member.1.0, (refl, member.1.1, member.1.2))
 
 -- a clause of characters has a member
 pub characters_have : (graph : Graph) (wanted refused : List (List CharInterval))
     → HasAllNeeds (HasElement graph) (Chars wanted refused) → HasMember graph (Chars wanted refused)
 characters_have graph wanted refused has =
     let member = member_of_met graph _ has.0 has.1 has.2 in
-    (element.Character member.0, member.1.0, (refl, member.1.1, member.1.2))
+    (thing.Character member.0, member.1.0, (refl, member.1.1, member.1.2))
 
 -- a clause of atoms has a member
 pub atoms_have : (graph : Graph) (wanted refused : List AtomSet)
     → HasAllNeeds (HasElement graph) (Atoms wanted refused) → HasMember graph (Atoms wanted refused)
 atoms_have graph wanted refused has =
     let member = member_of_met graph _ has.0 has.1 has.2 in
-    (element.Atom member.0, member.1.0, (refl, member.1.1, member.1.2))
+    (thing.Atom member.0, member.1.0, (refl, member.1.1, member.1.2))

@@ -1,8 +1,8 @@
 -- A clause of XML elements whose need is met has a member, since its tag is an atom and its attributes are a record.
 use Rattle.std.proofs.Common.{◌≡◌, true, List, ◌++◌, refl, subst}
 use Rattle.std.proofs.lemmas.Bool.{true≢false}
-use Rattle.cd_syntax.specs.Element as element
-use Rattle.cd_syntax.specs.Element.{Element, IsAtom, IsRecord}
+use Rattle.cd_model.specs.Thing as thing
+use Rattle.cd_model.specs.Thing.{Thing, IsAtom, IsRecord}
 use Rattle.cd_model.specs.BuiltIns.{built_ins, ATOM, RECORD}
 use Rattle.cd_model.specs.Formula.{Graph}
 use Rattle.cd_model.specs.Membership.{answers}
@@ -13,13 +13,13 @@ use Rattle.cd_rules.proofs.PairsBack.{xmls_back}
 use Rattle.cd_rules.proofs.MembersOfPairs.{way_picked}
 
 -- an element that is in the node of the atoms is an atom
-pub atom_of_answer : (more : Graph) (is : Element) → answers (built_ins ++ more) is ATOM true → IsAtom is
-atom_of_answer more (element.Atom name) there = tt
+pub atom_of_answer : (more : Graph) (is : Thing) → answers (built_ins ++ more) is ATOM true → IsAtom is
+atom_of_answer more (thing.Atom name) there = tt
 atom_of_answer more _ there = absurd (true≢false there)
 
 -- an element that is in the node of the records is a record
-pub record_of_answer : (more : Graph) (is : Element) → answers (built_ins ++ more) is RECORD true → IsRecord is
-record_of_answer more (element.Record fields) there = tt
+pub record_of_answer : (more : Graph) (is : Thing) → answers (built_ins ++ more) is RECORD true → IsRecord is
+record_of_answer more (thing.Record fields) there = tt
 record_of_answer more _ there = absurd (true≢false there)
 
 -- a clause of XML elements has a member
@@ -35,7 +35,7 @@ xmls_have graph more begins wanted refused has =
     let is_atom = atom_of_answer more tag.0 (subst (λ graph. answers graph tag.0 ATOM true) begins back.0) in
     let is_record = record_of_answer more attributes.0
     (subst (λ graph. answers graph attributes.0 RECORD true) begins back.1) in (
-      element.Xml tag.0 attributes.0 content.0,
+      thing.Xml tag.0 attributes.0 content.0,
       (is_atom, is_record, tag.1, attributes.1, content.1),
       (refl, back.2, back.3),
     )

@@ -4,7 +4,7 @@ use Rattle.std.proofs.Common.{◌≡◌, ◌<◌, Bool, true, false, not, ◌&&�
 use Rattle.std.proofs.Common.{Option, Some, None, ◌⊎◌, inl, inr, refl, sym, ◌∙◌, subst, arith}
 use Rattle.std.specs.List.{list_all}
 use Rattle.cd_syntax.specs.Name.{Name}
-use Rattle.cd_syntax.specs.Element.{Element, Fields}
+use Rattle.cd_model.specs.Thing.{Thing, Fields}
 use Rattle.cd_model.specs.Each.{Each}
 use Rattle.cd_model.specs.Formula as formula
 use Rattle.cd_model.specs.Formula.{Graph, Field}
@@ -44,16 +44,16 @@ is_not false is = refl
 
 module _ (graph : Graph) (wanted : List RecordType) where
   -- an element is in each wanted rest
-  abbrev pub InRests : Element → Type 0
+  abbrev pub InRests : Thing → Type 0
   InRests is = Each (λ type. answers graph is type.rest true) wanted
 
   -- nothing is right at a label that no type names, and so is what is in each wanted rest
-  abbrev pub IsFree : Option Element → Type 0
+  abbrev pub IsFree : Option Thing → Type 0
   IsFree None = Unit {0}
   IsFree (Some is) = InRests is
 
   -- it is as each wanted type says of such a label
-  as_rest : (label : Name) (there : Option Element) → IsUnnamed wanted label → IsFree there
+  as_rest : (label : Name) (there : Option Thing) → IsUnnamed wanted label → IsFree there
       → Each (λ type. has graph there (field_at type label) true) wanted
   as_rest label None unnamed free = each_weaker (λ (type : RecordType). field_at type label ≡ free_field type)
       (λ type. has graph None (field_at type label) true)
@@ -66,21 +66,21 @@ module _ (graph : Graph) (wanted : List RecordType) where
       (λ type. answers graph is type.rest true) wanted unnamed inside)
 
   -- an element is in each wanted rest and outside this one
-  abbrev pub HasRest : RecordType → Element → Type 0
+  abbrev pub HasRest : RecordType → Thing → Type 0
   HasRest type is = asked (answers graph is) (question (map (λ type. type.rest) wanted) (type.rest ∷ [])) true
 
   -- so it has both
-  of_rest : (type : RecordType) (is : Element) → HasRest type is → InRests is × answers graph is type.rest false
+  of_rest : (type : RecordType) (is : Thing) → HasRest type is → InRests is × answers graph is type.rest false
   of_rest type is asked_so =
       let both = parts_of_asked (answers graph is) (λ (type : RecordType). type.rest) wanted (type ∷ []) asked_so in
       (both.0, both.1.0)
 
-  pub in_rests : (type : RecordType) (is : Element) → HasRest type is → InRests is
+  pub in_rests : (type : RecordType) (is : Thing) → HasRest type is → InRests is
   in_rests type is asked_so = (of_rest type is asked_so).0
 
 module _ (graph : Graph) (wanted : List RecordType) (reasons : Reasons) where
   -- what fits a cell is as each wanted type says of the label, and outside what the types say that are refused there
-  as_cell : (label : Name) (there : Option Element) → FitsCell graph (cell_at wanted reasons label) there
+  as_cell : (label : Name) (there : Option Thing) → FitsCell graph (cell_at wanted reasons label) there
       → Each (λ type. has graph there (field_at type label) true) wanted
       × Each (λ type. has graph there (field_at type label) false) (types_at label reasons)
   as_cell label None free =
@@ -92,7 +92,7 @@ module _ (graph : Graph) (wanted : List RecordType) (reasons : Reasons) where
             (λ type. (field_at type label).optional ≡ false) (λ type is. is_not (field_at type label).optional is) types
             (all_passed (λ (type : RecordType). not (field_at type label).optional) types both.1),
       )
-  as_cell label (Some is) asked_so = parts_of_asked (answers graph is) (λ (type : RecordType). (field_at type label).node)
+  as_cell label (Some is) asked_so = parts_of_asked (answers graph is) (λ (type : RecordType). (field_at type label).type)
       wanted (types_at label reasons) asked_so
 
   module _ (refused : List RecordType) (base : FitCells graph (cell_at wanted reasons) (labels_of (wanted ++ refused)))
@@ -118,7 +118,7 @@ module _ (graph : Graph) (wanted : List RecordType) (reasons : Reasons) where
             → FitsCell graph (cell_at wanted reasons label) (found fields label)
         by_both (inr (other, none)) at = absurd (other one)
         by_both (inl (is, fits)) (inl same) =
-            subst (λ (at : Option Element). FitsCell graph (cell_at wanted reasons label) at) (sym same) fits
+            subst (λ (at : Option Thing). FitsCell graph (cell_at wanted reasons label) at) (sym same) fits
         by_both (inl (is, fits)) (inr (long, it)) = absurd (too_long label long is)
 
     -- a label that is none of those that are named is named by no type
@@ -184,7 +184,7 @@ module _ (graph : Graph) (wanted : List RecordType) (reasons : Reasons) where
             → HasIts (InRests graph wanted) (HasRest graph wanted) (in_rests graph wanted) base.0 base.1 base.2
             (longest labels) fields type → IsOutElsewhere type
         elsewhere type (label, long, (is, there, asked_so)) =
-            let outside = subst (λ (at : Option Element). has graph at (free_field type) false) (sym there)
+            let outside = subst (λ (at : Option Thing). has graph at (free_field type) false) (sym there)
             (of_rest graph wanted type is asked_so).1 in
             (label, (too_long label long, labelled_as_found graph fields label (free_field type) false outside))
 

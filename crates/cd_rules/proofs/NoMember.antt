@@ -1,24 +1,26 @@
 -- No element and no value is in a question that a closed family covers, by recursion on the element and on the value.
-use Rattle.std.proofs.Common.{◌≡◌, true, false, List, [], ◌∷◌, ◌++◌, map, length, inl, inr, refl, sym, subst}
+use Rattle.std.proofs.Common.{◌≡◌, true, false, List, [], ◌∷◌, ◌++◌, map, inl, inr, refl, sym, subst}
 use Rattle.cd_sets.specs.declared.question.Question.{Question}
-use Rattle.cd_syntax.specs.Element as element
-use Rattle.cd_syntax.specs.Element.{Element, IsElement}
+use Rattle.cd_sets.specs.declared.node_id.NodeId.{NodeId}
+use Rattle.cd_model.specs.Formula.{nodes, at_formula}
+use Rattle.cd_model.specs.Interfaces.{admits, Interfaces}
+use Rattle.cd_model.specs.Types.{Answers as AnswersOf, Items, pair_at, with_sequences, no_closure, closure_maps}
+use Rattle.cd_model.proofs.NoSequences.{no_sequences}
+use Rattle.cd_model.specs.Thing as thing
+use Rattle.cd_model.specs.Thing.{Thing, IsElement, IsValue}
 use Rattle.cd_model.specs.BuiltIns.{built_ins, ATOM, RECORD}
 use Rattle.cd_model.specs.Each.{Each, One}
 use Rattle.cd_model.specs.Formula.{Graph}
 use Rattle.cd_model.specs.Kinds.{AFunction}
 use Rattle.cd_model.specs.Membership as node
 use Rattle.cd_model.specs.Membership.{Reader, Mapping, asked, answers, value_answers, at_nodes, function_reader}
-use Rattle.cd_model.specs.Value as value
-use Rattle.cd_model.specs.Value.{Value, IsValue}
 use Rattle.cd_model.proofs.BuiltIns as elements
-use Rattle.cd_model.proofs.BuiltInsOfValues as values
 use Rattle.cd_rules.specs.Choices.{choices_of}
 use Rattle.cd_rules.specs.Clauses.{Clause, Ints, Chars, Atoms, Arrows, Pair, IsClauseOfQuestion, parts_in, integers_of, characters_of, atoms_of, arrow_of}
 use Rattle.cd_rules.specs.Needs.{arrow_way, splits}
 use Rattle.cd_rules.specs.Family.{BreaksNeed, Breaks, IsClosed}
 use Rattle.cd_rules.proofs.ChoicesExact.{question_exact}
-use Rattle.cd_rules.proofs.ClauseOf.{IsOfKind, in_integers, in_characters, in_atoms, in_arrows, kind_of_element, kind_of_value_read}
+use Rattle.cd_rules.proofs.ClauseOf.{IsOfKind, kind_of_pair, in_integers, in_characters, in_atoms, in_arrows, kind_of_element, kind_of_read}
 use Rattle.cd_rules.proofs.ArrowsForward.{PartsHave, arrows_forward, closure_forward}
 use Rattle.cd_rules.proofs.RecordsOfThings.{FieldsHave, ValuesHave, elements_have, values_have}
 use Rattle.cd_rules.proofs.Covering.{asked_less, of_covered}
@@ -45,26 +47,26 @@ arrows_out family mapping none of_kind broken =
     by_refused wanted (one ∷ refused) inside outside (inr later) = by_refused wanted refused inside outside.1 later
 
 -- a tag is an atom, and attributes are a record
-pub tag_in : (graph : Graph) → (more : Graph) × (graph ≡ built_ins ++ more) → (e : Element) → element.IsAtom e → answers graph e ATOM true
-tag_in graph begins (element.Atom name) is = rw begins.1 refl
+pub tag_in : (graph : Graph) → (more : Graph) × (graph ≡ built_ins ++ more) → (e : Thing) → thing.IsAtom e → answers graph e ATOM true
+tag_in graph begins (thing.Atom name) is = rw begins.1 refl
 tag_in graph begins _ is = absurd is
 
-pub attributes_in : (graph : Graph) → (more : Graph) × (graph ≡ built_ins ++ more) → (e : Element) → element.IsRecord e
+pub attributes_in : (graph : Graph) → (more : Graph) × (graph ≡ built_ins ++ more) → (e : Thing) → thing.IsRecord e
     → answers graph e RECORD true
-attributes_in graph begins (element.Record fields) is = subst (λ graph. answers graph (element.Record fields) RECORD true)
-    (sym begins.1) ((elements.records_are begins.0 (element.Record fields)).1 refl)
+attributes_in graph begins (thing.Record fields) is = subst (λ graph. answers graph (thing.Record fields) RECORD true)
+    (sym begins.1) ((elements.records_are begins.0 no_closure (thing.Record fields)).1 refl)
 attributes_in graph begins _ is = absurd is
 
-value_tag_in : (graph : Graph) → (more : Graph) × (graph ≡ built_ins ++ more) → (v : Value) → value.IsAtom v
-    → value_answers graph v ATOM true
-value_tag_in graph begins (value.Atom name) is = rw begins.1 refl
-value_tag_in graph begins _ is = absurd is
+value_tag_in : (graph : Graph) → (more : Graph) × (graph ≡ built_ins ++ more) → (interfaces : Interfaces) (v : Thing) → thing.IsAtom v
+    → value_answers graph interfaces v ATOM true
+value_tag_in graph begins interfaces (thing.Atom name) is = rw begins.1 refl
+value_tag_in graph begins interfaces _ is = absurd is
 
-value_attributes_in : (graph : Graph) → (more : Graph) × (graph ≡ built_ins ++ more) → (v : Value) → value.IsRecord v
-    → value_answers graph v RECORD true
-value_attributes_in graph begins (value.Record fields) is = subst (λ graph. value_answers graph (value.Record fields) RECORD true)
-    (sym begins.1) ((values.records_are begins.0 (value.Record fields)).1 refl)
-value_attributes_in graph begins _ is = absurd is
+value_attributes_in : (graph : Graph) → (more : Graph) × (graph ≡ built_ins ++ more) → (interfaces : Interfaces) (v : Thing) → thing.IsRecord v
+    → value_answers graph interfaces v RECORD true
+value_attributes_in graph begins interfaces (thing.Record fields) is = subst (λ graph. value_answers graph interfaces (thing.Record fields) RECORD true)
+    (sym begins.1) ((elements.records_are begins.0 (closure_maps (nodes (built_ins ++ begins.0)) (admits interfaces)) (thing.Record fields)).1 refl)
+value_attributes_in graph begins interfaces _ is = absurd is
 
 module _ (graph : Graph) (begins : (more : Graph) × (graph ≡ built_ins ++ more)) (family : List Question)
     (closed : IsClosed graph family) where
@@ -81,80 +83,85 @@ module _ (graph : Graph) (begins : (more : Graph) × (graph ≡ built_ins ++ mor
       IsNotAsked question = asked (at_nodes graph reader) question true → ⊥
 
   -- integers, characters and atoms, whose readers are those of elements and of values
-  integer_out : (n : _) → IsElement (element.Integer n) → IsBroken family (node.integer_reader n) → ⊥
+  integer_out : (n : _) → IsElement (thing.Integer n) → IsBroken family (node.integer_reader n) → ⊥
   integer_out n is broken =
-      let in_clause = in_integers (node.integer_reader n) (kind_of_element graph (element.Integer n)) broken.choice broken.meets in
+      let in_clause = in_integers (node.integer_reader n) (kind_of_element graph (thing.Integer n)) broken.choice broken.meets in
       let needs = broken.breaks (Ints (parts_in integers_of true broken.choice) (parts_in integers_of false broken.choice)) in_clause.0 in
       member_out family _ n (is, in_clause.1, in_clause.2) needs.0 needs.1 needs.2
 
-  character_out : (c : _) → IsElement (element.Character c) → IsBroken family (node.character_reader c) → ⊥
+  character_out : (c : _) → IsElement (thing.Character c) → IsBroken family (node.character_reader c) → ⊥
   character_out c is broken =
-      let in_clause = in_characters (node.character_reader c) (kind_of_element graph (element.Character c)) broken.choice broken.meets in
+      let in_clause = in_characters (node.character_reader c) (kind_of_element graph (thing.Character c)) broken.choice broken.meets in
       let needs = broken.breaks (Chars (parts_in characters_of true broken.choice) (parts_in characters_of false broken.choice)) in_clause.0 in
       member_out family _ c (is, in_clause.1, in_clause.2) needs.0 needs.1 needs.2
 
-  atom_out : (name : _) → IsElement (element.Atom name) → IsBroken family (node.atom_reader name) → ⊥
+  atom_out : (name : _) → IsElement (thing.Atom name) → IsBroken family (node.reader graph (thing.Atom name)) → ⊥
   atom_out name is broken =
-      let in_clause = in_atoms (node.atom_reader name) (kind_of_element graph (element.Atom name)) broken.choice broken.meets in
+      let in_clause = in_atoms (node.reader graph (thing.Atom name)) (kind_of_element graph (thing.Atom name)) broken.choice broken.meets in
       let needs = broken.breaks (Atoms (parts_in atoms_of true broken.choice) (parts_in atoms_of false broken.choice)) in_clause.0 in
       member_out family _ name (is, in_clause.1, in_clause.2) needs.0 needs.1 needs.2
 
+  of_pair : (all : Items (AnswersOf NodeId)) (first second : AnswersOf NodeId) → AskedOut family first → AskedOut family second
+      → AskedOut family (at_nodes graph (at_formula (with_sequences all (pair_at first second))))
+  of_pair all first second is_first is_second = subst (λ reader. AskedOut family (at_nodes graph reader))
+      (sym (no_sequences all (pair_at first second)))
+      (broken_of (node.pair_reader first second) (pair_out family first second is_first is_second (kind_of_pair first second)))
+
   mutual
-    pub element_out : (e : Element) → IsElement e → AskedOut family (answers graph e)
-    element_out (element.Integer n) is = broken_of (node.integer_reader n) (integer_out n is)
-    element_out (element.Character c) is = broken_of (node.character_reader c) (character_out c is)
-    element_out (element.Atom name) is = broken_of (node.atom_reader name) (atom_out name is)
-    element_out (element.Pair first second) is = broken_of (node.reader graph (element.Pair first second))
-        (pair_out family (answers graph first) (answers graph second) (element_out first is.0) (element_out second is.1)
-        (kind_of_element graph (element.Pair first second)))
-    element_out (element.Xml tag attributes content) is = broken_of (node.reader graph (element.Xml tag attributes content))
+    pub element_out : (e : Thing) → IsElement e → AskedOut family (answers graph e)
+    element_out (thing.Integer n) is = broken_of (node.integer_reader n) (integer_out n is)
+    element_out (thing.Character c) is = broken_of (node.character_reader c) (character_out c is)
+    element_out (thing.Atom name) is = broken_of (node.reader graph (thing.Atom name)) (atom_out name is)
+    element_out (thing.Pair first second) is = of_pair _ (answers graph first) (answers graph second) (element_out first is.0) (element_out second is.1)
+    element_out (thing.Xml tag attributes content) is = broken_of (node.reader graph (thing.Xml tag attributes content))
         (xml_out family (answers graph tag) (answers graph attributes) (answers graph content)
         (element_out tag is.2) (element_out attributes is.3) (element_out content is.4)
         (tag_in graph begins tag is.0) (attributes_in graph begins attributes is.1)
-        (kind_of_element graph (element.Xml tag attributes content)))
-    element_out (element.Record fields) is = broken_of (node.reader graph (element.Record fields))
+        (kind_of_element graph (thing.Xml tag attributes content)))
+    element_out (thing.Record fields) is = broken_of (node.reader graph (thing.Record fields))
         (record_out family (node.labelled graph fields)
         (elements_have graph (IsOut family) fields (fields_out fields is.1))
-        (kind_of_element graph (element.Record fields)))
-    element_out (element.Function pairs) is = broken_of (node.reader graph (element.Function pairs))
+        (kind_of_element graph (thing.Record fields)))
+    element_out (thing.Function pairs) is = broken_of (node.reader graph (thing.Function pairs))
         (arrows_out family (node.mapping graph pairs)
         (λ wanted refused inside outside. need_out family (map (arrow_way refused) (splits wanted))
         (arrows_forward graph pairs (IsOut family) (pairs_out pairs is) wanted refused inside outside))
-        (kind_of_element graph (element.Function pairs)))
+        (kind_of_element graph (thing.Function pairs)))
+    element_out (thing.Closure function environment) is = absurd is
 
-    fields_out : (fields : element.Fields) → element.AreFields fields → FieldsHave graph (IsOut family) fields
-    fields_out element.NoField are = tt
-    fields_out (element.Field name is rest) are = (element_out is are.1, fields_out rest are.2)
+    fields_out : (fields : thing.Fields) → thing.AreFields fields → FieldsHave graph (IsOut family) fields
+    fields_out thing.NoField are = tt
+    fields_out (thing.Field name is rest) are = (element_out is are.1, fields_out rest are.2)
 
-    pairs_out : (pairs : element.Pairs) → element.ArePairs pairs → PartsHave graph (IsOut family) pairs
-    pairs_out element.NoPair are = tt
-    pairs_out (element.Maps from to rest) are = (element_out from are.0, element_out to are.1, pairs_out rest are.2)
-    pairs_out (element.Fails from rest) are = (element_out from are.0, pairs_out rest are.1)
+    pairs_out : (pairs : thing.Pairs) → thing.ArePairs pairs → PartsHave graph (IsOut family) pairs
+    pairs_out thing.NoPair are = tt
+    pairs_out (thing.Maps from to rest) are = (element_out from are.0, element_out to are.1, pairs_out rest are.2)
+    pairs_out (thing.Fails from rest) are = (element_out from are.0, pairs_out rest are.1)
 
   mutual
-    pub value_out : (v : Value) → IsValue (length graph) v → AskedOut family (value_answers graph v)
-    value_out (value.Integer n) is = broken_of (node.integer_reader n) (integer_out n is)
-    value_out (value.Character c) is = broken_of (node.character_reader c) (character_out c is)
-    value_out (value.Atom name) is = broken_of (node.atom_reader name) (atom_out name is)
-    value_out (value.Pair first second) is = broken_of (node.value_reader graph (value.Pair first second))
-        (pair_out family (value_answers graph first) (value_answers graph second) (value_out first is.0) (value_out second is.1)
-        (kind_of_value_read graph (value.Pair first second)))
-    value_out (value.Xml tag attributes content) is = broken_of (node.value_reader graph (value.Xml tag attributes content))
-        (xml_out family (value_answers graph tag) (value_answers graph attributes) (value_answers graph content)
-        (value_out tag is.2) (value_out attributes is.3) (value_out content is.4)
-        (value_tag_in graph begins tag is.0) (value_attributes_in graph begins attributes is.1)
-        (kind_of_value_read graph (value.Xml tag attributes content)))
-    value_out (value.Record fields) is = broken_of (node.value_reader graph (value.Record fields))
-        (record_out family (node.value_labelled graph fields)
-        (values_have graph (IsOut family) fields (values_out fields is.1))
-        (kind_of_value_read graph (value.Record fields)))
-    value_out (value.Closure function interface environment) is =
-        broken_of (node.value_reader graph (value.Closure function interface environment))
-        (arrows_out family (node.closure_mapping graph interface)
-        (λ wanted refused inside outside breaks. closure_forward graph interface (IsOut family) element_out wanted refused inside outside
+    pub value_out : (interfaces : Interfaces) (v : Thing) → IsValue v → AskedOut family (value_answers graph interfaces v)
+    value_out interfaces (thing.Integer n) is = broken_of (node.integer_reader n) (integer_out n is)
+    value_out interfaces (thing.Character c) is = broken_of (node.character_reader c) (character_out c is)
+    value_out interfaces (thing.Atom name) is = broken_of (node.reader graph (thing.Atom name)) (atom_out name is)
+    value_out interfaces (thing.Pair first second) is = of_pair _ (value_answers graph interfaces first) (value_answers graph interfaces second)
+        (value_out interfaces first is.0) (value_out interfaces second is.1)
+    value_out interfaces (thing.Xml tag attributes content) is = broken_of (node.value_reader graph interfaces (thing.Xml tag attributes content))
+        (xml_out family (value_answers graph interfaces tag) (value_answers graph interfaces attributes) (value_answers graph interfaces content)
+        (value_out interfaces tag is.2) (value_out interfaces attributes is.3) (value_out interfaces content is.4)
+        (value_tag_in graph begins interfaces tag is.0) (value_attributes_in graph begins interfaces attributes is.1)
+        (kind_of_read graph interfaces (thing.Xml tag attributes content)))
+    value_out interfaces (thing.Record fields) is = broken_of (node.value_reader graph interfaces (thing.Record fields))
+        (record_out family (node.value_labelled graph interfaces fields)
+        (values_have graph interfaces (IsOut family) fields (values_out interfaces fields is.1))
+        (kind_of_read graph interfaces (thing.Record fields)))
+    value_out interfaces (thing.Function pairs) is = absurd is
+    value_out interfaces (thing.Closure function environment) is =
+        broken_of (node.value_reader graph interfaces (thing.Closure function environment))
+        (arrows_out family (node.closure_mapping graph interfaces function)
+        (λ wanted refused inside outside breaks. closure_forward graph interfaces function (IsOut family) element_out wanted refused inside outside
         (λ way. need_out family (map (arrow_way refused) (splits wanted)) way breaks))
-        (kind_of_value_read graph (value.Closure function interface environment)))
+        (kind_of_read graph interfaces (thing.Closure function environment)))
 
-    values_out : (fields : value.Fields) → value.AreValues (length graph) fields → ValuesHave graph (IsOut family) fields
-    values_out value.NoField are = tt
-    values_out (value.Field name is rest) are = (value_out is are.0, values_out rest are.1)
+    values_out : (interfaces : Interfaces) (fields : thing.Fields) → thing.AreValues fields → ValuesHave graph interfaces (IsOut family) fields
+    values_out interfaces thing.NoField are = tt
+    values_out interfaces (thing.Field name is rest) are = (value_out interfaces is are.1, values_out interfaces rest are.2)

@@ -20,7 +20,7 @@ pub data HasAt (labelled : Labelled) (Fact : Question → Type 0) (label : Name)
   HasNothing : ((field : Field) (answer : Bool) → labelled label field answer → field.optional ≡ answer)
       → HasAt labelled Fact label
   HasValue : (answers : Answers)
-      → ((field : Field) (answer : Bool) → labelled label field answer → answers field.node answer)
+      → ((field : Field) (answer : Bool) → labelled label field answer → answers field.type answer)
       → ((asking : Question) → asked answers asking true → Fact asking) → HasAt labelled Fact label
 
 module _ (labelled : Labelled) (Fact : Question → Type 0) (has : (label : Name) → HasAt labelled Fact label) where
@@ -44,7 +44,7 @@ module _ (labelled : Labelled) (Fact : Question → Type 0) (has : (label : Name
       → labelled label field answer → Says answers_at (at_label label there) field answer
   says_so label field answer (HasNothing free) same is = free field answer is
   says_so label field answer (HasValue answers right asking) same is =
-      subst (λ there. answers_of label there field.node answer) same (right field answer is)
+      subst (λ there. answers_of label there field.type answer) same (right field answer is)
 
   -- a cell that the record is in may be absent or has the fact
   cell_lives : (label : Name) (cell : Cell) (there : HasAt labelled Fact label) → there ≡ has label

@@ -1,14 +1,14 @@
 -- A clause holds what its reduced form holds: an element in all wanted formulas is outside a refused one that is apart from them.
 use Rattle.std.proofs.Common.{◌≡◌, true, false, List, ◌++◌, ◌⊎◌, map, inl, inr, subst}
 use Rattle.cd_sets.specs.declared.node_id.NodeId.{NodeId}
-use Rattle.cd_syntax.specs.Element as element
-use Rattle.cd_syntax.specs.Element.{Element, IsElement}
+use Rattle.cd_model.specs.Thing as thing
+use Rattle.cd_model.specs.Thing.{Thing, IsElement}
 use Rattle.cd_model.specs.BuiltIns.{built_ins}
 use Rattle.cd_model.specs.Each.{Each}
 use Rattle.cd_model.specs.Formula.{Graph}
 use Rattle.cd_model.specs.Kinds.{kind_of}
 use Rattle.cd_model.specs.Membership.{answers, reader}
-use Rattle.cd_model.proofs.Decided.{in_or_outside}
+use Rattle.cd_model.proofs.DecidedAtNodes.{in_or_outside}
 use Rattle.cd_rules.specs.Clauses.{Clause, Ints, Chars, Atoms, Pairs, Xmls, Records, Arrows, Pair, Triple, IsInClause}
 use Rattle.cd_rules.specs.Reduced.{LeavesOut, none, keeps, leaves, IsPairApart, IsXmlApart, IsReduced}
 use Rattle.cd_rules.proofs.Asking.{each_of_map}
@@ -25,7 +25,7 @@ each_of_kept Apart fact of_apart _ _ (leaves x all kept apart rest) each =
     (of_apart x apart, each_of_kept Apart fact of_apart all kept rest each)
 
 -- an element that is not in a node is outside it
-pub outside : (graph : Graph) (e : Element) (id : NodeId) → (answers graph e id true → ⊥) → answers graph e id false
+pub outside : (graph : Graph) (e : Thing) (id : NodeId) → (answers graph e id true → ⊥) → answers graph e id false
 outside graph e id never = by_answer (in_or_outside graph e id)
   where
     by_answer : answers graph e id true ⊎ answers graph e id false → answers graph e id false
@@ -33,18 +33,18 @@ outside graph e id never = by_answer (in_or_outside graph e id)
     by_answer (inr out) = out
 
 module _ (graph : Graph) where
-  abbrev Holds : Element → Clause → Type 0
+  abbrev Holds : Thing → Clause → Type 0
   Holds e clause = IsInClause (kind_of e) (reader graph e) clause
 
   -- an element is in the nodes of this part of each of a list
-  abbrev AllHold : {X : Type 0} → Element → (X → NodeId) → List X → Type 0
+  abbrev AllHold : {X : Type 0} → Thing → (X → NodeId) → List X → Type 0
   AllHold e part wanted = Each (λ parts. answers graph e (part parts) true) wanted
 
-  in_parts : {X : Type 0} (e : Element) (part : X → NodeId) (wanted : List X) → AllHold e part wanted
+  in_parts : {X : Type 0} (e : Thing) (part : X → NodeId) (wanted : List X) → AllHold e part wanted
       → Each (λ id. answers graph e id true) (map part wanted)
   in_parts e part = each_of_map part (λ id. answers graph e id true)
 
-  pair_outside : (first second : Element) → IsElement first → IsElement second → (wanted : List Pair)
+  pair_outside : (first second : Thing) → IsElement first → IsElement second → (wanted : List Pair)
       → Each (λ parts. answers graph first parts.0 true × answers graph second parts.1 true) wanted
       → (refused : Pair) → IsPairApart graph wanted refused → answers graph first refused.0 false ⊎ answers graph second refused.1 false
   pair_outside first second is_first is_second wanted inside refused (inl apart) = inl (outside graph first refused.0
@@ -62,9 +62,9 @@ module _ (graph : Graph) where
             (λ parts. answers graph second parts.1 true) (λ parts is. is.1) wanted inside),
       )))
 
-  pairs_held : (wanted refused kept : List Pair) → LeavesOut (IsPairApart graph wanted) refused kept → (e : Element) → IsElement e
+  pairs_held : (wanted refused kept : List Pair) → LeavesOut (IsPairApart graph wanted) refused kept → (e : Thing) → IsElement e
       → Holds e (Pairs wanted kept) → Holds e (Pairs wanted refused)
-  pairs_held wanted refused kept leaving (element.Pair first second) is held = (
+  pairs_held wanted refused kept leaving (thing.Pair first second) is held = (
     held.0,
     held.1,
     each_of_kept (IsPairApart graph wanted) (λ parts. answers graph first parts.0 false ⊎ answers graph second parts.1 false)
@@ -74,7 +74,7 @@ module _ (graph : Graph) where
 
   module _ (begins : (more : Graph) × (graph ≡ built_ins ++ more)) where
     -- the tag is an atom, and the attributes are a record
-    xml_outside : (tag attributes content : Element) → IsElement (element.Xml tag attributes content) → (wanted : List Triple)
+    xml_outside : (tag attributes content : Thing) → IsElement (thing.Xml tag attributes content) → (wanted : List Triple)
         → AllHold tag (λ parts. parts.0) wanted → AllHold attributes (λ parts. parts.1) wanted → AllHold content (λ parts. parts.2) wanted
         → (refused : Triple) → IsXmlApart graph wanted refused
         → answers graph tag refused.0 false ⊎ answers graph attributes refused.1 false ⊎ answers graph content refused.2 false
@@ -88,9 +88,9 @@ module _ (graph : Graph) where
         inr (inr (outside graph content refused.2 (λ within. apart content is.4
         (within, in_parts content (λ (parts : Triple). parts.2) wanted in_content))))
 
-    xmls_held : (wanted refused kept : List Triple) → LeavesOut (IsXmlApart graph wanted) refused kept → (e : Element) → IsElement e
+    xmls_held : (wanted refused kept : List Triple) → LeavesOut (IsXmlApart graph wanted) refused kept → (e : Thing) → IsElement e
         → Holds e (Xmls wanted kept) → Holds e (Xmls wanted refused)
-    xmls_held wanted refused kept leaving (element.Xml tag attributes content) is held = (
+    xmls_held wanted refused kept leaving (thing.Xml tag attributes content) is held = (
       held.0,
       held.1,
       each_of_kept (IsXmlApart graph wanted)
@@ -106,7 +106,7 @@ module _ (graph : Graph) where
         all_in = λ parts. answers graph tag parts.0 true × answers graph attributes parts.1 true × answers graph content parts.2 true
     xmls_held wanted refused kept leaving _ is held = absurd cc
 
-    pub reduced_held : (clause reduced : Clause) (e : Element) → IsReduced graph clause reduced → IsElement e
+    pub reduced_held : (clause reduced : Clause) (e : Thing) → IsReduced graph clause reduced → IsElement e
         → Holds e reduced → Holds e clause
     reduced_held (Pairs wanted refused) (Pairs same kept) e reduces is held =
         pairs_held wanted refused kept reduces.1 e is (subst (λ wanted. Holds e (Pairs wanted kept)) reduces.0 held)

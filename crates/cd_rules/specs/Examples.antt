@@ -26,7 +26,7 @@ not_both = Not (And (AFormula integers (AFormula characters NoFormula)))
 -- a field `a` in this node, which has to be there, and other fields in that one
 abbrev pub with_a : ℕ → ℕ → RecordType
 with_a value rest = record {
-  named = (codes "a", record { optional = false; node = node value }) ∷ [];
+  named = (codes "a", record { optional = false; type = node value }) ∷ [];
   rest = node rest;
 }
 

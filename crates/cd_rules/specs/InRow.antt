@@ -2,22 +2,20 @@
 use Rattle.std.specs.Prelude.{◌≡◌, true, false, Option, Some, None, bytes_eq, if◌then◌else◌}
 use Rattle.cd_sets.specs.declared.question.Question.{Question}
 use Rattle.cd_syntax.specs.Name.{Name}
-use Rattle.cd_syntax.specs.Element as element
-use Rattle.cd_syntax.specs.Element.{Element}
+use Rattle.cd_model.specs.Thing as thing
+use Rattle.cd_model.specs.Thing.{Thing}
 use Rattle.cd_model.specs.Each.{Each, One}
 use Rattle.cd_model.specs.Membership.{Answers, asked}
-use Rattle.cd_model.specs.Value as value
-use Rattle.cd_model.specs.Value.{Value}
 use Rattle.cd_rules.specs.Rows.{Cell, Row}
 
 -- what a record of elements, and one of values, has at a label
-abbrev pub element_at : element.Fields → Name → Option Element
-element_at element.NoField label = None
-element_at (element.Field name is rest) label = if bytes_eq name label then Some is else element_at rest label
+abbrev pub element_at : thing.Fields → Name → Option Thing
+element_at thing.NoField label = None
+element_at (thing.Field name is rest) label = if bytes_eq name label then Some is else element_at rest label
 
-abbrev pub value_at : value.Fields → Name → Option Value
-value_at value.NoField label = None
-value_at (value.Field name is rest) label = if bytes_eq name label then Some is else value_at rest label
+abbrev pub value_at : thing.Fields → Name → Option Thing
+value_at thing.NoField label = None
+value_at (thing.Field name is rest) label = if bytes_eq name label then Some is else value_at rest label
 
 -- what is at a label is in a cell: nothing, if that may be, or a value that is in the cell's question
 abbrev pub IsInCell : {X : Type 0} → (X → Answers) → Option X → Cell → Type 0

@@ -2,7 +2,7 @@
 use Rattle.std.specs.Prelude.{◌≡◌, ◌⊎◌, true, List}
 use Rattle.cd_sets.specs.declared.question.Question.{Question}
 use Rattle.cd_syntax.specs.Name.{IsLabel}
-use Rattle.cd_syntax.specs.Element.{Element, IsElement}
+use Rattle.cd_model.specs.Thing.{Thing, IsElement}
 use Rattle.cd_model.specs.Each.{Each, One}
 use Rattle.cd_model.specs.Formula.{Graph}
 use Rattle.cd_model.specs.Kinds.{kind_of}
@@ -29,10 +29,10 @@ IsSupplied fact clause = HasAllNeeds fact clause
 
 -- an element is in a question, and in a clause
 abbrev pub HasElement : Graph → Question → Type 0
-HasElement graph question = (is : Element) × IsElement is × asked (answers graph is) question true
+HasElement graph question = (is : Thing) × IsElement is × asked (answers graph is) question true
 
 abbrev pub HasMember : Graph → Clause → Type 0
-HasMember graph clause = (is : Element) × IsElement is × IsInClause (kind_of is) (reader graph is) clause
+HasMember graph clause = (is : Thing) × IsElement is × IsInClause (kind_of is) (reader graph is) clause
 
 -- what the record types of a clause name are labels
 abbrev pub HaveLabels : List RecordType → Type 0

@@ -1,7 +1,7 @@
 -- Clauses without refused members that are apart from the wanted ones, and so refuse nothing.
 use Rattle.std.specs.Prelude.{◌≡◌, ◌⊎◌, true, List, [], ◌∷◌, map}
 use Rattle.cd_sets.specs.declared.node_id.NodeId.{NodeId}
-use Rattle.cd_syntax.specs.Element.{Element, IsElement}
+use Rattle.cd_model.specs.Thing.{Thing, IsElement}
 use Rattle.cd_model.specs.BuiltIns.{ATOM, RECORD}
 use Rattle.cd_model.specs.Each.{Each}
 use Rattle.cd_model.specs.Formula.{Graph}
@@ -10,7 +10,7 @@ use Rattle.cd_rules.specs.Clauses.{Clause, Pair, Triple, Pairs, Xmls}
 
 -- no element is in all of these nodes
 abbrev pub AreApart : Graph → List NodeId → Type 0
-AreApart graph ids = (is : Element) → IsElement is → Each (λ id. answers graph is id true) ids → ⊥
+AreApart graph ids = (is : Thing) → IsElement is → Each (λ id. answers graph is id true) ids → ⊥
 
 -- a refused pair is apart from the wanted ones by its first part or by its second, and so on
 abbrev pub IsPairApart : Graph → (wanted : List Pair) → Pair → Type 0

@@ -69,7 +69,7 @@ types_elsewhere ((type, Some label) ∷ reasons) = types_elsewhere reasons
 abbrev pub cell_at : (wanted : List RecordType) → Reasons → Name → Cell
 cell_at wanted reasons label = record {
   absent = list_all (λ type. (field_at type label).optional) wanted && list_all (λ type. not (field_at type label).optional) (types_at label reasons);
-  value = question (map (λ type. (field_at type label).node) wanted) (map (λ type. (field_at type label).node) (types_at label reasons));
+  value = question (map (λ type. (field_at type label).type) wanted) (map (λ type. (field_at type label).type) (types_at label reasons));
 }
 
 abbrev pub row_of : (labels : List Name) (wanted : List RecordType) → Reasons → Row

@@ -1,13 +1,12 @@
 //! Laws of the definitions in `specs/`. Each is the contract of a function that does nothing.
 ghost use Rattle.std.specs.Prelude.{◌≡◌, ◌++◌, ◌↔◌, ◌⊎◌, true, false, List, [], ◌∷◌, length, map};
 ghost use Rattle.cd_sets.specs.declared.question.Question.{Question};
-ghost use Rattle.cd_syntax.specs.Element as element;
-ghost use Rattle.cd_syntax.specs.Element.{Element, IsElement};
+ghost use Rattle.cd_model.specs.Thing as thing;
+ghost use Rattle.cd_model.specs.Thing.{Thing, IsElement, IsValue};
 ghost use Rattle.cd_model.specs.Each.{Each, One};
 ghost use Rattle.cd_model.specs.Formula.{Graph};
 ghost use Rattle.cd_model.specs.Membership.{asked, answers, reader, value_answers, value_reader};
-ghost use Rattle.cd_model.specs.Value as value;
-ghost use Rattle.cd_model.specs.Value.{Value, IsValue};
+ghost use Rattle.cd_model.specs.Interfaces.{Interfaces};
 ghost use Rattle.cd_model.specs.BuiltIns.{built_ins, node, ANY, INT, CHAR};
 ghost use Rattle.cd_rules.specs.Settled.{IsSettledClause};
 ghost use Rattle.cd_rules.specs.Examples as example;
@@ -15,7 +14,7 @@ ghost use Rattle.cd_rules.specs.Examples.{asks, both};
 ghost use Rattle.cd_rules.specs.Needs.{set_of, splits, splits_in_three, pair_way, xml_way, arrow_way};
 ghost use Rattle.cd_rules.specs.Rows.{rows_of};
 ghost use Rattle.cd_rules.specs.InRow.{element_at, value_at, IsInRow};
-ghost use Rattle.cd_model.specs.Kinds.{kind_of, kind_of_value, ARecord};
+ghost use Rattle.cd_model.specs.Kinds.{kind_of, ARecord};
 ghost use Rattle.cd_rules.specs.Clauses.{Clause, RecordType, Pairs, Records, IsClauseOfQuestion, IsInClause};
 ghost use Rattle.cd_rules.specs.Members.{HasElement, HasMember, IsSupplied, NamesLabels};
 ghost use Rattle.cd_rules.specs.Reduced.{IsReduced};
@@ -24,36 +23,36 @@ ghost use Rattle.cd_rules.specs.Choices.{choices, choices_of, Meets};
 
 /// A question holds just what meets one of its choices.
 pub fn choices_are_exact()
-    ensures elements { (graph : Graph) (question : Question) (is : Element)
+    ensures elements { (graph : Graph) (question : Question) (is : Thing)
         → asked (answers graph is) question true ↔ One (Meets (reader graph is)) (choices_of graph question) }
-    ensures values { (graph : Graph) (question : Question) (is : Value)
-        → asked (value_answers graph is) question true ↔ One (Meets (value_reader graph is)) (choices_of graph question) }
+    ensures values { (graph : Graph) (question : Question) (interfaces : Interfaces) (is : Thing)
+        → asked (value_answers graph interfaces is) question true ↔ One (Meets (value_reader graph interfaces is)) (choices_of graph question) }
 {}
 
 /// A question holds just what is in one of its clauses.
 pub fn clauses_are_exact()
-    ensures elements { (graph : Graph) (question : Question) (is : Element) → asked (answers graph is) question true
+    ensures elements { (graph : Graph) (question : Question) (is : Thing) → asked (answers graph is) question true
         ↔ ((clause : Clause) × IsClauseOfQuestion graph question clause × IsInClause (kind_of is) (reader graph is) clause) }
-    ensures values { (graph : Graph) (question : Question) (is : Value) → asked (value_answers graph is) question true
-        ↔ ((clause : Clause) × IsClauseOfQuestion graph question clause × IsInClause (kind_of_value is) (value_reader graph is) clause) }
+    ensures values { (graph : Graph) (question : Question) (interfaces : Interfaces) (is : Thing) → asked (value_answers graph interfaces is) question true
+        ↔ ((clause : Clause) × IsClauseOfQuestion graph question clause × IsInClause (kind_of is) (value_reader graph interfaces is) clause) }
 {}
 
 /// A record is in a clause just where it is in one of the clause's rows.
 pub fn rows_are_exact()
-    ensures elements { (graph : Graph) (wanted refused : List RecordType) (fields : element.Fields)
-        → IsInClause ARecord (reader graph (element.Record fields)) (Records wanted refused)
+    ensures elements { (graph : Graph) (wanted refused : List RecordType) (fields : thing.Fields)
+        → IsInClause ARecord (reader graph (thing.Record fields)) (Records wanted refused)
         ↔ One (IsInRow (answers graph) (element_at fields)) (rows_of wanted refused) }
-    ensures values { (graph : Graph) (wanted refused : List RecordType) (fields : value.Fields)
-        → IsInClause ARecord (value_reader graph (value.Record fields)) (Records wanted refused)
-        ↔ One (IsInRow (value_answers graph) (value_at fields)) (rows_of wanted refused) }
+    ensures values { (graph : Graph) (interfaces : Interfaces) (wanted refused : List RecordType) (fields : thing.Fields)
+        → IsInClause ARecord (value_reader graph interfaces (thing.Record fields)) (Records wanted refused)
+        ↔ One (IsInRow (value_answers graph interfaces) (value_at fields)) (rows_of wanted refused) }
 {}
 
 /// No element is in a question that a closed family covers, nor is a value, whatever arrows of the graph its closures have.
 pub fn closed_families_are_empty()
-    ensures elements { (graph more : Graph) (family : List Question) (question : Question) (is : Element) → graph ≡ built_ins ++ more
+    ensures elements { (graph more : Graph) (family : List Question) (question : Question) (is : Thing) → graph ≡ built_ins ++ more
         → IsClosed graph family → IsCovered question family → IsElement is → asked (answers graph is) question true → ⊥ }
-    ensures values { (graph more : Graph) (family : List Question) (question : Question) (is : Value) → graph ≡ built_ins ++ more
-        → IsClosed graph family → IsCovered question family → IsValue (length graph) is → asked (value_answers graph is) question true → ⊥ }
+    ensures values { (graph more : Graph) (family : List Question) (question : Question) (interfaces : Interfaces) (is : Thing) → graph ≡ built_ins ++ more
+        → IsClosed graph family → IsCovered question family → IsValue is → asked (value_answers graph interfaces is) question true → ⊥ }
 {}
 
 /// A closed family whose questions ask nodes of a graph stays closed in each longer graph.
@@ -77,7 +76,7 @@ pub fn families_cover()
 
 /// A clause holds the elements that its reduced form holds, and is broken where that is.
 pub fn reduced_clauses()
-    ensures holds { (graph more : Graph) (clause reduced : Clause) (is : Element) → graph ≡ built_ins ++ more → IsReduced graph clause reduced
+    ensures holds { (graph more : Graph) (clause reduced : Clause) (is : Thing) → graph ≡ built_ins ++ more → IsReduced graph clause reduced
         → IsElement is → IsInClause (kind_of is) (reader graph is) reduced → IsInClause (kind_of is) (reader graph is) clause }
     ensures breaks { (graph : Graph) (family : List Question) (clause reduced : Clause) → IsReduced graph clause reduced
         → Breaks family reduced → Breaks family clause }

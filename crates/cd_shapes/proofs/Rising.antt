@@ -6,7 +6,7 @@ use Rattle.std.specs.declared.cmp.Ordering.{Ordering}
 use Rattle.std.specs.declared.cmp.Ordering.TheVariants.{Less, Equal, Greater}
 use Rattle.std.proofs.lemmas.Cmp.{nat_list_cmp_total}
 use Rattle.cd_syntax.specs.Name.{Name, IsLabel}
-use Rattle.cd_syntax.specs.Element.{IsAbove}
+use Rattle.cd_syntax.specs.Name.{IsAbove}
 use Rattle.cd_model.specs.Each.{Each}
 use Rattle.cd_shapes.specs.declared.place.FieldPlace.{FieldPlace}
 use Rattle.cd_shapes.specs.Leaves.{by_order, inserted, sorted_after, sorted}

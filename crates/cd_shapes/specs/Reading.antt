@@ -4,7 +4,7 @@ use Rattle.std.specs.List.{slice_get}
 use Rattle.cd_sets.specs.declared.node_id.NodeId.{NodeId}
 use Rattle.cd_syntax.specs.Name.{Name, IsLabel}
 use Rattle.cd_syntax.specs.TypeTree.{Declarations, NoDeclaration, ADeclaration}
-use Rattle.cd_syntax.specs.Element.{IsAbove}
+use Rattle.cd_syntax.specs.Name.{IsAbove}
 use Rattle.cd_model.specs.Each.{Each, One}
 use Rattle.cd_model.specs.Formula.{IsFormula}
 use Rattle.cd_model.specs.Scope.{Scope, Declared, names_over}

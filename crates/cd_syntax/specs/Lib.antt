@@ -1,6 +1,5 @@
 pub mod Name
 pub mod Integer
-pub mod Element
 pub mod Signs
 pub mod Quotes
 pub mod Comments

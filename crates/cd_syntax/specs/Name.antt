@@ -1,8 +1,11 @@
 -- Names: words, labels and the names of atoms.
-use Rattle.std.specs.Prelude.{◌≢◌, ℕ, ◌==◌, Bool, false, ◌&&◌, ◌||◌, List, [], ◌∷◌, Option, Some, None, IsTrue, codes}
+use Rattle.std.specs.Prelude.{◌≡◌, ◌≢◌, ℕ, ◌==◌, Bool, false, ◌&&◌, ◌||◌, List, [], ◌∷◌, Option, Some, None, IsTrue, codes}
 use Rattle.std.specs.Int.{is_in_range}
 use Rattle.std.specs.Char.{is_ascii_alphabetic, is_ascii_alphanumeric}
 use Rattle.std.specs.List.{list_all}
+use Rattle.std.specs.Ordering.{nat_cmp}
+use Rattle.std.specs.Cmp.Lexicographic.{slice_cmp}
+use Rattle.std.specs.declared.cmp.Ordering.TheVariants.{Less}
 
 -- a name is the list of its characters
 abbrev pub Name : Type 0
@@ -23,6 +26,11 @@ is_word (c ∷ cs) = begins_word c && list_all goes_on_word cs
 -- a label, or the name of an atom: a word other than `_` alone
 abbrev pub IsLabel : Name → Type 0
 IsLabel name = IsTrue (is_word name) × (name ≢ codes "_")
+
+-- a label is above the one before it, if there is one
+abbrev pub IsAbove : Option Name → Name → Type 0
+IsAbove None label = Unit {0}
+IsAbove (Some before) label = slice_cmp nat_cmp before label ≡ Less
 
 -- a name that a type may have, where none is built in under it: it begins with A to Z
 abbrev pub is_type_name : Name → Bool

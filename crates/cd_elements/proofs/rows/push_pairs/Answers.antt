@@ -1,5 +1,5 @@
 use Rattle.std.proofs.Common.{List, None, refl, arith}
-use Rattle.cd_syntax.specs.Element.{Element}
+use Rattle.cd_model.specs.Thing.{Thing}
 use Rattle.cd_elements.specs.declared.task.Mark.TheVariants.{Semicolon}
 use Rattle.cd_elements.specs.Rows.{pair_text_in}
 use Rattle.cd_elements.proofs.WholeRows.{put_after}
@@ -8,7 +8,7 @@ use Rattle.cd_elements.proofs.rows.push_pairs.Goals as goal
 -- one more is put
 pub loop-index-preserved : goal.loop-index-preserved
 loop-index-preserved c =
-    let more = λ (table : List Element). put_after (pair_text_in table) Semicolon c.args.pairs.now c.loop-index.index
+    let more = λ (table : List Thing). put_after (pair_text_in table) Semicolon c.args.pairs.now c.loop-index.index
     _ (record { 0 = 0 }, None) _ _ _ _ c.loop-index-test.true c.loop-index.invariant.0 refl
     (c.loop-index.invariant.1 table) (c.in_ok-push_pair.ensures table) (c.in_ok-push_mark.ensures table) in
     (omega arith, more)

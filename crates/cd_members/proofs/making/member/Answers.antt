@@ -1,6 +1,6 @@
 use Rattle.std.proofs.Common.{◌≡◌, ◌∙◌, sym, ap, subst, List, [], ◌∷◌, ◌++◌, length, get_or, arith}
 use Rattle.std.proofs.lemmas.List.{get_or_at, length_push}
-use Rattle.cd_syntax.specs.Element.{Element, Atom}
+use Rattle.cd_model.specs.Thing.{Thing, Atom}
 use Rattle.cd_elements.specs.Elements.{table}
 use Rattle.cd_elements.specs.Table.{Names, element_at, element_by}
 use Rattle.cd_elements.specs.declared.shape.ElementId.{ElementId}
@@ -9,7 +9,7 @@ use Rattle.cd_members.proofs.ShapesMade.{made, none_made}
 use Rattle.cd_members.proofs.making.member.Goals as goal
 
 -- an element that was added has the number
-placed : (old new : List Element) (one : Element) (id : ElementId) → id.0 ≡ length old → new ≡ old ++ one ∷ []
+placed : (old new : List Thing) (one : Thing) (id : ElementId) → id.0 ≡ length old → new ≡ old ++ one ∷ []
     → Names new id × (element_at new id ≡ one)
 placed old new one id number added = (
   omega (arith, ap length added, length_push old one),

@@ -6,4 +6,4 @@ pub returns-clause-elements : goal.returns-clause-elements
 returns-clause-elements c graph question is = question_exact (reader graph is) graph question
 
 pub returns-clause-values : goal.returns-clause-values
-returns-clause-values c graph question is = question_exact (value_reader graph is) graph question
+returns-clause-values c graph question interfaces is = question_exact (value_reader graph interfaces is) graph question

@@ -6,5 +6,5 @@ returns-clause-elements c = λ graph more family question is begins closed there
     element_out graph (more, begins) family closed is element question asking there
 
 pub returns-clause-values : goal.returns-clause-values
-returns-clause-values c = λ graph more family question is begins closed there value asking.
-    value_out graph (more, begins) family closed is value question asking there
+returns-clause-values c = λ graph more family question interfaces is begins closed there value asking.
+    value_out graph (more, begins) family closed interfaces is value question asking there

@@ -1,5 +1,5 @@
 use Rattle.std.proofs.Common.{◌++◌, [], inl, refl, arith}
-use Rattle.cd_syntax.specs.Element.{Element, Integer}
+use Rattle.cd_model.specs.Thing.{Thing, Integer}
 use Rattle.cd_model.specs.BuiltIns.{built_ins, INT, CHAR, ANY}
 use Rattle.cd_model.specs.Formula.{Graph}
 use Rattle.cd_model.specs.Membership.{IsIn}
@@ -7,7 +7,7 @@ use Rattle.cd_rules.specs.Reduced.{none, leaves}
 use Rattle.cd_rules.proofs.laws.worked_examples.Goals as goal
 
 -- no integer is a character
-no_integer : (more : Graph) (is : Element) → IsIn (built_ins ++ more) is CHAR → IsIn (built_ins ++ more) is INT → ⊥
+no_integer : (more : Graph) (is : Thing) → IsIn (built_ins ++ more) is CHAR → IsIn (built_ins ++ more) is INT → ⊥
 no_integer more (Integer n) = grind arith
 no_integer more _ = grind arith
 

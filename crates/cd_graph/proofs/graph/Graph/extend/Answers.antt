@@ -2,7 +2,9 @@ use Rattle.std.proofs.Common.{◌≡◌, ◌↔◌, sym, subst, take}
 use Rattle.cd_model.specs.Formula.{Graph, IsGraph}
 use Rattle.cd_model.specs.BuiltIns.{built_ins}
 use Rattle.cd_model.specs.Membership.{answers, value_answers}
-use Rattle.cd_model.proofs.Extension.{elements, values}
+use Rattle.cd_model.specs.Interfaces.{admits}
+use Rattle.cd_model.proofs.BothWays.{itself}
+use Rattle.cd_model.proofs.Extending.{kept_elements, kept_values}
 use Rattle.cd_graph.specs.Nodes.{nodes}
 use Rattle.cd_graph.proofs.Sound.{still_sound, still_begins, either_way, without_others}
 use Rattle.cd_graph.proofs.graph.Graph.extend.Goals as goal
@@ -26,9 +28,9 @@ invariant_of-self c =
 pub returns-clause-elements : goal.returns-clause-elements
 returns-clause-elements c = λ is id answer below.
     subst (λ (graph : Graph). answers (nodes c.args.self.now) is id answer ↔ answers graph is id answer) (sym c.in_ok-append.ensures.added)
-    (elements _ _ is id answer c.len.ensures.sound below)
+    (kept_elements _ _ c.len.ensures.sound is id answer below)
 
 pub returns-clause-values : goal.returns-clause-values
-returns-clause-values c = λ is id answer value below.
-    subst (λ (graph : Graph). value_answers (nodes c.args.self.now) is id answer ↔ value_answers graph is id answer) (sym c.in_ok-append.ensures.added)
-    (values _ _ is id answer c.len.ensures.sound below value)
+returns-clause-values c = λ interfaces is id answer below.
+    subst (λ (graph : Graph). value_answers (nodes c.args.self.now) interfaces is id answer ↔ value_answers graph interfaces is id answer) (sym c.in_ok-append.ensures.added)
+    (kept_values _ _ c.len.ensures.sound (admits interfaces) (admits interfaces) (λ function pairs sound. itself) is id answer below)

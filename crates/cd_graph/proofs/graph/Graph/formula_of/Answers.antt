@@ -17,7 +17,7 @@ pub returns-clause-values : goal.returns-clause-values
 returns-clause-values c =
     let graph = nodes c.args.self.now in
     IfOk-weaker c.joined.result _ _
-    (λ formula same is answer. formula_answers graph (value_reader graph is) c.args.question.now (plain formula) same answer)
+    (λ formula same interfaces is answer. formula_answers graph (value_reader graph interfaces is) c.args.question.now (plain formula) same answer)
     c.joined.ensures
 
 pub returns-clause-sound : goal.returns-clause-sound
