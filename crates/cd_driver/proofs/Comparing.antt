@@ -10,7 +10,8 @@ use Rattle.cd_model.specs.Thing.{Thing}
 use Rattle.cd_model.specs.Canonical.{canonical}
 use Rattle.cd_model.specs.Each.{Each}
 use Rattle.cd_model.specs.Formula.{Graph, IsFormula, IsGraph}
-use Rattle.cd_model.specs.Written.{Written, StandsFor}
+use Rattle.cd_model.specs.StandsFor.{StandsFor}
+use Rattle.cd_model.specs.Written.{Written}
 use Rattle.cd_rules.specs.Needs.{question}
 use Rattle.cd_elements.specs.Table.{element_at}
 use Rattle.cd_elements.specs.declared.shape.ElementId.{ElementId}

@@ -7,7 +7,7 @@ use Rattle.std.proofs.lemmas.Bool.{true≢false}
 use Rattle.cd_model.specs.Thing.{Thing, IsElement}
 use Rattle.cd_syntax.specs.TypeTree.{Declarations, NoDeclaration}
 use Rattle.cd_model.specs.Written.{Written}
-use Rattle.cd_model.proofs.WrittenApart.{not_both}
+use Rattle.cd_model.proofs.ApartAtWritten.{not_both}
 use Rattle.cd_driver.specs.Command.{Bytes, Command, Sub, SubTypes, Member, Check, Run, RunSteps, Work, Give}
 use Rattle.cd_driver.specs.Texts.{ReadsAs, Declares, RefusesDeclarations}
 use Rattle.cd_driver.specs.Within.{IsIn, IsOutside, IsWithin}

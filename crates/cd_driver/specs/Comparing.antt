@@ -8,7 +8,7 @@ use Rattle.cd_syntax.specs.WellMade.{IsWellMade, AreWellMadeDeclarations}
 use Rattle.cd_model.specs.Canonical.{canonical}
 use Rattle.cd_model.specs.Formula.{Graph}
 use Rattle.cd_model.specs.Membership.{answers}
-use Rattle.cd_model.specs.Written.{Written, written_answers}
+use Rattle.cd_model.specs.Written.{Written, in_written}
 use Rattle.cd_names.specs.Faults.{Fault}
 use Rattle.cd_driver.specs.Reply.{Reply, says}
 use Rattle.cd_driver.specs.Texts.{IsFaultOfType, IsFaultOfDeclarations}
@@ -34,4 +34,4 @@ abbrev pub ComparesNodes : Graph → (first second : NodeId) → Reply → Type 
 ComparesNodes graph first second reply = Compares (λ is. answers graph is first) (λ is. answers graph is second) reply
 
 abbrev pub ComparesTypes : (first second : Written) → Reply → Type 0
-ComparesTypes first second reply = Compares (λ is. written_answers is first) (λ is. written_answers is second) reply
+ComparesTypes first second reply = Compares (λ is. in_written is first) (λ is. in_written is second) reply

@@ -3,7 +3,7 @@ ghost use Rattle.std.specs.Prelude.{◌≡◌, ◌<◌, ◌++◌, length, IfOk};
 ghost use Rattle.cd_syntax.specs.PlainTree.{plain, plain_declarations};
 ghost use Rattle.cd_syntax.specs.TypeTree.{Declarations as PlainDeclarations};
 ghost use Rattle.cd_model.specs.Formula.{Graph as PlainGraph, IsGraph};
-ghost use Rattle.cd_model.specs.Written.{StandsFor};
+ghost use Rattle.cd_model.specs.StandsFor.{StandsFor};
 ghost use Rattle.cd_resolve.specs.Named.{AreNamed};
 ghost use Rattle.cd_empty.specs.Seen.{graph_of};
 ghost use Rattle.cd_driver.specs.Message.{reply_of};

@@ -6,9 +6,10 @@ use Rattle.cd_syntax.specs.TypeTree.{Tree, tree, Kind, Trees, NoTree, ATree, Sig
 use Rattle.cd_model.specs.BuiltIns.{built_in}
 use Rattle.cd_model.specs.Formula.{at_formula}
 use Rattle.cd_model.specs.Scope.{Scope, Declared, declared_as}
+use Rattle.cd_model.specs.Thing.{Thing}
 use Rattle.cd_model.specs.Types.{Reader}
-use Rattle.cd_model.specs.Written.{WrittenType, Names, type_named, head_of, tree_holds, kind_holds, each_holds, one_holds, signs_hold, declared_holds, name_holds, written}
-use Rattle.cd_model.proofs.Apart.{head_apart}
+use Rattle.cd_model.specs.Written.{WrittenType, Written, Names, type_of, number_of_names, in_written, type_named, head_of, tree_holds, kind_holds, each_holds, one_holds, signs_hold, declared_holds, name_holds, written}
+use Rattle.cd_model.proofs.Apart.{head_apart, element_apart}
 use Rattle.cd_model.proofs.ApartAtNodes.{holds_apart, formulas_apart}
 use Rattle.cd_model.proofs.Logic.{both_apart}
 use Rattle.cd_model.proofs.Regulars.{Apart}
@@ -50,3 +51,8 @@ module _ (read : Reader WrittenType) (apart : Apart read) where
 
   pub written_keeps : (count : ℕ) → Apart (written count read)
   written_keeps count type is out = kind_apart (name_holds read count) (names_apart count) type.scope type.kind is out
+
+-- no element is both in a written type and outside it
+pub not_both : (type : Written) (is : Thing) → in_written is type true → in_written is type false → ⊥
+not_both type is = element_apart (written (number_of_names type))
+    (λ read apart. written_keeps read apart (number_of_names type)) is (type_of type)
