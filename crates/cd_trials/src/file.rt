@@ -1,4 +1,5 @@
 //! A file of data: what may be in it, and how its rows are put and counted.
+use crate::place::place_differs;
 use crate::question::{apart_differs, within_differs};
 use crate::row::row_differs;
 use crate::values::{list, pair, text};
@@ -6,8 +7,12 @@ use anyhow::{Context, Result, bail};
 use std::io;
 use toml::Table;
 
-// The members of a file, of a row and of questions, with their types.
-const FILE: [(&str, &str); 2] = [("row", "array"), ("questions", "array")];
+// The members of a file, of a row, of questions and of a place, with their types.
+const FILE: [(&str, &str); 3] = [
+    ("row", "array"),
+    ("questions", "array"),
+    ("places", "array"),
+];
 
 const ROW: [(&str, &str); 9] = [
     ("words", "array"),
@@ -22,6 +27,13 @@ const ROW: [(&str, &str); 9] = [
 ];
 
 const QUESTIONS: [(&str, &str); 3] = [("types", "string"), ("within", "array"), ("apart", "array")];
+
+const PLACE: [(&str, &str); 4] = [
+    ("text", "string"),
+    ("at", "integer"),
+    ("line", "integer"),
+    ("column", "integer"),
+];
 
 /// How many rows were put, and how many of them differ.
 #[derive(Drop)]
@@ -42,7 +54,7 @@ impl Tally {
     }
 }
 
-/// Puts the rows of a file, and the pairs of its questions.
+/// Puts the rows of a file, the pairs of its questions, and its places.
 pub(crate) fn put_file(
     rt: &(impl Print + AllocGlobal),
     name: &str,
@@ -59,6 +71,11 @@ pub(crate) fn put_file(
         let questions = questions.as_table().context("questions are no table")?;
         check(questions, &QUESTIONS)?;
         put_questions(rt, name, questions, tally)?;
+    }
+    for row in list(file.get("places")) {
+        let row = row.as_table().context("a place is no table")?;
+        check(row, &PLACE)?;
+        tally.count(rt, name, place_differs(rt.alloc(), row)?)?;
     }
     Ok(())
 }

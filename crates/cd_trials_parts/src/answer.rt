@@ -5,7 +5,7 @@ use crate::clauses::clauses_of;
 use crate::elements::{copy, deep};
 use crate::graphs::{formula, size};
 use crate::integers::integers;
-use crate::names::names;
+use crate::names::{declared, names};
 use crate::orders::otherwise;
 use crate::outside::{memory_reads, puts, reads};
 use crate::questions::verdict;
@@ -13,6 +13,7 @@ use crate::row::{number, text};
 use crate::sets::{copies, order, set, subsets, union};
 use crate::tokens::tokens;
 use crate::types::{declarations_of, front, type_of};
+use crate::worlds::Session;
 use cd_base::files::Files;
 use std::alloc::{AllocError, Global};
 use toml::Value;
@@ -30,6 +31,7 @@ pub(crate) fn answer<F: Files>(
         "characters" => characters(alloc, of, text(row, "with")),
         "copies" => copies(alloc, of),
         "declarations" => declarations_of(alloc, of),
+        "declared_names" => declared(alloc, of, text(row, "with")),
         "deep" => deep(alloc, of, number(row, "count")),
         "files" => reads(alloc, files, of),
         "fronts" => front(alloc, of, number(row, "from"), number(row, "depth")),
@@ -51,16 +53,25 @@ pub(crate) fn answer<F: Files>(
 fn of_types(alloc: Global, table: &str, row: &Value) -> Result<String, AllocError> {
     let (types, of) = (text(row, "types"), text(row, "of"));
     let answer = match table {
-        "clauses" => clauses_of(alloc, types, of),
-        "element_copies" => copy(alloc, types, of),
-        "formulas" => formula(alloc, types, of, number(row, "depth")),
         "questions" => verdict(alloc, types, of),
         "sizes" => size(alloc, types),
         "worlds" => otherwise(alloc, row),
-        _ => None,
+        _ => of_question(alloc, table, row),
     };
     match answer {
         Some(answer) => Ok(answer),
         None => String::from_str(alloc, "no answer"),
+    }
+}
+
+// What a row with types is answered with that asks one question of them.
+fn of_question(alloc: Global, table: &str, row: &Value) -> Option<String> {
+    let mut session = Session::with(alloc, text(row, "types"))?;
+    let of = text(row, "of");
+    match table {
+        "clauses" => clauses_of(alloc, &*session, of),
+        "element_copies" => copy(alloc, &mut *session, of),
+        "formulas" => formula(alloc, &*session, of, number(row, "depth")),
+        _ => None,
     }
 }

@@ -2,8 +2,7 @@
 use crate::atoms::push_atoms;
 use crate::characters::push_characters;
 use crate::integers::push_integers;
-use crate::worlds::{asks_nodes, put, question_of};
-use cd_empty::World;
+use crate::worlds::{Session, asks_nodes};
 use cd_graph::Graph;
 use cd_graph::fields::Fields;
 use cd_normal::clause::Clause;
@@ -13,11 +12,9 @@ use cd_sets::question::Question;
 use std::alloc::{AllocError, Global};
 
 /// The clauses of what a text asks, sorted as texts.
-pub(crate) fn clauses_of(alloc: Global, types: &str, of: &str) -> Option<String> {
-    let mut world = World::new(alloc).ok()?;
-    let names = put(alloc, &mut world, types)?;
-    let question = question_of(alloc, &[names], of)?;
-    let clauses = found(alloc, world.graph(), &question)?;
+pub(crate) fn clauses_of(alloc: Global, session: &Session, of: &str) -> Option<String> {
+    let question = session.question(alloc, of)?;
+    let clauses = found(alloc, session.world.graph(), &question)?;
     joined(alloc, clauses.as_slice()).ok()
 }
 

@@ -1,5 +1,6 @@
 //! Files of rows, and how many rows differ.
 use crate::answer::answer;
+use crate::keys::unknown_key;
 use crate::row::{rows_of, text};
 use cd_base::files::Files;
 use cd_base::sink::{PutError, Sink};
@@ -81,7 +82,8 @@ fn count_tables<F: Files, S: Sink>(
     Ok(())
 }
 
-// Puts a row to its call, and prints it where what came is not what was wanted.
+// Puts a row to its call, and prints it where what came is not what was wanted. A row with a key that its table does not have
+// differs too.
 fn differs<F: Files, S: Sink>(
     alloc: Global,
     table: &str,
@@ -89,6 +91,10 @@ fn differs<F: Files, S: Sink>(
     files: &mut F,
     out: &mut S,
 ) -> Result<bool, PutError> {
+    if let Some(key) = unknown_key(table, row) {
+        out.put(format!(in alloc; "{table}: no row has the key {key}\n")?.as_bytes())?;
+        return Ok(true);
+    }
     let came = answer(alloc, table, row, files)?;
     if came.as_str() == text(row, "gives") {
         return Ok(false);

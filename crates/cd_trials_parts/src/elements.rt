@@ -1,7 +1,7 @@
 //! Elements.
-use crate::worlds::{decided, put, question_of};
+use crate::worlds::Session;
 use cd_elements::{ElementId, Elements, Pairs, Parts, Shape};
-use cd_empty::{Verdict, World};
+use cd_empty::Verdict;
 use std::alloc::{AllocError, Global};
 
 /// The length of the text of so many pairs, one in the other, to the right or to the left, and how it begins.
@@ -43,12 +43,10 @@ fn length_of(alloc: Global, elements: &Elements, id: ElementId) -> Result<String
 }
 
 /// The kind of the element that what a text asks has, where its parts are as their copy.
-pub(crate) fn copy(alloc: Global, types: &str, of: &str) -> Option<String> {
-    let mut world = World::new(alloc).ok()?;
-    let names = put(alloc, &mut world, types)?;
-    let question = question_of(alloc, &[names], of)?;
-    match decided(&mut world, &question)? {
-        Verdict::Inhabited(id) => copied(alloc, world.elements(), id),
+pub(crate) fn copy(alloc: Global, session: &mut Session, of: &str) -> Option<String> {
+    let question = session.question(alloc, of)?;
+    match session.decided(&question)? {
+        Verdict::Inhabited(id) => copied(alloc, session.world.elements(), id),
         Verdict::Empty => None,
     }
 }

@@ -1,7 +1,6 @@
 //! Graphs of declared types.
-use crate::worlds::{asks_nodes, declarations, put, question_of};
+use crate::worlds::{Session, asks_nodes, declarations};
 use cd_apart::are_apart;
-use cd_empty::World;
 use cd_graph::{Formula, Graph};
 use cd_resolve::resolve;
 use cd_sets::question::Question;
@@ -27,12 +26,10 @@ fn members(formulas: &[Formula]) -> usize {
 }
 
 /// How many parts the formula has of what a text asks, and whether it is seen that no element is in all nodes that it wants.
-pub(crate) fn formula(alloc: Global, types: &str, of: &str, depth: usize) -> Option<String> {
-    let mut world = World::new(alloc).ok()?;
-    let names = put(alloc, &mut world, types)?;
-    let question = question_of(alloc, &[names], of)?;
-    let parts = parts(world.graph(), &question)?;
-    let apart = apart(alloc, world.graph(), &question, depth)?;
+pub(crate) fn formula(alloc: Global, session: &Session, of: &str, depth: usize) -> Option<String> {
+    let question = session.question(alloc, of)?;
+    let parts = parts(session.world.graph(), &question)?;
+    let apart = apart(alloc, session.world.graph(), &question, depth)?;
     format!(in alloc; "{parts} {apart}").ok()
 }
 

@@ -10,6 +10,7 @@ mod elements;
 mod graphs;
 mod heads;
 mod integers;
+mod keys;
 mod names;
 mod orders;
 mod outside;

@@ -1,8 +1,7 @@
 //! Questions that one world answers, in two orders.
 use crate::row::{list, text};
-use crate::worlds::{decided, put, question_of};
-use cd_empty::{Verdict, World};
-use cd_resolve::Names;
+use crate::worlds::Session;
+use cd_empty::Verdict;
 use std::alloc::Global;
 use toml::Value;
 
@@ -10,61 +9,65 @@ use toml::Value;
 /// before `more` types are put in, and those in `then` after it; another one all after it, from the last to the first.
 pub(crate) fn otherwise(alloc: Global, row: &Value) -> Option<String> {
     let mut otherwise = String::new(alloc);
-    in_order(alloc, row, &mut otherwise)?;
-    turned_round(alloc, row, &mut otherwise)?;
+    in_order(alloc, row, &mut *session(alloc, row)?, &mut otherwise)?;
+    turned_round(alloc, row, &mut *session(alloc, row)?, &mut otherwise)?;
     Some(otherwise)
 }
 
+// A world with nodes for the types of a row.
+fn session(alloc: Global, row: &Value) -> Option<Box<Session>> {
+    Session::with(alloc, text(row, "types"))
+}
+
 // Asks in the order of the row, and then those of the beginning again.
-fn in_order(alloc: Global, row: &Value, otherwise: &mut String) -> Option<()> {
-    let mut world = World::new(alloc).ok()?;
-    let mut names = Vec::new(alloc);
-    names
-        .push(put(alloc, &mut world, text(row, "types"))?)
-        .ok()?;
-    for line in list(row, "asks") {
-        ask(alloc, &mut world, names.as_slice(), line, otherwise)?;
-    }
-    names.push(put(alloc, &mut world, text(row, "more"))?).ok()?;
-    for line in list(row, "then") {
-        ask(alloc, &mut world, names.as_slice(), line, otherwise)?;
-    }
-    for line in list(row, "asks") {
-        ask(alloc, &mut world, names.as_slice(), line, otherwise)?;
+fn in_order(
+    alloc: Global,
+    row: &Value,
+    session: &mut Session,
+    otherwise: &mut String,
+) -> Option<()> {
+    ask_all(alloc, session, list(row, "asks"), otherwise)?;
+    session.put(alloc, text(row, "more"))?;
+    ask_all(alloc, session, list(row, "then"), otherwise)?;
+    ask_all(alloc, session, list(row, "asks"), otherwise)
+}
+
+// Asks from the last to the first.
+fn turned_round(
+    alloc: Global,
+    row: &Value,
+    session: &mut Session,
+    otherwise: &mut String,
+) -> Option<()> {
+    session.put(alloc, text(row, "more"))?;
+    for lines in [list(row, "then"), list(row, "asks")] {
+        for line in lines.iter().rev() {
+            ask(alloc, session, line, otherwise)?;
+        }
     }
     Some(())
 }
 
-// Asks from the last to the first.
-fn turned_round(alloc: Global, row: &Value, otherwise: &mut String) -> Option<()> {
-    let mut world = World::new(alloc).ok()?;
-    let mut names = Vec::new(alloc);
-    names
-        .push(put(alloc, &mut world, text(row, "types"))?)
-        .ok()?;
-    names.push(put(alloc, &mut world, text(row, "more"))?).ok()?;
-    for line in list(row, "then").iter().rev() {
-        ask(alloc, &mut world, names.as_slice(), line, otherwise)?;
-    }
-    for line in list(row, "asks").iter().rev() {
-        ask(alloc, &mut world, names.as_slice(), line, otherwise)?;
+// Asks questions in turn.
+fn ask_all(
+    alloc: Global,
+    session: &mut Session,
+    lines: &[Value],
+    otherwise: &mut String,
+) -> Option<()> {
+    for line in lines {
+        ask(alloc, session, line, otherwise)?;
     }
     Some(())
 }
 
 // Asks a question, and notes it where it is answered otherwise than it says.
-fn ask(
-    alloc: Global,
-    world: &mut World,
-    names: &[Names],
-    line: &Value,
-    otherwise: &mut String,
-) -> Option<()> {
+fn ask(alloc: Global, session: &mut Session, line: &Value, otherwise: &mut String) -> Option<()> {
     let line = line.as_str()?;
     let (wanted, of) = line.split_once(": ")?;
-    let question = question_of(alloc, names, of)?;
-    let verdict = decided(world, &question)?;
-    if word(verdict) != wanted || world.settled(&question) != Some(verdict) {
+    let question = session.question(alloc, of)?;
+    let verdict = session.decided(&question)?;
+    if word(verdict) != wanted || session.world.settled(&question) != Some(verdict) {
         write!(otherwise, "{line}; ").ok()?;
     }
     Some(())

@@ -1,8 +1,7 @@
 //! Questions, each in a world of its own.
-use crate::worlds::{decided, put, question_of};
+use crate::worlds::Session;
 use cd_elements::{ElementId, Elements};
-use cd_empty::{Verdict, World};
-use cd_sets::question::Question;
+use cd_empty::Verdict;
 use std::alloc::Global;
 
 /// `empty` where what a text asks has no element. Else `inhabited`, where asking again confirms the element, which is told if not.
@@ -17,24 +16,23 @@ pub(crate) fn verdict(alloc: Global, types: &str, of: &str) -> Option<String> {
 
 // `empty`, or the text of an element.
 fn told(alloc: Global, types: &str, of: &str) -> Option<String> {
-    let mut world = World::new(alloc).ok()?;
-    let names = put(alloc, &mut world, types)?;
-    let question = question_of(alloc, &[names], of)?;
-    told_in(alloc, &mut world, &question)
+    told_in(alloc, &mut *Session::with(alloc, types)?, of)
 }
 
 // The same in a world in which it is not settled before, and is settled then.
-fn told_in(alloc: Global, world: &mut World, question: &Question) -> Option<String> {
-    if world.settled(question).is_some() {
+fn told_in(alloc: Global, session: &mut Session, of: &str) -> Option<String> {
+    let question = session.question(alloc, of)?;
+    if session.world.settled(&question).is_some() {
         return None;
     }
-    let verdict = decided(world, question)?;
-    if world.settled(question) != Some(verdict) || decided(world, question) != Some(verdict) {
+    let verdict = session.decided(&question)?;
+    let kept = session.world.settled(&question);
+    if kept != Some(verdict) || session.decided(&question) != kept {
         return None;
     }
     match verdict {
         Verdict::Empty => String::from_str(alloc, "empty").ok(),
-        Verdict::Inhabited(id) => element_text(alloc, world.elements(), id),
+        Verdict::Inhabited(id) => element_text(alloc, session.world.elements(), id),
     }
 }
 

@@ -16,7 +16,7 @@ use cd_sets::id_set::IdSet;
 use cd_sets::node_id::NodeId;
 use cd_sets::question::Question;
 use cd_syntax::type_tree::Declarations;
-use std::alloc::Global;
+use std::alloc::{AllocError, Global};
 
 /// The declarations that a text is, if it is some and their names are sound.
 pub(crate) fn declarations(alloc: Global, text: &str) -> Option<Declarations>
@@ -36,49 +36,78 @@ pub(crate) fn declarations(alloc: Global, text: &str) -> Option<Declarations>
     }
 }
 
-/// Puts nodes for declared types into a world, and gives their names.
-pub(crate) fn put(alloc: Global, world: &mut World, types: &str) -> Option<Names> {
-    let declared = declarations(alloc, types)?;
-    let first = world.graph().len();
-    if first < 14 {
-        return None;
-    }
-    let Ok(batch) = resolve(alloc, first, &declared) else {
-        return None;
-    };
-    match world.extend(batch.formulas) {
-        Ok(_) => Some(batch.names),
-        Err(_) => None,
-    }
+/// A world, and the names of types that were given nodes in it.
+#[derive(Drop)]
+pub(crate) struct Session {
+    pub(crate) world: World,
+    names: Vec<Names>,
 }
 
-// The node of a name.
-fn node(names: &[Names], word: &str) -> Option<NodeId> {
-    for list in names {
-        for (name, id) in list.items() {
-            if name.as_str() == word {
-                return Some(*id);
+impl Session {
+    /// A world with nodes for declared types.
+    pub(crate) fn with(alloc: Global, types: &str) -> Option<Box<Session>> {
+        let mut session = Session::new(alloc).ok()?;
+        session.put(alloc, types)?;
+        Some(session)
+    }
+
+    // A world without nodes of its own.
+    fn new(alloc: Global) -> Result<Box<Session>, AllocError> {
+        let world = World::new(alloc)?;
+        let names = Vec::new(alloc);
+        Ok(Box::new(alloc, Session { world, names })?)
+    }
+
+    /// Puts nodes for declared types into the world.
+    pub(crate) fn put(&mut self, alloc: Global, types: &str) -> Option<()> {
+        let declared = declarations(alloc, types)?;
+        let first = self.world.graph().len();
+        if first < 14 {
+            return None;
+        }
+        let batch = resolve(alloc, first, &declared).ok()?;
+        self.names.push(batch.names).ok()?;
+        self.world.extend(batch.formulas).ok()?;
+        Some(())
+    }
+
+    // The node of a name.
+    fn node(&self, word: &str) -> Option<NodeId> {
+        for list in self.names.iter() {
+            for (name, id) in list.items() {
+                if name.as_str() == word {
+                    return Some(*id);
+                }
             }
         }
+        None
     }
-    None
-}
 
-/// The question that a text asks, as `A & B \ C`: what is in the nodes after `&` and at the beginning, and outside those after `\`.
-pub(crate) fn question_of(alloc: Global, names: &[Names], text: &str) -> Option<Question> {
-    let mut question = Question {
-        pos: IdSet::new(alloc),
-        neg: IdSet::new(alloc),
-    };
-    let mut wanted = true;
-    for word in text.split_whitespace() {
-        match word {
-            "&" => wanted = true,
-            "\\" => wanted = false,
-            _ => add(&mut question, wanted, node(names, word)?)?,
+    /// The question that a text asks, as `A & B \ C`: what is in the nodes after `&` and at the
+    /// beginning, and outside those after `\`.
+    pub(crate) fn question(&self, alloc: Global, text: &str) -> Option<Question> {
+        let mut question = Question {
+            pos: IdSet::new(alloc),
+            neg: IdSet::new(alloc),
+        };
+        let mut wanted = true;
+        for word in text.split_whitespace() {
+            match word {
+                "&" => wanted = true,
+                "\\" => wanted = false,
+                _ => add(&mut question, wanted, self.node(word)?)?,
+            }
         }
+        Some(question)
     }
-    Some(question)
+
+    /// What is decided of a question.
+    pub(crate) fn decided(&mut self, question: &Question) -> Option<Verdict> {
+        if !asks_nodes(question, self.world.graph().len()) {
+            return None;
+        }
+        self.world.decide(question).ok()
+    }
 }
 
 // Adds a node to one side of a question.
@@ -108,12 +137,4 @@ pub(crate) fn asks_nodes(question: &Question, count: usize) -> bool
     ensures { OnTrue result (AsksNodes count question.now) }
 {
     are_below(question.pos.ids(), count) && are_below(question.neg.ids(), count)
-}
-
-/// What is decided of a question.
-pub(crate) fn decided(world: &mut World, question: &Question) -> Option<Verdict> {
-    if !asks_nodes(question, world.graph().len()) {
-        return None;
-    }
-    world.decide(question).ok()
 }
