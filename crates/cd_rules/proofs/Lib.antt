@@ -39,3 +39,10 @@ pub mod ClosedStays
 pub mod SplitsOfKept
 pub mod ReducedBroken
 pub mod ReducedHeld
+pub mod HoldsOrNot
+pub mod NodeSets
+pub mod PartsAsk
+pub mod BasicNeeds
+pub mod ClausesAnswer
+pub mod NumbersBeyond
+pub mod EachQuestion

@@ -4,7 +4,7 @@ ghost use Rattle.cd_sets.specs.declared.question.Question.{Question};
 ghost use Rattle.cd_model.specs.Thing as thing;
 ghost use Rattle.cd_model.specs.Thing.{Thing, IsElement, IsValue};
 ghost use Rattle.cd_model.specs.Each.{Each, One};
-ghost use Rattle.cd_model.specs.Formula.{Graph};
+ghost use Rattle.cd_model.specs.Formula.{Graph, IsGraph};
 ghost use Rattle.cd_model.specs.Membership.{asked, answers, reader, value_answers, value_reader};
 ghost use Rattle.cd_model.specs.Interfaces.{Interfaces};
 ghost use Rattle.cd_model.specs.BuiltIns.{built_ins, node, ANY, INT, CHAR};
@@ -87,6 +87,19 @@ pub fn reduced_clauses()
 pub fn clauses_are_settled()
     ensures { (graph : Graph) (family : List Question) (clause : Clause) → IsSettledClause (HasElement graph) family clause
         → IsSupplied (HasElement graph) clause ⊎ Breaks family clause }
+{}
+
+/// In a sound graph each question has an element or has none. Where it has none it has no value either, whatever the interfaces
+/// of functions are: so where a value is in some nodes and outside others, an element is too.
+pub fn questions_are_decided()
+    ensures decided { (graph more : Graph) (question : Question) → graph ≡ built_ins ++ more
+        → IsGraph graph → HasElement graph question ⊎ (HasElement graph question → ⊥) }
+    ensures values { (graph more : Graph) (question : Question) (interfaces : Interfaces) (v : Thing)
+        → graph ≡ built_ins ++ more → IsGraph graph → (HasElement graph question → ⊥) → IsValue v
+        → asked (value_answers graph interfaces v) question true → ⊥ }
+    ensures realised { (graph more : Graph) (question : Question) (interfaces : Interfaces) (v : Thing)
+        → graph ≡ built_ins ++ more → IsGraph graph → IsValue v
+        → asked (value_answers graph interfaces v) question true → HasElement graph question }
 {}
 
 /// Choices, ways and rows of small cases.

@@ -16,13 +16,12 @@ use Rattle.cd_model.specs.Each.{Each, One}
 use Rattle.cd_model.proofs.Labels.{IsOneOf}
 use Rattle.cd_rules.specs.Needs.{Need, empty_or_not}
 use Rattle.cd_rules.proofs.FreshLabels.{row_of_a, row_is_long, row_is_label, longest, no_longer}
-use Rattle.cd_rules.proofs.Ones.{each_of_all, one_weaker, one_leads, one_on_left, one_on_right}
-use Rattle.cd_empty.proofs.HoldsOrNot.{HoldsOrNot, or_not_with, both_or_not, three_or_not, each_or_not, one_or_not, same_or_not, below_or_not}
+use Rattle.cd_rules.proofs.Ones.{one_weaker, one_leads, one_on_left, one_on_right}
+use Rattle.cd_rules.proofs.HoldsOrNot.{HoldsOrNot, or_not_with, both_or_not, three_or_not, each_or_not, one_or_not, same_or_not, below_or_not}
 
 -- a test of each of some sets has the outcome or not
 tests_or_not : {X : Type 0} (test : X → Bool) (outcome : Bool) (sets : List X) → HoldsOrNot (Each (λ set. test set ≡ outcome) sets)
-tests_or_not test outcome sets = each_or_not (λ set. test set ≡ outcome) (λ set. Unit {0}) (λ set known. same_or_not (test set) outcome)
-    sets (each_of_all (λ set. Unit {0}) (λ set. tt) sets)
+tests_or_not test outcome = each_or_not (λ set. test set ≡ outcome) (λ set. same_or_not (test set) outcome)
 
 -- so it is known what a basic kind needs
 pub needs_known : {X : Type 0} (IsMember : X → Type 0) → HoldsOrNot ((x : X) × IsMember x)
@@ -93,8 +92,7 @@ not_found (other ∷ names) name none = by_test (bytes_eq name other) (bytes_eq-
 
 -- a name is among some or not, and is a label or not
 listed_or_not : (names : List Name) (name : Name) → HoldsOrNot (IsOneOf names name)
-listed_or_not names name = one_or_not (λ other. other ≡ name) (λ other. Unit {0}) (λ other known. names_or_not other)
-    names (each_of_all (λ other. Unit {0}) (λ other. tt) names)
+listed_or_not names name = one_or_not (λ other. other ≡ name) names_or_not names
   where
     names_or_not : (other : Name) → HoldsOrNot (other ≡ name)
     names_or_not other =
@@ -158,8 +156,7 @@ module _ (wanted refused : List AtomSet) where
   )
 
   pub atom_or_not : HoldsOrNot ((name : Name) × IsAtomOf name)
-  atom_or_not = by_listed (one_or_not IsAtomOf (λ name. Unit {0}) (λ name known. atom_of_or_not name) listed
-      (each_of_all (λ name. Unit {0}) (λ name. tt) listed)) (atom_of_or_not fresh)
+  atom_or_not = by_listed (one_or_not IsAtomOf atom_of_or_not listed) (atom_of_or_not fresh)
     where
       at_listed : (names : List Name) (name : Name) → IsOneOf names name → IsAtomOf name → One IsAtomOf names
       at_listed names name one is = one_weaker (λ other. other ≡ name) IsAtomOf (λ other same. subst IsAtomOf (sym same) is) names one
