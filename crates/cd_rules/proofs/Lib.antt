@@ -46,3 +46,4 @@ pub mod BasicNeeds
 pub mod ClausesAnswer
 pub mod NumbersBeyond
 pub mod EachQuestion
+pub mod ValuesDecided

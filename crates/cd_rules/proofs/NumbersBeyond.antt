@@ -13,7 +13,7 @@ use Rattle.cd_rules.proofs.Answered.{map_of_each, each_of_asked}
 use Rattle.cd_rules.proofs.Asking.{each_of_map, each_of_set, asked_of_each}
 use Rattle.cd_rules.proofs.Ones.{each_weaker, each_of_all}
 
-beyond : (graph : Graph) (id : ℕ) → length graph ≤ id → formula_at graph (node id) ≡ Nothing
+pub beyond : (graph : Graph) (id : ℕ) → length graph ≤ id → formula_at graph (node id) ≡ Nothing
 beyond [] id least = refl
 beyond (is ∷ graph) zero least = absurd (omega arith)
 beyond (is ∷ graph) (suc id) least = beyond graph id (omega arith)

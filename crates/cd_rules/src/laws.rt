@@ -1,12 +1,14 @@
 //! Laws of the definitions in `specs/`. Each is the contract of a function that does nothing.
-ghost use Rattle.std.specs.Prelude.{◌≡◌, ◌++◌, ◌↔◌, ◌⊎◌, true, false, List, [], ◌∷◌, length, map};
+ghost use Rattle.std.specs.Prelude.{ℕ, ◌≡◌, ◌++◌, ◌↔◌, ◌⊎◌, true, false, List, [], ◌∷◌, length, map};
+ghost use Rattle.cd_sets.specs.declared.node_id.NodeId.{NodeId};
 ghost use Rattle.cd_sets.specs.declared.question.Question.{Question};
 ghost use Rattle.cd_model.specs.Thing as thing;
 ghost use Rattle.cd_model.specs.Thing.{Thing, IsElement, IsValue};
 ghost use Rattle.cd_model.specs.Each.{Each, One};
 ghost use Rattle.cd_model.specs.Formula.{Graph, IsGraph};
 ghost use Rattle.cd_model.specs.Membership.{asked, answers, reader, value_answers, value_reader};
-ghost use Rattle.cd_model.specs.Interfaces.{Interfaces};
+ghost use Rattle.cd_model.specs.Interfaces.{Interfaces, OfNodes, OfWritten, ArrowOf, ArrowsAgree};
+ghost use Rattle.cd_model.specs.Written.{WrittenType};
 ghost use Rattle.cd_model.specs.BuiltIns.{built_ins, node, ANY, INT, CHAR};
 ghost use Rattle.cd_rules.specs.Settled.{IsSettledClause};
 ghost use Rattle.cd_rules.specs.Examples as example;
@@ -100,6 +102,19 @@ pub fn questions_are_decided()
     ensures realised { (graph more : Graph) (question : Question) (interfaces : Interfaces) (v : Thing)
         → graph ≡ built_ins ++ more → IsGraph graph → IsValue v
         → asked (value_answers graph interfaces v) question true → HasElement graph question }
+{}
+
+/// In a sound graph each value is in a node or outside it, where the arrows of functions are nodes of this graph, or written types
+/// that hold the same elements.
+pub fn values_are_decided()
+    ensures by_nodes { (graph more : Graph) (arrows : ℕ → List (ArrowOf NodeId)) (v : Thing) (id : NodeId)
+        → graph ≡ built_ins ++ more → IsGraph graph
+        → value_answers graph (OfNodes graph arrows) v id true ⊎ value_answers graph (OfNodes graph arrows) v id false }
+    ensures by_written { (graph more : Graph) (count : ℕ) (arrows : ℕ → List (ArrowOf NodeId))
+        (others : ℕ → List (ArrowOf WrittenType)) (v : Thing) (id : NodeId)
+        → graph ≡ built_ins ++ more → IsGraph graph
+        → ((function : ℕ) → ArrowsAgree graph count (arrows function) (others function))
+        → value_answers graph (OfWritten count others) v id true ⊎ value_answers graph (OfWritten count others) v id false }
 {}
 
 /// Choices, ways and rows of small cases.
