@@ -47,3 +47,4 @@ pub mod ClausesAnswer
 pub mod NumbersBeyond
 pub mod EachQuestion
 pub mod ValuesDecided
+pub mod WaysExact

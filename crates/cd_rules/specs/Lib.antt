@@ -9,3 +9,4 @@ pub mod Reduced
 pub mod Settled
 pub mod Examples
 pub mod Within
+pub mod InWay

@@ -15,9 +15,10 @@ ghost use Rattle.cd_rules.specs.Examples as example;
 ghost use Rattle.cd_rules.specs.Examples.{asks, both};
 ghost use Rattle.cd_rules.specs.Needs.{set_of, splits, splits_in_three, pair_way, xml_way, arrow_way};
 ghost use Rattle.cd_rules.specs.Rows.{rows_of};
+ghost use Rattle.cd_rules.specs.InWay.{AreInWay};
 ghost use Rattle.cd_rules.specs.InRow.{element_at, value_at, IsInRow};
-ghost use Rattle.cd_model.specs.Kinds.{kind_of, ARecord};
-ghost use Rattle.cd_rules.specs.Clauses.{Clause, RecordType, Pairs, Records, IsClauseOfQuestion, IsInClause};
+ghost use Rattle.cd_model.specs.Kinds.{kind_of, APair, AnXml, ARecord};
+ghost use Rattle.cd_rules.specs.Clauses.{Clause, Pair, Triple, RecordType, Pairs, Xmls, Records, IsClauseOfQuestion, IsInClause};
 ghost use Rattle.cd_rules.specs.Members.{HasElement, HasMember, IsSupplied, NamesLabels};
 ghost use Rattle.cd_rules.specs.Reduced.{IsReduced};
 ghost use Rattle.cd_rules.specs.Family.{IsOfFamily, IsCovered, BreaksRow, Breaks, IsClosed, AsksNodes};
@@ -76,10 +77,21 @@ pub fn families_cover()
     ensures { (family : List Question) (question : Question) → IsOfFamily question family → IsCovered question family }
 {}
 
-/// A clause holds the elements that its reduced form holds, and is broken where that is.
+/// A clause holds the elements and the values that its reduced form holds, and is broken where that is.
 pub fn reduced_clauses()
     ensures holds { (graph more : Graph) (clause reduced : Clause) (is : Thing) → graph ≡ built_ins ++ more → IsReduced graph clause reduced
         → IsElement is → IsInClause (kind_of is) (reader graph is) reduced → IsInClause (kind_of is) (reader graph is) clause }
+    ensures holds_values { (graph more : Graph) (arrows : ℕ → List (ArrowOf NodeId)) (clause reduced : Clause) (v : Thing)
+        → graph ≡ built_ins ++ more → IsGraph graph → IsReduced graph clause reduced → IsValue v
+        → IsInClause (kind_of v) (value_reader graph (OfNodes graph arrows) v) reduced
+        → IsInClause (kind_of v) (value_reader graph (OfNodes graph arrows) v) clause }
+    ensures holds_values_by_written { (graph more : Graph) (count : ℕ) (arrows : ℕ → List (ArrowOf NodeId))
+        (others : ℕ → List (ArrowOf WrittenType)) (clause reduced : Clause) (v : Thing)
+        → graph ≡ built_ins ++ more → IsGraph graph
+        → ((function : ℕ) → ArrowsAgree graph count (arrows function) (others function))
+        → IsReduced graph clause reduced → IsValue v
+        → IsInClause (kind_of v) (value_reader graph (OfWritten count others) v) reduced
+        → IsInClause (kind_of v) (value_reader graph (OfWritten count others) v) clause }
     ensures breaks { (graph : Graph) (family : List Question) (clause reduced : Clause) → IsReduced graph clause reduced
         → Breaks family reduced → Breaks family clause }
     ensures labels { (graph : Graph) (clause reduced : Clause) → IsReduced graph clause reduced → NamesLabels clause → NamesLabels reduced }
@@ -115,6 +127,30 @@ pub fn values_are_decided()
         → graph ≡ built_ins ++ more → IsGraph graph
         → ((function : ℕ) → ArrowsAgree graph count (arrows function) (others function))
         → value_answers graph (OfWritten count others) v id true ⊎ value_answers graph (OfWritten count others) v id false }
+{}
+
+/// A pair is in a clause exactly when its parts are in the questions of one way, and so is an XML thing, whose tag is an atom and
+/// whose attributes are a record.
+pub fn ways_are_exact()
+    ensures pairs { (graph : Graph) (wanted refused : List Pair) (first second : Thing)
+        → IsInClause APair (reader graph (thing.Pair first second)) (Pairs wanted refused)
+        ↔ One (AreInWay (answers graph first ∷ answers graph second ∷ []))
+            (map (pair_way wanted) (splits refused)) }
+    ensures pair_values { (graph : Graph) (interfaces : Interfaces) (wanted refused : List Pair) (first second : Thing)
+        → IsInClause APair (value_reader graph interfaces (thing.Pair first second)) (Pairs wanted refused)
+        ↔ One (AreInWay (value_answers graph interfaces first ∷ value_answers graph interfaces second ∷ []))
+            (map (pair_way wanted) (splits refused)) }
+    ensures xmls { (graph more : Graph) (wanted refused : List Triple) (tag attributes content : Thing)
+        → graph ≡ built_ins ++ more → thing.IsAtom tag → thing.IsRecord attributes
+        → IsInClause AnXml (reader graph (thing.Xml tag attributes content)) (Xmls wanted refused)
+        ↔ One (AreInWay (answers graph tag ∷ answers graph attributes ∷ answers graph content ∷ []))
+            (map (xml_way wanted) (splits_in_three refused)) }
+    ensures xml_values { (graph more : Graph) (interfaces : Interfaces) (wanted refused : List Triple)
+        (tag attributes content : Thing)
+        → graph ≡ built_ins ++ more → thing.IsAtom tag → thing.IsRecord attributes
+        → IsInClause AnXml (value_reader graph interfaces (thing.Xml tag attributes content)) (Xmls wanted refused)
+        ↔ One (AreInWay (value_answers graph interfaces tag ∷ value_answers graph interfaces attributes
+            ∷ value_answers graph interfaces content ∷ [])) (map (xml_way wanted) (splits_in_three refused)) }
 {}
 
 /// Choices, ways and rows of small cases.
