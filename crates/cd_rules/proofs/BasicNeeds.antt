@@ -14,10 +14,11 @@ use Rattle.cd_syntax.specs.Integer.{IsInteger}
 use Rattle.cd_syntax.specs.Name.{Name, IsLabel, is_word}
 use Rattle.cd_model.specs.Each.{Each, One}
 use Rattle.cd_model.proofs.Labels.{IsOneOf}
+use Rattle.cd_model.proofs.SoundOrNot.{names_or_not, label_or_not}
 use Rattle.cd_rules.specs.Needs.{Need, empty_or_not}
 use Rattle.cd_rules.proofs.FreshLabels.{row_of_a, row_is_long, row_is_label, longest, no_longer}
 use Rattle.cd_rules.proofs.Ones.{one_weaker, one_leads, one_on_left, one_on_right}
-use Rattle.cd_rules.proofs.HoldsOrNot.{HoldsOrNot, or_not_with, both_or_not, three_or_not, each_or_not, one_or_not, same_or_not, below_or_not}
+use Rattle.cd_model.proofs.HoldsOrNot.{HoldsOrNot, or_not_with, both_or_not, three_or_not, each_or_not, one_or_not, same_or_not, below_or_not}
 
 -- a test of each of some sets has the outcome or not
 tests_or_not : {X : Type 0} (test : X → Bool) (outcome : Bool) (sets : List X) → HoldsOrNot (Each (λ set. test set ≡ outcome) sets)
@@ -90,20 +91,9 @@ not_found (other ∷ names) name none = by_test (bytes_eq name other) (bytes_eq-
     by_test true is later = absurd (none (inl (sym (is refl))))
     by_test false is later = later
 
--- a name is among some or not, and is a label or not
+-- a name is among some or not
 listed_or_not : (names : List Name) (name : Name) → HoldsOrNot (IsOneOf names name)
-listed_or_not names name = one_or_not (λ other. other ≡ name) names_or_not names
-  where
-    names_or_not : (other : Name) → HoldsOrNot (other ≡ name)
-    names_or_not other =
-        or_not_with (bytes_eq-Decides other name).0 (bytes_eq-Decides other name).1 (same_or_not (bytes_eq other name) true)
-
-label_or_not : (name : Name) → HoldsOrNot (IsLabel name)
-label_or_not name = both_or_not (same_or_not (is_word name) true) (turned (listed_or_not (codes "_" ∷ []) name))
-  where
-    turned : HoldsOrNot (IsOneOf (codes "_" ∷ []) name) → HoldsOrNot (name ≡ codes "_" → ⊥)
-    turned (inl one) = inr (λ other. elim one [ inl same ↦ other (sym same) | inr none ↦ none ])
-    turned (inr none) = inl (λ same. none (inl (sym same)))
+listed_or_not names name = one_or_not (λ other. other ≡ name) (λ other. names_or_not other name) names
 
 -- sets treat two names alike that they do not list
 held_alike : (set : AtomSet) (one other : Name) → (IsOneOf set.names one → ⊥) → (IsOneOf set.names other → ⊥)

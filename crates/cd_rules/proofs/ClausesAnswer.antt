@@ -10,7 +10,7 @@ use Rattle.cd_rules.specs.Clauses.{Clause, Ints, Chars, Atoms, Pairs, Xmls, Reco
 use Rattle.cd_rules.specs.Clauses.{integers_of, characters_of, atoms_of, pair_of, xml_of, record_of, arrow_of}
 use Rattle.cd_rules.specs.Family.{Breaks}
 use Rattle.cd_rules.specs.Members.{IsSupplied}
-use Rattle.cd_rules.proofs.HoldsOrNot.{HoldsOrNot, each_or_not}
+use Rattle.cd_model.proofs.HoldsOrNot.{HoldsOrNot, each_or_not}
 
 -- two kinds are one or not
 kinds_or_not : (one other : Kind) → HoldsOrNot (one ≡ other)

@@ -33,7 +33,7 @@ use Rattle.cd_rules.specs.Within.{IsWithin}
 use Rattle.cd_rules.proofs.PartsAsk.{RowAsks, clause_is_within, clause_names_labels, pair_ways_ask, xml_ways_ask, arrow_ways_ask, rows_ask}
 use Rattle.cd_rules.proofs.BasicNeeds.{needs_known, integer_or_not, character_or_not, atom_or_not}
 use Rattle.cd_rules.proofs.ClausesAnswer.{Answer, choices_answer}
-use Rattle.cd_rules.proofs.HoldsOrNot.{HoldsOrNot}
+use Rattle.cd_model.proofs.HoldsOrNot.{HoldsOrNot}
 use Rattle.cd_rules.proofs.NodeSets.{all_questions, among_all, all_ask_nodes}
 
 -- a basic kind has no questions

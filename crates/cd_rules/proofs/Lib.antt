@@ -39,7 +39,6 @@ pub mod ClosedStays
 pub mod SplitsOfKept
 pub mod ReducedBroken
 pub mod ReducedHeld
-pub mod HoldsOrNot
 pub mod NodeSets
 pub mod PartsAsk
 pub mod BasicNeeds

@@ -22,7 +22,7 @@ use Rattle.cd_rules.proofs.Answered.{map_of_each}
 use Rattle.cd_rules.proofs.ArrowsForward.{arrows_forward, parts_have, mapping_decided, mapping_apart}
 use Rattle.cd_rules.proofs.Asking.{each_of_map}
 use Rattle.cd_rules.proofs.EachQuestion.{has_or_not}
-use Rattle.cd_rules.proofs.HoldsOrNot.{HoldsOrNot, each_or_not, one_or_not}
+use Rattle.cd_model.proofs.HoldsOrNot.{HoldsOrNot, each_or_not, one_or_not}
 use Rattle.cd_rules.proofs.MembersOfArrows.{function_of_ways}
 use Rattle.cd_rules.proofs.NumbersBeyond.{beyond}
 
