@@ -1,5 +1,5 @@
 -- Whether a thing is a value, and whether it is an element, is known.
-use Rattle.std.proofs.Common.{◌≡◌, ℕ, ℤ, pos, negsuc, Bool, true, Option, Some, None, ◌⊎◌, inl, inr, refl, arith, nat_lt, bytes_eq, codes}
+use Rattle.std.proofs.Common.{◌≡◌, ℤ, pos, negsuc, true, Option, Some, None, inl, inr, refl, arith, nat_lt, bytes_eq, codes}
 use Rattle.std.specs.Ordering.{nat_cmp}
 use Rattle.std.specs.Cmp.Lexicographic.{slice_cmp}
 use Rattle.std.specs.declared.cmp.Ordering.{Ordering}

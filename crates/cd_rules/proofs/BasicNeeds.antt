@@ -1,5 +1,5 @@
 -- Of integers, characters or atoms one is in each of some sets and in none of others, or none is.
-use Rattle.std.proofs.Common.{◌≡◌, ℕ, ◌<◌, ℤ, pos, negsuc, Bool, true, false, ◌||◌, List, [], ◌∷◌, ◌++◌, inl, inr, refl, sym, ◌∙◌, subst, arith, codes, bytes_eq}
+use Rattle.std.proofs.Common.{◌≡◌, ℕ, ◌<◌, ℤ, pos, negsuc, Bool, true, false, ◌||◌, List, [], ◌∷◌, ◌++◌, inl, inr, refl, sym, ◌∙◌, subst, arith, bytes_eq}
 use Rattle.std.specs.Char.{IsScalar}
 use Rattle.std.specs.List.{list_any}
 use Rattle.std.proofs.lemmas.Slice.Eq.{bytes_eq-Decides}
@@ -11,14 +11,14 @@ use Rattle.cd_intervals.specs.Characters.{CharInterval, holds_character}
 use Rattle.cd_intervals.specs.Interval as integers
 use Rattle.cd_intervals.proofs.Numbering.{scalar_range}
 use Rattle.cd_syntax.specs.Integer.{IsInteger}
-use Rattle.cd_syntax.specs.Name.{Name, IsLabel, is_word}
+use Rattle.cd_syntax.specs.Name.{Name, IsLabel}
 use Rattle.cd_model.specs.Each.{Each, One}
 use Rattle.cd_model.proofs.Labels.{IsOneOf}
 use Rattle.cd_model.proofs.SoundOrNot.{names_or_not, label_or_not}
 use Rattle.cd_rules.specs.Needs.{Need, empty_or_not}
 use Rattle.cd_rules.proofs.FreshLabels.{row_of_a, row_is_long, row_is_label, longest, no_longer}
 use Rattle.cd_rules.proofs.Ones.{one_weaker, one_leads, one_on_left, one_on_right}
-use Rattle.cd_model.proofs.HoldsOrNot.{HoldsOrNot, or_not_with, both_or_not, three_or_not, each_or_not, one_or_not, same_or_not, below_or_not}
+use Rattle.cd_model.proofs.HoldsOrNot.{HoldsOrNot, both_or_not, three_or_not, each_or_not, one_or_not, same_or_not, below_or_not}
 
 -- a test of each of some sets has the outcome or not
 tests_or_not : {X : Type 0} (test : X → Bool) (outcome : Bool) (sets : List X) → HoldsOrNot (Each (λ set. test set ≡ outcome) sets)

@@ -1,7 +1,7 @@
 -- Each question has an element or has none, and where it has none it has no value.
 --
 -- Of all questions of two sets of nodes a family is kept, from which questions that have an element are taken, until it is closed.
-use Rattle.std.proofs.Common.{◌≡◌, ℕ, zero, suc, ◌<◌, ◌≤◌, List, [], ◌∷◌, ◌++◌, ◌⊎◌, inl, inr, true, refl, sym, ap, subst, arith, map, length, length-append}
+use Rattle.std.proofs.Common.{◌≡◌, ℕ, zero, suc, ◌<◌, ◌≤◌, List, [], ◌∷◌, ◌++◌, ◌⊎◌, inl, inr, true, refl, sym, ap, subst, arith, map, length}
 use Rattle.cd_sets.specs.declared.question.Question.{Question}
 use Rattle.cd_model.specs.BuiltIns.{built_ins}
 use Rattle.cd_model.specs.Each.{Each, One}
@@ -62,10 +62,10 @@ module _ (graph more : Graph) (begins : graph ≡ built_ins ++ more) (sound : Is
     question_settled : (one : Question) → AsksNodes nodes one → IsSettled (HasElement graph) family one
     question_settled one asks = elim (covers (set_question one) (among_all nodes one.pos one.neg
         (each_of_set (λ id. id.0 < nodes) one.pos asks.0, each_of_set (λ id. id.0 < nodes) one.neg asks.1))) [
-      | inl has ↦ inl (has.0, has.1, each_of_asked (answers graph has.0) one.pos one.neg has.2)
-      | inr of ↦ inr (covers_more family one (set_question one) (set_among one.pos, set_among one.neg)
-          (covers_own family (set_question one) of))
-    ]
+          | inl has ↦ inl (has.0, has.1, each_of_asked (answers graph has.0) one.pos one.neg has.2)
+          | inr of ↦ inr (covers_more family one (set_question one) (set_among one.pos, set_among one.neg)
+              (covers_own family (set_question one) of))
+        ]
 
     way_settled : (way : Way) → Each (AsksNodes nodes) way → Each (IsSettled (HasElement graph) family) way
     way_settled = each_weaker (AsksNodes nodes) (IsSettled (HasElement graph) family) question_settled

@@ -12,7 +12,7 @@ use Rattle.cd_model.specs.Membership.{Answers, Mapping, answers, value_answers, 
 use Rattle.cd_model.specs.Types as types
 use Rattle.cd_model.specs.Types.{no_closure, closure_maps}
 use Rattle.cd_model.proofs.DecidedAtNodes.{in_or_outside}
-use Rattle.cd_rules.specs.Clauses.{Clause, Ints, Chars, Atoms, Pairs, Xmls, Records, Arrows, Pair, Triple, IsInClause}
+use Rattle.cd_rules.specs.Clauses.{Clause, Pairs, Xmls, Pair, Triple, IsInClause}
 use Rattle.cd_rules.specs.Reduced.{AreApart, LeavesOut, none, keeps, leaves, IsPairApart, IsXmlApart, IsReduced}
 use Rattle.cd_rules.proofs.Asking.{each_of_map}
 use Rattle.cd_rules.proofs.EachQuestion.{element_too}
@@ -132,8 +132,13 @@ module _ (graph : Graph) where
 
     elements_have : (e : Thing) → IsElement e → HasParts no_closure e
     elements_have (thing.Pair first second) is = (element_outside first is.0, element_outside second is.1)
-    elements_have (thing.Xml tag attributes content) is = (element_outside tag is.2, element_outside attributes is.3,
-        element_outside content is.4, tag_in graph begins tag is.0, attributes_in graph begins attributes is.1)
+    elements_have (thing.Xml tag attributes content) is = (
+      element_outside tag is.2,
+      element_outside attributes is.3,
+      element_outside content is.4,
+      tag_in graph begins tag is.0,
+      attributes_in graph begins attributes is.1,
+    )
     elements_have _ is = tt
 
     pub elements_held : (clause reduced : Clause) (e : Thing) → IsReduced graph clause reduced → IsElement e
@@ -153,9 +158,13 @@ module _ (graph : Graph) where
 
       values_have : (v : Thing) → IsValue v → HasParts closures v
       values_have (thing.Pair first second) is = (value_outside first is.0, value_outside second is.1)
-      values_have (thing.Xml tag attributes content) is = (value_outside tag is.2, value_outside attributes is.3,
-          value_outside content is.4, value_tag_in graph begins interfaces tag is.0,
-          value_attributes_in graph begins interfaces attributes is.1)
+      values_have (thing.Xml tag attributes content) is = (
+        value_outside tag is.2,
+        value_outside attributes is.3,
+        value_outside content is.4,
+        value_tag_in graph begins interfaces tag is.0,
+        value_attributes_in graph begins interfaces attributes is.1,
+      )
       values_have _ is = tt
 
       pub values_held : (clause reduced : Clause) (v : Thing) → IsReduced graph clause reduced → IsValue v

@@ -1,19 +1,18 @@
 -- Each value is in a node or outside it, where the arrows of closures are nodes of the same graph: a closure is in an arrow exactly
 -- when a need of arrows is not met.
-use Rattle.std.proofs.Common.{◌≡◌, ℕ, ◌<◌, ◌≤◌, true, false, List, [], ◌∷◌, ◌++◌, ◌⊎◌, inl, inr, refl, sym, subst, map, length, nat_lt}
+use Rattle.std.proofs.Common.{◌≡◌, ℕ, true, false, List, [], ◌∷◌, ◌++◌, ◌⊎◌, inl, inr, refl, sym, subst, map, length, nat_lt}
 use Rattle.std.proofs.lemmas.Bool.{cases_Bool, ltb-true, ltb-false}
 use Rattle.cd_sets.specs.declared.node_id.NodeId.{NodeId}
 use Rattle.cd_model.specs.BuiltIns.{built_ins}
 use Rattle.cd_model.specs.Each.{Each}
-use Rattle.cd_model.specs.Formula.{Graph, IsGraph, nodes, at_formula, holds, in_node}
-use Rattle.cd_model.specs.Interfaces.{Interfaces, OfNodes, OfWritten, ArrowOf, ArrowsAgree, admits, value_in_node, value_reader}
+use Rattle.cd_model.specs.Formula.{Graph, IsGraph, nodes, at_formula, holds}
+use Rattle.cd_model.specs.Interfaces.{OfNodes, OfWritten, ArrowOf, ArrowsAgree, admits, value_in_node, value_reader}
 use Rattle.cd_model.specs.Membership.{mapping}
-use Rattle.cd_model.specs.Thing as thing
 use Rattle.cd_model.specs.Thing.{Thing}
 use Rattle.cd_model.specs.Types.{AllMap, closure_maps}
 use Rattle.cd_model.specs.Written.{WrittenType}
 use Rattle.cd_model.proofs.Admitting.{interfaces_agree}
-use Rattle.cd_model.proofs.Decided.{DecidesArrows, answers_decide}
+use Rattle.cd_model.proofs.Decided.{answers_decide}
 use Rattle.cd_model.proofs.DecidedAtNodes.{nodes_decide}
 use Rattle.cd_rules.specs.Clauses.{Pair}
 use Rattle.cd_rules.specs.Members.{HasElement, IsMet}

@@ -1,6 +1,5 @@
 -- A pair is in a clause exactly when its parts are in the questions of one way, and so is an XML thing.
 use Rattle.std.proofs.Common.{◌≡◌, ◌↔◌, true, List, [], ◌∷◌, ◌++◌, map, refl}
-use Rattle.cd_sets.specs.declared.node_id.NodeId.{NodeId}
 use Rattle.cd_model.specs.BuiltIns.{built_ins, ATOM, RECORD}
 use Rattle.cd_model.specs.Each.{One}
 use Rattle.cd_model.specs.Formula.{Graph}

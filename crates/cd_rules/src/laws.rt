@@ -135,22 +135,22 @@ pub fn ways_are_exact()
     ensures pairs { (graph : Graph) (wanted refused : List Pair) (first second : Thing)
         → IsInClause APair (reader graph (thing.Pair first second)) (Pairs wanted refused)
         ↔ One (AreInWay (answers graph first ∷ answers graph second ∷ []))
-            (map (pair_way wanted) (splits refused)) }
+        (map (pair_way wanted) (splits refused)) }
     ensures pair_values { (graph : Graph) (interfaces : Interfaces) (wanted refused : List Pair) (first second : Thing)
         → IsInClause APair (value_reader graph interfaces (thing.Pair first second)) (Pairs wanted refused)
         ↔ One (AreInWay (value_answers graph interfaces first ∷ value_answers graph interfaces second ∷ []))
-            (map (pair_way wanted) (splits refused)) }
+        (map (pair_way wanted) (splits refused)) }
     ensures xmls { (graph more : Graph) (wanted refused : List Triple) (tag attributes content : Thing)
         → graph ≡ built_ins ++ more → thing.IsAtom tag → thing.IsRecord attributes
         → IsInClause AnXml (reader graph (thing.Xml tag attributes content)) (Xmls wanted refused)
         ↔ One (AreInWay (answers graph tag ∷ answers graph attributes ∷ answers graph content ∷ []))
-            (map (xml_way wanted) (splits_in_three refused)) }
+        (map (xml_way wanted) (splits_in_three refused)) }
     ensures xml_values { (graph more : Graph) (interfaces : Interfaces) (wanted refused : List Triple)
         (tag attributes content : Thing)
         → graph ≡ built_ins ++ more → thing.IsAtom tag → thing.IsRecord attributes
         → IsInClause AnXml (value_reader graph interfaces (thing.Xml tag attributes content)) (Xmls wanted refused)
         ↔ One (AreInWay (value_answers graph interfaces tag ∷ value_answers graph interfaces attributes
-            ∷ value_answers graph interfaces content ∷ [])) (map (xml_way wanted) (splits_in_three refused)) }
+        ∷ value_answers graph interfaces content ∷ [])) (map (xml_way wanted) (splits_in_three refused)) }
 {}
 
 /// Choices, ways and rows of small cases.
