@@ -119,3 +119,9 @@ pub fn interfaces_agree()
         → (is : Thing) (id : NodeId) (answer : Bool) → id.0 < length graph
         → value_in_node graph (OfNodes graph arrows) is id answer ↔ value_in_node graph (OfWritten count others) is id answer }
 {}
+
+/// Each thing is an element or is none, and is a value or is none.
+pub fn soundness_is_decided()
+    ensures elements { (e : Thing) → IsElement e ⊎ (IsElement e → ⊥) }
+    ensures values { (v : Thing) → IsValue v ⊎ (IsValue v → ⊥) }
+{}

@@ -6,13 +6,15 @@ use Rattle.cd_sets.specs.declared.question.Question.{Question}
 use Rattle.cd_model.specs.Thing as thing
 use Rattle.cd_model.specs.Thing.{Thing, IsElement}
 use Rattle.cd_model.specs.Each.{Each, One}
-use Rattle.cd_model.specs.Formula.{Graph}
+use Rattle.cd_model.specs.Formula.{Graph, nodes}
 use Rattle.cd_model.specs.Membership as node
 use Rattle.cd_model.specs.Membership.{asked, answers}
 use Rattle.cd_model.specs.Interfaces.{Interfaces, admits}
 use Rattle.std.specs.Prelude.{ℕ}
+use Rattle.cd_model.proofs.Apart.{element_apart}
+use Rattle.cd_model.proofs.ApartAtNodes.{nodes_keep}
 use Rattle.cd_model.proofs.DecidedAtNodes.{in_or_outside}
-use Rattle.cd_model.proofs.Logic.{both_or, swapped, maps_or}
+use Rattle.cd_model.proofs.Logic.{both_or, swapped, maps_or, both_apart, maps_apart}
 use Rattle.cd_rules.specs.Clauses.{Pair}
 use Rattle.cd_rules.specs.Needs.{question, splits, result_questions, arrow_way}
 use Rattle.cd_rules.proofs.Asking.{each_of_map, asked_of_each}
@@ -121,6 +123,17 @@ mapping_decided graph (thing.Maps from to rest) argument result = maps_or (in_or
     (in_or_outside graph to result) (mapping_decided graph rest argument result)
 mapping_decided graph (thing.Fails from rest) argument result =
     both_or (swapped (in_or_outside graph from argument)) (mapping_decided graph rest argument result)
+
+-- and not both
+pub mapping_apart : (graph : Graph) (pairs : thing.Pairs) (argument result : NodeId)
+    → node.mapping graph pairs argument result true → node.mapping graph pairs argument result false → ⊥
+mapping_apart graph thing.NoPair argument result is out = true≢false (sym out)
+mapping_apart graph (thing.Maps from to rest) argument result is out =
+    maps_apart (element_apart (nodes graph) (nodes_keep graph) from argument) (element_apart (nodes graph) (nodes_keep graph) to result)
+    (mapping_apart graph rest argument result) is out
+mapping_apart graph (thing.Fails from rest) argument result is out =
+    both_apart (λ outside inside. element_apart (nodes graph) (nodes_keep graph) from argument inside outside)
+    (mapping_apart graph rest argument result) is out
 
 -- what holds of all elements holds of the arguments and results of a function
 pub parts_have : (graph : Graph) (Fact : Question → Type 0)

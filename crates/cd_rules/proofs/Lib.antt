@@ -39,3 +39,11 @@ pub mod ClosedStays
 pub mod SplitsOfKept
 pub mod ReducedBroken
 pub mod ReducedHeld
+pub mod NodeSets
+pub mod PartsAsk
+pub mod BasicNeeds
+pub mod ClausesAnswer
+pub mod NumbersBeyond
+pub mod EachQuestion
+pub mod ValuesDecided
+pub mod WaysExact

@@ -104,7 +104,7 @@ module _ (graph : Graph) (wanted refused : List Pair) (one : Pair) (pairs : thin
   added given (first ∷ others) is have = added_maps given first others is have
 
 -- a function with one pair for each refused arrow, by recursion on these
-function_of_ways : (graph : Graph) (wanted refused : List Pair)
+pub function_of_ways : (graph : Graph) (wanted refused : List Pair)
     → Each (IsMet (HasElement graph)) (map (λ one. map (arrow_way one) (splits wanted)) refused)
     → (pairs : thing.Pairs) × IsInArrows graph wanted refused pairs
 function_of_ways graph wanted [] each = (thing.NoPair, (tt, none_in_arrows graph wanted, tt))

@@ -57,12 +57,12 @@ attributes_in graph begins (thing.Record fields) is = subst (λ graph. answers g
     (sym begins.1) ((elements.records_are begins.0 no_closure (thing.Record fields)).1 refl)
 attributes_in graph begins _ is = absurd is
 
-value_tag_in : (graph : Graph) → (more : Graph) × (graph ≡ built_ins ++ more) → (interfaces : Interfaces) (v : Thing) → thing.IsAtom v
+pub value_tag_in : (graph : Graph) → (more : Graph) × (graph ≡ built_ins ++ more) → (interfaces : Interfaces) (v : Thing) → thing.IsAtom v
     → value_answers graph interfaces v ATOM true
 value_tag_in graph begins interfaces (thing.Atom name) is = rw begins.1 refl
 value_tag_in graph begins interfaces _ is = absurd is
 
-value_attributes_in : (graph : Graph) → (more : Graph) × (graph ≡ built_ins ++ more) → (interfaces : Interfaces) (v : Thing) → thing.IsRecord v
+pub value_attributes_in : (graph : Graph) → (more : Graph) × (graph ≡ built_ins ++ more) → (interfaces : Interfaces) (v : Thing) → thing.IsRecord v
     → value_answers graph interfaces v RECORD true
 value_attributes_in graph begins interfaces (thing.Record fields) is = subst (λ graph. value_answers graph interfaces (thing.Record fields) RECORD true)
     (sym begins.1) ((elements.records_are begins.0 (closure_maps (nodes (built_ins ++ begins.0)) (admits interfaces)) (thing.Record fields)).1 refl)

@@ -1,12 +1,13 @@
--- A pair of a clause meets both questions of one of the ways of the clause's need.
-use Rattle.std.proofs.Common.{true, false, List, map}
+-- A pair of a clause has its parts in both questions of one of the ways of the clause's need.
+use Rattle.std.proofs.Common.{true, false, List, [], ◌∷◌, map}
 use Rattle.cd_sets.specs.declared.node_id.NodeId.{NodeId}
 use Rattle.cd_sets.specs.declared.question.Question.{Question}
 use Rattle.cd_model.specs.Each.{Each, One}
 use Rattle.cd_model.specs.Formula as formula
 use Rattle.cd_model.specs.Membership.{Answers, asked, pair_reader}
 use Rattle.cd_rules.specs.Clauses.{Pair}
-use Rattle.cd_rules.specs.Needs.{question, pair_way, splits}
+use Rattle.cd_rules.specs.InWay.{AreInWay}
+use Rattle.cd_rules.specs.Needs.{Way, question, pair_way, splits}
 use Rattle.cd_rules.proofs.Asking.{each_of_map, asked_of_each}
 use Rattle.cd_rules.proofs.Ones.{each_weaker, one_weaker, one_of_map}
 use Rattle.cd_rules.proofs.Sides.{HaveBoth, one_splits}
@@ -18,17 +19,26 @@ pub asked_of_parts : {X : Type 0} (answers : Answers) (part : X → NodeId) (wan
 asked_of_parts answers part wanted refused inside outside = asked_of_each answers (map part wanted) (map part refused)
     (each_of_map part (λ id. answers id true) wanted inside) (each_of_map part (λ id. answers id false) refused outside)
 
--- what is so of each question that a part of a pair meets is so of both questions of one way, where the pair is in the clause
-pub pairs_forward : (first second : Answers) (Fact : Question → Type 0)
-    → ((question : Question) → asked first question true → Fact question)
-    → ((question : Question) → asked second question true → Fact question)
-    → (wanted refused : List Pair)
+-- where parts are in the questions of a way, what is so of each question that a part is in is so of all of them
+abbrev pub EachGives : (Question → Type 0) → List Answers → Type 0
+EachGives Fact [] = Unit {0}
+EachGives Fact (answers ∷ parts) = ((question : Question) → asked answers question true → Fact question) × EachGives Fact parts
+
+pub facts_of_way : (Fact : Question → Type 0) (parts : List Answers) → EachGives Fact parts → (way : Way) → AreInWay parts way → Each Fact way
+facts_of_way Fact [] gives [] within = tt
+facts_of_way Fact [] gives (question ∷ way) within = absurd within
+facts_of_way Fact (answers ∷ parts) gives [] within = absurd within
+facts_of_way Fact (answers ∷ parts) gives (question ∷ way) within =
+    (gives.0 question within.0, facts_of_way Fact parts gives.1 way within.1)
+
+-- a pair of a clause has its parts in one way
+pub pair_in_way : (first second : Answers) (wanted refused : List Pair)
     → Each (λ parts. pair_reader first second (formula.Pair parts.0 parts.1) true) wanted
     → Each (λ parts. pair_reader first second (formula.Pair parts.0 parts.1) false) refused
-    → One (Each Fact) (map (pair_way wanted) (splits refused))
-pairs_forward first second Fact of_first of_second wanted refused inside outside =
-    one_of_map (pair_way wanted) (Each Fact) (splits refused)
-    (one_weaker (HaveBoth out_first out_second) (λ given. Each Fact (pair_way wanted given)) of_way (splits refused)
+    → One (AreInWay (first ∷ second ∷ [])) (map (pair_way wanted) (splits refused))
+pair_in_way first second wanted refused inside outside =
+    one_of_map (pair_way wanted) (AreInWay (first ∷ second ∷ [])) (splits refused)
+    (one_weaker (HaveBoth out_first out_second) (λ given. AreInWay (first ∷ second ∷ []) (pair_way wanted given)) of_way (splits refused)
     (one_splits out_first out_second refused outside))
   where
     out_first : Pair → Type 0
@@ -43,8 +53,22 @@ pairs_forward first second Fact of_first of_second wanted refused inside outside
     in_second : Each (λ (parts : Pair). second parts.1 true) wanted
     in_second = each_weaker (λ (parts : Pair). first parts.0 true × second parts.1 true) (λ parts. second parts.1 true) (λ parts is. is.1) wanted inside
 
-    of_way : (given : List Pair × List Pair) → HaveBoth out_first out_second given → Each Fact (pair_way wanted given)
+    of_way : (given : List Pair × List Pair) → HaveBoth out_first out_second given
+        → AreInWay (first ∷ second ∷ []) (pair_way wanted given)
     of_way given both = (
-      of_first _ (asked_of_parts first (λ parts. parts.0) wanted given.0 in_first both.0),
-      (of_second _ (asked_of_parts second (λ parts. parts.1) wanted given.1 in_second both.1), tt),
+      asked_of_parts first (λ parts. parts.0) wanted given.0 in_first both.0,
+      (asked_of_parts second (λ parts. parts.1) wanted given.1 in_second both.1, tt),
     )
+
+-- so what is so of each question that a part of it is in is so of both questions of one way
+pub pairs_forward : (first second : Answers) (Fact : Question → Type 0)
+    → ((question : Question) → asked first question true → Fact question)
+    → ((question : Question) → asked second question true → Fact question)
+    → (wanted refused : List Pair)
+    → Each (λ parts. pair_reader first second (formula.Pair parts.0 parts.1) true) wanted
+    → Each (λ parts. pair_reader first second (formula.Pair parts.0 parts.1) false) refused
+    → One (Each Fact) (map (pair_way wanted) (splits refused))
+pairs_forward first second Fact of_first of_second wanted refused inside outside =
+    one_weaker (AreInWay (first ∷ second ∷ [])) (Each Fact)
+    (facts_of_way Fact (first ∷ second ∷ []) (of_first, (of_second, tt)))
+    (map (pair_way wanted) (splits refused)) (pair_in_way first second wanted refused inside outside)

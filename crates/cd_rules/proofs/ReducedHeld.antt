@@ -1,18 +1,22 @@
--- A clause holds what its reduced form holds: an element in all wanted formulas is outside a refused one that is apart from them.
-use Rattle.std.proofs.Common.{◌≡◌, true, false, List, ◌++◌, ◌⊎◌, map, inl, inr, subst}
+-- A clause holds what its reduced form holds: what is in all wanted formulas is outside a refused one that is apart from them.
+use Rattle.std.proofs.Common.{◌≡◌, ℕ, true, false, List, [], ◌∷◌, ◌++◌, ◌⊎◌, map, inl, inr, subst}
 use Rattle.cd_sets.specs.declared.node_id.NodeId.{NodeId}
 use Rattle.cd_model.specs.Thing as thing
-use Rattle.cd_model.specs.Thing.{Thing, IsElement}
-use Rattle.cd_model.specs.BuiltIns.{built_ins}
+use Rattle.cd_model.specs.Thing.{Thing, IsElement, IsValue}
+use Rattle.cd_model.specs.BuiltIns.{built_ins, ATOM, RECORD}
 use Rattle.cd_model.specs.Each.{Each}
-use Rattle.cd_model.specs.Formula.{Graph}
-use Rattle.cd_model.specs.Kinds.{kind_of}
-use Rattle.cd_model.specs.Membership.{answers, reader}
+use Rattle.cd_model.specs.Formula.{Graph, IsGraph, nodes, at_formula}
+use Rattle.cd_model.specs.Interfaces.{Interfaces, admits}
+use Rattle.cd_model.specs.Kinds.{kind_of, APair, AnXml}
+use Rattle.cd_model.specs.Membership.{Answers, Mapping, answers, value_answers, pair_reader, xml_reader}
+use Rattle.cd_model.specs.Types as types
+use Rattle.cd_model.specs.Types.{no_closure, closure_maps}
 use Rattle.cd_model.proofs.DecidedAtNodes.{in_or_outside}
-use Rattle.cd_rules.specs.Clauses.{Clause, Ints, Chars, Atoms, Pairs, Xmls, Records, Arrows, Pair, Triple, IsInClause}
-use Rattle.cd_rules.specs.Reduced.{LeavesOut, none, keeps, leaves, IsPairApart, IsXmlApart, IsReduced}
+use Rattle.cd_rules.specs.Clauses.{Clause, Pairs, Xmls, Pair, Triple, IsInClause}
+use Rattle.cd_rules.specs.Reduced.{AreApart, LeavesOut, none, keeps, leaves, IsPairApart, IsXmlApart, IsReduced}
 use Rattle.cd_rules.proofs.Asking.{each_of_map}
-use Rattle.cd_rules.proofs.NoMember.{tag_in, attributes_in}
+use Rattle.cd_rules.proofs.EachQuestion.{element_too}
+use Rattle.cd_rules.proofs.NoMember.{tag_in, attributes_in, value_tag_in, value_attributes_in}
 use Rattle.cd_rules.proofs.Ones.{each_weaker}
 
 -- what is so of each that is kept, and of all that are apart, is so of each
@@ -24,98 +28,145 @@ each_of_kept Apart fact of_apart _ _ (keeps x all kept rest) each =
 each_of_kept Apart fact of_apart _ _ (leaves x all kept apart rest) each =
     (of_apart x apart, each_of_kept Apart fact of_apart all kept rest each)
 
--- an element that is not in a node is outside it
-pub outside : (graph : Graph) (e : Thing) (id : NodeId) → (answers graph e id true → ⊥) → answers graph e id false
-outside graph e id never = by_answer (in_or_outside graph e id)
-  where
-    by_answer : answers graph e id true ⊎ answers graph e id false → answers graph e id false
-    by_answer (inl within) = absurd (never within)
-    by_answer (inr out) = out
+-- what is not in a node is outside it
+by_answer : {In Out : Type 0} → In ⊎ Out → (In → ⊥) → Out
+by_answer (inl within) never = absurd (never within)
+by_answer (inr out) never = out
 
 module _ (graph : Graph) where
-  abbrev Holds : Thing → Clause → Type 0
-  Holds e clause = IsInClause (kind_of e) (reader graph e) clause
+  -- what is in some nodes is outside one that is apart from them
+  abbrev IsOutsideApart : Answers → Type 0
+  IsOutsideApart of = (id : NodeId) (ids : List NodeId) → AreApart graph (id ∷ ids) → Each (λ id. of id true) ids → of id false
 
-  -- an element is in the nodes of this part of each of a list
-  abbrev AllHold : {X : Type 0} → Thing → (X → NodeId) → List X → Type 0
-  AllHold e part wanted = Each (λ parts. answers graph e (part parts) true) wanted
+  -- the same where one more node is asked before
+  after : (of : Answers) → IsOutsideApart of → (before id : NodeId) (ids : List NodeId) → AreApart graph (before ∷ id ∷ ids)
+      → of before true → Each (λ id. of id true) ids → of id false
+  after of outside before id ids apart is each = outside id (before ∷ ids)
+      (λ e element all. apart e element (all.1.0, (all.0, all.1.1))) (is, each)
 
-  in_parts : {X : Type 0} (e : Thing) (part : X → NodeId) (wanted : List X) → AllHold e part wanted
-      → Each (λ id. answers graph e id true) (map part wanted)
-  in_parts e part = each_of_map part (λ id. answers graph e id true)
+  module _ (first second : Answers) (of_first : IsOutsideApart first) (of_second : IsOutsideApart second) (wanted : List Pair) where
+    abbrev AreIn : Pair → Type 0
+    AreIn parts = first parts.0 true × second parts.1 true
 
-  pair_outside : (first second : Thing) → IsElement first → IsElement second → (wanted : List Pair)
-      → Each (λ parts. answers graph first parts.0 true × answers graph second parts.1 true) wanted
-      → (refused : Pair) → IsPairApart graph wanted refused → answers graph first refused.0 false ⊎ answers graph second refused.1 false
-  pair_outside first second is_first is_second wanted inside refused (inl apart) = inl (outside graph first refused.0
-      (λ within. apart first is_first (
-        within,
-        in_parts first (λ (parts : Pair). parts.0) wanted
-            (each_weaker (λ parts. answers graph first parts.0 true × answers graph second parts.1 true)
-            (λ parts. answers graph first parts.0 true) (λ parts is. is.0) wanted inside),
-      )))
-  pair_outside first second is_first is_second wanted inside refused (inr apart) = inr (outside graph second refused.1
-      (λ within. apart second is_second (
-        within,
-        in_parts second (λ (parts : Pair). parts.1) wanted
-            (each_weaker (λ parts. answers graph first parts.0 true × answers graph second parts.1 true)
-            (λ parts. answers graph second parts.1 true) (λ parts is. is.1) wanted inside),
-      )))
+    pair_outside : Each AreIn wanted → (refused : Pair) → IsPairApart graph wanted refused
+        → first refused.0 false ⊎ second refused.1 false
+    pair_outside inside refused (inl apart) = inl (of_first refused.0 (map (λ parts. parts.0) wanted) apart
+        (each_of_map (λ (parts : Pair). parts.0) (λ id. first id true) wanted
+        (each_weaker AreIn (λ parts. first parts.0 true) (λ parts is. is.0) wanted inside)))
+    pair_outside inside refused (inr apart) = inr (of_second refused.1 (map (λ parts. parts.1) wanted) apart
+        (each_of_map (λ (parts : Pair). parts.1) (λ id. second id true) wanted
+        (each_weaker AreIn (λ parts. second parts.1 true) (λ parts is. is.1) wanted inside)))
 
-  pairs_held : (wanted refused kept : List Pair) → LeavesOut (IsPairApart graph wanted) refused kept → (e : Thing) → IsElement e
-      → Holds e (Pairs wanted kept) → Holds e (Pairs wanted refused)
-  pairs_held wanted refused kept leaving (thing.Pair first second) is held = (
-    held.0,
-    held.1,
-    each_of_kept (IsPairApart graph wanted) (λ parts. answers graph first parts.0 false ⊎ answers graph second parts.1 false)
-        (pair_outside first second is.0 is.1 wanted held.1) refused kept leaving held.2,
-  )
-  pairs_held wanted refused kept leaving _ is held = absurd cc
-
-  module _ (begins : (more : Graph) × (graph ≡ built_ins ++ more)) where
-    -- the tag is an atom, and the attributes are a record
-    xml_outside : (tag attributes content : Thing) → IsElement (thing.Xml tag attributes content) → (wanted : List Triple)
-        → AllHold tag (λ parts. parts.0) wanted → AllHold attributes (λ parts. parts.1) wanted → AllHold content (λ parts. parts.2) wanted
-        → (refused : Triple) → IsXmlApart graph wanted refused
-        → answers graph tag refused.0 false ⊎ answers graph attributes refused.1 false ⊎ answers graph content refused.2 false
-    xml_outside tag attributes content is wanted in_tag in_attributes in_content refused (inl apart) =
-        inl (outside graph tag refused.0 (λ within. apart tag is.2
-        (tag_in graph begins tag is.0, (within, in_parts tag (λ (parts : Triple). parts.0) wanted in_tag))))
-    xml_outside tag attributes content is wanted in_tag in_attributes in_content refused (inr (inl apart)) =
-        inr (inl (outside graph attributes refused.1 (λ within. apart attributes is.3
-        (attributes_in graph begins attributes is.1, (within, in_parts attributes (λ (parts : Triple). parts.1) wanted in_attributes)))))
-    xml_outside tag attributes content is wanted in_tag in_attributes in_content refused (inr (inr apart)) =
-        inr (inr (outside graph content refused.2 (λ within. apart content is.4
-        (within, in_parts content (λ (parts : Triple). parts.2) wanted in_content))))
-
-    xmls_held : (wanted refused kept : List Triple) → LeavesOut (IsXmlApart graph wanted) refused kept → (e : Thing) → IsElement e
-        → Holds e (Xmls wanted kept) → Holds e (Xmls wanted refused)
-    xmls_held wanted refused kept leaving (thing.Xml tag attributes content) is held = (
+    pairs_held : (refused kept : List Pair) → LeavesOut (IsPairApart graph wanted) refused kept
+        → IsInClause APair (pair_reader first second) (Pairs wanted kept)
+        → IsInClause APair (pair_reader first second) (Pairs wanted refused)
+    pairs_held refused kept leaving held = (
       held.0,
       held.1,
-      each_of_kept (IsXmlApart graph wanted)
-          (λ parts. answers graph tag parts.0 false ⊎ answers graph attributes parts.1 false ⊎ answers graph content parts.2 false)
-          (xml_outside tag attributes content is wanted
-          (each_weaker all_in (λ parts. answers graph tag parts.0 true) (λ parts within. within.0) wanted held.1)
-          (each_weaker all_in (λ parts. answers graph attributes parts.1 true) (λ parts within. within.1) wanted held.1)
-          (each_weaker all_in (λ parts. answers graph content parts.2 true) (λ parts within. within.2) wanted held.1))
-          refused kept leaving held.2,
+      each_of_kept (IsPairApart graph wanted) (λ parts. first parts.0 false ⊎ second parts.1 false)
+          (pair_outside held.1) refused kept leaving held.2,
     )
-      where
-        all_in : Triple → Type 0
-        all_in = λ parts. answers graph tag parts.0 true × answers graph attributes parts.1 true × answers graph content parts.2 true
-    xmls_held wanted refused kept leaving _ is held = absurd cc
 
-    pub reduced_held : (clause reduced : Clause) (e : Thing) → IsReduced graph clause reduced → IsElement e
-        → Holds e reduced → Holds e clause
-    reduced_held (Pairs wanted refused) (Pairs same kept) e reduces is held =
-        pairs_held wanted refused kept reduces.1 e is (subst (λ wanted. Holds e (Pairs wanted kept)) reduces.0 held)
-    reduced_held (Xmls wanted refused) (Xmls same kept) e reduces is held =
-        xmls_held wanted refused kept reduces.1 e is (subst (λ wanted. Holds e (Xmls wanted kept)) reduces.0 held)
-    reduced_held (Pairs wanted refused) _ e reduces is held = absurd cc
-    reduced_held (Xmls wanted refused) _ e reduces is held = absurd cc
-    reduced_held (Ints wanted refused) reduced e same is held = subst (Holds e) same held
-    reduced_held (Chars wanted refused) reduced e same is held = subst (Holds e) same held
-    reduced_held (Atoms wanted refused) reduced e same is held = subst (Holds e) same held
-    reduced_held (Records wanted refused) reduced e same is held = subst (Holds e) same held
-    reduced_held (Arrows wanted refused) reduced e same is held = subst (Holds e) same held
+  module _ (tag attributes content : Answers) (of_tag : IsOutsideApart tag) (of_attributes : IsOutsideApart attributes)
+      (of_content : IsOutsideApart content) (is_atom : tag ATOM true) (is_record : attributes RECORD true) (wanted : List Triple) where
+    abbrev AllAreIn : Triple → Type 0
+    AllAreIn parts = tag parts.0 true × attributes parts.1 true × content parts.2 true
+
+    xml_outside : Each AllAreIn wanted → (refused : Triple) → IsXmlApart graph wanted refused
+        → tag refused.0 false ⊎ attributes refused.1 false ⊎ content refused.2 false
+    xml_outside inside refused (inl apart) =
+        inl (after tag of_tag ATOM refused.0 (map (λ parts. parts.0) wanted) apart is_atom
+        (each_of_map (λ (parts : Triple). parts.0) (λ id. tag id true) wanted
+        (each_weaker AllAreIn (λ parts. tag parts.0 true) (λ parts is. is.0) wanted inside)))
+    xml_outside inside refused (inr (inl apart)) =
+        inr (inl (after attributes of_attributes RECORD refused.1 (map (λ parts. parts.1) wanted) apart is_record
+        (each_of_map (λ (parts : Triple). parts.1) (λ id. attributes id true) wanted
+        (each_weaker AllAreIn (λ parts. attributes parts.1 true) (λ parts is. is.1) wanted inside))))
+    xml_outside inside refused (inr (inr apart)) =
+        inr (inr (of_content refused.2 (map (λ parts. parts.2) wanted) apart
+        (each_of_map (λ (parts : Triple). parts.2) (λ id. content id true) wanted
+        (each_weaker AllAreIn (λ parts. content parts.2 true) (λ parts is. is.2) wanted inside))))
+
+    xmls_held : (refused kept : List Triple) → LeavesOut (IsXmlApart graph wanted) refused kept
+        → IsInClause AnXml (xml_reader tag attributes content) (Xmls wanted kept)
+        → IsInClause AnXml (xml_reader tag attributes content) (Xmls wanted refused)
+    xmls_held refused kept leaving held = (
+      held.0,
+      held.1,
+      each_of_kept (IsXmlApart graph wanted) (λ parts. tag parts.0 false ⊎ attributes parts.1 false ⊎ content parts.2 false)
+          (xml_outside held.1) refused kept leaving held.2,
+    )
+
+  -- things whose closures map so
+  module _ (closed : ℕ → Mapping) where
+    abbrev answers_of : Thing → Answers
+    answers_of = types.answers (nodes graph) closed
+
+    abbrev Holds : Thing → Clause → Type 0
+    Holds e clause = IsInClause (kind_of e) (at_formula (types.reader (nodes graph) closed e)) clause
+
+    -- what is needed of the parts of a pair and of an XML thing
+    abbrev HasParts : Thing → Type 0
+    HasParts (thing.Pair first second) = IsOutsideApart (answers_of first) × IsOutsideApart (answers_of second)
+    HasParts (thing.Xml tag attributes content) = IsOutsideApart (answers_of tag) × IsOutsideApart (answers_of attributes)
+        × IsOutsideApart (answers_of content) × answers_of tag ATOM true × answers_of attributes RECORD true
+    HasParts _ = Unit {0}
+
+    reduced_held : (e : Thing) → HasParts e → (clause reduced : Clause) → IsReduced graph clause reduced → Holds e reduced → Holds e clause
+    reduced_held (thing.Pair first second) has (Pairs wanted refused) (Pairs same kept) reduces held =
+        pairs_held (answers_of first) (answers_of second) has.0 has.1 wanted refused kept reduces.1
+        (subst (λ wanted. Holds (thing.Pair first second) (Pairs wanted kept)) reduces.0 held)
+    reduced_held (thing.Xml tag attributes content) has (Xmls wanted refused) (Xmls same kept) reduces held =
+        xmls_held (answers_of tag) (answers_of attributes) (answers_of content) has.0 has.1 has.2 has.3 has.4 wanted refused kept reduces.1
+        (subst (λ wanted. Holds (thing.Xml tag attributes content) (Xmls wanted kept)) reduces.0 held)
+    reduced_held e has (Pairs wanted refused) (Pairs same kept) reduces held = absurd cc
+    reduced_held e has (Xmls wanted refused) (Xmls same kept) reduces held = absurd cc
+    reduced_held e has (Pairs wanted refused) reduced reduces held = absurd cc
+    reduced_held e has (Xmls wanted refused) reduced reduces held = absurd cc
+    reduced_held e has clause reduced same held = subst (Holds e) same held
+
+  module _ (begins : (more : Graph) × (graph ≡ built_ins ++ more)) where
+    -- elements
+    element_outside : (e : Thing) → IsElement e → IsOutsideApart (answers graph e)
+    element_outside e is id ids apart each = by_answer (in_or_outside graph e id) (λ within. apart e is (within, each))
+
+    elements_have : (e : Thing) → IsElement e → HasParts no_closure e
+    elements_have (thing.Pair first second) is = (element_outside first is.0, element_outside second is.1)
+    elements_have (thing.Xml tag attributes content) is = (
+      element_outside tag is.2,
+      element_outside attributes is.3,
+      element_outside content is.4,
+      tag_in graph begins tag is.0,
+      attributes_in graph begins attributes is.1,
+    )
+    elements_have _ is = tt
+
+    pub elements_held : (clause reduced : Clause) (e : Thing) → IsReduced graph clause reduced → IsElement e
+        → Holds no_closure e reduced → Holds no_closure e clause
+    elements_held clause reduced e reduces is = reduced_held no_closure e (elements_have e is) clause reduced reduces
+
+    -- values, where each is in a node or outside it: where one is in some nodes, an element is
+    module _ (sound : IsGraph graph) (interfaces : Interfaces)
+        (decided : (v : Thing) (id : NodeId) → value_answers graph interfaces v id true ⊎ value_answers graph interfaces v id false) where
+      abbrev closures : ℕ → Mapping
+      closures = closure_maps (nodes graph) (admits interfaces)
+
+      value_outside : (v : Thing) → IsValue v → IsOutsideApart (value_answers graph interfaces v)
+      value_outside v is id ids apart each = by_answer (decided v id) (λ within.
+          let found = element_too graph begins.0 begins.1 sound (record { pos = id ∷ ids; neg = [] }) interfaces v is ((within, each), tt) in
+          apart found.0 found.1 found.2.0)
+
+      values_have : (v : Thing) → IsValue v → HasParts closures v
+      values_have (thing.Pair first second) is = (value_outside first is.0, value_outside second is.1)
+      values_have (thing.Xml tag attributes content) is = (
+        value_outside tag is.2,
+        value_outside attributes is.3,
+        value_outside content is.4,
+        value_tag_in graph begins interfaces tag is.0,
+        value_attributes_in graph begins interfaces attributes is.1,
+      )
+      values_have _ is = tt
+
+      pub values_held : (clause reduced : Clause) (v : Thing) → IsReduced graph clause reduced → IsValue v
+          → Holds closures v reduced → Holds closures v clause
+      values_held clause reduced v reduces is = reduced_held closures v (values_have v is) clause reduced reduces

@@ -8,3 +8,5 @@ pub mod Members
 pub mod Reduced
 pub mod Settled
 pub mod Examples
+pub mod Within
+pub mod InWay

@@ -1,21 +1,24 @@
 //! Laws of the definitions in `specs/`. Each is the contract of a function that does nothing.
-ghost use Rattle.std.specs.Prelude.{◌≡◌, ◌++◌, ◌↔◌, ◌⊎◌, true, false, List, [], ◌∷◌, length, map};
+ghost use Rattle.std.specs.Prelude.{ℕ, ◌≡◌, ◌++◌, ◌↔◌, ◌⊎◌, true, false, List, [], ◌∷◌, length, map};
+ghost use Rattle.cd_sets.specs.declared.node_id.NodeId.{NodeId};
 ghost use Rattle.cd_sets.specs.declared.question.Question.{Question};
 ghost use Rattle.cd_model.specs.Thing as thing;
 ghost use Rattle.cd_model.specs.Thing.{Thing, IsElement, IsValue};
 ghost use Rattle.cd_model.specs.Each.{Each, One};
-ghost use Rattle.cd_model.specs.Formula.{Graph};
+ghost use Rattle.cd_model.specs.Formula.{Graph, IsGraph};
 ghost use Rattle.cd_model.specs.Membership.{asked, answers, reader, value_answers, value_reader};
-ghost use Rattle.cd_model.specs.Interfaces.{Interfaces};
+ghost use Rattle.cd_model.specs.Interfaces.{Interfaces, OfNodes, OfWritten, ArrowOf, ArrowsAgree};
+ghost use Rattle.cd_model.specs.Written.{WrittenType};
 ghost use Rattle.cd_model.specs.BuiltIns.{built_ins, node, ANY, INT, CHAR};
 ghost use Rattle.cd_rules.specs.Settled.{IsSettledClause};
 ghost use Rattle.cd_rules.specs.Examples as example;
 ghost use Rattle.cd_rules.specs.Examples.{asks, both};
 ghost use Rattle.cd_rules.specs.Needs.{set_of, splits, splits_in_three, pair_way, xml_way, arrow_way};
 ghost use Rattle.cd_rules.specs.Rows.{rows_of};
+ghost use Rattle.cd_rules.specs.InWay.{AreInWay};
 ghost use Rattle.cd_rules.specs.InRow.{element_at, value_at, IsInRow};
-ghost use Rattle.cd_model.specs.Kinds.{kind_of, ARecord};
-ghost use Rattle.cd_rules.specs.Clauses.{Clause, RecordType, Pairs, Records, IsClauseOfQuestion, IsInClause};
+ghost use Rattle.cd_model.specs.Kinds.{kind_of, APair, AnXml, ARecord};
+ghost use Rattle.cd_rules.specs.Clauses.{Clause, Pair, Triple, RecordType, Pairs, Xmls, Records, IsClauseOfQuestion, IsInClause};
 ghost use Rattle.cd_rules.specs.Members.{HasElement, HasMember, IsSupplied, NamesLabels};
 ghost use Rattle.cd_rules.specs.Reduced.{IsReduced};
 ghost use Rattle.cd_rules.specs.Family.{IsOfFamily, IsCovered, BreaksRow, Breaks, IsClosed, AsksNodes};
@@ -74,10 +77,21 @@ pub fn families_cover()
     ensures { (family : List Question) (question : Question) → IsOfFamily question family → IsCovered question family }
 {}
 
-/// A clause holds the elements that its reduced form holds, and is broken where that is.
+/// A clause holds the elements and the values that its reduced form holds, and is broken where that is.
 pub fn reduced_clauses()
     ensures holds { (graph more : Graph) (clause reduced : Clause) (is : Thing) → graph ≡ built_ins ++ more → IsReduced graph clause reduced
         → IsElement is → IsInClause (kind_of is) (reader graph is) reduced → IsInClause (kind_of is) (reader graph is) clause }
+    ensures holds_values { (graph more : Graph) (arrows : ℕ → List (ArrowOf NodeId)) (clause reduced : Clause) (v : Thing)
+        → graph ≡ built_ins ++ more → IsGraph graph → IsReduced graph clause reduced → IsValue v
+        → IsInClause (kind_of v) (value_reader graph (OfNodes graph arrows) v) reduced
+        → IsInClause (kind_of v) (value_reader graph (OfNodes graph arrows) v) clause }
+    ensures holds_values_by_written { (graph more : Graph) (count : ℕ) (arrows : ℕ → List (ArrowOf NodeId))
+        (others : ℕ → List (ArrowOf WrittenType)) (clause reduced : Clause) (v : Thing)
+        → graph ≡ built_ins ++ more → IsGraph graph
+        → ((function : ℕ) → ArrowsAgree graph count (arrows function) (others function))
+        → IsReduced graph clause reduced → IsValue v
+        → IsInClause (kind_of v) (value_reader graph (OfWritten count others) v) reduced
+        → IsInClause (kind_of v) (value_reader graph (OfWritten count others) v) clause }
     ensures breaks { (graph : Graph) (family : List Question) (clause reduced : Clause) → IsReduced graph clause reduced
         → Breaks family reduced → Breaks family clause }
     ensures labels { (graph : Graph) (clause reduced : Clause) → IsReduced graph clause reduced → NamesLabels clause → NamesLabels reduced }
@@ -87,6 +101,56 @@ pub fn reduced_clauses()
 pub fn clauses_are_settled()
     ensures { (graph : Graph) (family : List Question) (clause : Clause) → IsSettledClause (HasElement graph) family clause
         → IsSupplied (HasElement graph) clause ⊎ Breaks family clause }
+{}
+
+/// In a sound graph each question has an element or has none. Where it has none it has no value either, whatever the interfaces
+/// of functions are: so where a value is in some nodes and outside others, an element is too.
+pub fn questions_are_decided()
+    ensures decided { (graph more : Graph) (question : Question) → graph ≡ built_ins ++ more
+        → IsGraph graph → HasElement graph question ⊎ (HasElement graph question → ⊥) }
+    ensures values { (graph more : Graph) (question : Question) (interfaces : Interfaces) (v : Thing)
+        → graph ≡ built_ins ++ more → IsGraph graph → (HasElement graph question → ⊥) → IsValue v
+        → asked (value_answers graph interfaces v) question true → ⊥ }
+    ensures realised { (graph more : Graph) (question : Question) (interfaces : Interfaces) (v : Thing)
+        → graph ≡ built_ins ++ more → IsGraph graph → IsValue v
+        → asked (value_answers graph interfaces v) question true → HasElement graph question }
+{}
+
+/// In a sound graph each value is in a node or outside it, where the arrows of functions are nodes of this graph, or written types
+/// that hold the same elements.
+pub fn values_are_decided()
+    ensures by_nodes { (graph more : Graph) (arrows : ℕ → List (ArrowOf NodeId)) (v : Thing) (id : NodeId)
+        → graph ≡ built_ins ++ more → IsGraph graph
+        → value_answers graph (OfNodes graph arrows) v id true ⊎ value_answers graph (OfNodes graph arrows) v id false }
+    ensures by_written { (graph more : Graph) (count : ℕ) (arrows : ℕ → List (ArrowOf NodeId))
+        (others : ℕ → List (ArrowOf WrittenType)) (v : Thing) (id : NodeId)
+        → graph ≡ built_ins ++ more → IsGraph graph
+        → ((function : ℕ) → ArrowsAgree graph count (arrows function) (others function))
+        → value_answers graph (OfWritten count others) v id true ⊎ value_answers graph (OfWritten count others) v id false }
+{}
+
+/// A pair is in a clause exactly when its parts are in the questions of one way, and so is an XML thing, whose tag is an atom and
+/// whose attributes are a record.
+pub fn ways_are_exact()
+    ensures pairs { (graph : Graph) (wanted refused : List Pair) (first second : Thing)
+        → IsInClause APair (reader graph (thing.Pair first second)) (Pairs wanted refused)
+        ↔ One (AreInWay (answers graph first ∷ answers graph second ∷ []))
+        (map (pair_way wanted) (splits refused)) }
+    ensures pair_values { (graph : Graph) (interfaces : Interfaces) (wanted refused : List Pair) (first second : Thing)
+        → IsInClause APair (value_reader graph interfaces (thing.Pair first second)) (Pairs wanted refused)
+        ↔ One (AreInWay (value_answers graph interfaces first ∷ value_answers graph interfaces second ∷ []))
+        (map (pair_way wanted) (splits refused)) }
+    ensures xmls { (graph more : Graph) (wanted refused : List Triple) (tag attributes content : Thing)
+        → graph ≡ built_ins ++ more → thing.IsAtom tag → thing.IsRecord attributes
+        → IsInClause AnXml (reader graph (thing.Xml tag attributes content)) (Xmls wanted refused)
+        ↔ One (AreInWay (answers graph tag ∷ answers graph attributes ∷ answers graph content ∷ []))
+        (map (xml_way wanted) (splits_in_three refused)) }
+    ensures xml_values { (graph more : Graph) (interfaces : Interfaces) (wanted refused : List Triple)
+        (tag attributes content : Thing)
+        → graph ≡ built_ins ++ more → thing.IsAtom tag → thing.IsRecord attributes
+        → IsInClause AnXml (value_reader graph interfaces (thing.Xml tag attributes content)) (Xmls wanted refused)
+        ↔ One (AreInWay (value_answers graph interfaces tag ∷ value_answers graph interfaces attributes
+        ∷ value_answers graph interfaces content ∷ [])) (map (xml_way wanted) (splits_in_three refused)) }
 {}
 
 /// Choices, ways and rows of small cases.

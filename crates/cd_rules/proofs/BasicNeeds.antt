@@ -1,5 +1,5 @@
 -- Of integers, characters or atoms one is in each of some sets and in none of others, or none is.
-use Rattle.std.proofs.Common.{◌≡◌, ℕ, ◌<◌, ℤ, pos, negsuc, Bool, true, false, ◌||◌, List, [], ◌∷◌, ◌++◌, inl, inr, refl, sym, ◌∙◌, subst, arith, codes, bytes_eq}
+use Rattle.std.proofs.Common.{◌≡◌, ℕ, ◌<◌, ℤ, pos, negsuc, Bool, true, false, ◌||◌, List, [], ◌∷◌, ◌++◌, inl, inr, refl, sym, ◌∙◌, subst, arith, bytes_eq}
 use Rattle.std.specs.Char.{IsScalar}
 use Rattle.std.specs.List.{list_any}
 use Rattle.std.proofs.lemmas.Slice.Eq.{bytes_eq-Decides}
@@ -11,18 +11,18 @@ use Rattle.cd_intervals.specs.Characters.{CharInterval, holds_character}
 use Rattle.cd_intervals.specs.Interval as integers
 use Rattle.cd_intervals.proofs.Numbering.{scalar_range}
 use Rattle.cd_syntax.specs.Integer.{IsInteger}
-use Rattle.cd_syntax.specs.Name.{Name, IsLabel, is_word}
+use Rattle.cd_syntax.specs.Name.{Name, IsLabel}
 use Rattle.cd_model.specs.Each.{Each, One}
 use Rattle.cd_model.proofs.Labels.{IsOneOf}
+use Rattle.cd_model.proofs.SoundOrNot.{names_or_not, label_or_not}
 use Rattle.cd_rules.specs.Needs.{Need, empty_or_not}
 use Rattle.cd_rules.proofs.FreshLabels.{row_of_a, row_is_long, row_is_label, longest, no_longer}
-use Rattle.cd_rules.proofs.Ones.{each_of_all, one_weaker, one_leads, one_on_left, one_on_right}
-use Rattle.cd_empty.proofs.HoldsOrNot.{HoldsOrNot, or_not_with, both_or_not, three_or_not, each_or_not, one_or_not, same_or_not, below_or_not}
+use Rattle.cd_rules.proofs.Ones.{one_weaker, one_leads, one_on_left, one_on_right}
+use Rattle.cd_model.proofs.HoldsOrNot.{HoldsOrNot, both_or_not, three_or_not, each_or_not, one_or_not, same_or_not, below_or_not}
 
 -- a test of each of some sets has the outcome or not
 tests_or_not : {X : Type 0} (test : X → Bool) (outcome : Bool) (sets : List X) → HoldsOrNot (Each (λ set. test set ≡ outcome) sets)
-tests_or_not test outcome sets = each_or_not (λ set. test set ≡ outcome) (λ set. Unit {0}) (λ set known. same_or_not (test set) outcome)
-    sets (each_of_all (λ set. Unit {0}) (λ set. tt) sets)
+tests_or_not test outcome = each_or_not (λ set. test set ≡ outcome) (λ set. same_or_not (test set) outcome)
 
 -- so it is known what a basic kind needs
 pub needs_known : {X : Type 0} (IsMember : X → Type 0) → HoldsOrNot ((x : X) × IsMember x)
@@ -91,21 +91,9 @@ not_found (other ∷ names) name none = by_test (bytes_eq name other) (bytes_eq-
     by_test true is later = absurd (none (inl (sym (is refl))))
     by_test false is later = later
 
--- a name is among some or not, and is a label or not
+-- a name is among some or not
 listed_or_not : (names : List Name) (name : Name) → HoldsOrNot (IsOneOf names name)
-listed_or_not names name = one_or_not (λ other. other ≡ name) (λ other. Unit {0}) (λ other known. names_or_not other)
-    names (each_of_all (λ other. Unit {0}) (λ other. tt) names)
-  where
-    names_or_not : (other : Name) → HoldsOrNot (other ≡ name)
-    names_or_not other =
-        or_not_with (bytes_eq-Decides other name).0 (bytes_eq-Decides other name).1 (same_or_not (bytes_eq other name) true)
-
-label_or_not : (name : Name) → HoldsOrNot (IsLabel name)
-label_or_not name = both_or_not (same_or_not (is_word name) true) (turned (listed_or_not (codes "_" ∷ []) name))
-  where
-    turned : HoldsOrNot (IsOneOf (codes "_" ∷ []) name) → HoldsOrNot (name ≡ codes "_" → ⊥)
-    turned (inl one) = inr (λ other. elim one [ inl same ↦ other (sym same) | inr none ↦ none ])
-    turned (inr none) = inl (λ same. none (inl (sym same)))
+listed_or_not names name = one_or_not (λ other. other ≡ name) (λ other. names_or_not other name) names
 
 -- sets treat two names alike that they do not list
 held_alike : (set : AtomSet) (one other : Name) → (IsOneOf set.names one → ⊥) → (IsOneOf set.names other → ⊥)
@@ -158,8 +146,7 @@ module _ (wanted refused : List AtomSet) where
   )
 
   pub atom_or_not : HoldsOrNot ((name : Name) × IsAtomOf name)
-  atom_or_not = by_listed (one_or_not IsAtomOf (λ name. Unit {0}) (λ name known. atom_of_or_not name) listed
-      (each_of_all (λ name. Unit {0}) (λ name. tt) listed)) (atom_of_or_not fresh)
+  atom_or_not = by_listed (one_or_not IsAtomOf atom_of_or_not listed) (atom_of_or_not fresh)
     where
       at_listed : (names : List Name) (name : Name) → IsOneOf names name → IsAtomOf name → One IsAtomOf names
       at_listed names name one is = one_weaker (λ other. other ≡ name) IsAtomOf (λ other same. subst IsAtomOf (sym same) is) names one

@@ -10,8 +10,7 @@ use Rattle.cd_rules.specs.Clauses.{Clause, Ints, Chars, Atoms, Pairs, Xmls, Reco
 use Rattle.cd_rules.specs.Clauses.{integers_of, characters_of, atoms_of, pair_of, xml_of, record_of, arrow_of}
 use Rattle.cd_rules.specs.Family.{Breaks}
 use Rattle.cd_rules.specs.Members.{IsSupplied}
-use Rattle.cd_rules.proofs.Ones.{each_of_all}
-use Rattle.cd_empty.proofs.HoldsOrNot.{HoldsOrNot, each_or_not}
+use Rattle.cd_model.proofs.HoldsOrNot.{HoldsOrNot, each_or_not}
 
 -- two kinds are one or not
 kinds_or_not : (one other : Kind) → HoldsOrNot (one ≡ other)
@@ -38,8 +37,8 @@ literal_or_not kind literal = by_sign literal.wanted (kind_of_formula literal.is
     by_sign true (Some other) = by_kind other (kinds_or_not other kind)
 
 kind_or_not : (kind : Kind) (choice : Choice) → HoldsOrNot (AllOf kind choice)
-kind_or_not kind choice = each_or_not (λ literal. literal.wanted ≡ true → kind_of_formula literal.is ≡ Some kind) (λ literal. Unit {0})
-    (λ literal known. literal_or_not kind literal) choice (each_of_all (λ literal. Unit {0}) (λ literal. tt) choice)
+kind_or_not kind =
+    each_or_not (λ literal. literal.wanted ≡ true → kind_of_formula literal.is ≡ Some kind) (literal_or_not kind)
 
 module _ (fact : Question → Type 0) (family : List Question) where
   -- a clause has all it needs or is broken

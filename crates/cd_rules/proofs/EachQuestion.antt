@@ -1,35 +1,40 @@
--- Each question of two sets of nodes has an element or has none.
+-- Each question has an element or has none, and where it has none it has no value.
 --
--- Of all such questions a family is kept, from which questions that have an element are taken, until it is closed.
-use Rattle.std.proofs.Common.{◌≡◌, ℕ, zero, suc, ◌≤◌, List, [], ◌∷◌, ◌++◌, ◌⊎◌, inl, inr, refl, sym, ap, subst, arith, map, length, length-append}
+-- Of all questions of two sets of nodes a family is kept, from which questions that have an element are taken, until it is closed.
+use Rattle.std.proofs.Common.{◌≡◌, ℕ, zero, suc, ◌<◌, ◌≤◌, List, [], ◌∷◌, ◌++◌, ◌⊎◌, inl, inr, true, refl, sym, ap, subst, arith, map, length}
 use Rattle.cd_sets.specs.declared.question.Question.{Question}
 use Rattle.cd_model.specs.BuiltIns.{built_ins}
 use Rattle.cd_model.specs.Each.{Each, One}
 use Rattle.cd_model.specs.Formula.{Graph, IsGraph}
+use Rattle.cd_model.specs.Interfaces.{Interfaces}
 use Rattle.cd_model.specs.Kinds.{kind_of}
-use Rattle.cd_model.specs.Membership.{reader}
+use Rattle.cd_model.specs.Membership.{asked, answers, reader, value_answers, value_reader}
+use Rattle.cd_model.specs.Thing.{Thing, IsValue}
 use Rattle.cd_rules.specs.Choices.{choices_of}
 use Rattle.cd_rules.specs.Clauses.{Clause, Ints, Chars, Atoms, Pairs, Xmls, Records, Arrows, IsClauseOfQuestion}
-use Rattle.cd_rules.specs.Family.{IsOfFamily, Breaks, IsClosed, AsksNodes}
+use Rattle.cd_rules.specs.Family.{IsOfFamily, IsCovered, Breaks, IsClosed, AsksNodes}
 use Rattle.cd_rules.specs.Members.{HasElement}
-use Rattle.cd_rules.specs.Needs.{Way, Need, empty_or_not, pair_way, xml_way, arrow_way, splits, splits_in_three}
+use Rattle.cd_rules.specs.Needs.{Way, Need, question, empty_or_not, pair_way, xml_way, arrow_way, splits, splits_in_three}
 use Rattle.cd_rules.specs.Rows.{Row, rows_of}
 use Rattle.cd_rules.specs.Settled.{IsSettled, AreSettled, HasSettledRow, IsSettledClause}
+use Rattle.cd_rules.proofs.Among.{set_among}
+use Rattle.cd_rules.proofs.Answered.{each_of_asked}
+use Rattle.cd_rules.proofs.Asking.{each_of_set}
 use Rattle.cd_rules.proofs.ClauseOf.{kind_of_element}
 use Rattle.cd_rules.proofs.ClausesExact.{clauses_exact}
-use Rattle.cd_rules.proofs.Covering.{covers_own}
+use Rattle.cd_rules.proofs.Covering.{covers_own, covers_more}
 use Rattle.cd_rules.proofs.Elsewhere.{is_elsewhere}
 use Rattle.cd_rules.proofs.MembersOfClauses.{supplied_has}
-use Rattle.cd_rules.proofs.NoMember.{element_out}
-use Rattle.cd_rules.proofs.Ones.{each_weaker, each_of_two}
+use Rattle.cd_rules.proofs.NoMember.{element_out, value_out}
+use Rattle.cd_rules.proofs.NumbersBeyond.{has_built_ins, named, of_nodes, asks_nodes, asked_there, asked_back}
+use Rattle.cd_rules.proofs.Ones.{each_weaker}
 use Rattle.cd_rules.proofs.Settling.{each_or_one, clause_settled}
-use Rattle.cd_expand.specs.Within.{IsWithin}
-use Rattle.cd_expand.proofs.PartsAsk.{RowAsks, clause_is_within, clause_names_labels, pair_ways_ask, xml_ways_ask, arrow_ways_ask, rows_ask}
-use Rattle.cd_empty.proofs.BasicNeeds.{needs_known, integer_or_not, character_or_not, atom_or_not}
-use Rattle.cd_empty.proofs.ClausesAnswer.{Answer, choices_answer}
-use Rattle.cd_empty.proofs.HoldsOrNot.{HoldsOrNot}
-use Rattle.cd_empty.proofs.NodeSets.{IsMadeOfSets, all_questions, among_all, all_ask_nodes}
-use Rattle.cd_empty.proofs.WaysMade.{IsRowMade, pair_ways_made, xml_ways_made, arrow_needs_made, rows_made}
+use Rattle.cd_rules.specs.Within.{IsWithin}
+use Rattle.cd_rules.proofs.PartsAsk.{RowAsks, clause_is_within, clause_names_labels, pair_ways_ask, xml_ways_ask, arrow_ways_ask, rows_ask}
+use Rattle.cd_rules.proofs.BasicNeeds.{needs_known, integer_or_not, character_or_not, atom_or_not}
+use Rattle.cd_rules.proofs.ClausesAnswer.{Answer, choices_answer}
+use Rattle.cd_model.proofs.HoldsOrNot.{HoldsOrNot}
+use Rattle.cd_rules.proofs.NodeSets.{all_questions, among_all, all_ask_nodes}
 
 -- a basic kind has no questions
 basic_settled : {X : Type 0} (fact : Question → Type 0) (family : List Question) (IsMember : X → Type 0) (needs : List Need)
@@ -41,8 +46,9 @@ module _ (graph more : Graph) (begins : graph ≡ built_ins ++ more) (sound : Is
   abbrev nodes : ℕ
   nodes = length graph
 
-  has_built_ins : 14 ≤ nodes
-  has_built_ins = let count = ap length begins in omega (arith, count, length-append built_ins more)
+  -- what asks what a question asks, of sets
+  abbrev set_question : Question → Question
+  set_question one = question one.pos one.neg
 
   -- a question has an element, or is of a family
   abbrev HasOrIsOf : List Question → Question → Type 0
@@ -53,24 +59,25 @@ module _ (graph more : Graph) (begins : graph ≡ built_ins ++ more) (sound : Is
   Covers family = (one : Question) → IsOfFamily one (all_questions nodes) → HasOrIsOf family one
 
   module _ (family : List Question) (covers : Covers family) where
-    made_settled : (one : Question) → AsksNodes nodes one → IsMadeOfSets one → IsSettled (HasElement graph) family one
-    made_settled one asks made = elim (covers one (among_all nodes one asks made)) [
-      | inl has ↦ inl has
-      | inr of ↦ inr (covers_own family one of)
-    ]
+    question_settled : (one : Question) → AsksNodes nodes one → IsSettled (HasElement graph) family one
+    question_settled one asks = elim (covers (set_question one) (among_all nodes one.pos one.neg
+        (each_of_set (λ id. id.0 < nodes) one.pos asks.0, each_of_set (λ id. id.0 < nodes) one.neg asks.1))) [
+          | inl has ↦ inl (has.0, has.1, each_of_asked (answers graph has.0) one.pos one.neg has.2)
+          | inr of ↦ inr (covers_more family one (set_question one) (set_among one.pos, set_among one.neg)
+              (covers_own family (set_question one) of))
+        ]
 
-    way_settled : (way : Way) → Each (AsksNodes nodes) way → Each IsMadeOfSets way → Each (IsSettled (HasElement graph) family) way
-    way_settled = each_of_two (AsksNodes nodes) IsMadeOfSets (IsSettled (HasElement graph) family) made_settled
+    way_settled : (way : Way) → Each (AsksNodes nodes) way → Each (IsSettled (HasElement graph) family) way
+    way_settled = each_weaker (AsksNodes nodes) (IsSettled (HasElement graph) family) question_settled
 
-    need_settled : (need : Need) → Each (Each (AsksNodes nodes)) need → Each (Each IsMadeOfSets) need
-        → AreSettled (HasElement graph) family need
-    need_settled = each_of_two (Each (AsksNodes nodes)) (Each IsMadeOfSets) (Each (IsSettled (HasElement graph) family)) way_settled
+    need_settled : (need : Need) → Each (Each (AsksNodes nodes)) need → AreSettled (HasElement graph) family need
+    need_settled = each_weaker (Each (AsksNodes nodes)) (Each (IsSettled (HasElement graph) family)) way_settled
 
-    row_settled : (row : Row) → RowAsks nodes row → IsRowMade row → HasSettledRow (HasElement graph) family row
-    row_settled row asks made = (
-      each_of_two (λ cell. AsksNodes nodes cell.1.value) (λ cell. IsMadeOfSets cell.1.value)
-          (λ cell. IsSettled (HasElement graph) family cell.1.value) (λ cell. made_settled cell.1.value) row.cells asks.0 made.0,
-      way_settled row.some asks.1 made.1,
+    row_settled : (row : Row) → RowAsks nodes row → HasSettledRow (HasElement graph) family row
+    row_settled row asks = (
+      each_weaker (λ cell. AsksNodes nodes cell.1.value) (λ cell. IsSettled (HasElement graph) family cell.1.value)
+          (λ cell. question_settled cell.1.value) row.cells asks.0,
+      way_settled row.some asks.1,
     )
 
     -- so each clause of nodes of the graph is settled
@@ -85,8 +92,7 @@ module _ (graph more : Graph) (begins : graph ≡ built_ins ++ more) (sound : Is
       _,
       refl,
       (
-        need_settled (map (pair_way wanted) (splits refused))
-            (pair_ways_ask nodes wanted refused within) (pair_ways_made wanted refused),
+        need_settled (map (pair_way wanted) (splits refused)) (pair_ways_ask nodes wanted refused within),
         tt,
       ),
     )
@@ -95,19 +101,18 @@ module _ (graph more : Graph) (begins : graph ≡ built_ins ++ more) (sound : Is
       refl,
       (
         need_settled (map (xml_way wanted) (splits_in_three refused))
-            (xml_ways_ask nodes has_built_ins wanted refused within) (xml_ways_made wanted refused),
+            (xml_ways_ask nodes (has_built_ins graph more begins) wanted refused within),
         tt,
       ),
     )
     all_settled (Arrows wanted refused) within = (
       _,
       refl,
-      each_of_two (Each (Each (AsksNodes nodes))) (Each (Each IsMadeOfSets))
-          (AreSettled (HasElement graph) family) need_settled (map (λ one. map (arrow_way one) (splits wanted)) refused)
-          (arrow_ways_ask nodes wanted refused within) (arrow_needs_made wanted refused),
+      each_weaker (Each (Each (AsksNodes nodes))) (AreSettled (HasElement graph) family) need_settled
+          (map (λ one. map (arrow_way one) (splits wanted)) refused) (arrow_ways_ask nodes wanted refused within),
     )
-    all_settled (Records wanted refused) within = each_of_two (RowAsks nodes) IsRowMade (HasSettledRow (HasElement graph) family) row_settled
-        (rows_of wanted refused) (rows_ask nodes wanted refused within) (rows_made wanted refused)
+    all_settled (Records wanted refused) within = each_weaker (RowAsks nodes) (HasSettledRow (HasElement graph) family) row_settled
+        (rows_of wanted refused) (rows_ask nodes wanted refused within)
 
     -- each clause of a question is broken, or the question has an element
     abbrev IsBroken : Question → Type 0
@@ -181,11 +186,28 @@ module _ (graph more : Graph) (begins : graph ≡ built_ins ++ more) (sound : Is
   closed : HasClosed
   closed = closed_of (length (all_questions nodes)) (all_questions nodes) (omega arith) (all_ask_nodes nodes) (λ one there. inr there)
 
-  -- Each question of sets of nodes has an element or has none
-  pub has_or_not : (one : Question) → AsksNodes nodes one → IsMadeOfSets one → HoldsOrNot (HasElement graph one)
-  has_or_not one asks made = by_settled (closed.2 one (among_all nodes one asks made))
+  -- so a question has an element, or the family covers that of the same nodes
+  has_or_covered : (one : Question) → HasElement graph one ⊎ IsCovered (of_nodes graph more begins one) closed.0
+  has_or_covered one = by_settled (closed.2 (of_nodes graph more begins one)
+      (among_all nodes (map (named graph more begins) one.pos) (map (named graph more begins) one.neg) (asks_nodes graph more begins one)))
     where
-      by_settled : HasOrIsOf closed.0 one → HoldsOrNot (HasElement graph one)
-      by_settled (inl has) = inl has
-      by_settled (inr there) =
-          inr (λ has. element_out graph (more, begins) closed.0 closed.1 has.0 has.1 one has.2 (covers_own closed.0 one there))
+      by_settled : HasOrIsOf closed.0 (of_nodes graph more begins one)
+          → HasElement graph one ⊎ IsCovered (of_nodes graph more begins one) closed.0
+      by_settled (inl has) = inl (has.0, has.1, asked_back graph more begins (reader graph has.0) one has.2)
+      by_settled (inr there) = inr (covers_own closed.0 (of_nodes graph more begins one) there)
+
+  pub has_or_not : (one : Question) → HoldsOrNot (HasElement graph one)
+  has_or_not one = elim (has_or_covered one) [
+    | inl has ↦ inl has
+    | inr there ↦ inr (λ has. element_out graph (more, begins) closed.0 closed.1 has.0 has.1 (of_nodes graph more begins one)
+        (asked_there graph more begins (reader graph has.0) one has.2) there)
+  ]
+
+  -- where a value is in a question, an element is too
+  pub element_too : (one : Question) (interfaces : Interfaces) (v : Thing) → IsValue v
+      → asked (value_answers graph interfaces v) one true → HasElement graph one
+  element_too one interfaces v is inside = elim (has_or_covered one) [
+    | inl has ↦ has
+    | inr there ↦ absurd (value_out graph (more, begins) closed.0 closed.1 interfaces v is (of_nodes graph more begins one)
+        (asked_there graph more begins (value_reader graph interfaces v) one inside) there)
+  ]
