@@ -328,21 +328,21 @@ module _ (nodes : ℕ) where
   )
 
   -- what a record type says of a label is of a node of the type
-  field_below : (named : List (Name × Field)) (rest : NodeId) (label : Name) → Each (λ field. IsBelow field.1.node) named
-      → IsBelow rest → IsBelow (field_of named rest label).node
+  field_below : (named : List (Name × Field)) (rest : NodeId) (label : Name) → Each (λ field. IsBelow field.1.type) named
+      → IsBelow rest → IsBelow (field_of named rest label).type
   field_below [] rest label each is = is
   field_below (field ∷ named) rest label each is =
       by_name (bytes_eq field.0 label) (field_below named rest label each.1 is)
     where
-      by_name : (same : Bool) → IsBelow (field_of named rest label).node
-          → IsBelow (if same then field.1 else field_of named rest label).node
+      by_name : (same : Bool) → IsBelow (field_of named rest label).type
+          → IsBelow (if same then field.1 else field_of named rest label).type
       by_name true later = each.0
       by_name false later = later
 
   -- what record types say of a label is of nodes below
   fields_below : (label : Name) (types : List RecordType) → Each (IsTypeWithin nodes) types
-      → Each IsBelow (map (λ type. (field_at type label).node) types)
-  fields_below label = parts_below (λ (type : RecordType). (field_at type label).node) (IsTypeWithin nodes)
+      → Each IsBelow (map (λ type. (field_at type label).type) types)
+  fields_below label = parts_below (λ (type : RecordType). (field_at type label).type) (IsTypeWithin nodes)
       (λ type both. field_below type.named type.rest label both.0 both.1)
 
   -- and so are their rests
@@ -429,8 +429,8 @@ row_asks nodes labels wanted within reasons types = (
 )
   where
     cell_asks : (label : Name) → AsksNodes nodes (cell_at wanted reasons label).value
-    cell_asks label = question_asks nodes (map (λ type. (field_at type label).node) wanted)
-        (map (λ type. (field_at type label).node) (types_at label reasons)) (fields_below nodes label wanted within)
+    cell_asks label = question_asks nodes (map (λ type. (field_at type label).type) wanted)
+        (map (λ type. (field_at type label).type) (types_at label reasons)) (fields_below nodes label wanted within)
         (fields_below nodes label (types_at label reasons) (types_at_within nodes label reasons types))
 
     some_asks : (type : RecordType) → IsTypeWithin nodes type
