@@ -1,4 +1,5 @@
-ghost use Rattle.std.specs.Prelude.{◌≡◌, ◌∷◌, ◌++◌, ◌⊎◌, ℕ, List, [], Some, length, take, slice_get, option_copied, IfOk, OnErr, MatchOption};
+ghost use Rattle.std.specs.Prelude.{◌≡◌, ◌∷◌, ◌++◌, ◌⊎◌, ℕ, List, [], Some, length, take};
+ghost use Rattle.std.specs.Prelude.{slice_get, option_copied, IfOk, OnErr, MatchOption};
 ghost use Rattle.cd_sets.specs.declared.question.Question.{Question as AQuestion};
 
 use cd_sets::question::Question;
@@ -35,7 +36,8 @@ impl Asked {
         }
     }
 
-    /// The number of a question, which is added as the last one if it is not there. Where memory runs out none is added.
+    /// The number of a question, which is added as the last one if it is not there. Where memory
+    /// runs out none is added.
     pub fn number(&mut self, question: Question) -> Result<QuestionId, AllocError>
         ensures found { IfOk result (λ id. slice_get self.new id.0 ≡ Some question) }
         ensures grows { (self.new ≡ self.old) ⊎ (self.new ≡ self.old ++ question ∷ []) }
@@ -47,7 +49,8 @@ impl Asked {
 
     /// The number of a question, if it is there.
     pub fn find(&self, question: &Question) -> Option<QuestionId>
-        ensures { MatchOption result ((number : ℕ) → slice_get self.now number ≡ Some question.now → ⊥)
+        ensures { MatchOption result
+            ((number : ℕ) → slice_get self.now number ≡ Some question.now → ⊥)
             (λ id. slice_get self.now id.0 ≡ Some question.now) }
     {
         let number = self.questions.get_index_of(question)?;
@@ -64,7 +67,8 @@ impl Asked {
     /// How many questions there are.
     pub fn len(&self) -> usize
         ensures count { result ≡ length self.now }
-        ensures once { (first second : ℕ) (question : AQuestion) → slice_get self.now first ≡ Some question
+        ensures once { (first second : ℕ) (question : AQuestion)
+            → slice_get self.now first ≡ Some question
             → slice_get self.now second ≡ Some question → first ≡ second }
     {
         self.questions.len()

@@ -4,8 +4,8 @@ use Rattle.cd_base.specs.Faults.{Rose}
 use Rattle.cd_base.specs.declared.files.ReadError.{ReadError}
 use Rattle.cd_base.specs.declared.files.ReadError.TheVariants.{Failed, Memory}
 
--- the bytes of the file of each name, where they are told; the count of faults, which never falls; and the name of the
--- latest read that failed
+-- the bytes of the file of each name, where they are told; the count of faults, which never falls;
+-- and the name of the latest read that failed
 pub record FilesState : Type 0 where
   pub told : List ℕ → Option (List ℕ)
   pub faults : ℕ

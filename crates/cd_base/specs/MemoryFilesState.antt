@@ -1,12 +1,13 @@
 -- Files in memory: what they hold, and the reads that they were told to refuse.
-use Rattle.std.specs.Prelude.{◌≡◌, ℕ, List, Option, None, String, Vec, map, find, string_bytes, ◌⊎◌, Contains}
+use Rattle.std.specs.Prelude.{◌≡◌, ℕ, List, Option, None, String, Vec, map, find, string_bytes, ◌⊎◌}
+use Rattle.std.specs.Prelude.{Contains}
 use Rattle.std.specs.Global.{Global}
 use Rattle.std.specs.Option.{option_map}
 use Rattle.std.specs.Str.{bytes_eq}
 use Rattle.cd_base.specs.FilesState.{FilesState}
 
--- the files (a name and bytes each), the reads that fail, how many reads were made, the count of faults, and the name of
--- the latest read that failed
+-- the files (a name and bytes each), the reads that fail, how many reads were made, the count of
+-- faults, and the name of the latest read that failed
 pub record MemoryFilesState : Type 0 where
   pub files : List (List ℕ × List ℕ)
   pub failing : List ℕ

@@ -1,6 +1,10 @@
 use Rattle.std.specs.Prelude.{ℕ}
 use Rattle.cd_base.specs.declared.status.Status.{Status}
-use Rattle.cd_base.specs.declared.status.Status.TheVariants.{Done, No, Usage, ReadFault, WriteFault, NoMemory, TooLarge, NotUtf8, Lexical, Syntax, TooDeep, Naming, IllTyped, NotBuilt, NotInput, Uncaught, Overflow, Spent}
+use Rattle.cd_base.specs.declared.status.Status.TheVariants.{Done, No, Usage, ReadFault, WriteFault}
+use Rattle.cd_base.specs.declared.status.Status.TheVariants.{NoMemory, TooLarge, NotUtf8, Lexical}
+use Rattle.cd_base.specs.declared.status.Status.TheVariants.{Syntax, TooDeep, Naming, IllTyped}
+use Rattle.cd_base.specs.declared.status.Status.TheVariants.{NotBuilt, NotInput, Uncaught, Overflow}
+use Rattle.cd_base.specs.declared.status.Status.TheVariants.{Spent}
 
 -- the number that the program ends with
 abbrev pub status_number : Status → ℕ

@@ -32,7 +32,9 @@ pub trait Files {
 
     /// The first `most` bytes of a file, or all of them where there are fewer.
     fn read(&mut self, name: &str, most: usize) -> Result<Vec<u8>, ReadError>
-        ensures front { IfOk result (λ bytes. IsFrontOf ((state self.old).told name.now) most bytes.items) }
+        ensures front { IfOk result
+            (λ bytes. IsFrontOf ((state self.old).told name.now) most bytes.items) }
         ensures ok { OnOk result (state self.new ≡ state self.old) }
-        ensures err { IfErr result (λ error. AfterRefusedRead error (state self.old) (state self.new) name.now) };
+        ensures err { IfErr result
+            (λ error. AfterRefusedRead error (state self.old) (state self.new) name.now) };
 }

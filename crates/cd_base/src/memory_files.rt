@@ -1,4 +1,5 @@
-ghost use Rattle.std.specs.Prelude.{◌≡◌, ◌⊎◌, Some, None, OnOk, IfOk, IfErr, IsErrOf, MatchOption, Contains};
+ghost use Rattle.std.specs.Prelude.{◌≡◌, ◌⊎◌, Some, None, OnOk, IfOk, IfErr, IsErrOf, MatchOption};
+ghost use Rattle.std.specs.Prelude.{Contains};
 ghost use Rattle.std.specs.Option.{option_map};
 ghost use Rattle.cd_base.specs.Faults.{one_more};
 ghost use Rattle.cd_base.specs.FilesState.{IsFrontOf, AfterRefusedRead};
@@ -26,14 +27,26 @@ impl Model for MemoryFiles {
 
     ghost Value = { MemoryFilesState };
 
-    ghost view = { λ f. record { files = contents f.files.items; failing = f.failing.items; reads = f.reads; faults = f.faults; last = option_map string_bytes f.last } };
+    ghost view = { λ f. record {
+      files = contents f.files.items;
+      failing = f.failing.items;
+      reads = f.reads;
+      faults = f.faults;
+      last = option_map string_bytes f.last;
+    } };
 }
 
 impl MemoryFiles {
     /// Files with these names and bytes; the first of a name counts. `failing` lists the reads that
     /// fail, counted from 1. A read of a name that no file has fails too.
     pub fn new(alloc: Global, files: Vec<(String, Vec<u8>)>, failing: Vec<u64>) -> MemoryFiles
-        ensures { result ≡ record { files = contents files.items; failing = failing.items; reads = 0; faults = 0; last = None } }
+        ensures { result ≡ record {
+          files = contents files.items;
+          failing = failing.items;
+          reads = 0;
+          faults = 0;
+          last = None;
+        } }
     {
         MemoryFiles {
             files,
@@ -50,16 +63,21 @@ impl Files for MemoryFiles {
     ghost state = { memory_files };
 
     fn read(&mut self, name: &str, most: usize) -> Result<Vec<u8>, ReadError>
-        ensures front { IfOk result (λ bytes. IsFrontOf (held self.old.files name.now) most bytes.items) }
+        ensures front { IfOk result
+            (λ bytes. IsFrontOf (held self.old.files name.now) most bytes.items) }
         ensures ok { OnOk result (memory_files self.new ≡ memory_files self.old) }
-        ensures err { IfErr result (λ error. AfterRefusedRead error (memory_files self.old) (memory_files self.new) name.now) }
+        ensures err { IfErr result
+            (λ error. AfterRefusedRead error (memory_files self.old)
+            (memory_files self.new) name.now) }
 
         // The plan of refusals is kept to.
         ensures counted { self.new.reads ≡ one_more self.old.reads }
         ensures plan { self.new.failing ≡ self.old.failing }
         ensures ok_as_planned { OnOk result (IsRefused self.old self.new.reads name.now → ⊥) }
-        ensures failed_as_planned { IsErrOf result ReadError.Failed → IsRefused self.old self.new.reads name.now }
-        ensures failed_once { IsErrOf result ReadError.Failed → self.new.faults ≡ one_more self.old.faults }
+        ensures failed_as_planned { IsErrOf result ReadError.Failed
+            → IsRefused self.old self.new.reads name.now }
+        ensures failed_once { IsErrOf result ReadError.Failed
+            → self.new.faults ≡ one_more self.old.faults }
     {
         self.reads = self.reads.saturating_add(1);
         let files = self.files.as_slice();
@@ -80,7 +98,10 @@ fn granted<'a>(
     read: u64,
     name: &str,
 ) -> Option<&'a [u8]>
-    ensures { MatchOption result (Contains failing.now read ⊎ (held (contents files.now) name.now ≡ None)) (λ bytes. (Contains failing.now read → ⊥) × (held (contents files.now) name.now ≡ Some bytes.now)) }
+    ensures { MatchOption result
+        (Contains failing.now read ⊎ (held (contents files.now) name.now ≡ None))
+        (λ bytes. (Contains failing.now read → ⊥)
+        × (held (contents files.now) name.now ≡ Some bytes.now)) }
 {
     if failing.contains(&read) {
         return None;

@@ -21,12 +21,17 @@ impl Model for MemorySink {
 
     ghost Value = { MemorySinkState };
 
-    ghost view = { λ s. record { bytes = s.bytes.items; failing = s.failing.items; puts = s.puts; faults = s.faults } };
+    ghost view = { λ s. record {
+      bytes = s.bytes.items;
+      failing = s.failing.items;
+      puts = s.puts;
+      faults = s.faults;
+    } };
 }
 
 impl MemorySink {
-    /// An empty sink. `failing` lists the puts to refuse, counted from 1, each with how many bytes it
-    /// appends first (all of them where it has fewer). The first entry of a number counts.
+    /// An empty sink. `failing` lists the puts to refuse, counted from 1, each with how many bytes
+    /// it appends first (all of them where it has fewer). The first entry of a number counts.
     pub fn new(alloc: Global, failing: Vec<(u64, usize)>) -> MemorySink
         ensures { result ≡ record { bytes = []; failing = failing.items; puts = 0; faults = 0 } }
     {
@@ -51,14 +56,17 @@ impl Sink for MemorySink {
 
     fn put(&mut self, bytes: &[u8]) -> Result<(), PutError>
         ensures ok { OnOk result (Puts (sink_state self.old) (sink_state self.new) bytes.now) }
-        ensures err { IfErr result (λ error. AfterRefusedPut error (sink_state self.old) (sink_state self.new) bytes.now) }
+        ensures err { IfErr result
+            (λ error. AfterRefusedPut error (sink_state self.old) (sink_state self.new) bytes.now) }
 
         // The plan of refusals is kept to.
         ensures counted { self.new.puts ≡ one_more self.old.puts }
         ensures plan { self.new.failing ≡ self.old.failing }
         ensures ok_as_planned { OnOk result (refusal_of self.new.puts self.old.failing ≡ None) }
-        ensures failed_once { IsErrOf result PutError.Failed → self.new.faults ≡ one_more self.old.faults }
-        ensures failed_as_planned { IsErrOf result PutError.Failed → RefusesAsPlanned self.old self.new bytes.now }
+        ensures failed_once { IsErrOf result PutError.Failed
+            → self.new.faults ≡ one_more self.old.faults }
+        ensures failed_as_planned { IsErrOf result PutError.Failed
+            → RefusesAsPlanned self.old self.new bytes.now }
     {
         self.puts = self.puts.saturating_add(1);
         match refusal(self.failing.as_slice(), self.puts) {

@@ -10,8 +10,8 @@ use std::io::{ErrorKind, Read};
 use std::marker::Model;
 use std::{io, rt};
 
-/// The files of the system, reached through the runtime. They tell nothing of their bytes, and count
-/// each error of the system as a fault, unless memory ran out.
+/// The files of the system, reached through the runtime. They tell nothing of their bytes, and
+/// count each error of the system as a fault, unless memory ran out.
 #[derive(Drop)]
 pub struct RealFiles<R> {
     runtime: R,
@@ -48,11 +48,15 @@ impl<R: rt::Files> Files for RealFiles<R> {
     ghost state = { files_state };
 
     fn read(&mut self, name: &str, most: usize) -> Result<Vec<u8>, ReadError>
-        ensures front { IfOk result (λ bytes. IsFrontOf ((files_state self.old).told name.now) most bytes.items) }
+        ensures front { IfOk result
+            (λ bytes. IsFrontOf ((files_state self.old).told name.now) most bytes.items) }
         ensures ok { OnOk result (files_state self.new ≡ files_state self.old) }
-        ensures err { IfErr result (λ error. AfterRefusedRead error (files_state self.old) (files_state self.new) name.now) }
+        ensures err { IfErr result
+            (λ error. AfterRefusedRead error (files_state self.old)
+            (files_state self.new) name.now) }
         ensures within { IfOk result (λ bytes. vec_len bytes ≤ most) }
-        ensures failed_once { IsErrOf result ReadError.Failed → self.new.faults ≡ one_more self.old.faults }
+        ensures failed_once { IsErrOf result ReadError.Failed
+            → self.new.faults ≡ one_more self.old.faults }
     {
         match read_front(self.alloc, &self.runtime, name, most) {
             Ok(bytes) => Ok(bytes),

@@ -59,7 +59,8 @@ impl Sink for RealSink {
     fn put(&mut self, bytes: &[u8]) -> Result<(), PutError>
         ensures ok { OnOk result (Puts self.old self.new bytes.now) }
         ensures err { IfErr result (λ error. AfterRefusedPut error self.old self.new bytes.now) }
-        ensures failed_once { IsErrOf result PutError.Failed → self.new.faults ≡ one_more self.old.faults }
+        ensures failed_once { IsErrOf result PutError.Failed
+            → self.new.faults ≡ one_more self.old.faults }
     {
         let written = match &mut self.stream {
             Stream::Output(stream) => stream.write_all(bytes),

@@ -33,5 +33,6 @@ pub trait Sink {
     /// Appends all the bytes, or a prefix of them where the sink refuses or memory runs out.
     fn put(&mut self, bytes: &[u8]) -> Result<(), PutError>
         ensures ok { OnOk result (Puts (state self.old) (state self.new) bytes.now) }
-        ensures err { IfErr result (λ error. AfterRefusedPut error (state self.old) (state self.new) bytes.now) };
+        ensures err { IfErr result
+            (λ error. AfterRefusedPut error (state self.old) (state self.new) bytes.now) };
 }

@@ -1,5 +1,6 @@
 -- Intervals of characters, and the numbers of the characters.
-use Rattle.std.specs.Prelude.{◌≡◌, ℕ, ◌+◌, ◌-◌, ℤ, pos, negsuc, ◌≤ℤ◌, Bool, false, cond, ◌&&◌, List, nat_lt, nat_le}
+use Rattle.std.specs.Prelude.{◌≡◌, ℕ, ◌+◌, ◌-◌, ℤ, pos, negsuc, ◌≤ℤ◌, Bool, false, cond, ◌&&◌, List}
+use Rattle.std.specs.Prelude.{nat_lt, nat_le}
 use Rattle.std.specs.Char.{IsScalar}
 use Rattle.std.specs.List.{list_any}
 use Rattle.cd_intervals.specs.declared.interval.Interval.{Interval}
@@ -37,11 +38,15 @@ character_at (negsuc n) = 0
 
 -- the characters whose numbers the interval holds
 abbrev pub characters_of : Interval → CharInterval
-characters_of interval = record { low = character_at interval.low; high = character_at interval.high }
+characters_of interval = record {
+  low = character_at interval.low;
+  high = character_at interval.high;
+}
 
 -- the interval holds a number, and none but those of characters
 abbrev pub IsOfCharacters : Interval → Type 0
-IsOfCharacters interval = (pos 0 ≤ℤ interval.low) × (interval.low ≤ℤ interval.high) × (interval.high ≤ℤ pos 0x10F7FF)
+IsOfCharacters interval = (pos 0 ≤ℤ interval.low) × (interval.low ≤ℤ interval.high)
+    × (interval.high ≤ℤ pos 0x10F7FF)
 
 -- the intervals rise, and hold no number but those of characters
 abbrev pub AreOfCharacters : List Interval → Type 0

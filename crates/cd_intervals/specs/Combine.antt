@@ -1,8 +1,10 @@
 -- The set operations, and the states of the sweep that makes them.
-use Rattle.std.specs.Prelude.{ℤ, pos, ◌+ℤ◌, ◌≤ℤ◌, ◌<ℤ◌, Bool, ◌&&◌, ◌||◌, not, List, [], ◌∷◌, Option, Some, None, int_le}
+use Rattle.std.specs.Prelude.{ℤ, pos, ◌+ℤ◌, ◌≤ℤ◌, ◌<ℤ◌, Bool, ◌&&◌, ◌||◌, not, List, [], ◌∷◌}
+use Rattle.std.specs.Prelude.{Option, Some, None, int_le}
 use Rattle.cd_intervals.specs.declared.interval.Interval.{Interval}
 use Rattle.cd_intervals.specs.declared.combine.Operation.{Operation}
-use Rattle.cd_intervals.specs.declared.combine.Operation.TheVariants.{Union, Intersection, Difference}
+use Rattle.cd_intervals.specs.declared.combine.Operation.TheVariants.{Union, Intersection}
+use Rattle.cd_intervals.specs.declared.combine.Operation.TheVariants.{Difference}
 use Rattle.cd_intervals.specs.Interval.{holds}
 use Rattle.cd_syntax.specs.Integer.{LEAST, GREATEST}
 use Rattle.cd_intervals.specs.Rises.{Rises}
@@ -17,9 +19,11 @@ keeps_of Difference left right = left && not right
 abbrev pub IsAhead : ℤ → List Interval → Type 0
 IsAhead from [] = Unit {0}
 IsAhead from (interval ∷ rest) =
-    (from ≤ℤ interval.high) × (interval.low ≤ℤ interval.high) × Rises (interval.high +ℤ pos 2) rest (GREATEST +ℤ pos 2)
+    (from ≤ℤ interval.high) × (interval.low ≤ℤ interval.high)
+    × Rises (interval.high +ℤ pos 2) rest (GREATEST +ℤ pos 2)
 
--- what a sweep has kept so far: its intervals, and all numbers from the one at which an interval is open
+-- what a sweep has kept so far: its intervals, and all numbers from the one at which an interval is
+-- open
 abbrev pub swept : List Interval → Option ℤ → ℤ → Bool
 swept kept None z = holds kept z
 swept kept (Some low) z = holds kept z || int_le low z

@@ -1,13 +1,16 @@
-ghost use Rattle.std.specs.Prelude.{◌≡◌, ℕ, ◌≤◌, true, false, List, [], ◌∷◌, ◌&&◌, ◌||◌, not, ◌↔◌, length, slice_get, string_bytes, bytes_eq, IsTrue, IfOk, OnOk, MatchOption};
+ghost use Rattle.std.specs.Prelude.{◌≡◌, ℕ, ◌≤◌, true, false, List, [], ◌∷◌, ◌&&◌, ◌||◌, not, ◌↔◌};
+ghost use Rattle.std.specs.Prelude.{length, slice_get, string_bytes, bytes_eq, IsTrue, IfOk, OnOk};
+ghost use Rattle.std.specs.Prelude.{MatchOption};
 ghost use Rattle.std.specs.Option.{option_map};
 ghost use Rattle.std.specs.List.{All};
-ghost use Rattle.cd_intervals.specs.Atoms.{IsAtom, AreAtoms, is_listed, holds, HoldsNoAtom, listing, leaving_out, is_kept, texts};
+ghost use Rattle.cd_intervals.specs.Atoms.{IsAtom, AreAtoms, is_listed, holds, HoldsNoAtom};
+ghost use Rattle.cd_intervals.specs.Atoms.{listing, leaving_out, is_kept, texts};
 
 use std::alloc::{AllocError, Global};
 use std::marker::Model;
 
-/// A set of atoms: finitely many, or all but finitely many. A contract sees whether it is all but those
-/// that are listed, and the names that are listed.
+/// A set of atoms: finitely many, or all but finitely many. A contract sees whether it is all but
+/// those that are listed, and the names that are listed.
 #[derive(Drop)]
 pub struct AtomSet {
     all_but: bool,
@@ -62,7 +65,8 @@ impl AtomSet {
 
     /// The atoms that are in one of the sets.
     pub fn union(&self, other: &AtomSet) -> Result<AtomSet, AllocError>
-        ensures { IfOk result (λ set. (name : List ℕ) → holds set name ≡ (holds self.now name || holds other.now name)) }
+        ensures { IfOk result (λ set. (name : List ℕ)
+            → holds set name ≡ (holds self.now name || holds other.now name)) }
     {
         let names = match (self.all_but, other.all_but) {
             (false, false) => joined(&self.names, &other.names)?,
@@ -78,7 +82,8 @@ impl AtomSet {
 
     /// The atoms that are in both sets.
     pub fn intersect(&self, other: &AtomSet) -> Result<AtomSet, AllocError>
-        ensures { IfOk result (λ set. (name : List ℕ) → holds set name ≡ (holds self.now name && holds other.now name)) }
+        ensures { IfOk result (λ set. (name : List ℕ)
+            → holds set name ≡ (holds self.now name && holds other.now name)) }
     {
         let names = match (self.all_but, other.all_but) {
             (false, false) => filtered(&self.names, true, &other.names)?,
@@ -94,7 +99,8 @@ impl AtomSet {
 
     /// The atoms that are in this set and not in the other.
     pub fn minus(&self, other: &AtomSet) -> Result<AtomSet, AllocError>
-        ensures { IfOk result (λ set. (name : List ℕ) → holds set name ≡ (holds self.now name && not (holds other.now name))) }
+        ensures { IfOk result (λ set. (name : List ℕ)
+            → holds set name ≡ (holds self.now name && not (holds other.now name))) }
     {
         let names = match (self.all_but, other.all_but) {
             (false, false) => filtered(&self.names, false, &other.names)?,
@@ -148,7 +154,9 @@ impl AtomSet {
 
     /// Some atom of the set, if there is one.
     pub fn some_member(&self) -> Result<Option<String>, AllocError>
-        ensures { IfOk result (λ found. MatchOption found (HoldsNoAtom self.now) (λ name. IsAtom (string_bytes name) × (holds self.now (string_bytes name) ≡ true))) }
+        ensures { IfOk result (λ found.
+            MatchOption found (HoldsNoAtom self.now)
+            (λ name. IsAtom (string_bytes name) × (holds self.now (string_bytes name) ≡ true))) }
     {
         if self.all_but {
             return Ok(Some(outside(&self.names)?));
@@ -178,7 +186,9 @@ fn add(names: &mut Vec<String>, name: &str) -> Result<(), AllocError>
     requires atom { IsAtom name.now }
     requires atoms { AreAtoms (texts names.old.items) }
     ensures atoms { OnOk result (AreAtoms (texts names.new.items)) }
-    ensures exact { OnOk result ((q : List ℕ) → is_listed (texts names.new.items) q ≡ (is_listed (texts names.old.items) q || bytes_eq q name.now)) }
+    ensures exact { OnOk result
+        ((q : List ℕ) → is_listed (texts names.new.items) q
+        ≡ (is_listed (texts names.old.items) q || bytes_eq q name.now)) }
 {
     if !is_among(names, name) {
         let name = String::from_str(*names.allocator(), name)?;
@@ -204,7 +214,9 @@ fn joined(first: &Vec<String>, second: &Vec<String>) -> Result<Vec<String>, Allo
     requires first { AreAtoms (texts first.now.items) }
     requires second { AreAtoms (texts second.now.items) }
     ensures atoms { IfOk result (λ all. AreAtoms (texts all.items)) }
-    ensures exact { IfOk result (λ all. (name : List ℕ) → is_listed (texts all.items) name ≡ (is_listed (texts first.now.items) name || is_listed (texts second.now.items) name)) }
+    ensures exact { IfOk result
+        (λ all. (name : List ℕ) → is_listed (texts all.items) name
+        ≡ (is_listed (texts first.now.items) name || is_listed (texts second.now.items) name)) }
 {
     let mut all = copied(first)?;
     for name in second {
@@ -221,7 +233,10 @@ fn filtered(
 ) -> Result<Vec<String>, AllocError>
     requires { AreAtoms (texts first.now.items) }
     ensures atoms { IfOk result (λ all. AreAtoms (texts all.items)) }
-    ensures exact { IfOk result (λ all. (name : List ℕ) → is_listed (texts all.items) name ≡ (is_listed (texts first.now.items) name && is_kept kept (is_listed (texts second.now.items) name))) }
+    ensures exact { IfOk result
+        (λ all. (name : List ℕ) → is_listed (texts all.items) name
+        ≡ (is_listed (texts first.now.items) name
+        && is_kept kept (is_listed (texts second.now.items) name))) }
 {
     let mut all = Vec::new(*first.allocator());
     for name in first {
@@ -236,7 +251,8 @@ fn filtered(
 // An atom that is longer than each of the names.
 fn outside(names: &Vec<String>) -> Result<String, AllocError>
     ensures atom { IfOk result (λ name. IsAtom (string_bytes name)) }
-    ensures new { IfOk result (λ name. is_listed (texts names.now.items) (string_bytes name) ≡ false) }
+    ensures new { IfOk result
+        (λ name. is_listed (texts names.now.items) (string_bytes name) ≡ false) }
 {
     let mut name = "a".repeat(*names.allocator(), longest(names))?;
     name.push_str("a")?;

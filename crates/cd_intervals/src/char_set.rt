@@ -1,17 +1,20 @@
-ghost use Rattle.std.specs.Prelude.{◌≡◌, ℕ, ℤ, pos, ◌≤ℤ◌, ◌≤◌, ◌∷◌, Bool, true, false, [], ◌&&◌, ◌||◌, not, ◌↔◌, IsTrue, IfOk, MatchOption, slice_get};
+ghost use Rattle.std.specs.Prelude.{◌≡◌, ℕ, ℤ, pos, ◌≤ℤ◌, ◌≤◌, ◌∷◌, Bool, true, false, [], ◌&&◌};
+ghost use Rattle.std.specs.Prelude.{◌||◌, not, ◌↔◌, IsTrue, IfOk, MatchOption, slice_get};
 ghost use Rattle.std.specs.Char.{IsScalar};
 ghost use Rattle.std.specs.Option.{option_map};
 ghost use Rattle.cd_intervals.specs.Interval.{holds};
 ghost use Rattle.cd_intervals.specs.Combine.{keeps_of};
-ghost use Rattle.cd_intervals.specs.Characters.{is_among, holds_character, HoldsNoCharacter, bounding_characters, number_of, character_at, characters_of, IsOfCharacters};
+ghost use Rattle.cd_intervals.specs.Characters.{is_among, holds_character, HoldsNoCharacter};
+ghost use Rattle.cd_intervals.specs.Characters.{bounding_characters, number_of, character_at};
+ghost use Rattle.cd_intervals.specs.Characters.{characters_of, IsOfCharacters};
 
 use crate::combine::{Operation, combine};
 use crate::interval::Interval;
 use std::alloc::{AllocError, Global};
 use std::marker::Model;
 
-/// A set of characters. A contract sees its intervals, in rising order and with a character left out
-/// between any two. U+E000 is the next character after U+D7FF.
+/// A set of characters. A contract sees its intervals, in rising order and with a character left
+/// out between any two. U+E000 is the next character after U+D7FF.
 #[derive(Drop)]
 pub struct CharSet {
     numbers: Vec<Interval>,
@@ -40,8 +43,10 @@ impl CharSet {
 
     /// The characters from `low` to `high`, both among them; none where `low` is above `high`.
     pub fn interval(alloc: Global, low: char, high: char) -> Result<CharSet, AllocError>
-        ensures characters { IfOk result (λ set. (c : ℕ) → IsScalar c → holds_character set c ≡ is_among low high c) }
-        ensures list { IfOk result (λ set. low ≤ high → set ≡ record { low = low; high = high } ∷ []) }
+        ensures characters { IfOk result
+            (λ set. (c : ℕ) → IsScalar c → holds_character set c ≡ is_among low high c) }
+        ensures list { IfOk result
+            (λ set. low ≤ high → set ≡ record { low = low; high = high } ∷ []) }
     {
         let mut numbers = Vec::new(alloc);
         if low <= high {
@@ -72,7 +77,8 @@ impl CharSet {
     /// The characters that are in this set and not in the other.
     pub fn minus(&self, other: &CharSet) -> Result<CharSet, AllocError>
         ensures { IfOk result (λ set. (c : ℕ) → IsScalar c →
-            holds_character set c ≡ (holds_character self.now c && not (holds_character other.now c))) }
+            holds_character set c ≡ (holds_character self.now c
+            && not (holds_character other.now c))) }
     {
         self.combined(Operation::Difference, other)
     }
@@ -110,7 +116,8 @@ impl CharSet {
 
     /// Some character of the set, if there is one.
     pub fn some_member(&self) -> Option<char>
-        ensures { MatchOption result (HoldsNoCharacter self.now) (λ c. holds_character self.now c ≡ true) }
+        ensures { MatchOption result (HoldsNoCharacter self.now)
+            (λ c. holds_character self.now c ≡ true) }
     {
         let interval = self.numbers.first()?;
         let (low, _) = bounds(interval);
@@ -119,7 +126,8 @@ impl CharSet {
 
     fn combined(&self, operation: Operation, other: &CharSet) -> Result<CharSet, AllocError>
         ensures { IfOk result (λ set. (c : ℕ) → IsScalar c →
-            holds_character set c ≡ keeps_of operation (holds_character self.now c) (holds_character other.now c)) }
+            holds_character set c ≡ keeps_of operation (holds_character self.now c)
+            (holds_character other.now c)) }
     {
         let numbers = combine(
             *self.numbers.allocator(),

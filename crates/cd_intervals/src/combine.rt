@@ -34,8 +34,8 @@ struct Run {
     last: i128,
 }
 
-// The intervals of the numbers that the operation keeps. It sweeps over the numbers from the least on,
-// run by run.
+// The intervals of the numbers that the operation keeps. It sweeps over the numbers from the least
+// on, run by run.
 pub(crate) fn combine(
     alloc: Global,
     operation: Operation,
@@ -45,7 +45,9 @@ pub(crate) fn combine(
     requires left { IsRising left.now }
     requires right { IsRising right.now }
     ensures rising { IfOk result (λ kept. IsRising kept.items) }
-    ensures exact { IfOk result (λ kept. (z : ℤ) → holds kept.items z ≡ keeps_of operation (holds left.now z) (holds right.now z)) }
+    ensures exact { IfOk result
+        (λ kept. (z : ℤ) → holds kept.items z
+        ≡ keeps_of operation (holds left.now z) (holds right.now z)) }
 {
     let mut kept = Vec::new(alloc);
     let mut since = None;
@@ -119,8 +121,8 @@ fn past(intervals: &[Interval], run: Run) -> &[Interval]
     }
 }
 
-// Goes on from `from` with numbers that are kept, or that are not, and answers since when an interval
-// is open then.
+// Goes on from `from` with numbers that are kept, or that are not, and answers since when an
+// interval is open then.
 #[tactic(auto, using(crate::proofs::Rising::rises_later, crate::proofs::Rising::holds_after))]
 fn turn(
     kept: &mut Vec<Interval>,
@@ -130,7 +132,8 @@ fn turn(
 ) -> Result<Option<i128>, AllocError>
     requires { IsSwept kept.old.items since from }
     ensures order { IfOk result (λ now. IsSwept kept.new.items now (from +ℤ pos 1)) }
-    ensures before { IfOk result (λ now. (z : ℤ) → z <ℤ from → swept kept.new.items now z ≡ swept kept.old.items since z) }
+    ensures before { IfOk result
+        (λ now. (z : ℤ) → z <ℤ from → swept kept.new.items now z ≡ swept kept.old.items since z) }
     ensures after { IfOk result (λ now. (z : ℤ) → from ≤ℤ z → swept kept.new.items now z ≡ keeps) }
 {
     match (since, keeps) {
@@ -149,7 +152,8 @@ fn turn(
 fn close(kept: &mut Vec<Interval>, since: Option<i128>) -> Result<(), AllocError>
     requires { IsSwept kept.old.items since (GREATEST +ℤ pos 1) }
     ensures order { OnOk result (IsRising kept.new.items) }
-    ensures same { OnOk result ((z : ℤ) → z ≤ℤ GREATEST → holds kept.new.items z ≡ swept kept.old.items since z) }
+    ensures same { OnOk result
+        ((z : ℤ) → z ≤ℤ GREATEST → holds kept.new.items z ≡ swept kept.old.items since z) }
 {
     match since {
         None => Ok(()),
@@ -162,7 +166,8 @@ fn close(kept: &mut Vec<Interval>, since: Option<i128>) -> Result<(), AllocError
 fn end(kept: &mut Vec<Interval>, low: i128, high: i128) -> Result<(), AllocError>
     requires { IsSwept kept.old.items (Some low) (high +ℤ pos 1) }
     ensures order { OnOk result (Rises LEAST kept.new.items (high +ℤ pos 2)) }
-    ensures same { OnOk result ((z : ℤ) → holds kept.new.items z ≡ (holds kept.old.items z || is_between low high z)) }
+    ensures same { OnOk result
+        ((z : ℤ) → holds kept.new.items z ≡ (holds kept.old.items z || is_between low high z)) }
 {
     kept.push(Interval { low, high })?;
     Ok(())

@@ -1,4 +1,5 @@
-ghost use Rattle.std.specs.Prelude.{◌≡◌, ℤ, ◌≤ℤ◌, ◌∷◌, Bool, true, false, [], ◌&&◌, ◌||◌, not, ◌↔◌, IsTrue, IfOk, MatchOption, slice_get};
+ghost use Rattle.std.specs.Prelude.{◌≡◌, ℤ, ◌≤ℤ◌, ◌∷◌, Bool, true, false, [], ◌&&◌, ◌||◌, not, ◌↔◌};
+ghost use Rattle.std.specs.Prelude.{IsTrue, IfOk, MatchOption, slice_get};
 ghost use Rattle.std.specs.Option.{option_map};
 ghost use Rattle.cd_intervals.specs.Interval.{is_between, holds, HoldsNothing, bounds_of};
 ghost use Rattle.cd_intervals.specs.Combine.{keeps_of};
@@ -8,8 +9,8 @@ use crate::interval::Interval;
 use std::alloc::{AllocError, Global};
 use std::marker::Model;
 
-/// A set of integers of 128 bits. A contract sees its intervals, in rising order and with a number left
-/// out between any two.
+/// A set of integers of 128 bits. A contract sees its intervals, in rising order and with a number
+/// left out between any two.
 #[derive(Drop)]
 pub struct IntSet {
     intervals: Vec<Interval>,
@@ -40,7 +41,8 @@ impl IntSet {
     /// The integers from `low` to `high`, both among them; none where `low` is above `high`.
     pub fn interval(alloc: Global, low: i128, high: i128) -> Result<IntSet, AllocError>
         ensures numbers { IfOk result (λ set. (z : ℤ) → holds set z ≡ is_between low high z) }
-        ensures list { IfOk result (λ set. low ≤ℤ high → set ≡ record { low = low; high = high } ∷ []) }
+        ensures list { IfOk result
+            (λ set. low ≤ℤ high → set ≡ record { low = low; high = high } ∷ []) }
     {
         let mut intervals = Vec::new(alloc);
         if low <= high {
@@ -51,21 +53,24 @@ impl IntSet {
 
     /// The integers that are in one of the sets.
     pub fn union(&self, other: &IntSet) -> Result<IntSet, AllocError>
-        ensures { IfOk result (λ set. (z : ℤ) → holds set z ≡ (holds self.now z || holds other.now z)) }
+        ensures { IfOk result (λ set. (z : ℤ)
+            → holds set z ≡ (holds self.now z || holds other.now z)) }
     {
         self.combined(Operation::Union, other)
     }
 
     /// The integers that are in both sets.
     pub fn intersect(&self, other: &IntSet) -> Result<IntSet, AllocError>
-        ensures { IfOk result (λ set. (z : ℤ) → holds set z ≡ (holds self.now z && holds other.now z)) }
+        ensures { IfOk result (λ set. (z : ℤ)
+            → holds set z ≡ (holds self.now z && holds other.now z)) }
     {
         self.combined(Operation::Intersection, other)
     }
 
     /// The integers that are in this set and not in the other.
     pub fn minus(&self, other: &IntSet) -> Result<IntSet, AllocError>
-        ensures { IfOk result (λ set. (z : ℤ) → holds set z ≡ (holds self.now z && not (holds other.now z))) }
+        ensures { IfOk result (λ set. (z : ℤ)
+            → holds set z ≡ (holds self.now z && not (holds other.now z))) }
     {
         self.combined(Operation::Difference, other)
     }
@@ -112,7 +117,8 @@ impl IntSet {
     }
 
     fn combined(&self, operation: Operation, other: &IntSet) -> Result<IntSet, AllocError>
-        ensures { IfOk result (λ set. (z : ℤ) → holds set z ≡ keeps_of operation (holds self.now z) (holds other.now z)) }
+        ensures { IfOk result (λ set. (z : ℤ)
+            → holds set z ≡ keeps_of operation (holds self.now z) (holds other.now z)) }
     {
         let intervals = combine(
             *self.intervals.allocator(),

@@ -1,4 +1,5 @@
-//! Sets of integers and of characters, each kept as its intervals in rising order, and sets of atoms.
+//! Sets of integers and of characters, each kept as its intervals in rising order, and sets of
+//! atoms.
 #![tactic(auto)]
 
 pub mod atom_set;

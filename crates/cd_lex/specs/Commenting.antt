@@ -21,7 +21,8 @@ after around c = record { around = around; before = begins c }
 abbrev pub step : ℕ → Before → ℕ → Option Place
 step around Nothing c = Some (after around c)
 step around Parenthesis c = if c == 42 then Some (within (suc around)) else Some (after around c)
-step around Star c = if c == 41 then (if around == 0 then None else Some (within (around - 1))) else Some (after around c)
+step around Star c = if c ==
+    41 then (if around == 0 then None else Some (within (around - 1))) else Some (after around c)
 
 -- one character: the place after it, or none where it closes the outermost comment
 abbrev pub step_of : Place → ℕ → Option Place
@@ -30,4 +31,5 @@ step_of place c = step place.around place.before c
 -- how many characters of the text close the outermost comment, from this place on
 abbrev pub length_from : Place → List ℕ → Option ℕ
 length_from place [] = None
-length_from place (c ∷ cs) = option_map suc (option_map_or (λ next. length_from next cs) (step_of place c) (Some 0))
+length_from place (c ∷ cs) =
+    option_map suc (option_map_or (λ next. length_from next cs) (step_of place c) (Some 0))

@@ -4,7 +4,8 @@ use Rattle.cd_syntax.specs.Quotes.{Quotes, BreaksEscape, EndsHalf}
 use Rattle.cd_lex.specs.declared.quoted.Quoted.{Quoted}
 use Rattle.cd_lex.specs.declared.quoted.Quoted.TheVariants.{Closed, Breaks, Ends}
 
--- so many characters of the text stand for these characters, and the closing quote stands after them
+-- so many characters of the text stand for these characters, and the closing quote stands after
+-- them
 pub record IsClosed (quote : ℕ) (text characters : List ℕ) (count : ℕ) : Type 0 where
   pub written : List ℕ
   pub rest : List ℕ

@@ -3,10 +3,12 @@ use Rattle.std.specs.Prelude.{◌≡◌, ℕ, ◌<◌, ◌≤◌, Bool, List, []
 use Rattle.cd_syntax.specs.declared.tokens.Token.{Token}
 use Rattle.cd_syntax.specs.Tokens.{bytes, Writes}
 
--- from this byte on, each token begins where the one before it ends or later, and holds a byte at least
+-- from this byte on, each token begins where the one before it ends or later, and holds a byte at
+-- least
 abbrev pub AreInOrder : ℕ → List Token → Type 0
 AreInOrder at [] = Unit {0}
-AreInOrder at (token ∷ tokens) = (at ≤ token.span.from) × (token.span.from < token.span.to) × AreInOrder token.span.to tokens
+AreInOrder at (token ∷ tokens) = (at ≤ token.span.from) × (token.span.from < token.span.to)
+    × AreInOrder token.span.to tokens
 
 -- the token is what the characters between the bytes of its span write
 pub record IsItsSlice (text : List ℕ) (token : Token) : Type 0 where

@@ -16,7 +16,8 @@ pub record IsDroppedFront (text : List ℕ) (count : ℕ) : Type 0 where
   pub dropped : IsDropped (take count text)
 
 -- they are a token
-pub record IsTokenFront (joined : Bool) (text : List ℕ) (kind : TokenKind) (count : ℕ) : Type 0 where
+pub record IsTokenFront (joined : Bool) (text : List ℕ) (kind : TokenKind)
+    (count : ℕ) : Type 0 where
   pub some : 0 < count
   pub within : count ≤ length text
   pub writes : Writes joined (take count text) (drop count text) kind

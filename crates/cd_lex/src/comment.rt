@@ -1,11 +1,14 @@
 ghost use Rattle.std.specs.Prelude.{◌≡◌, ◌≤◌, ◌<◌, ◌++◌, List, ℕ, length, take, MatchOption};
 ghost use Rattle.cd_syntax.specs.Comments.{Closes};
-ghost use Rattle.cd_lex.specs.Commenting.{begins as begins_of, within as within_of, step_of, length_from};
+ghost use Rattle.cd_lex.specs.Commenting.{begins as begins_of, within as within_of, step_of};
+ghost use Rattle.cd_lex.specs.Commenting.{length_from};
 
-/// How many characters close the comment that stands open before this text. None where no front of the
-/// text closes it.
+/// How many characters close the comment that stands open before this text. None where no front of
+/// the text closes it.
 pub(crate) fn closing_length(text: &[char]) -> Option<usize>
-    ensures { MatchOption result ((written rest : List ℕ) → text.now ≡ written ++ rest → Closes 1 written → ⊥) (λ n. (n ≤ length text.now) × Closes 1 (take n text.now)) }
+    ensures { MatchOption result
+        ((written rest : List ℕ) → text.now ≡ written ++ rest → Closes 1 written → ⊥)
+        (λ n. (n ≤ length text.now) × Closes 1 (take n text.now)) }
 {
     read_closing(text)
 }

@@ -16,7 +16,8 @@ use std::alloc::{AllocError, Global};
 /// The first fault of the text, or want of memory.
 pub fn lex(alloc: Global, text: &str) -> Result<Vec<Token>, LexError>
     ensures tokens { IfOk result (λ tokens. Spells false 0 (chars text.now) tokens.items) }
-    ensures fault { IfErr result (λ error. (error ≡ Memory) ⊎ Fails false 0 (chars text.now) error) }
+    ensures fault { IfErr result
+        (λ error. (error ≡ Memory) ⊎ Fails false 0 (chars text.now) error) }
 {
     tokens_of(alloc, characters(alloc, text)?.as_slice())
 }

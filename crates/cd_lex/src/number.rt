@@ -1,4 +1,5 @@
-ghost use Rattle.std.specs.Prelude.{◌≡◌, ℤ, pos, neg_ℤ, length, take_while, IfOk, MatchOption, if◌then◌else◌, string_bytes, encode_utf8_all};
+ghost use Rattle.std.specs.Prelude.{◌≡◌, ℤ, pos, neg_ℤ, length, take_while, IfOk, MatchOption};
+ghost use Rattle.std.specs.Prelude.{if◌then◌else◌, string_bytes, encode_utf8_all};
 ghost use Rattle.std.specs.Char.{is_ascii_digit};
 ghost use Rattle.cd_syntax.specs.Integer.{IsInteger};
 ghost use Rattle.cd_syntax.specs.Digits.{AreDigits, decimal_value};
@@ -20,7 +21,10 @@ pub(crate) fn number(
     digits: &[char],
 ) -> Result<Option<i128>, AllocError>
     requires { AreDigits digits.now }
-    ensures { IfOk result (λ found. let value = if negative then neg_ℤ (pos (decimal_value digits.now)) else pos (decimal_value digits.now) in MatchOption found (IsInteger value → ⊥) (λ n. (n ≡ value) × IsInteger value)) }
+    ensures { IfOk result (λ found. let value =
+        if negative then neg_ℤ (pos (decimal_value digits.now)) else pos
+        (decimal_value digits.now) in MatchOption found (IsInteger value → ⊥)
+        (λ n. (n ≡ value) × IsInteger value)) }
 {
     let text = written(alloc, negative, digits)?;
     Ok(text.as_str().parse::<i128>().ok())
@@ -28,7 +32,8 @@ pub(crate) fn number(
 
 // The text of digits, after a minus or none.
 fn written(alloc: Global, negative: bool, digits: &[char]) -> Result<String, AllocError>
-    ensures { IfOk result (λ text. string_bytes text ≡ encode_utf8_all (signed negative digits.now)) }
+    ensures { IfOk result (λ text.
+        string_bytes text ≡ encode_utf8_all (signed negative digits.now)) }
 {
     let mut text = String::new(alloc);
     if negative {

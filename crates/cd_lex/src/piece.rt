@@ -1,8 +1,10 @@
-ghost use Rattle.std.specs.Prelude.{◌≡◌, ◌≤◌, ◌<◌, ◌+◌, ◌⊎◌, ℕ, Bool, true, false, List, ◌∷◌, ◌++◌, length, IsTrue, IfOk, IfErr, MatchOption};
+ghost use Rattle.std.specs.Prelude.{◌≡◌, ◌≤◌, ◌<◌, ◌+◌, ◌⊎◌, ℕ, Bool, true, false, List, ◌∷◌, ◌++◌};
+ghost use Rattle.std.specs.Prelude.{length, IsTrue, IfOk, IfErr, MatchOption};
 ghost use Rattle.std.specs.Char.{is_ascii_digit};
 ghost use Rattle.cd_syntax.specs.Name.{begins_word as begins_word_of};
 ghost use Rattle.cd_syntax.specs.Comments.{begins_pair};
-ghost use Rattle.cd_syntax.specs.Tokens.{is_blank as is_blank_of, begins_negative as begins_negative_of, bytes as bytes_of};
+ghost use Rattle.cd_syntax.specs.Tokens.{is_blank as is_blank_of};
+ghost use Rattle.cd_syntax.specs.Tokens.{begins_negative as begins_negative_of, bytes as bytes_of};
 ghost use Rattle.cd_syntax.specs.Faults.{is_other};
 ghost use Rattle.cd_syntax.specs.declared.tokens.TokenKind.TheVariants.{Text, Chars};
 ghost use Rattle.cd_lex.specs.Standing.{Stands, FaultAtFront, IsAtomFront, NoAtomFront};
@@ -25,8 +27,8 @@ pub(crate) enum Piece {
     Token(TokenKind, usize),
 }
 
-/// What stands at the front of a text that begins at this byte. It is joined where the token before it ends
-/// right here and keeps a `-` from being the sign of a number.
+/// What stands at the front of a text that begins at this byte. It is joined where the token before
+/// it ends right here and keeps a `-` from being the sign of a number.
 pub(crate) fn front(
     alloc: Global,
     joined: bool,
@@ -60,13 +62,17 @@ fn begins_negative(text: &[char]) -> bool
     matches!(text, ['-', digit, ..] if digit.is_ascii_digit())
 }
 
-// What stands at the front of a text with this first character, where no comment and no negative number begins.
+// What stands at the front of a text with this first character, where no comment and no negative
+// number begins.
 fn by_first(alloc: Global, at: usize, c: char, text: &[char]) -> Result<Piece, LexError>
     requires first { (rest : List ℕ) × (text.now ≡ c ∷ rest) }
     requires pair { begins_pair 40 42 text.now ≡ false }
     requires fits { at + bytes_of text.now ≤ usize.MAX }
-    ensures piece { IfOk result (λ piece. (joined : Bool) → (joined ≡ false → begins_negative_of text.now ≡ false) → Stands joined text.now piece) }
-    ensures fault { IfErr result (λ error. (joined : Bool) → FaultAtFront joined at text.now error) }
+    ensures piece { IfOk result
+        (λ piece. (joined : Bool) → (joined ≡ false → begins_negative_of text.now ≡ false)
+        → Stands joined text.now piece) }
+    ensures fault { IfErr result
+        (λ error. (joined : Bool) → FaultAtFront joined at text.now error) }
 {
     match c {
         '"' | '\'' => between_quotes(alloc, at, c, &text[1..]),
@@ -86,8 +92,10 @@ fn is_blank(c: char) -> bool
 
 // A comment, whose `(*` stands before this text.
 fn comment(at: usize, inside: &[char]) -> Result<Piece, LexError>
-    ensures piece { IfOk result (λ piece. (joined : Bool) → Stands joined (40 ∷ 42 ∷ inside.now) piece) }
-    ensures fault { IfErr result (λ error. (joined : Bool) → FaultAtFront joined at (40 ∷ 42 ∷ inside.now) error) }
+    ensures piece { IfOk result
+        (λ piece. (joined : Bool) → Stands joined (40 ∷ 42 ∷ inside.now) piece) }
+    ensures fault { IfErr result
+        (λ error. (joined : Bool) → FaultAtFront joined at (40 ∷ 42 ∷ inside.now) error) }
 {
     match closing_length(inside) {
         Some(count) => Ok(Piece::Dropped(2 + count)),
@@ -99,7 +107,8 @@ fn comment(at: usize, inside: &[char]) -> Result<Piece, LexError>
 fn word(alloc: Global, text: &[char]) -> Result<Piece, LexError>
     requires { (c : ℕ) × (rest : List ℕ) × (text.now ≡ c ∷ rest) × (begins_word_of c ≡ true) }
     ensures piece { IfOk result (λ piece. (joined : Bool) → Stands joined text.now piece) }
-    ensures fault { IfErr result (λ error. (joined : Bool) (at : ℕ) → FaultAtFront joined at text.now error) }
+    ensures fault { IfErr result
+        (λ error. (joined : Bool) (at : ℕ) → FaultAtFront joined at text.now error) }
 {
     let count = word_length(text);
     let name = Name::of_characters(alloc, &text[..count])?;
@@ -109,8 +118,12 @@ fn word(alloc: Global, text: &[char]) -> Result<Piece, LexError>
 // The number that the digits at the front of a text write, after a `-` or without one.
 fn numeral(alloc: Global, at: usize, negative: bool, text: &[char]) -> Result<Piece, LexError>
     requires { (c : ℕ) × (rest : List ℕ) × (text.now ≡ c ∷ rest) × (is_ascii_digit c ≡ true) }
-    ensures piece { IfOk result (λ piece. ((joined : Bool) → negative ≡ false → Stands joined text.now piece) × (negative ≡ true → Stands false (45 ∷ text.now) piece)) }
-    ensures fault { IfErr result (λ error. ((joined : Bool) → negative ≡ false → FaultAtFront joined at text.now error) × (negative ≡ true → FaultAtFront false at (45 ∷ text.now) error)) }
+    ensures piece { IfOk result
+        (λ piece. ((joined : Bool) → negative ≡ false → Stands joined text.now piece)
+        × (negative ≡ true → Stands false (45 ∷ text.now) piece)) }
+    ensures fault { IfErr result
+        (λ error. ((joined : Bool) → negative ≡ false → FaultAtFront joined at text.now error)
+        × (negative ≡ true → FaultAtFront false at (45 ∷ text.now) error)) }
 {
     let count = digits_length(text);
     let sign = if negative { 1 } else { 0 };
@@ -124,8 +137,10 @@ fn numeral(alloc: Global, at: usize, negative: bool, text: &[char]) -> Result<Pi
 fn between_quotes(alloc: Global, at: usize, quote: char, inside: &[char]) -> Result<Piece, LexError>
     requires quote { (quote ≡ 34) ⊎ (quote ≡ 39) }
     requires fits { at + bytes_of (quote ∷ inside.now) ≤ usize.MAX }
-    ensures piece { IfOk result (λ piece. (joined : Bool) → Stands joined (quote ∷ inside.now) piece) }
-    ensures fault { IfErr result (λ error. (joined : Bool) → FaultAtFront joined at (quote ∷ inside.now) error) }
+    ensures piece { IfOk result
+        (λ piece. (joined : Bool) → Stands joined (quote ∷ inside.now) piece) }
+    ensures fault { IfErr result
+        (λ error. (joined : Bool) → FaultAtFront joined at (quote ∷ inside.now) error) }
 {
     match read_quoted(alloc, quote, inside)? {
         Quoted::Closed(characters, count) => {
@@ -163,7 +178,8 @@ pub(crate) fn bytes(characters: &[char]) -> usize
 // The atom whose backquote stands before this text.
 fn atom(alloc: Global, at: usize, text: &[char]) -> Result<Piece, LexError>
     ensures piece { IfOk result (λ piece. (joined : Bool) → Stands joined (96 ∷ text.now) piece) }
-    ensures fault { IfErr result (λ error. (joined : Bool) → FaultAtFront joined at (96 ∷ text.now) error) }
+    ensures fault { IfErr result
+        (λ error. (joined : Bool) → FaultAtFront joined at (96 ∷ text.now) error) }
 {
     match atom_length(text) {
         Some(count) => {
@@ -193,10 +209,14 @@ fn atom_length(text: &[char]) -> Option<usize>
 
 // The sign that a text begins with.
 fn sign(at: usize, text: &[char]) -> Result<Piece, LexError>
-    requires first { (c : ℕ) × (rest : List ℕ) × (text.now ≡ c ∷ rest) × (is_other c ≡ true) × (c ≡ 96 → ⊥) }
+    requires first { (c : ℕ) × (rest : List ℕ) × (text.now ≡ c ∷ rest) × (is_other c ≡ true)
+        × (c ≡ 96 → ⊥) }
     requires pair { begins_pair 40 42 text.now ≡ false }
-    ensures piece { IfOk result (λ piece. (joined : Bool) → (joined ≡ false → begins_negative_of text.now ≡ false) → Stands joined text.now piece) }
-    ensures fault { IfErr result (λ error. (joined : Bool) → FaultAtFront joined at text.now error) }
+    ensures piece { IfOk result
+        (λ piece. (joined : Bool) → (joined ≡ false → begins_negative_of text.now ≡ false)
+        → Stands joined text.now piece) }
+    ensures fault { IfErr result
+        (λ error. (joined : Bool) → FaultAtFront joined at text.now error) }
 {
     match longest_sign(text) {
         Some(sign) => Ok(Piece::Token(TokenKind::Sign(sign), characters(sign).len())),

@@ -97,10 +97,12 @@ fn meant(letter: char) -> Option<char>
     }
 }
 
-// The character that digits stand for, if they are 7 at most and their value is that of a character.
+// The character that digits stand for, if they are 7 at most and their value is that of a
+// character.
 fn code(digits: &[char]) -> Option<char>
     requires { IsTrue (list_all is_ascii_digit digits.now) }
-    ensures { SomeIff result ((length digits.now ≤ 7) × IsScalar (decimal_value digits.now)) (decimal_value digits.now) }
+    ensures { SomeIff result ((length digits.now ≤ 7) × IsScalar (decimal_value digits.now))
+        (decimal_value digits.now) }
 {
     if digits.len() > 7 {
         return None;

@@ -1,5 +1,6 @@
 ghost use Rattle.std.specs.Prelude.{◌≡◌, length, MatchOption};
-ghost use Rattle.cd_syntax.specs.Signs.{characters as characters_of, BeginsWith, IsLongest, closes as closes_of};
+ghost use Rattle.cd_syntax.specs.Signs.{characters as characters_of, BeginsWith, IsLongest};
+ghost use Rattle.cd_syntax.specs.Signs.{closes as closes_of};
 ghost use Rattle.cd_syntax.specs.declared.sign.Sign.{Sign as ASign};
 ghost use Rattle.cd_lex.specs.SignTable.{signs as all_signs};
 
@@ -7,7 +8,8 @@ use cd_syntax::sign::Sign;
 
 /// The longest sign that a text begins with.
 pub(crate) fn longest_sign(text: &[char]) -> Option<Sign>
-    ensures { MatchOption result ((is : ASign) → BeginsWith text.now is → ⊥) (λ is. IsLongest is text.now) }
+    ensures { MatchOption result ((is : ASign) → BeginsWith text.now is → ⊥)
+        (λ is. IsLongest is text.now) }
 {
     signs()
         .iter()

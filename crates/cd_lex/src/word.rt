@@ -1,5 +1,6 @@
 ghost use Rattle.std.specs.Prelude.{◌≡◌, length, take_while};
-ghost use Rattle.cd_syntax.specs.Name.{begins_word as begins_word_of, goes_on_word as goes_on_word_of};
+ghost use Rattle.cd_syntax.specs.Name.{begins_word as begins_word_of};
+ghost use Rattle.cd_syntax.specs.Name.{goes_on_word as goes_on_word_of};
 
 /// A character that a word may begin with: an ASCII letter or `_`.
 pub(crate) fn begins_word(c: char) -> bool

@@ -19,4 +19,5 @@ pub keys_equiv : IsEquivalence same_key
 keys_equiv = on_equiv (λ key. key.name.now) nat_list_eq_equiv
 
 pub keys_alike : Alike same_key key_input
-keys_alike = on_Alike (λ key. key.name.now) (same_Alike (λ (name : Name). fed.str (encodes name)) bytes_decides)
+keys_alike = on_Alike (λ key. key.name.now)
+    (same_Alike (λ (name : Name). fed.str (encodes name)) bytes_decides)

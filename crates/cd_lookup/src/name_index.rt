@@ -9,7 +9,8 @@ use indexmap::IndexMap;
 use std::alloc::{AllocError, Global};
 use std::marker::Model;
 
-/// Names in the order in which they were added, a name as often as it was. A contract sees them in a list.
+/// Names in the order in which they were added, a name as often as it was. A contract sees them in
+/// a list.
 #[derive(Drop)]
 pub struct NameIndex<'t> {
     names: Vec<&'t Name>,
@@ -25,7 +26,8 @@ impl<'t> Model for NameIndex<'t> {
 
     ghost view = { λ index. map (λ name. name.now) index.names.items };
 
-    ghost invariant = { λ index. AreFirstPlaces (map (λ name. name.now) index.names.items) index.places };
+    ghost invariant = { λ index.
+        AreFirstPlaces (map (λ name. name.now) index.names.items) index.places };
 }
 
 impl<'t> NameIndex<'t> {
@@ -39,7 +41,8 @@ impl<'t> NameIndex<'t> {
         }
     }
 
-    /// Adds a name after those that are there, and says whether it is one of them. Where memory runs out none is added.
+    /// Adds a name after those that are there, and says whether it is one of them. Where memory
+    /// runs out none is added.
     pub fn add(&mut self, name: &'t Name) -> Result<bool, AllocError>
         ensures again { IfOk result (λ again. again ≡ list_any (bytes_eq name.now) self.old) }
         ensures added { OnOk result (self.new ≡ self.old ++ name.now ∷ []) }

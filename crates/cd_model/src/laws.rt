@@ -20,32 +20,32 @@ ghost use Rattle.cd_model.specs.Written.{WrittenType, Written, written, type_of,
 
 /// No thing is both in a type and outside it.
 pub fn not_both()
-    ensures in_nodes { (graph : Graph) (is : Thing) (id : NodeId) → in_node graph is id true → in_node graph is id false → ⊥ }
-    ensures values_in_nodes { (graph : Graph) (interfaces : Interfaces) (is : Thing) (id : NodeId) → value_in_node graph interfaces is id true → value_in_node graph interfaces is id false → ⊥ }
-    ensures at_written { (type : Written) (is : Thing) → in_written is type true → in_written is type false → ⊥ }
-    ensures values_at_written { (type : Written) (interfaces : Interfaces) (is : Thing) → value_in_written interfaces is type true → value_in_written interfaces is type false → ⊥ }
+    ensures in_nodes { (graph : Graph) (e : Thing) (id : NodeId) → in_node graph e id true → in_node graph e id false → ⊥ }
+    ensures values_in_nodes { (graph : Graph) (interfaces : Interfaces) (v : Thing) (id : NodeId) → value_in_node graph interfaces v id true → value_in_node graph interfaces v id false → ⊥ }
+    ensures at_written { (t : Written) (e : Thing) → in_written e t true → in_written e t false → ⊥ }
+    ensures values_at_written { (t : Written) (interfaces : Interfaces) (v : Thing) → value_in_written interfaces v t true → value_in_written interfaces v t false → ⊥ }
 {}
 
 /// Each element is in a type or outside it.
 pub fn one_or_the_other()
-    ensures in_nodes { (graph : Graph) (is : Thing) (id : NodeId) → in_node graph is id true ⊎ in_node graph is id false }
-    ensures at_written { (type : Written) (is : Thing) → in_written is type true ⊎ in_written is type false }
+    ensures in_nodes { (graph : Graph) (e : Thing) (id : NodeId) → in_node graph e id true ⊎ in_node graph e id false }
+    ensures at_written { (t : Written) (e : Thing) → in_written e t true ⊎ in_written e t false }
 {}
 
 /// Where formulas are put after those of a graph, each old node, and each formula that names old nodes alone, holds the
 /// elements and the values that it held.
 pub fn extension_keeps()
-    ensures elements { (graph more : Graph) (is : Thing) (id : NodeId) (answer : Bool) → IsGraph graph → id.0 < length graph
-        → in_node graph is id answer ↔ in_node (graph ++ more) is id answer }
-    ensures values { (graph more : Graph) (interfaces : Interfaces) (is : Thing) (id : NodeId) (answer : Bool) → IsGraph graph → id.0 < length graph
-        → value_in_node graph interfaces is id answer ↔ value_in_node (graph ++ more) interfaces is id answer }
-    ensures formulas { (graph more : Graph) (is : Thing) (formula : Formula) (answer : Bool) → IsGraph graph → IsFormula (length graph) formula
-        → holds (at_formula (reader (nodes graph) no_closure is)) formula answer ↔ holds (at_formula (reader (nodes (graph ++ more)) no_closure is)) formula answer }
-    ensures value_formulas { (graph more : Graph) (interfaces : Interfaces) (is : Thing) (formula : Formula) (answer : Bool) → IsGraph graph → IsFormula (length graph) formula
-        → holds (at_formula (value_reader graph interfaces is)) formula answer ↔ holds (at_formula (value_reader (graph ++ more) interfaces is)) formula answer }
-    ensures arrows { (graph more : Graph) (arrows : ℕ → List (ArrowOf NodeId)) (is : Thing) (id : NodeId) (answer : Bool) → IsGraph graph
+    ensures elements { (graph more : Graph) (e : Thing) (id : NodeId) (answer : Bool) → IsGraph graph → id.0 < length graph
+        → in_node graph e id answer ↔ in_node (graph ++ more) e id answer }
+    ensures values { (graph more : Graph) (interfaces : Interfaces) (v : Thing) (id : NodeId) (answer : Bool) → IsGraph graph → id.0 < length graph
+        → value_in_node graph interfaces v id answer ↔ value_in_node (graph ++ more) interfaces v id answer }
+    ensures formulas { (graph more : Graph) (e : Thing) (formula : Formula) (answer : Bool) → IsGraph graph → IsFormula (length graph) formula
+        → holds (at_formula (reader (nodes graph) no_closure e)) formula answer ↔ holds (at_formula (reader (nodes (graph ++ more)) no_closure e)) formula answer }
+    ensures value_formulas { (graph more : Graph) (interfaces : Interfaces) (v : Thing) (formula : Formula) (answer : Bool) → IsGraph graph → IsFormula (length graph) formula
+        → holds (at_formula (value_reader graph interfaces v)) formula answer ↔ holds (at_formula (value_reader (graph ++ more) interfaces v)) formula answer }
+    ensures arrows { (graph more : Graph) (arrows : ℕ → List (ArrowOf NodeId)) (v : Thing) (id : NodeId) (answer : Bool) → IsGraph graph
         → ((function : ℕ) → Each (λ arrow. (arrow.argument.0 < length graph) × (arrow.result.0 < length graph)) (arrows function)) → id.0 < length graph
-        → value_in_node graph (OfNodes graph arrows) is id answer ↔ value_in_node (graph ++ more) (OfNodes (graph ++ more) arrows) is id answer }
+        → value_in_node graph (OfNodes graph arrows) v id answer ↔ value_in_node (graph ++ more) (OfNodes (graph ++ more) arrows) v id answer }
 {}
 
 /// A node that stands for a written type does so in each longer graph.
@@ -55,56 +55,56 @@ pub fn standing_is_kept()
 
 /// A value that is data is an element, and is in just the nodes and the written types that hold this element.
 pub fn data_are_elements()
-    ensures sound { (is : Thing) → IsValue is → IsData is → IsElement is }
-    ensures in_nodes { (graph : Graph) (interfaces : Interfaces) (is : Thing) (id : NodeId) (answer : Bool) → IsData is
-        → value_in_node graph interfaces is id answer ↔ in_node graph is id answer }
-    ensures at_written { (interfaces : Interfaces) (is : Thing) (type : Written) (answer : Bool) → IsData is
-        → value_in_written interfaces is type answer ↔ in_written is type answer }
+    ensures sound { (v : Thing) → IsValue v → IsData v → IsElement v }
+    ensures in_nodes { (graph : Graph) (interfaces : Interfaces) (v : Thing) (id : NodeId) (answer : Bool) → IsData v
+        → value_in_node graph interfaces v id answer ↔ in_node graph v id answer }
+    ensures at_written { (interfaces : Interfaces) (v : Thing) (t : Written) (answer : Bool) → IsData v
+        → value_in_written interfaces v t answer ↔ in_written v t answer }
 {}
 
 /// Where names are guarded, as many as are declared are enough: more of them change no answer.
 pub fn names_are_enough()
-    ensures elements { (type : Written) (more : ℕ) (is : Thing) (answer : Bool) → NamesAreGuarded type → number_of_names type ≤ more
-        → in_written is type answer ↔ element_answers (written more) is (type_of type) answer }
-    ensures values { (type : Written) (more : ℕ) (interfaces : Interfaces) (is : Thing) (answer : Bool) → NamesAreGuarded type → number_of_names type ≤ more
-        → value_in_written interfaces is type answer ↔ value_answers (written more) (admits interfaces) is (type_of type) answer }
+    ensures elements { (t : Written) (more : ℕ) (e : Thing) (answer : Bool) → NamesAreGuarded t → number_of_names t ≤ more
+        → in_written e t answer ↔ element_answers (written more) e (type_of t) answer }
+    ensures values { (t : Written) (more : ℕ) (interfaces : Interfaces) (v : Thing) (answer : Bool) → NamesAreGuarded t → number_of_names t ≤ more
+        → value_in_written interfaces v t answer ↔ value_answers (written more) (admits interfaces) v (type_of t) answer }
 {}
 
 /// The nodes that every graph begins with, and what each of them holds of elements.
 pub fn built_ins_hold()
     ensures sound { IsGraph built_ins }
-    ensures empty { (more : Graph) (is : Thing) → in_node (built_ins ++ more) is (node_named builtin.Empty) true → ⊥ }
-    ensures any { (more : Graph) (is : Thing) → in_node (built_ins ++ more) is (node_named builtin.Any) true }
-    ensures int { (more : Graph) (is : Thing) → IsElement is → in_node (built_ins ++ more) is (node_named builtin.Int) true ↔ (kind_of is ≡ AnInteger) }
-    ensures char { (more : Graph) (is : Thing) → IsElement is → in_node (built_ins ++ more) is (node_named builtin.Char) true ↔ (kind_of is ≡ ACharacter) }
-    ensures byte { (more : Graph) (is : Thing) → in_node (built_ins ++ more) is (node_named builtin.Byte) true ↔ IsByte is }
-    ensures atom { (more : Graph) (is : Thing) → in_node (built_ins ++ more) is (node_named builtin.Atom) true ↔ (kind_of is ≡ AnAtom) }
-    ensures bool { (more : Graph) (is : Thing) → in_node (built_ins ++ more) is (node_named builtin.Bool) true ↔ IsBool is }
-    ensures string { (more : Graph) (is : Thing) → IsElement is → in_node (built_ins ++ more) is (node_named builtin.String) true ↔ IsString is }
-    ensures arrow { (more : Graph) (is : Thing) → IsElement is → in_node (built_ins ++ more) is (node_named builtin.Arrow) true ↔ (kind_of is ≡ AFunction) }
-    ensures pair { (more : Graph) (is : Thing) → in_node (built_ins ++ more) is (node_named builtin.Pair) true ↔ (kind_of is ≡ APair) }
-    ensures record_type { (more : Graph) (is : Thing) → in_node (built_ins ++ more) is (node_named builtin.Record) true ↔ (kind_of is ≡ ARecord) }
-    ensures any_xml { (more : Graph) (is : Thing) → in_node (built_ins ++ more) is (node_named builtin.AnyXml) true ↔ (kind_of is ≡ AnXml) }
-    ensures data_type { (more : Graph) (is : Thing) → IsElement is → in_node (built_ins ++ more) is (node_named builtin.Data) true ↔ IsData is }
-    ensures nil { (more : Graph) (is : Thing) → in_node (built_ins ++ more) is NIL true ↔ IsNil is }
+    ensures empty { (more : Graph) (e : Thing) → in_node (built_ins ++ more) e (node_named builtin.Empty) true → ⊥ }
+    ensures any { (more : Graph) (e : Thing) → in_node (built_ins ++ more) e (node_named builtin.Any) true }
+    ensures int { (more : Graph) (e : Thing) → IsElement e → in_node (built_ins ++ more) e (node_named builtin.Int) true ↔ (kind_of e ≡ AnInteger) }
+    ensures char { (more : Graph) (e : Thing) → IsElement e → in_node (built_ins ++ more) e (node_named builtin.Char) true ↔ (kind_of e ≡ ACharacter) }
+    ensures byte { (more : Graph) (e : Thing) → in_node (built_ins ++ more) e (node_named builtin.Byte) true ↔ IsByte e }
+    ensures atom { (more : Graph) (e : Thing) → in_node (built_ins ++ more) e (node_named builtin.Atom) true ↔ (kind_of e ≡ AnAtom) }
+    ensures bool { (more : Graph) (e : Thing) → in_node (built_ins ++ more) e (node_named builtin.Bool) true ↔ IsBool e }
+    ensures string { (more : Graph) (e : Thing) → IsElement e → in_node (built_ins ++ more) e (node_named builtin.String) true ↔ IsString e }
+    ensures arrow { (more : Graph) (e : Thing) → IsElement e → in_node (built_ins ++ more) e (node_named builtin.Arrow) true ↔ (kind_of e ≡ AFunction) }
+    ensures pair { (more : Graph) (e : Thing) → in_node (built_ins ++ more) e (node_named builtin.Pair) true ↔ (kind_of e ≡ APair) }
+    ensures record_type { (more : Graph) (e : Thing) → in_node (built_ins ++ more) e (node_named builtin.Record) true ↔ (kind_of e ≡ ARecord) }
+    ensures any_xml { (more : Graph) (e : Thing) → in_node (built_ins ++ more) e (node_named builtin.AnyXml) true ↔ (kind_of e ≡ AnXml) }
+    ensures data_type { (more : Graph) (e : Thing) → IsElement e → in_node (built_ins ++ more) e (node_named builtin.Data) true ↔ IsData e }
+    ensures nil { (more : Graph) (e : Thing) → in_node (built_ins ++ more) e NIL true ↔ IsNil e }
 {}
 
 /// The same of values.
 pub fn built_ins_hold_values()
-    ensures empty { (more : Graph) (interfaces : Interfaces) (is : Thing) → value_in_node (built_ins ++ more) interfaces is (node_named builtin.Empty) true → ⊥ }
-    ensures any { (more : Graph) (interfaces : Interfaces) (is : Thing) → value_in_node (built_ins ++ more) interfaces is (node_named builtin.Any) true }
-    ensures int { (more : Graph) (interfaces : Interfaces) (is : Thing) → IsValue is → value_in_node (built_ins ++ more) interfaces is (node_named builtin.Int) true ↔ (kind_of is ≡ AnInteger) }
-    ensures char { (more : Graph) (interfaces : Interfaces) (is : Thing) → IsValue is → value_in_node (built_ins ++ more) interfaces is (node_named builtin.Char) true ↔ (kind_of is ≡ ACharacter) }
-    ensures byte { (more : Graph) (interfaces : Interfaces) (is : Thing) → value_in_node (built_ins ++ more) interfaces is (node_named builtin.Byte) true ↔ IsByte is }
-    ensures atom { (more : Graph) (interfaces : Interfaces) (is : Thing) → value_in_node (built_ins ++ more) interfaces is (node_named builtin.Atom) true ↔ (kind_of is ≡ AnAtom) }
-    ensures bool { (more : Graph) (interfaces : Interfaces) (is : Thing) → value_in_node (built_ins ++ more) interfaces is (node_named builtin.Bool) true ↔ IsBool is }
-    ensures string { (more : Graph) (interfaces : Interfaces) (is : Thing) → IsValue is → value_in_node (built_ins ++ more) interfaces is (node_named builtin.String) true ↔ IsString is }
-    ensures arrow { (more : Graph) (interfaces : Interfaces) (is : Thing) → IsValue is → value_in_node (built_ins ++ more) interfaces is (node_named builtin.Arrow) true ↔ (kind_of is ≡ AFunction) }
-    ensures pair { (more : Graph) (interfaces : Interfaces) (is : Thing) → value_in_node (built_ins ++ more) interfaces is (node_named builtin.Pair) true ↔ (kind_of is ≡ APair) }
-    ensures record_type { (more : Graph) (interfaces : Interfaces) (is : Thing) → value_in_node (built_ins ++ more) interfaces is (node_named builtin.Record) true ↔ (kind_of is ≡ ARecord) }
-    ensures any_xml { (more : Graph) (interfaces : Interfaces) (is : Thing) → value_in_node (built_ins ++ more) interfaces is (node_named builtin.AnyXml) true ↔ (kind_of is ≡ AnXml) }
-    ensures data_type { (more : Graph) (interfaces : Interfaces) (is : Thing) → IsValue is → value_in_node (built_ins ++ more) interfaces is (node_named builtin.Data) true ↔ IsData is }
-    ensures nil { (more : Graph) (interfaces : Interfaces) (is : Thing) → value_in_node (built_ins ++ more) interfaces is NIL true ↔ IsNil is }
+    ensures empty { (more : Graph) (interfaces : Interfaces) (v : Thing) → value_in_node (built_ins ++ more) interfaces v (node_named builtin.Empty) true → ⊥ }
+    ensures any { (more : Graph) (interfaces : Interfaces) (v : Thing) → value_in_node (built_ins ++ more) interfaces v (node_named builtin.Any) true }
+    ensures int { (more : Graph) (interfaces : Interfaces) (v : Thing) → IsValue v → value_in_node (built_ins ++ more) interfaces v (node_named builtin.Int) true ↔ (kind_of v ≡ AnInteger) }
+    ensures char { (more : Graph) (interfaces : Interfaces) (v : Thing) → IsValue v → value_in_node (built_ins ++ more) interfaces v (node_named builtin.Char) true ↔ (kind_of v ≡ ACharacter) }
+    ensures byte { (more : Graph) (interfaces : Interfaces) (v : Thing) → value_in_node (built_ins ++ more) interfaces v (node_named builtin.Byte) true ↔ IsByte v }
+    ensures atom { (more : Graph) (interfaces : Interfaces) (v : Thing) → value_in_node (built_ins ++ more) interfaces v (node_named builtin.Atom) true ↔ (kind_of v ≡ AnAtom) }
+    ensures bool { (more : Graph) (interfaces : Interfaces) (v : Thing) → value_in_node (built_ins ++ more) interfaces v (node_named builtin.Bool) true ↔ IsBool v }
+    ensures string { (more : Graph) (interfaces : Interfaces) (v : Thing) → IsValue v → value_in_node (built_ins ++ more) interfaces v (node_named builtin.String) true ↔ IsString v }
+    ensures arrow { (more : Graph) (interfaces : Interfaces) (v : Thing) → IsValue v → value_in_node (built_ins ++ more) interfaces v (node_named builtin.Arrow) true ↔ (kind_of v ≡ AFunction) }
+    ensures pair { (more : Graph) (interfaces : Interfaces) (v : Thing) → value_in_node (built_ins ++ more) interfaces v (node_named builtin.Pair) true ↔ (kind_of v ≡ APair) }
+    ensures record_type { (more : Graph) (interfaces : Interfaces) (v : Thing) → value_in_node (built_ins ++ more) interfaces v (node_named builtin.Record) true ↔ (kind_of v ≡ ARecord) }
+    ensures any_xml { (more : Graph) (interfaces : Interfaces) (v : Thing) → value_in_node (built_ins ++ more) interfaces v (node_named builtin.AnyXml) true ↔ (kind_of v ≡ AnXml) }
+    ensures data_type { (more : Graph) (interfaces : Interfaces) (v : Thing) → IsValue v → value_in_node (built_ins ++ more) interfaces v (node_named builtin.Data) true ↔ IsData v }
+    ensures nil { (more : Graph) (interfaces : Interfaces) (v : Thing) → value_in_node (built_ins ++ more) interfaces v NIL true ↔ IsNil v }
 {}
 
 /// The node of a built-in name stands for the name, in each scope.
@@ -116,8 +116,8 @@ pub fn built_ins_stand()
 pub fn interfaces_agree()
     ensures { (graph : Graph) (count : ℕ) (arrows : ℕ → List (ArrowOf NodeId)) (others : ℕ → List (ArrowOf WrittenType)) → IsGraph graph
         → ((function : ℕ) → ArrowsAgree graph count (arrows function) (others function))
-        → (is : Thing) (id : NodeId) (answer : Bool) → id.0 < length graph
-        → value_in_node graph (OfNodes graph arrows) is id answer ↔ value_in_node graph (OfWritten count others) is id answer }
+        → (v : Thing) (id : NodeId) (answer : Bool) → id.0 < length graph
+        → value_in_node graph (OfNodes graph arrows) v id answer ↔ value_in_node graph (OfWritten count others) v id answer }
 {}
 
 /// Each thing is an element or is none, and is a value or is none.

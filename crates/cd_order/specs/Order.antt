@@ -1,4 +1,5 @@
--- Numbers that lead to other numbers, and an order in which each comes after those that it leads to.
+-- Numbers that lead to other numbers, and an order in which each comes after those that it leads
+-- to.
 use Rattle.std.specs.Prelude.{◌≡◌, ℕ, zero, suc, ◌<◌, List, [], ◌∷◌, ◌++◌, length, ◌⊎◌}
 use Rattle.std.specs.List.{slice_get}
 use Rattle.std.specs.Option.{unwrap_or}
@@ -32,7 +33,8 @@ Ends links number = (most : ℕ) × IsShort links most number
 -- after these numbers, each of the others comes once, and those that it leads to come before it
 abbrev pub ComeAfter : List (List ℕ) → (before order : List ℕ) → Type 0
 ComeAfter links before [] = Unit {0}
-ComeAfter links before (number ∷ rest) = (IsOneOf number before → ⊥) × Each (λ next. IsOneOf next before) (row links number)
+ComeAfter links before (number ∷ rest) = (IsOneOf number before → ⊥)
+    × Each (λ next. IsOneOf next before) (row links number)
     × ComeAfter links (before ++ number ∷ []) rest
 
 -- an order of all numbers that have rows

@@ -1,5 +1,6 @@
 -- What a search from each number in turn keeps true, and how much it still has to look at.
-use Rattle.std.specs.Prelude.{◌≡◌, ℕ, ◌+◌, ◌-◌, ◌<◌, Bool, true, false, List, [], ◌∷◌, length, ◌⊎◌, take, slice_index_or}
+use Rattle.std.specs.Prelude.{◌≡◌, ℕ, ◌+◌, ◌-◌, ◌<◌, Bool, true, false, List, [], ◌∷◌, length, ◌⊎◌}
+use Rattle.std.specs.Prelude.{take, slice_index_or}
 use Rattle.cd_order.specs.declared.search.Frame.{Frame}
 use Rattle.cd_order.specs.Order.{Each, IsOneOf, row, IsShort, ComeAfter}
 
@@ -12,7 +13,8 @@ abbrev pub IsOpen : ℕ → List Frame → Type 0
 IsOpen number [] = ⊥
 IsOpen number (frame ∷ rest) = (frame.number ≡ number) ⊎ IsOpen number rest
 
--- each way from the first number is longer than those from the second, as where the first leads to the second
+-- each way from the first number is longer than those from the second, as where the first leads to
+-- the second
 abbrev pub Leads : List (List ℕ) → ℕ → ℕ → Type 0
 Leads links number next = (most : ℕ) → IsShort links most number
     → (less : ℕ) × (less < most) × IsShort links less next
@@ -22,8 +24,8 @@ abbrev pub AllLead : List (List ℕ) → List Frame → ℕ → Type 0
 AllLead links [] next = Unit {0}
 AllLead links (frame ∷ rest) next = Leads links frame.number next × AllLead links rest next
 
--- the frames, the last opened first: each number is seen and is not put, what was looked at of its row is put, and the
--- numbers opened before it lead to it
+-- the frames, the last opened first: each number is seen and is not put, what was looked at of its
+-- row is put, and the numbers opened before it lead to it
 abbrev pub AreOpen : List (List ℕ) → List Bool → List ℕ → List Frame → Type 0
 AreOpen links seen order [] = Unit {0}
 AreOpen links seen order (frame ∷ rest) = (frame.number < length links) × IsSeen seen frame.number
@@ -40,7 +42,8 @@ pub record AllSeen (seen : List Bool) (count : ℕ) : Type 0 where
   pub are : (number : ℕ) → number < count → IsSeen seen number
 
 -- the search at any of its steps
-pub record IsSound (links : List (List ℕ)) (seen : List Bool) (frames : List Frame) (order : List ℕ) : Type 0 where
+pub record IsSound (links : List (List ℕ)) (seen : List Bool) (frames : List Frame)
+    (order : List ℕ) : Type 0 where
   pub sized : length seen ≡ length links
   pub known : Each (λ number. number < length links) order
   pub put_seen : Each (IsSeen seen) order
@@ -58,7 +61,8 @@ unseen_steps (one ∷ links) (false ∷ seen) = length one + 2 + unseen_steps li
 -- the steps that the frames can take
 abbrev pub open_steps : List (List ℕ) → List Frame → ℕ
 open_steps links [] = 0
-open_steps links (frame ∷ rest) = length (row links frame.number) - frame.looked + 1 + open_steps links rest
+open_steps links (frame ∷ rest) =
+    length (row links frame.number) - frame.looked + 1 + open_steps links rest
 
 -- the steps that the search can take at most
 abbrev pub steps : List (List ℕ) → List Bool → List Frame → ℕ

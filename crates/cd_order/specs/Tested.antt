@@ -1,4 +1,5 @@
--- Tests, by computing, that every number which is led to has a row and that all ways end. They serve the crate's own tests.
+-- Tests, by computing, that every number which is led to has a row and that all ways end. They
+-- serve the crate's own tests.
 use Rattle.std.specs.Prelude.{ℕ, zero, suc, Bool, true, false, ◌&&◌, List, [], ◌∷◌, length, nat_lt}
 use Rattle.cd_order.specs.Order.{row}
 
@@ -24,4 +25,5 @@ are_short links most (suc count) = is_short links most count && are_short links 
 
 -- no row leads out, and no way is longer than there are numbers
 abbrev pub can_be_ordered : List (List ℕ) → Bool
-can_be_ordered links = are_rows (length links) links && are_short links (length links) (length links)
+can_be_ordered links = are_rows (length links) links
+    && are_short links (length links) (length links)

@@ -9,14 +9,16 @@ mod search;
 use crate::search::Search;
 use std::alloc::{AllocError, Global};
 
-/// All numbers below the length of `links`, each once and after those that its row says it leads to.
+/// All numbers below the length of `links`, each once and after those that its row says it leads
+/// to.
 ///
 /// # Errors
 ///
 /// Want of memory.
 pub fn order(alloc: Global, links: &[Vec<usize>]) -> Result<Vec<usize>, AllocError>
     requires rows { AreRows (map (λ row. row.items) links.now) }
-    requires ends { (number : ℕ) → number < length links.now → Ends (map (λ row. row.items) links.now) number }
+    requires ends { (number : ℕ) → number < length links.now
+        → Ends (map (λ row. row.items) links.now) number }
     ensures { IfOk result (λ order. IsOrder (map (λ row. row.items) links.now) order.items) }
 {
     let mut search = Search::new(alloc, links.len())?;

@@ -1,5 +1,6 @@
 -- What the functions that read declarations say of tokens.
-use Rattle.std.specs.Prelude.{◌≡◌, ℕ, ◌≤◌, true, List, [], ◌∷◌, ◌++◌, Option, Some, None, length, take, drop, codes}
+use Rattle.std.specs.Prelude.{◌≡◌, ℕ, ◌≤◌, true, List, [], ◌∷◌, ◌++◌, Option, Some, None, length}
+use Rattle.std.specs.Prelude.{take, drop, codes}
 use Rattle.std.specs.List.{slice_get}
 use Rattle.cd_syntax.specs.declared.sign.Sign.TheVariants as sign
 use Rattle.cd_syntax.specs.declared.tokens.Span.{Span}
@@ -23,7 +24,8 @@ HaveName tokens name = (is_type_name name ≡ true) × HasKind (slice_get tokens
 -- the tokens begin with `type`, a name that stands there, and `=`
 pub data HaveHead : List Token → Name → (place : ℕ) → Type 0 where
   head : (type_word span equal : Span) (name : Name) (rest : List Token) → is_type_name name ≡ true
-      → HaveHead (at (token.Word (codes "type")) type_word ∷ at (token.Word name) span ∷ at (token.Sign sign.Equal) equal ∷ rest) name span.from
+      → HaveHead (at (token.Word (codes "type")) type_word ∷ at (token.Word name) span
+      ∷ at (token.Sign sign.Equal) equal ∷ rest) name span.from
 
 -- both lists are empty, or begin with the same token
 abbrev pub BeginAlike : (tokens others : List Token) → Type 0
@@ -37,11 +39,14 @@ abbrev pub and_then : List Declaration → Declarations → Declarations
 and_then [] others = others
 and_then (first ∷ rest) others = ADeclaration first.name first.at first.tree (and_then rest others)
 
--- So many of the tokens write these declarations, whatever is declared after them. And where others go on from them, and
--- begin as these go on, all are declarations just where a declaration ends there
+-- So many of the tokens write these declarations, whatever is declared after them. And where others
+-- go on from them, and begin as these go on, all are declarations just where a declaration ends
+-- there
 pub record AreFront (tokens : List Token) (count : ℕ) (declared : List Declaration) : Type 0 where
   pub within : count ≤ length tokens
-  pub made : (depth : ℕ) (rest : List Token) (others : Declarations) → 1000 ≤ depth → AreDeclared depth rest others
+  pub made : (depth : ℕ) (rest : List Token) (others : Declarations) → 1000 ≤ depth
+      → AreDeclared depth rest others
       → AreDeclared depth (take count tokens ++ rest) (and_then declared others)
-  pub only : (depth : ℕ) (rest : List Token) → BeginAlike rest (drop count tokens) → SomeDeclarations depth (take count tokens ++ rest)
+  pub only : (depth : ℕ) (rest : List Token) → BeginAlike rest (drop count tokens)
+      → SomeDeclarations depth (take count tokens ++ rest)
       → SomeDeclarations depth rest

@@ -19,6 +19,7 @@ HaveNoFront tokens = (depth count : ℕ) (is : Tree) → IsFront depth tokens co
 
 -- what a refusal says of the front of tokens
 abbrev pub IsFrontFault : (most : ℕ) → List Token → (end : ℕ) → ParseError → Type 0
-IsFrontFault most tokens end (Syntax place) = IsSyntaxFault AType most tokens end place × HaveNoFront tokens
+IsFrontFault most tokens end (Syntax place) = IsSyntaxFault AType most tokens end place
+    × HaveNoFront tokens
 IsFrontFault most tokens end (TooDeep place) = IsDepthFault AType most tokens end place
 IsFrontFault most tokens end Memory = Unit {0}

@@ -1,4 +1,5 @@
-ghost use Rattle.std.specs.Prelude.{◌<◌, ◌↔◌, [], ◌∷◌, IsTrue, MatchOption, IfOk, IfErr, length, codes};
+ghost use Rattle.std.specs.Prelude.{◌<◌, ◌↔◌, [], ◌∷◌, IsTrue, MatchOption, IfOk, IfErr, length};
+ghost use Rattle.std.specs.Prelude.{codes};
 ghost use Rattle.std.specs.List.{slice_get};
 ghost use Rattle.cd_syntax.specs.declared.sign.Sign.TheVariants as sign_of;
 ghost use Rattle.cd_syntax.specs.declared.tokens.TokenKind.TheVariants as token;
@@ -17,7 +18,8 @@ use cd_syntax::tokens::{Token, TokenKind};
 use cd_syntax::type_tree::{Declaration, Declarations};
 use std::alloc::Global;
 
-/// The type declarations that tokens write, all of them; `end` is the place of the end of their text.
+/// The type declarations that tokens write, all of them; `end` is the place of the end of their
+/// text.
 ///
 /// # Errors
 ///
@@ -27,7 +29,8 @@ pub fn parse_declarations(
     tokens: &[Token],
     end: usize,
 ) -> Result<Declarations, ParseError>
-    ensures declarations { IfOk result (λ declarations. AreDeclared 1000 tokens.now (plain_declarations declarations)) }
+    ensures declarations { IfOk result
+        (λ declarations. AreDeclared 1000 tokens.now (plain_declarations declarations)) }
     ensures fault { IfErr result (λ error. IsFault SomeDeclarations 1000 tokens.now end error) }
 {
     let mut declared = Vec::new(alloc);
@@ -46,7 +49,8 @@ pub fn parse_declarations(
     Ok(Declarations::of(declared))
 }
 
-// The declaration that tokens begin, and the number of its tokens, with the `;;` after it if there is one.
+// The declaration that tokens begin, and the number of its tokens, with the `;;` after it if there
+// is one.
 fn declaration(
     alloc: Global,
     tokens: &[Token],
@@ -54,7 +58,8 @@ fn declaration(
 ) -> Result<(Declaration, usize), ParseError>
     requires { 0 < length tokens.now }
     ensures some { IfOk result (λ found. 0 < found.1) }
-    ensures front { IfOk result (λ found. AreFront tokens.now found.1 (plain_declaration found.0 ∷ [])) }
+    ensures front { IfOk result
+        (λ found. AreFront tokens.now found.1 (plain_declaration found.0 ∷ [])) }
     ensures fault { IfErr result (λ error. IsFault SomeDeclarations 1000 tokens.now end error) }
 {
     let (name, at) = match declared_name(tokens, end) {
@@ -110,7 +115,8 @@ fn is_word_type(tokens: &[Token]) -> bool
 
 // The second token, where it is a name that a type may have.
 fn type_name(tokens: &[Token]) -> Option<&Name>
-    ensures { MatchOption result ((name : AName) → HaveName tokens.now name → ⊥) (λ name. HaveName tokens.now name.now) }
+    ensures { MatchOption result ((name : AName) → HaveName tokens.now name → ⊥)
+        (λ name. HaveName tokens.now name.now) }
 {
     let second = tokens.get(1)?;
     let TokenKind::Word(name) = &second.kind else {

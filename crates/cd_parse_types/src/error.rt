@@ -8,12 +8,12 @@ use thiserror::Error;
 /// Why tokens were not read. A place is the byte offset of a token, or the end that was given.
 #[derive(Clone, Copy, Debug, PartialEq, Eq, Error)]
 pub enum ParseError {
-    /// The tokens before this place begin what is to be read, and with the one there they begin nothing of the kind; or
-    /// this is the end, and something is missing.
+    /// The tokens before this place begin what is to be read, and with the one there they begin
+    /// nothing of the kind; or this is the end, and something is missing.
     #[error("syntax")]
     Syntax(usize),
-    /// The tokens before this place begin what is to be read, and with the one there all that they begin is
-    /// too deep.
+    /// The tokens before this place begin what is to be read, and with the one there all that they
+    /// begin is too deep.
     #[error("too deep")]
     TooDeep(usize),
     /// Memory ran out.

@@ -16,9 +16,9 @@ pub enum Mode {
     TypeText,
 }
 
-/// The type that begins with the token of number `from`, from 0, and the number of the first token after it,
-/// which cannot go on with it. It stands in a place that is `depth` deep already, and `end` is the place of
-/// the end of the text.
+/// The type that begins with the token of number `from`, from 0, and the number of the first token
+/// after it, which cannot go on with it. It stands in a place that is `depth` deep already, and
+/// `end` is the place of the end of the text.
 ///
 /// # Errors
 ///
@@ -33,8 +33,11 @@ pub fn read_tree(
 ) -> Result<(Tree, usize), ParseError>
     requires from { from ≤ length tokens.now }
     requires depth { depth ≤ 1000 }
-    ensures tree { IfOk result (λ found. (count : ℕ) × (found.1 ≡ from + count) × IsFront (1000 - depth) (drop from tokens.now) count (plain found.0)) }
-    ensures fault { IfErr result (λ error. IsFrontFault (1000 - depth) (drop from tokens.now) end error) }
+    ensures tree { IfOk result
+        (λ found. (count : ℕ) × (found.1 ≡ from + count)
+        × IsFront (1000 - depth) (drop from tokens.now) count (plain found.0)) }
+    ensures fault { IfErr result
+        (λ error. IsFrontFault (1000 - depth) (drop from tokens.now) end error) }
 {
     match mode {
         Mode::TypeText => {

@@ -26,18 +26,18 @@ ghost use Rattle.cd_rules.specs.Choices.{choices, choices_of, Meets};
 
 /// A question holds just what meets one of its choices.
 pub fn choices_are_exact()
-    ensures elements { (graph : Graph) (question : Question) (is : Thing)
-        → asked (answers graph is) question true ↔ One (Meets (reader graph is)) (choices_of graph question) }
-    ensures values { (graph : Graph) (question : Question) (interfaces : Interfaces) (is : Thing)
-        → asked (value_answers graph interfaces is) question true ↔ One (Meets (value_reader graph interfaces is)) (choices_of graph question) }
+    ensures elements { (graph : Graph) (question : Question) (e : Thing)
+        → asked (answers graph e) question true ↔ One (Meets (reader graph e)) (choices_of graph question) }
+    ensures values { (graph : Graph) (question : Question) (interfaces : Interfaces) (v : Thing)
+        → asked (value_answers graph interfaces v) question true ↔ One (Meets (value_reader graph interfaces v)) (choices_of graph question) }
 {}
 
 /// A question holds just what is in one of its clauses.
 pub fn clauses_are_exact()
-    ensures elements { (graph : Graph) (question : Question) (is : Thing) → asked (answers graph is) question true
-        ↔ ((clause : Clause) × IsClauseOfQuestion graph question clause × IsInClause (kind_of is) (reader graph is) clause) }
-    ensures values { (graph : Graph) (question : Question) (interfaces : Interfaces) (is : Thing) → asked (value_answers graph interfaces is) question true
-        ↔ ((clause : Clause) × IsClauseOfQuestion graph question clause × IsInClause (kind_of is) (value_reader graph interfaces is) clause) }
+    ensures elements { (graph : Graph) (question : Question) (e : Thing) → asked (answers graph e) question true
+        ↔ ((clause : Clause) × IsClauseOfQuestion graph question clause × IsInClause (kind_of e) (reader graph e) clause) }
+    ensures values { (graph : Graph) (question : Question) (interfaces : Interfaces) (v : Thing) → asked (value_answers graph interfaces v) question true
+        ↔ ((clause : Clause) × IsClauseOfQuestion graph question clause × IsInClause (kind_of v) (value_reader graph interfaces v) clause) }
 {}
 
 /// A record is in a clause just where it is in one of the clause's rows.
@@ -52,10 +52,10 @@ pub fn rows_are_exact()
 
 /// No element is in a question that a closed family covers, nor is a value, whatever arrows of the graph its closures have.
 pub fn closed_families_are_empty()
-    ensures elements { (graph more : Graph) (family : List Question) (question : Question) (is : Thing) → graph ≡ built_ins ++ more
-        → IsClosed graph family → IsCovered question family → IsElement is → asked (answers graph is) question true → ⊥ }
-    ensures values { (graph more : Graph) (family : List Question) (question : Question) (interfaces : Interfaces) (is : Thing) → graph ≡ built_ins ++ more
-        → IsClosed graph family → IsCovered question family → IsValue is → asked (value_answers graph interfaces is) question true → ⊥ }
+    ensures elements { (graph more : Graph) (family : List Question) (question : Question) (e : Thing) → graph ≡ built_ins ++ more
+        → IsClosed graph family → IsCovered question family → IsElement e → asked (answers graph e) question true → ⊥ }
+    ensures values { (graph more : Graph) (family : List Question) (question : Question) (interfaces : Interfaces) (v : Thing) → graph ≡ built_ins ++ more
+        → IsClosed graph family → IsCovered question family → IsValue v → asked (value_answers graph interfaces v) question true → ⊥ }
 {}
 
 /// A closed family whose questions ask nodes of a graph stays closed in each longer graph.
@@ -79,8 +79,8 @@ pub fn families_cover()
 
 /// A clause holds the elements and the values that its reduced form holds, and is broken where that is.
 pub fn reduced_clauses()
-    ensures holds { (graph more : Graph) (clause reduced : Clause) (is : Thing) → graph ≡ built_ins ++ more → IsReduced graph clause reduced
-        → IsElement is → IsInClause (kind_of is) (reader graph is) reduced → IsInClause (kind_of is) (reader graph is) clause }
+    ensures holds { (graph more : Graph) (clause reduced : Clause) (e : Thing) → graph ≡ built_ins ++ more → IsReduced graph clause reduced
+        → IsElement e → IsInClause (kind_of e) (reader graph e) reduced → IsInClause (kind_of e) (reader graph e) clause }
     ensures holds_values { (graph more : Graph) (arrows : ℕ → List (ArrowOf NodeId)) (clause reduced : Clause) (v : Thing)
         → graph ≡ built_ins ++ more → IsGraph graph → IsReduced graph clause reduced → IsValue v
         → IsInClause (kind_of v) (value_reader graph (OfNodes graph arrows) v) reduced

@@ -2,7 +2,9 @@
 use Rattle.std.specs.Prelude.{◌≡◌, Bool, List, Some, nat_eq, refl}
 use Rattle.std.specs.declared.cmp.Ordering.{Ordering}
 use Rattle.std.specs.Ordering.{nat_cmp, eq_by_cmp}
-use Rattle.std.specs.Cmp.{IsEquivalence, IsPartialOrder, IsTotalOrder, on_equiv, on_total, partial_order_from_agreeing_total, nat_eq_equiv, nat_cmp_total, unsigned_ties}
+use Rattle.std.specs.Cmp.{IsEquivalence, IsPartialOrder, IsTotalOrder, on_equiv, on_total}
+use Rattle.std.specs.Cmp.{partial_order_from_agreeing_total, nat_eq_equiv, nat_cmp_total}
+use Rattle.std.specs.Cmp.{unsigned_ties}
 use Rattle.std.specs.Cmp.Lexicographic.{pointwise, slice_cmp, lists_equiv, lists_total, lists_ties}
 use Rattle.std.specs.Hash as fed
 use Rattle.std.specs.Hash.{HashWrites, Alike, same_Alike, on_Alike, items_Alike}
@@ -21,11 +23,14 @@ sets_equiv = lists_equiv (on_equiv (λ id. id.0) nat_eq_equiv)
 pub sets_total : IsTotalOrder (slice_cmp id_cmp)
 sets_total = lists_total (on_total (λ id. id.0) nat_cmp_total)
 
-pub sets_ties : (set other : List NodeId) → pointwise same_id set other ≡ eq_by_cmp (slice_cmp id_cmp) set other
+pub sets_ties : (set other : List NodeId)
+    → pointwise same_id set other ≡ eq_by_cmp (slice_cmp id_cmp) set other
 sets_ties = lists_ties id_cmp (λ id other. unsigned_ties id.0 other.0)
 
-pub sets_partial : IsPartialOrder (pointwise same_id) (λ set other. Some (slice_cmp id_cmp set other))
-sets_partial = partial_order_from_agreeing_total (slice_cmp id_cmp) sets_total (λ set other. refl) sets_ties
+pub sets_partial : IsPartialOrder (pointwise same_id)
+    (λ set other. Some (slice_cmp id_cmp set other))
+sets_partial = partial_order_from_agreeing_total (slice_cmp id_cmp) sets_total
+    (λ set other. refl) sets_ties
 
 -- what a number gives a hasher
 abbrev pub id_input : NodeId → HashWrites

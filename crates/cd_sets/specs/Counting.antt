@@ -17,7 +17,8 @@ next_digits [] = None
 next_digits (false ∷ digits) = Some (true ∷ digits)
 next_digits (true ∷ digits) = option_map (λ rest. false ∷ rest) (next_digits digits)
 
--- each of these without the number and with it, where the first without it is past already if the digit is a one
+-- each of these without the number and with it, where the first without it is past already if the
+-- digit is a one
 abbrev pub from_digit : NodeId → Bool → List (List NodeId) → List (List NodeId)
 from_digit id false sets = without_and_with id sets
 from_digit id true [] = []

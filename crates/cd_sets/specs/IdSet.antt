@@ -1,5 +1,6 @@
 -- Sets of node numbers, as strictly rising lists.
-use Rattle.std.specs.Prelude.{ℕ, suc, ◌<◌, ◌==◌, Bool, List, [], ◌∷◌, Option, Some, None, nat_le, cond}
+use Rattle.std.specs.Prelude.{ℕ, suc, ◌<◌, ◌==◌, Bool, List, [], ◌∷◌, Option, Some, None, nat_le}
+use Rattle.std.specs.Prelude.{cond}
 use Rattle.std.specs.List.{list_any}
 use Rattle.cd_sets.specs.declared.node_id.NodeId.{NodeId}
 

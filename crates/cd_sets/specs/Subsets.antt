@@ -1,4 +1,5 @@
--- The subsets of a set of node numbers, in the order of binary counting: the least number is the lowest digit.
+-- The subsets of a set of node numbers, in the order of binary counting: the least number is the
+-- lowest digit.
 use Rattle.std.specs.Prelude.{◌≡◌, List, [], ◌∷◌, Option, Some, None}
 use Rattle.cd_sets.specs.declared.node_id.NodeId.{NodeId}
 

@@ -1,4 +1,5 @@
-ghost use Rattle.std.specs.Prelude.{◌≡◌, ◌==◌, ◌||◌, ◌≤◌, [], Some, IfOk, OnOk, OnErr, length, refl};
+ghost use Rattle.std.specs.Prelude.{◌≡◌, ◌==◌, ◌||◌, ◌≤◌, [], Some, IfOk, OnOk, OnErr, length};
+ghost use Rattle.std.specs.Prelude.{refl};
 ghost use Rattle.std.specs.Cmp.{partial_equiv_from_equiv};
 ghost use Rattle.std.specs.Cmp.Lexicographic.{pointwise, slice_cmp};
 ghost use Rattle.std.specs.Hash as fed;
@@ -7,7 +8,8 @@ ghost use Rattle.cd_sets.specs.IdSet.{AreRising, holds, place_of};
 ghost use Rattle.cd_sets.specs.Subsets.{subsets_of};
 ghost use Rattle.cd_sets.specs.Counting.{chosen_of};
 ghost use Rattle.cd_sets.specs.Comparing.{same_id, id_cmp, id_input};
-ghost use Rattle.cd_sets.specs.Comparing.{sets_equiv, sets_partial, sets_total, sets_ties, sets_alike};
+ghost use Rattle.cd_sets.specs.Comparing.{sets_equiv, sets_partial, sets_total, sets_ties};
+ghost use Rattle.cd_sets.specs.Comparing.{sets_alike};
 
 use crate::node_id::NodeId;
 use crate::subsets::Subsets;
@@ -92,7 +94,8 @@ impl IdSet {
         self.ids.as_slice()
     }
 
-    /// Its subsets, each once, in the order of binary counting, with the least number as the lowest digit.
+    /// Its subsets, each once, in the order of binary counting, with the least number as the lowest
+    /// digit.
     pub fn subsets(&self) -> Result<Subsets, AllocError>
         ensures { IfOk result (λ subsets. subsets ≡ subsets_of self.now) }
     {

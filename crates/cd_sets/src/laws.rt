@@ -1,4 +1,5 @@
-//! Laws of sets of node numbers and of their subsets. Each is the contract of a function that does nothing.
+//! Laws of sets of node numbers and of their subsets. Each is the contract of a function that does
+//! nothing.
 ghost use Rattle.std.specs.Prelude.{◌≡◌, ◌≢◌, ◌^◌, List, length};
 ghost use Rattle.std.specs.Bool.{Decides};
 ghost use Rattle.std.specs.Cmp.Lexicographic.{pointwise};
@@ -18,18 +19,22 @@ pub fn members_decide()
 
 /// The comparisons find those sets and questions equal that are the same.
 pub fn equality_decides()
-    ensures sets { (first second : List NodeId) → Decides (pointwise same_id first second) (first ≡ second) }
-    ensures questions { (first second : Question) → Decides (same_question first second) (first ≡ second) }
+    ensures sets { (first second : List NodeId)
+        → Decides (pointwise same_id first second) (first ≡ second) }
+    ensures questions { (first second : Question)
+        → Decides (same_question first second) (first ≡ second) }
 {}
 
 /// The subsets are the parts.
 pub fn subsets_are_parts()
-    ensures each_is_part { (ids part : List NodeId) → Contains (subsets_of ids) part → IsPart part ids }
-    ensures each_part_is { (ids part : List NodeId) → IsPart part ids → Contains (subsets_of ids) part }
+    ensures each_is_part { (ids part : List NodeId) → Contains (subsets_of ids) part
+        → IsPart part ids }
+    ensures each_part_is { (ids part : List NodeId) → IsPart part ids
+        → Contains (subsets_of ids) part }
 {}
 
-/// There is a subset for each choice among the numbers, and for numbers that rise no two of them are the
-/// same, and each of them rises.
+/// There is a subset for each choice among the numbers, and for numbers that rise no two of them
+/// are the same, and each of them rises.
 pub fn subsets_differ()
     ensures count { (ids : List NodeId) → length (subsets_of ids) ≡ 2 ^ length ids }
     ensures differ { (ids : List NodeId) → AreRising ids

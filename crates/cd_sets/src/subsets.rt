@@ -21,7 +21,8 @@ impl Model for Subsets {
 
     ghost Value = { List (List AnId) };
 
-    ghost view = { λ subsets. left_from subsets.set (digits_left subsets.more subsets.digits.items) };
+    ghost view = { λ subsets.
+        left_from subsets.set (digits_left subsets.more subsets.digits.items) };
 
     ghost invariant = { λ subsets. length subsets.digits.items ≡ length subsets.set };
 }

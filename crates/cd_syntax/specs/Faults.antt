@@ -1,10 +1,12 @@
 -- Why a text has no tokens.
-use Rattle.std.specs.Prelude.{◌≡◌, ℕ, pos, ◌+◌, ◌==◌, ◌||◌, not, neg_ℤ, Bool, true, false, List, ◌∷◌, ◌++◌}
+use Rattle.std.specs.Prelude.{◌≡◌, ℕ, pos, ◌+◌, ◌==◌, ◌||◌, not, neg_ℤ, Bool, true, false, List}
+use Rattle.std.specs.Prelude.{◌∷◌, ◌++◌}
 use Rattle.std.specs.Char.{is_ascii_digit}
 use Rattle.cd_syntax.specs.declared.sign.Sign.{Sign}
 use Rattle.cd_syntax.specs.declared.tokens.TokenKind.{TokenKind}
 use Rattle.cd_syntax.specs.declared.tokens.LexError.{LexError}
-use Rattle.cd_syntax.specs.declared.tokens.LexError.TheVariants.{BadChar, OpenText, OpenComment, TooWide}
+use Rattle.cd_syntax.specs.declared.tokens.LexError.TheVariants.{BadChar, OpenText, OpenComment}
+use Rattle.cd_syntax.specs.declared.tokens.LexError.TheVariants.{TooWide}
 use Rattle.cd_syntax.specs.Integer.{IsInteger}
 use Rattle.cd_syntax.specs.Name.{begins_word, IsLabel}
 use Rattle.cd_syntax.specs.Digits.{AreDigits, decimal_value, BeginsWithNoDigit}
@@ -24,25 +26,36 @@ is_other c = not (is_blank c || begins_word c || is_ascii_digit c || is_quote c)
 -- the text, which begins at this byte, has a fault at its front
 pub data Breaks (joined : Bool) (at : ℕ) : List ℕ → LexError → Type 0 where
   -- a character that begins no token
-  character : (c : ℕ) (text : List ℕ) → is_other c ≡ true → ((is : Sign) → BeginsWith (c ∷ text) is → ⊥)
-      → ((name rest : List ℕ) → c ∷ text ≡ 96 ∷ name ++ rest → IsLabel name → EndsWord rest → ⊥) → Breaks joined at (c ∷ text) (BadChar at)
+  character : (c : ℕ) (text : List ℕ) → is_other c ≡ true
+      → ((is : Sign) → BeginsWith (c ∷ text) is → ⊥)
+      → ((name rest : List ℕ) → c ∷ text ≡ 96 ∷ name ++ rest → IsLabel name → EndsWord rest → ⊥)
+      → Breaks joined at (c ∷ text) (BadChar at)
   -- between quotes, a `\` that no escape can begin with
-  escape : (quote : ℕ) (written characters text : List ℕ) → is_quote quote ≡ true → Quotes quote written characters → BreaksEscape text
+  escape : (quote : ℕ) (written characters text : List ℕ) → is_quote quote ≡ true
+      → Quotes quote written characters → BreaksEscape text
       → Breaks joined at (quote ∷ written ++ text) (BadChar (at + bytes (quote ∷ written)))
-  open_text : (quote : ℕ) (written characters text : List ℕ) → is_quote quote ≡ true → Quotes quote written characters → EndsHalf text
+  open_text : (quote : ℕ) (written characters text : List ℕ) → is_quote quote ≡ true
+      → Quotes quote written characters → EndsHalf text
       → Breaks joined at (quote ∷ written ++ text) (OpenText at)
   -- no front of the text is a comment
-  open_comment : (text : List ℕ) → ((written rest : List ℕ) → 40 ∷ 42 ∷ text ≡ written ++ rest → IsComment written → ⊥)
+  open_comment : (text : List ℕ)
+      → ((written rest : List ℕ) → 40 ∷ 42 ∷ text ≡ written ++ rest → IsComment written → ⊥)
       → Breaks joined at (40 ∷ 42 ∷ text) (OpenComment at)
-  number : (digits text : List ℕ) → AreDigits digits → BeginsWithNoDigit text → (IsInteger (pos (decimal_value digits)) → ⊥)
+  number : (digits text : List ℕ) → AreDigits digits → BeginsWithNoDigit text
+      → (IsInteger (pos (decimal_value digits)) → ⊥)
       → Breaks joined at (digits ++ text) (TooWide at)
-  negative : (digits text : List ℕ) → joined ≡ false → AreDigits digits → BeginsWithNoDigit text → (IsInteger (neg_ℤ (pos (decimal_value digits))) → ⊥)
+  negative : (digits text : List ℕ) → joined ≡ false → AreDigits digits → BeginsWithNoDigit text
+      → (IsInteger (neg_ℤ (pos (decimal_value digits))) → ⊥)
       → Breaks joined at (45 ∷ digits ++ text) (TooWide at)
 
--- this is the first fault of the text, which begins at this byte: tokens and what is dropped stand before it
+-- this is the first fault of the text, which begins at this byte: tokens and what is dropped stand
+-- before it
 pub data Fails : (joined : Bool) (at : ℕ) → List ℕ → LexError → Type 0 where
-  here : (joined : Bool) (at : ℕ) (text : List ℕ) (fault : LexError) → Breaks joined at text fault → Fails joined at text fault
-  after_dropped : (joined : Bool) (at : ℕ) (written text : List ℕ) (fault : LexError) → IsDropped written
+  here : (joined : Bool) (at : ℕ) (text : List ℕ) (fault : LexError) → Breaks joined at text fault
+      → Fails joined at text fault
+  after_dropped : (joined : Bool) (at : ℕ) (written text : List ℕ) (fault : LexError)
+      → IsDropped written
       → Fails false (at + bytes written) text fault → Fails joined at (written ++ text) fault
-  after_token : (joined : Bool) (at : ℕ) (written text : List ℕ) (kind : TokenKind) (fault : LexError) → Writes joined written text kind
+  after_token : (joined : Bool) (at : ℕ) (written text : List ℕ) (kind : TokenKind)
+      (fault : LexError) → Writes joined written text kind
       → Fails (joins kind) (at + bytes written) text fault → Fails joined at (written ++ text) fault

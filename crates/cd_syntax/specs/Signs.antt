@@ -50,7 +50,8 @@ BeginsWith text is = (rest : List ℕ) × (text ≡ characters is ++ rest)
 -- the sign is the longest of those that the text begins with
 pub record IsLongest (is : Sign) (text : List ℕ) : Type 0 where
   pub stands : BeginsWith text is
-  pub longest : (other : Sign) → BeginsWith text other → length (characters other) ≤ length (characters is)
+  pub longest : (other : Sign) → BeginsWith text other
+      → length (characters other) ≤ length (characters is)
 
 -- `)`, `]` or `}`: a `-` right after it is no sign of a number
 abbrev pub closes : Sign → Bool

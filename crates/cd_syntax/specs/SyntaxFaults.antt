@@ -13,7 +13,8 @@ abbrev pub AType : Form
 AType depth tokens = (is : Tree) × IsTree depth tokens is
 
 abbrev pub SomeDeclarations : Form
-SomeDeclarations depth tokens = (declarations : Declarations) × AreDeclared depth tokens declarations
+SomeDeclarations depth tokens = (declarations : Declarations)
+    × AreDeclared depth tokens declarations
 
 -- the tokens write nothing of the form, however deep
 abbrev pub WriteNone : Form → List Token → Type 0
@@ -32,20 +33,21 @@ place_of [] end index = end
 place_of (one ∷ tokens) end zero = one.span.from
 place_of (one ∷ tokens) end (suc index) = place_of tokens end index
 
--- the first token that nothing of the form has there: those before it begin something that is at most so deep, and with it
--- they begin nothing, however deep
+-- the first token that nothing of the form has there: those before it begin something that is at
+-- most so deep, and with it they begin nothing, however deep
 pub record IsWrong (form : Form) (most : ℕ) (tokens : List Token) (index : ℕ) : Type 0 where
   pub within : index < length tokens
   pub before : BeginSome form most (take index tokens)
   pub wrong : (depth : ℕ) → BeginNone form depth (take (suc index) tokens)
 
--- something of the form that is at most so deep begins with the tokens, and they write nothing of it
+-- something of the form that is at most so deep begins with the tokens, and they write nothing of
+-- it
 pub record IsUnfinished (form : Form) (most : ℕ) (tokens : List Token) : Type 0 where
   pub begun : BeginSome form most tokens
   pub unfinished : WriteNone form tokens
 
--- the first token with which all that begins so is deeper: those before it begin something that is at most so deep, with it
--- they begin nothing of the kind, but something deeper
+-- the first token with which all that begins so is deeper: those before it begin something that is
+-- at most so deep, with it they begin nothing of the kind, but something deeper
 pub record IsTooDeep (form : Form) (most : ℕ) (tokens : List Token) (index : ℕ) : Type 0 where
   pub within : index < length tokens
   pub before : BeginSome form most (take index tokens)
@@ -54,9 +56,13 @@ pub record IsTooDeep (form : Form) (most : ℕ) (tokens : List Token) (index : �
   pub deeper : BeginSome form depth (take (suc index) tokens)
 
 -- the place of a fault of syntax, and that of a form too deep
-pub data IsSyntaxFault (form : Form) (most : ℕ) (tokens : List Token) (end : ℕ) : (place : ℕ) → Type 0 where
-  at_token : (index : ℕ) → IsWrong form most tokens index → IsSyntaxFault form most tokens end (place_of tokens end index)
+pub data IsSyntaxFault (form : Form) (most : ℕ) (tokens : List Token) (end : ℕ) : (place : ℕ)
+    → Type 0 where
+  at_token : (index : ℕ) → IsWrong form most tokens index
+      → IsSyntaxFault form most tokens end (place_of tokens end index)
   at_end : IsUnfinished form most tokens → IsSyntaxFault form most tokens end end
 
-pub data IsDepthFault (form : Form) (most : ℕ) (tokens : List Token) (end : ℕ) : (place : ℕ) → Type 0 where
-  at_depth : (index : ℕ) → IsTooDeep form most tokens index → IsDepthFault form most tokens end (place_of tokens end index)
+pub data IsDepthFault (form : Form) (most : ℕ) (tokens : List Token) (end : ℕ) : (place : ℕ)
+    → Type 0 where
+  at_depth : (index : ℕ) → IsTooDeep form most tokens index
+      → IsDepthFault form most tokens end (place_of tokens end index)

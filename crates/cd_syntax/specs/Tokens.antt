@@ -1,10 +1,12 @@
 -- The tokens of a text, a list of characters, in the whole language.
-use Rattle.std.specs.Prelude.{◌≡◌, ℕ, pos, ◌+◌, ◌==◌, ◌||◌, ◌&&◌, neg_ℤ, Bool, true, false, List, [], ◌∷◌, ◌++◌, length, IsTrue, encode_utf8_all}
+use Rattle.std.specs.Prelude.{◌≡◌, ℕ, pos, ◌+◌, ◌==◌, ◌||◌, ◌&&◌, neg_ℤ, Bool, true, false, List}
+use Rattle.std.specs.Prelude.{[], ◌∷◌, ◌++◌, length, IsTrue, encode_utf8_all}
 use Rattle.std.specs.Char.{is_ascii_digit}
 use Rattle.cd_syntax.specs.declared.sign.Sign.{Sign as ASign}
 use Rattle.cd_syntax.specs.declared.tokens.Token.{Token}
 use Rattle.cd_syntax.specs.declared.tokens.TokenKind.{TokenKind}
-use Rattle.cd_syntax.specs.declared.tokens.TokenKind.TheVariants.{Word, Int, Chars, Text, Atom, Sign}
+use Rattle.cd_syntax.specs.declared.tokens.TokenKind.TheVariants.{Word, Int, Chars, Text, Atom}
+use Rattle.cd_syntax.specs.declared.tokens.TokenKind.TheVariants.{Sign}
 use Rattle.cd_syntax.specs.Integer.{IsInteger}
 use Rattle.cd_syntax.specs.Name.{goes_on_word, is_word, IsLabel}
 use Rattle.cd_syntax.specs.Digits.{AreDigits, decimal_value, BeginsWithNoDigit}
@@ -31,22 +33,30 @@ pub data IsDropped : List ℕ → Type 0 where
   blank : (c : ℕ) → IsTrue (is_blank c) → IsDropped (c ∷ [])
   comment : (written : List ℕ) → IsComment written → IsDropped written
 
--- What is written is a token, with the text after it. It is joined where a token ends right before it that is no sign, or
--- is `)`, `]` or `}`: then a `-` is no sign of a number
+-- What is written is a token, with the text after it. It is joined where a token ends right before
+-- it that is no sign, or is `)`, `]` or `}`: then a `-` is no sign of a number
 pub data Writes (joined : Bool) : (written text : List ℕ) → TokenKind → Type 0 where
-  word : (name text : List ℕ) → IsTrue (is_word name) → EndsWord text → Writes joined name text (Word name)
+  word : (name text : List ℕ) → IsTrue (is_word name) → EndsWord text
+      → Writes joined name text (Word name)
   -- a number is all the digits that there are, and fits 128 bits
-  number : (digits text : List ℕ) → AreDigits digits → BeginsWithNoDigit text → IsInteger (pos (decimal_value digits))
+  number : (digits text : List ℕ) → AreDigits digits → BeginsWithNoDigit text
+      → IsInteger (pos (decimal_value digits))
       → Writes joined digits text (Int (pos (decimal_value digits)))
-  negative : (digits text : List ℕ) → joined ≡ false → AreDigits digits → BeginsWithNoDigit text → IsInteger (neg_ℤ (pos (decimal_value digits)))
+  negative : (digits text : List ℕ) → joined ≡ false → AreDigits digits → BeginsWithNoDigit text
+      → IsInteger (neg_ℤ (pos (decimal_value digits)))
       → Writes joined (45 ∷ digits) text (Int (neg_ℤ (pos (decimal_value digits))))
-  chars : (written characters text : List ℕ) → Quotes 39 written characters → Writes joined (39 ∷ written ++ 39 ∷ []) text (Chars characters)
-  text : (written characters text : List ℕ) → Quotes 34 written characters → Writes joined (34 ∷ written ++ 34 ∷ []) text (Text characters)
+  chars : (written characters text : List ℕ) → Quotes 39 written characters
+      → Writes joined (39 ∷ written ++ 39 ∷ []) text (Chars characters)
+  text : (written characters text : List ℕ) → Quotes 34 written characters
+      → Writes joined (34 ∷ written ++ 34 ∷ []) text (Text characters)
   -- a backquote and at once a word other than `_`
-  atom : (name text : List ℕ) → IsLabel name → EndsWord text → Writes joined (96 ∷ name) text (Atom name)
+  atom : (name text : List ℕ) → IsLabel name → EndsWord text
+      → Writes joined (96 ∷ name) text (Atom name)
   -- the longest sign that stands there, but no `(*`, and no `-` of a number
-  sign : (is : ASign) (text : List ℕ) → IsLongest is (characters is ++ text) → begins_pair 40 42 (characters is ++ text) ≡ false
-      → (joined ≡ false → begins_negative (characters is ++ text) ≡ false) → Writes joined (characters is) text (Sign is)
+  sign : (is : ASign) (text : List ℕ) → IsLongest is (characters is ++ text)
+      → begins_pair 40 42 (characters is ++ text) ≡ false
+      → (joined ≡ false → begins_negative (characters is ++ text) ≡ false)
+      → Writes joined (characters is) text (Sign is)
 
 -- whether what follows such a token at once is joined to it
 abbrev pub joins : TokenKind → Bool
@@ -59,12 +69,18 @@ bytes written = length (encode_utf8_all written)
 
 -- the token that stands so many bytes after the start of a text
 abbrev pub token_at : ℕ → List ℕ → TokenKind → Token
-token_at at written kind = record { kind = kind; span = record { from = at; to = at + bytes written } }
+token_at at written kind = record {
+  kind = kind;
+  span = record { from = at; to = at + bytes written };
+}
 
 -- the text, which begins at this byte, spells these tokens
 pub data Spells : (joined : Bool) (at : ℕ) → List ℕ → List Token → Type 0 where
   nothing : (joined : Bool) (at : ℕ) → Spells joined at [] []
-  dropped : (joined : Bool) (at : ℕ) (written text : List ℕ) (tokens : List Token) → IsDropped written
+  dropped : (joined : Bool) (at : ℕ) (written text : List ℕ) (tokens : List Token)
+      → IsDropped written
       → Spells false (at + bytes written) text tokens → Spells joined at (written ++ text) tokens
-  token : (joined : Bool) (at : ℕ) (written text : List ℕ) (kind : TokenKind) (tokens : List Token) → Writes joined written text kind
-      → Spells (joins kind) (at + bytes written) text tokens → Spells joined at (written ++ text) (token_at at written kind ∷ tokens)
+  token : (joined : Bool) (at : ℕ) (written text : List ℕ) (kind : TokenKind) (tokens : List Token)
+      → Writes joined written text kind
+      → Spells (joins kind) (at + bytes written) text tokens
+      → Spells joined at (written ++ text) (token_at at written kind ∷ tokens)

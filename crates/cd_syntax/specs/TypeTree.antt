@@ -7,7 +7,8 @@ use Rattle.cd_syntax.specs.declared.constant.Constant.{Constant}
 use Rattle.cd_syntax.specs.declared.type_tree.Post.{Post}
 
 mutual
-  -- what is written, and where: from the first character of its first token to the end of its last one
+  -- what is written, and where: from the first character of its first token to the end of its last
+  -- one
   pub data Tree : Type 0 where
     tree : (span : Span) → Kind → Tree
 
@@ -93,7 +94,8 @@ fields_of (field ∷ rest) = AField field.label field.at field.optional field.tr
 
 abbrev pub declarations_of : List Declaration → Declarations
 declarations_of [] = NoDeclaration
-declarations_of (declaration ∷ rest) = ADeclaration declaration.name declaration.at declaration.tree (declarations_of rest)
+declarations_of (declaration ∷ rest) =
+    ADeclaration declaration.name declaration.at declaration.tree (declarations_of rest)
 
 abbrev pub regulars_of : List Regular → Regulars
 regulars_of [] = NoRegular

@@ -1,8 +1,13 @@
--- Trees that are well made types: their atoms and labels are words, a tuple and a chain of arrows have a part, and nothing in
--- them is a form of patterns alone.
+-- Trees that are well made types: their atoms and labels are words, a tuple and a chain of arrows
+-- have a part, and nothing in them is a form of patterns alone.
 use Rattle.std.specs.Prelude.{◌≢◌}
 use Rattle.cd_syntax.specs.Name.{IsLabel}
-use Rattle.cd_syntax.specs.TypeTree.{Tree, tree, Kind, Atom, Tuple, Arrows, Union, Meet, Sequence, Record, Xml, Where, Variable, Default, Trees, NoTree, ATree, Signs, NoSign, ASign, Fields, NoField, AField, Declarations, NoDeclaration, ADeclaration, Regular, regular, RegularKind, Nothing, Item, Seq, Alt, Repeat, Capture, Regulars, NoRegular, ARegular}
+use Rattle.cd_syntax.specs.TypeTree.{Tree, tree, Kind, Atom, Tuple, Arrows, Union, Meet, Sequence}
+use Rattle.cd_syntax.specs.TypeTree.{Record, Xml, Where, Variable, Default, Trees, NoTree, ATree}
+use Rattle.cd_syntax.specs.TypeTree.{Signs, NoSign, ASign, Fields, NoField, AField, Declarations}
+use Rattle.cd_syntax.specs.TypeTree.{NoDeclaration, ADeclaration, Regular, regular, RegularKind}
+use Rattle.cd_syntax.specs.TypeTree.{Nothing, Item, Seq, Alt, Repeat, Capture, Regulars, NoRegular}
+use Rattle.cd_syntax.specs.TypeTree.{ARegular}
 
 abbrev mutual
   pub IsWellMade : Tree → Type 0
@@ -16,7 +21,8 @@ abbrev mutual
   IsWellMadeKind (Meet first signs) = IsWellMade first × AreWellMadeSigns signs
   IsWellMadeKind (Sequence is) = IsWellMadeRegular is
   IsWellMadeKind (Record fields more) = AreWellMadeFields fields
-  IsWellMadeKind (Xml tag attributes content) = IsWellMade tag × IsWellMade attributes × IsWellMade content
+  IsWellMadeKind (Xml tag attributes content) = IsWellMade tag × IsWellMade attributes
+      × IsWellMade content
   IsWellMadeKind (Where is declarations) = IsWellMade is × AreWellMadeDeclarations declarations
   IsWellMadeKind (Variable name) = ⊥
   IsWellMadeKind (Default name constant) = ⊥
@@ -32,11 +38,13 @@ abbrev mutual
 
   pub AreWellMadeFields : Fields → Type 0
   AreWellMadeFields NoField = Unit {0}
-  AreWellMadeFields (AField label at optional is rest) = IsLabel label × IsWellMade is × AreWellMadeFields rest
+  AreWellMadeFields (AField label at optional is rest) = IsLabel label × IsWellMade is
+      × AreWellMadeFields rest
 
   pub AreWellMadeDeclarations : Declarations → Type 0
   AreWellMadeDeclarations NoDeclaration = Unit {0}
-  AreWellMadeDeclarations (ADeclaration name at is rest) = IsWellMade is × AreWellMadeDeclarations rest
+  AreWellMadeDeclarations (ADeclaration name at is rest) = IsWellMade is
+      × AreWellMadeDeclarations rest
 
   pub IsWellMadeRegular : Regular → Type 0
   IsWellMadeRegular (regular span kind) = IsWellMadeRegularKind kind

@@ -2,7 +2,8 @@
 ghost use Rattle.std.specs.Prelude.{◌≡◌, List, Option, map, IfOk};
 ghost use Rattle.std.specs.Option.{option_map, is_some};
 ghost use Rattle.cd_syntax.specs.TypeTree.{trees_of, regulars_of};
-ghost use Rattle.cd_syntax.specs.TypeGrammar.{OfType, regular_of, in_parentheses, types_of, union_or_group};
+ghost use Rattle.cd_syntax.specs.TypeGrammar.{OfType, regular_of, in_parentheses, types_of};
+ghost use Rattle.cd_syntax.specs.TypeGrammar.{union_or_group};
 ghost use Rattle.cd_syntax.specs.PlainTree.{plain, plain_regular};
 ghost use Rattle.cd_syntax.specs.PlainBase.{plain_base, type_of, types_in};
 
@@ -59,7 +60,8 @@ impl RegTree {
         }
     }
 
-    /// What it is where it stands in parentheses: a type where all its alternatives are types, else a group.
+    /// What it is where it stands in parentheses: a type where all its alternatives are types, else
+    /// a group.
     ///
     /// # Errors
     ///
@@ -93,7 +95,9 @@ impl RegTree {
 
 // A union of these alternatives, where they are types, else a group.
 fn union_or_group(alloc: Global, span: Span, all: Vec<RegTree>) -> Result<Base, AllocError>
-    ensures { IfOk result (λ base. plain_base base ≡ union_or_group span (regulars_of (map plain_regular all.items)) (types_of (regulars_of (map plain_regular all.items)))) }
+    ensures { IfOk result (λ base.
+        plain_base base ≡ union_or_group span (regulars_of (map plain_regular all.items))
+        (types_of (regulars_of (map plain_regular all.items)))) }
 {
     if !are_types(all.as_slice()) {
         return Ok(Base::Group(RegTree::new(span, RegKind::alt(all))));
@@ -122,7 +126,9 @@ fn are_types(all: &[RegTree]) -> bool
 ///
 /// Want of memory.
 pub fn into_types(alloc: Global, all: Vec<RegTree>) -> Result<Option<Vec<Tree>>, AllocError>
-    ensures { IfOk result (λ found. option_map (λ trees. map plain trees.items) found ≡ types_in (map plain_regular all.items)) }
+    ensures { IfOk result (λ found.
+        option_map (λ trees. map plain trees.items) found
+        ≡ types_in (map plain_regular all.items)) }
 {
     let mut trees = Vec::new(alloc);
     for one in all {

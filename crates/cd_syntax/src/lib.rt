@@ -1,5 +1,5 @@
-//! The syntax of types, and the definitions that every theorem of the program cites: elements, spelling and grammar. They
-//! stand in `specs/`.
+//! The syntax of types, and the definitions that every theorem of the program cites: elements,
+//! spelling and grammar. They stand in `specs/`.
 #![tactic(auto)]
 
 pub mod base;

@@ -1,7 +1,12 @@
 //! Trees from their parts.
 ghost use Rattle.std.specs.Prelude.{◌≡◌, map};
-ghost use Rattle.cd_syntax.specs.TypeTree.{tree as plain_tree, Builtin, Ints, Chars, Atom, Text, Tuple, Arrows, Union, Meet, Sequence, Record, Xml, Named, Where, regular as plain_regular_tree, Nothing, Item, Seq, Alt, Repeat, trees_of, signs_of, fields_of, declarations_of, regulars_of};
-ghost use Rattle.cd_syntax.specs.PlainTree.{plain, plain_kind, plain_signed, plain_field, plain_declaration, plain_regular, plain_regular_kind};
+ghost use Rattle.cd_syntax.specs.TypeTree.{tree as plain_tree, Builtin, Ints, Chars, Atom, Text};
+ghost use Rattle.cd_syntax.specs.TypeTree.{Tuple, Arrows, Union, Meet, Sequence, Record, Xml};
+ghost use Rattle.cd_syntax.specs.TypeTree.{Named, Where, regular as plain_regular_tree, Nothing};
+ghost use Rattle.cd_syntax.specs.TypeTree.{Item, Seq, Alt, Repeat, trees_of, signs_of, fields_of};
+ghost use Rattle.cd_syntax.specs.TypeTree.{declarations_of, regulars_of};
+ghost use Rattle.cd_syntax.specs.PlainTree.{plain, plain_kind, plain_signed, plain_field};
+ghost use Rattle.cd_syntax.specs.PlainTree.{plain_declaration, plain_regular, plain_regular_kind};
 
 use crate::builtin::BuiltinName;
 use crate::name::Name;
@@ -79,7 +84,8 @@ impl TreeKind {
 
     /// What the first tree holds, and each of the others holds or doesn't hold.
     pub fn meet(first: Box<Tree>, others: Vec<SignedTree>) -> TreeKind
-        ensures { plain_kind result ≡ Meet (plain first.value) (signs_of (map plain_signed others.items)) }
+        ensures { plain_kind result
+            ≡ Meet (plain first.value) (signs_of (map plain_signed others.items)) }
     {
         TreeKind::Meet(first, Signed { items: others })
     }
@@ -93,7 +99,8 @@ impl TreeKind {
 
     /// The XML elements of a tag, attributes and a content.
     pub fn xml(tag: Box<Tree>, attributes: Box<Tree>, content: Box<Tree>) -> TreeKind
-        ensures { plain_kind result ≡ Xml (plain tag.value) (plain attributes.value) (plain content.value) }
+        ensures { plain_kind result
+            ≡ Xml (plain tag.value) (plain attributes.value) (plain content.value) }
     {
         TreeKind::Xml(tag, attributes, content)
     }
@@ -114,7 +121,9 @@ impl TreeKind {
 
     /// A type under its own declarations.
     pub fn where_names(body: Box<Tree>, declarations: Vec<Declaration>) -> TreeKind
-        ensures { plain_kind result ≡ Where (plain body.value) (declarations_of (map plain_declaration declarations.items)) }
+        ensures { plain_kind result
+            ≡ Where (plain body.value)
+            (declarations_of (map plain_declaration declarations.items)) }
     {
         TreeKind::Where(body, Declarations::of(declarations))
     }
@@ -132,7 +141,8 @@ impl SignedTree {
 impl FieldTree {
     /// A field of a record, whose label stands at this byte.
     pub fn new(label: Name, at: usize, optional: bool, tree: Tree) -> FieldTree
-        ensures { plain_field result ≡ record { label = label; at = at; optional = optional; tree = plain tree } }
+        ensures { plain_field result
+            ≡ record { label = label; at = at; optional = optional; tree = plain tree } }
     {
         FieldTree {
             label,

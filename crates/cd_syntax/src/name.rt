@@ -6,8 +6,8 @@ use std::alloc::{AllocError, Global};
 use std::fmt;
 use std::marker::Model;
 
-/// A text, which a contract sees as the list of its characters: a word, a label, the name of an atom, or
-/// what stands between quotes.
+/// A text, which a contract sees as the list of its characters: a word, a label, the name of an
+/// atom, or what stands between quotes.
 #[derive(Debug, Drop)]
 pub struct Name {
     text: String,

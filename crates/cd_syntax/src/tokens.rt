@@ -3,8 +3,8 @@ use crate::sign::Sign;
 use std::alloc::AllocError;
 use thiserror::Error;
 
-/// Where a form stands in a text: the byte offset of its first character, and that of what follows its
-/// last one.
+/// Where a form stands in a text: the byte offset of its first character, and that of what follows
+/// its last one.
 #[derive(Clone, Copy, PartialEq, Eq)]
 pub struct Span {
     /// The first byte.
@@ -39,11 +39,12 @@ pub enum TokenKind {
     Sign(Sign),
 }
 
-/// Why a text was not read as tokens. A place is the byte offset where the first fault of the text stands.
+/// Why a text was not read as tokens. A place is the byte offset where the first fault of the text
+/// stands.
 #[derive(Clone, Copy, Debug, PartialEq, Eq, Error)]
 pub enum LexError {
-    /// A character that begins no token, or a `\` between quotes that no escape can begin with, however the
-    /// text goes on.
+    /// A character that begins no token, or a `\` between quotes that no escape can begin with,
+    /// however the text goes on.
     #[error("bad character")]
     BadChar(usize),
     /// A quote that no quote closes.

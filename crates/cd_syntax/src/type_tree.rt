@@ -1,13 +1,17 @@
 ghost use Rattle.std.specs.Prelude.{◌≡◌, map};
-ghost use Rattle.cd_syntax.specs.TypeTree.{trees_of, signs_of, fields_of, declarations_of, regulars_of};
-ghost use Rattle.cd_syntax.specs.PlainTree.{plain, plain_trees, plain_signed, plain_signs, plain_field, plain_fields, plain_declaration, plain_declarations, plain_regular, plain_regulars};
+ghost use Rattle.cd_syntax.specs.TypeTree.{trees_of, signs_of, fields_of, declarations_of};
+ghost use Rattle.cd_syntax.specs.TypeTree.{regulars_of};
+ghost use Rattle.cd_syntax.specs.PlainTree.{plain, plain_trees, plain_signed, plain_signs};
+ghost use Rattle.cd_syntax.specs.PlainTree.{plain_field, plain_fields, plain_declaration};
+ghost use Rattle.cd_syntax.specs.PlainTree.{plain_declarations, plain_regular, plain_regulars};
 
 use crate::builtin::BuiltinName;
 use crate::constant::Constant;
 use crate::name::Name;
 use crate::tokens::Span;
 
-/// A type or a pattern as it is written, and where. A chain at one level is one node, whatever its length.
+/// A type or a pattern as it is written, and where. A chain at one level is one node, whatever its
+/// length.
 #[cycle(type_tree)]
 #[derive(Drop)]
 pub struct Tree {
@@ -23,8 +27,8 @@ pub struct Tree {
 pub enum TreeKind {
     /// A type that is built in.
     Builtin(BuiltinName),
-    /// The integers from the one bound to the other, both among them. A bound that is not there is the
-    /// least or the greatest integer.
+    /// The integers from the one bound to the other, both among them. A bound that is not there is
+    /// the least or the greatest integer.
     Ints(Option<i128>, Option<i128>),
     /// The characters from the one to the other, both among them.
     Chars(char, char),
@@ -34,7 +38,8 @@ pub enum TreeKind {
     Text(Name),
     /// The pairs of the first and the tuple of the others, or the other where there is one.
     Tuple(Trees),
-    /// The functions from the first to the arrows of the others, or to the other where there is one.
+    /// The functions from the first to the arrows of the others, or to the other where there is
+    /// one.
     Arrows(Trees),
     /// What one of them holds.
     Union(Trees),

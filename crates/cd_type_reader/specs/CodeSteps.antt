@@ -1,11 +1,15 @@
 -- Steps of the machine as the code takes them, which looks at the frame first.
-use Rattle.std.specs.Prelude.{ℕ, Bool, true, false, List, [], ◌∷◌, Option, Some, None, Result, Err, codes, bytes_eq}
+use Rattle.std.specs.Prelude.{ℕ, Bool, true, false, List, [], ◌∷◌, Option, Some, None, Result, Err}
+use Rattle.std.specs.Prelude.{codes, bytes_eq}
 use Rattle.cd_syntax.specs.declared.sign.Sign.TheVariants as sign
 use Rattle.cd_syntax.specs.declared.tokens.Span.{Span}
 use Rattle.cd_syntax.specs.declared.tokens.TokenKind.{TokenKind}
 use Rattle.cd_syntax.specs.declared.tokens.TokenKind.TheVariants as token
 use Rattle.cd_syntax.specs.declared.type_tree.Post.{Post}
-use Rattle.cd_type_reader.specs.Machine.{Around, InSequence, InAttribute, InContent, Part, Chain, Frame, State, AttributeNext, Fault, Syntax, xml_part, attributes_with, at_place, put_here, put_within, as_tree, step_as_tree, post_of}
+use Rattle.cd_type_reader.specs.Machine.{Around, InSequence, InAttribute, InContent, Part, Chain}
+use Rattle.cd_type_reader.specs.Machine.{Frame, State, AttributeNext, Fault, Syntax, xml_part}
+use Rattle.cd_type_reader.specs.Machine.{attributes_with, at_place, put_here, put_within, as_tree}
+use Rattle.cd_type_reader.specs.Machine.{step_as_tree, post_of}
 
 -- a simple type ends the XML type whose content it is
 abbrev pub is_content : Around → Bool
@@ -22,12 +26,14 @@ is_attribute around = false
 
 -- a simple type that is no content is that of an attribute, or stands among others
 abbrev pub attribute_end : Around → Part → Frame → List Frame → Result State Fault
-attribute_end (InAttribute tagged label at optional) one outer below = at_place (AttributeNext (attributes_with tagged label at optional one) true) outer below
+attribute_end (InAttribute tagged label at optional) one outer below =
+    at_place (AttributeNext (attributes_with tagged label at optional one) true) outer below
 attribute_end around one outer below = Err Syntax
 
 abbrev pub put_inside : Part → Frame → List Frame → Result State Fault
 put_inside one top [] = put_here one top []
-put_inside one top (outer ∷ below) = put_within top.around one top outer below (λ wrapped. put_here one top (outer ∷ below))
+put_inside one top (outer ∷ below) =
+    put_within top.around one top outer below (λ wrapped. put_here one top (outer ∷ below))
 
 -- whether an item of a sequence is read
 abbrev pub is_listed : Around → Bool
@@ -57,4 +63,5 @@ group_as_tree room (InSequence listed) = as_tree room listed
 group_as_tree room around = None
 
 abbrev pub go_as_tree : Around → ℕ → Chain → List Frame → TokenKind → Span → Result State Fault
-go_as_tree around room chain below kind span = step_as_tree (group_as_tree room around) chain below kind span
+go_as_tree around room chain below kind span =
+    step_as_tree (group_as_tree room around) chain below kind span

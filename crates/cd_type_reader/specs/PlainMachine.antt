@@ -2,9 +2,11 @@
 use Rattle.std.specs.Prelude.{ℕ, Bool, List, [], ◌∷◌, map, reverse, Option, Result, Ok, Err}
 use Rattle.std.specs.Global.{Box}
 use Rattle.std.specs.Option.{option_map}
-use Rattle.cd_syntax.specs.PlainTree.{plain, plain_signed, plain_field, plain_declaration, plain_regular}
+use Rattle.cd_syntax.specs.PlainTree.{plain, plain_signed, plain_field, plain_declaration}
+use Rattle.cd_syntax.specs.PlainTree.{plain_regular}
 use Rattle.cd_syntax.specs.declared.tokens.Span.{Span}
-use Rattle.cd_syntax.specs.TypeTree.{Regular, regular, RegularKind, Nothing, Item, Seq, regulars_of, tree, Chars}
+use Rattle.cd_syntax.specs.TypeTree.{Regular, regular, RegularKind, Nothing, Item, Seq, regulars_of}
+use Rattle.cd_syntax.specs.TypeTree.{tree, Chars}
 use Rattle.cd_type_reader.specs.Machine as machine
 use Rattle.cd_type_reader.specs.declared.part.Part.{Part}
 use Rattle.cd_type_reader.specs.declared.part.Row.{Row}
@@ -33,13 +35,22 @@ abbrev pub plain_row : Row → machine.Row
 plain_row row = record { from = row.from; trees = map plain row.trees.items }
 
 abbrev pub plain_chain : Chain → machine.Chain
-plain_chain chain = record { first = plain_part chain.first; others = map plain_signed chain.others.items; to = chain.to }
+plain_chain chain = record {
+  first = plain_part chain.first;
+  others = map plain_signed chain.others.items;
+  to = chain.to;
+}
 
 abbrev pub plain_pending : Option (Chain × Bool) → Option (machine.Chain × Bool)
 plain_pending pending = option_map (λ signed. (plain_chain signed.0, signed.1)) pending
 
 abbrev pub plain_names : Names → machine.Names
-plain_names names = record { body = plain_part names.body; declared = map plain_declaration names.declared.items; name = names.name; at = names.at }
+plain_names names = record {
+  body = plain_part names.body;
+  declared = map plain_declaration names.declared.items;
+  name = names.name;
+  at = names.at;
+}
 
 abbrev pub plain_opened : Opened → machine.Opened
 plain_opened opened = record { from = opened.from; fields = map plain_field opened.fields.items }
@@ -70,12 +81,15 @@ plain_tagged tagged = record {
 abbrev pub plain_around : Around → machine.Around
 plain_around around.Alone = machine.Alone
 plain_around (around.InParentheses from items) = machine.InParentheses from (map plain items.items)
-plain_around (around.InField opened label at optional) = machine.InField (plain_opened opened) label at optional
+plain_around (around.InField opened label at optional) =
+    machine.InField (plain_opened opened) label at optional
 plain_around (around.InSequence listed) = machine.InSequence (plain_listed listed)
 plain_around (around.InTag from) = machine.InTag from
 plain_around (around.InAttributes from tag) = machine.InAttributes from (plain tag.value)
-plain_around (around.InAttribute tagged label at optional) = machine.InAttribute (plain_tagged tagged) label at optional
-plain_around (around.InContent from tag attributes) = machine.InContent from (plain tag.value) (plain attributes.value)
+plain_around (around.InAttribute tagged label at optional) =
+    machine.InAttribute (plain_tagged tagged) label at optional
+plain_around (around.InContent from tag attributes) =
+    machine.InContent from (plain tag.value) (plain attributes.value)
 
 abbrev pub plain_frame : Frame → machine.Frame
 plain_frame frame = record {
@@ -100,21 +114,31 @@ plain_place (place.Most from) = machine.Most from
 plain_place (place.Letter c from to) = machine.Letter c from to
 plain_place (place.LetterBound c from) = machine.LetterBound c from
 plain_place (place.After chain) = machine.After (plain_chain chain)
-plain_place (place.NameNext body declared) = machine.NameNext (plain_part body) (map plain_declaration declared.items)
-plain_place (place.NameRead body declared name at) = machine.NameRead (plain_part body) (map plain_declaration declared.items) name at
+plain_place (place.NameNext body declared) =
+    machine.NameNext (plain_part body) (map plain_declaration declared.items)
+plain_place (place.NameRead body declared name at) =
+    machine.NameRead (plain_part body) (map plain_declaration declared.items) name at
 plain_place (place.FieldNext opened) = machine.FieldNext (plain_opened opened)
 plain_place (place.LabelRead opened label at) = machine.LabelRead (plain_opened opened) label at
 plain_place (place.FieldsEnd opened) = machine.FieldsEnd (plain_opened opened)
 plain_place (place.ItemNext may_end) = machine.ItemNext may_end
-plain_place (place.RegularRead one may_repeat) = machine.RegularRead (plain_regular_part one) may_repeat
+plain_place (place.RegularRead one may_repeat) =
+    machine.RegularRead (plain_regular_part one) may_repeat
 plain_place (place.TagNext from) = machine.TagNext from
-plain_place (place.AttributeNext tagged after_one) = machine.AttributeNext (plain_tagged tagged) after_one
-plain_place (place.AttributeLabel tagged label at) = machine.AttributeLabel (plain_tagged tagged) label at
+plain_place (place.AttributeNext tagged after_one) =
+    machine.AttributeNext (plain_tagged tagged) after_one
+plain_place (place.AttributeLabel tagged label at) =
+    machine.AttributeLabel (plain_tagged tagged) label at
 plain_place (place.AttributesEnd tagged) = machine.AttributesEnd (plain_tagged tagged)
-plain_place (place.ContentNext from tag attributes) = machine.ContentNext from (plain tag.value) (plain attributes.value)
+plain_place (place.ContentNext from tag attributes) =
+    machine.ContentNext from (plain tag.value) (plain attributes.value)
 
 abbrev pub plain_state : State → machine.State
-plain_state state = record { place = plain_place state.place; top = plain_frame state.top.value; below = plain_frames state.below.items }
+plain_state state = record {
+  place = plain_place state.place;
+  top = plain_frame state.top.value;
+  below = plain_frames state.below.items;
+}
 
 abbrev pub plain_fault : Fault → machine.Fault
 plain_fault fault.Syntax = machine.Syntax

@@ -3,7 +3,9 @@ ghost use Rattle.std.specs.Option.{option_map};
 ghost use Rattle.cd_syntax.specs.PlainTree.{plain_declaration};
 ghost use Rattle.cd_syntax.specs.declared.tokens.TokenKind.TheVariants as token;
 ghost use Rattle.cd_type_reader.specs.Machine as machine;
-ghost use Rattle.cd_type_reader.specs.PlainMachine.{plain_part, plain_chain, plain_names, plain_around, plain_frame, plain_frames, plain_outcome};
+ghost use Rattle.cd_type_reader.specs.PlainMachine.{plain_part, plain_chain, plain_names};
+ghost use Rattle.cd_type_reader.specs.PlainMachine.{plain_around, plain_frame, plain_frames};
+ghost use Rattle.cd_type_reader.specs.PlainMachine.{plain_outcome};
 
 use crate::frame::{
     Around, Frame, Names, arrow_end, begun, declared_with, fields_with, record_part, tree_end,
@@ -28,7 +30,9 @@ pub(crate) fn step_tree(
     kind: &TokenKind,
     span: Span,
 ) -> Result<Outcome, AllocError>
-    ensures { IfOk result (λ outcome. plain_outcome outcome ≡ machine.step_tree (plain_chain chain) (plain_frame top.value) (plain_frames below.items) kind.now span) }
+    ensures { IfOk result (λ outcome.
+        plain_outcome outcome ≡ machine.step_tree (plain_chain chain) (plain_frame top.value)
+        (plain_frames below.items) kind.now span) }
 {
     match kind {
         TokenKind::Sign(sign) => after_sign(alloc, chain, top, below, *sign, span),
@@ -45,7 +49,9 @@ fn after_sign(
     sign: Sign,
     span: Span,
 ) -> Result<Outcome, AllocError>
-    ensures { IfOk result (λ outcome. plain_outcome outcome ≡ machine.step_tree (plain_chain chain) (plain_frame top.value) (plain_frames below.items) (token.Sign sign) span) }
+    ensures { IfOk result (λ outcome.
+        plain_outcome outcome ≡ machine.step_tree (plain_chain chain) (plain_frame top.value)
+        (plain_frames below.items) (token.Sign sign) span) }
 {
     match sign {
         Sign::And => Ok(at_place(Place::Before, pending(chain, true, top), below)),
@@ -63,7 +69,8 @@ fn after_sign(
 
 /// A `&` or a `\` was read.
 pub(crate) fn pending(chain: Chain, kept: bool, mut top: Box<Frame>) -> Box<Frame>
-    ensures { plain_frame result.value ≡ machine.pending_sign (plain_chain chain) kept (plain_frame top.value) }
+    ensures { plain_frame result.value
+        ≡ machine.pending_sign (plain_chain chain) kept (plain_frame top.value) }
 {
     top.pending = Some((chain, kept));
     top
@@ -71,7 +78,8 @@ pub(crate) fn pending(chain: Chain, kept: bool, mut top: Box<Frame>) -> Box<Fram
 
 // A `|` was read.
 fn after_or(alloc: Global, chain: Chain, mut top: Box<Frame>) -> Result<Box<Frame>, AllocError>
-    ensures { IfOk result (λ frame. plain_frame frame.value ≡ machine.after_or (plain_chain chain) (plain_frame top.value)) }
+    ensures { IfOk result (λ frame.
+        plain_frame frame.value ≡ machine.after_or (plain_chain chain) (plain_frame top.value)) }
 {
     let meet = meet_part(alloc, chain)?;
     top.unions = Some(row_with(alloc, top.unions.take(), meet)?);
@@ -86,7 +94,11 @@ fn after_arrow(
     top: Box<Frame>,
     below: Vec<Box<Frame>>,
 ) -> Result<Outcome, AllocError>
-    ensures { IfOk result (λ outcome. plain_outcome outcome ≡ machine.opened (machine.within top.value.left) (λ left. machine.at_place machine.Before (machine.after_arrow (plain_chain chain) (plain_frame top.value) left) (plain_frames below.items))) }
+    ensures { IfOk result (λ outcome.
+        plain_outcome outcome ≡ machine.opened (machine.within top.value.left)
+        (λ left. machine.at_place machine.Before
+        (machine.after_arrow (plain_chain chain) (plain_frame top.value) left)
+        (plain_frames below.items))) }
 {
     let Some(left) = within(top.left) else {
         return Ok(too_deep());
@@ -100,7 +112,9 @@ fn longer_arrow(
     mut top: Box<Frame>,
     left: usize,
 ) -> Result<Box<Frame>, AllocError>
-    ensures { IfOk result (λ frame. plain_frame frame.value ≡ machine.after_arrow (plain_chain chain) (plain_frame top.value) left) }
+    ensures { IfOk result (λ frame.
+        plain_frame frame.value ≡ machine.after_arrow (plain_chain chain)
+        (plain_frame top.value) left) }
 {
     let meet = meet_part(alloc, chain)?;
     let union = union_part(top.unions.take(), meet)?;
@@ -117,7 +131,9 @@ fn after_comma(
     top: Box<Frame>,
     below: Vec<Box<Frame>>,
 ) -> Result<Outcome, AllocError>
-    ensures { IfOk result (λ outcome. plain_outcome outcome ≡ machine.next_item top.value.room (plain_around top.value.around) (machine.tree_end (plain_frame top.value) (plain_chain chain)) (plain_frames below.items)) }
+    ensures { IfOk result (λ outcome.
+        plain_outcome outcome ≡ machine.next_item top.value.room (plain_around top.value.around)
+        (machine.tree_end (plain_frame top.value) (plain_chain chain)) (plain_frames below.items)) }
 {
     let room = top.room;
     let (around, last) = tree_end(alloc, top, chain)?;
@@ -137,7 +153,9 @@ fn close_parenthesis(
     below: Vec<Box<Frame>>,
     to: usize,
 ) -> Result<Outcome, AllocError>
-    ensures { IfOk result (λ outcome. plain_outcome outcome ≡ machine.close_parenthesis to (plain_around top.value.around) (machine.tree_end (plain_frame top.value) (plain_chain chain)) (plain_frames below.items)) }
+    ensures { IfOk result (λ outcome.
+        plain_outcome outcome ≡ machine.close_parenthesis to (plain_around top.value.around)
+        (machine.tree_end (plain_frame top.value) (plain_chain chain)) (plain_frames below.items)) }
 {
     let (around, last) = tree_end(alloc, top, chain)?;
     close(alloc, around, last, below, to)
@@ -151,7 +169,9 @@ fn close(
     mut below: Vec<Box<Frame>>,
     to: usize,
 ) -> Result<Outcome, AllocError>
-    ensures { IfOk result (λ outcome. plain_outcome outcome ≡ machine.close_parenthesis to (plain_around around) (plain_part last) (plain_frames below.items)) }
+    ensures { IfOk result (λ outcome.
+        plain_outcome outcome ≡ machine.close_parenthesis to (plain_around around) (plain_part last)
+        (plain_frames below.items)) }
 {
     match around {
         Around::InParentheses(from, items) => {
@@ -185,7 +205,9 @@ fn after_semicolon(
     top: Box<Frame>,
     mut below: Vec<Box<Frame>>,
 ) -> Result<Outcome, AllocError>
-    ensures { IfOk result (λ outcome. plain_outcome outcome ≡ machine.next_field (plain_around top.value.around) (machine.tree_end (plain_frame top.value) (plain_chain chain)) (plain_frames below.items)) }
+    ensures { IfOk result (λ outcome.
+        plain_outcome outcome ≡ machine.next_field (plain_around top.value.around)
+        (machine.tree_end (plain_frame top.value) (plain_chain chain)) (plain_frames below.items)) }
 {
     let (around, last) = tree_end(alloc, top, chain)?;
     let Around::InField(opened, label, at, optional) = around else {
@@ -205,7 +227,9 @@ fn after_dots(
     top: Box<Frame>,
     mut below: Vec<Box<Frame>>,
 ) -> Result<Outcome, AllocError>
-    ensures { IfOk result (λ outcome. plain_outcome outcome ≡ machine.fields_end (plain_around top.value.around) (machine.tree_end (plain_frame top.value) (plain_chain chain)) (plain_frames below.items)) }
+    ensures { IfOk result (λ outcome.
+        plain_outcome outcome ≡ machine.fields_end (plain_around top.value.around)
+        (machine.tree_end (plain_frame top.value) (plain_chain chain)) (plain_frames below.items)) }
 {
     let (around, last) = tree_end(alloc, top, chain)?;
     let Around::InField(opened, label, at, optional) = around else {
@@ -226,7 +250,9 @@ fn close_brace(
     mut below: Vec<Box<Frame>>,
     to: usize,
 ) -> Result<Outcome, AllocError>
-    ensures { IfOk result (λ outcome. plain_outcome outcome ≡ machine.close_brace to (plain_around top.value.around) (machine.tree_end (plain_frame top.value) (plain_chain chain)) (plain_frames below.items)) }
+    ensures { IfOk result (λ outcome.
+        plain_outcome outcome ≡ machine.close_brace to (plain_around top.value.around)
+        (machine.tree_end (plain_frame top.value) (plain_chain chain)) (plain_frames below.items)) }
 {
     let (around, last) = tree_end(alloc, top, chain)?;
     let Around::InField(opened, label, at, optional) = around else {
@@ -247,7 +273,9 @@ fn after_word(
     below: Vec<Box<Frame>>,
     name: &Name,
 ) -> Result<Outcome, AllocError>
-    ensures { IfOk result (λ outcome. plain_outcome outcome ≡ machine.step_after_word name.now (plain_chain chain) (plain_frame top.value) (plain_frames below.items)) }
+    ensures { IfOk result (λ outcome.
+        plain_outcome outcome ≡ machine.step_after_word name.now (plain_chain chain)
+        (plain_frame top.value) (plain_frames below.items)) }
 {
     if name.is_spelled(&['w', 'h', 'e', 'r', 'e']) {
         return next_name(alloc, chain, top, below, true);
@@ -266,7 +294,11 @@ fn next_name(
     below: Vec<Box<Frame>>,
     first: bool,
 ) -> Result<Outcome, AllocError>
-    ensures { IfOk result (λ outcome. plain_outcome outcome ≡ machine.next_name (machine.names_of (option_map plain_names top.value.names) (machine.arrow_end (plain_frame top.value) (plain_chain chain)) first) (plain_frame top.value) (plain_frames below.items)) }
+    ensures { IfOk result (λ outcome.
+        plain_outcome outcome ≡ machine.next_name
+        (machine.names_of (option_map plain_names top.value.names)
+        (machine.arrow_end (plain_frame top.value) (plain_chain chain)) first)
+        (plain_frame top.value) (plain_frames below.items)) }
 {
     let last = arrow_end(alloc, top.arrows.take(), top.unions.take(), chain)?;
     let Some((body, declared)) = names_of(alloc, top.names.take(), last, first)? else {
@@ -284,7 +316,9 @@ fn names_of(
     last: Part,
     first: bool,
 ) -> Result<Option<(Part, Vec<Declaration>)>, AllocError>
-    ensures { IfOk result (λ found. option_map (λ all. (plain_part all.0, map plain_declaration all.1.items)) found ≡ machine.names_of (option_map plain_names names) (plain_part last) first) }
+    ensures { IfOk result (λ found.
+        option_map (λ all. (plain_part all.0, map plain_declaration all.1.items)) found
+        ≡ machine.names_of (option_map plain_names names) (plain_part last) first) }
 {
     match names {
         None if first => Ok(Some((last, Vec::new(alloc)))),

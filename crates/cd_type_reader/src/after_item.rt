@@ -1,7 +1,8 @@
 ghost use Rattle.std.specs.Prelude.{◌≡◌, true, IfOk};
 ghost use Rattle.cd_type_reader.specs.Machine as machine;
 ghost use Rattle.cd_type_reader.specs.CodeSteps.{is_listed, meet_sign, goes_as_tree};
-ghost use Rattle.cd_type_reader.specs.PlainMachine.{plain_chain, plain_around, plain_frame, plain_frames, plain_outcome};
+ghost use Rattle.cd_type_reader.specs.PlainMachine.{plain_chain, plain_around, plain_frame};
+ghost use Rattle.cd_type_reader.specs.PlainMachine.{plain_frames, plain_outcome};
 
 use crate::after::{pending, step_tree};
 use crate::after_regular::step_regular;
@@ -23,7 +24,9 @@ pub(crate) fn step_after(
     kind: &TokenKind,
     span: Span,
 ) -> Result<Outcome, AllocError>
-    ensures { IfOk result (λ outcome. plain_outcome outcome ≡ machine.step_after (plain_chain chain) (plain_frame top.value) (plain_frames below.items) kind.now span) }
+    ensures { IfOk result (λ outcome.
+        plain_outcome outcome ≡ machine.step_after (plain_chain chain) (plain_frame top.value)
+        (plain_frames below.items) kind.now span) }
 {
     if is_listed(&top.around) {
         return after_item(alloc, chain, top, below, kind, span);
@@ -41,7 +44,9 @@ fn after_item(
     span: Span,
 ) -> Result<Outcome, AllocError>
     requires { is_listed (plain_around top.value.around) ≡ true }
-    ensures { IfOk result (λ outcome. plain_outcome outcome ≡ machine.step_after (plain_chain chain) (plain_frame top.value) (plain_frames below.items) kind.now span) }
+    ensures { IfOk result (λ outcome.
+        plain_outcome outcome ≡ machine.step_after (plain_chain chain) (plain_frame top.value)
+        (plain_frames below.items) kind.now span) }
 {
     if let Some(kept) = meet_sign(kind) {
         return Ok(at_place(Place::Before, pending(chain, kept, top), below));

@@ -2,7 +2,8 @@ ghost use Rattle.std.specs.Prelude.{◌≡◌, false, IfOk};
 ghost use Rattle.cd_syntax.specs.declared.tokens.TokenKind.TheVariants as token;
 ghost use Rattle.cd_type_reader.specs.Machine as machine;
 ghost use Rattle.cd_type_reader.specs.CodeSteps.{mark_of};
-ghost use Rattle.cd_type_reader.specs.PlainMachine.{plain_frame, plain_frames, plain_listed, plain_regular_part, plain_outcome};
+ghost use Rattle.cd_type_reader.specs.PlainMachine.{plain_frame, plain_frames, plain_listed};
+ghost use Rattle.cd_type_reader.specs.PlainMachine.{plain_regular_part, plain_outcome};
 
 use crate::close::{close_bracket, close_group};
 use crate::frame::{Around, Frame, around_of, begun, is_listed};
@@ -25,7 +26,9 @@ pub(crate) fn step_regular(
     kind: &TokenKind,
     span: Span,
 ) -> Result<Outcome, AllocError>
-    ensures { IfOk result (λ outcome. plain_outcome outcome ≡ machine.step_regular (plain_regular_part one) may_repeat (plain_frame top.value) (plain_frames below.items) kind.now span) }
+    ensures { IfOk result (λ outcome.
+        plain_outcome outcome ≡ machine.step_regular (plain_regular_part one) may_repeat
+        (plain_frame top.value) (plain_frames below.items) kind.now span) }
 {
     let Some(mark) = mark_of(may_repeat, kind) else {
         return after_one(alloc, one, top, below, kind, span);
@@ -68,7 +71,9 @@ fn after_one(
     kind: &TokenKind,
     span: Span,
 ) -> Result<Outcome, AllocError>
-    ensures { IfOk result (λ outcome. plain_outcome outcome ≡ machine.step_regular (plain_regular_part one) false (plain_frame top.value) (plain_frames below.items) kind.now span) }
+    ensures { IfOk result (λ outcome.
+        plain_outcome outcome ≡ machine.step_regular (plain_regular_part one) false
+        (plain_frame top.value) (plain_frames below.items) kind.now span) }
 {
     let room = top.room;
     let Around::InSequence(listed) = around_of(top) else {
@@ -97,7 +102,9 @@ fn one_sign(
     below: Vec<Box<Frame>>,
     span: Span,
 ) -> Result<Outcome, AllocError>
-    ensures { IfOk result (λ outcome. plain_outcome outcome ≡ machine.step_next (plain_listed listed) (plain_regular_part one) room (plain_frames below.items) (token.Sign sign) span) }
+    ensures { IfOk result (λ outcome.
+        plain_outcome outcome ≡ machine.step_next (plain_listed listed)
+        (plain_regular_part one) room (plain_frames below.items) (token.Sign sign) span) }
 {
     match sign {
         Sign::Or => next_alternative(alloc, listed, one, room, below),
@@ -117,7 +124,10 @@ fn next_item(
     one: RegularPart,
     room: usize,
 ) -> Result<Box<Frame>, AllocError>
-    ensures { IfOk result (λ top. plain_frame top.value ≡ machine.frame room (machine.InSequence (machine.with_one_more (plain_listed listed) (plain_regular_part one)))) }
+    ensures { IfOk result (λ top.
+        plain_frame top.value ≡ machine.frame room
+        (machine.InSequence (machine.with_one_more (plain_listed listed)
+        (plain_regular_part one)))) }
 {
     let listed = with_one_more(alloc, listed, one)?;
     Ok(Box::new(alloc, begun(room, Around::InSequence(listed)))?)
@@ -131,7 +141,11 @@ fn next_alternative(
     room: usize,
     below: Vec<Box<Frame>>,
 ) -> Result<Outcome, AllocError>
-    ensures { IfOk result (λ outcome. plain_outcome outcome ≡ machine.at_place (machine.ItemNext false) (machine.frame room (machine.InSequence (machine.with_alternative (plain_listed listed) (plain_regular_part one)))) (plain_frames below.items)) }
+    ensures { IfOk result (λ outcome.
+        plain_outcome outcome ≡ machine.at_place (machine.ItemNext false)
+        (machine.frame room (machine.InSequence
+        (machine.with_alternative (plain_listed listed) (plain_regular_part one))))
+        (plain_frames below.items)) }
 {
     let listed = with_alternative(alloc, listed, one)?;
     let top = Box::new(alloc, begun(room, Around::InSequence(listed)))?;

@@ -2,7 +2,9 @@ ghost use Rattle.std.specs.Prelude.{◌≡◌, IfOk};
 ghost use Rattle.std.specs.Option.{option_map};
 ghost use Rattle.cd_type_reader.specs.Machine as machine;
 ghost use Rattle.cd_type_reader.specs.CodeSteps.{group_as_tree, go_as_tree};
-ghost use Rattle.cd_type_reader.specs.PlainMachine.{plain_row, plain_chain, plain_around, plain_frame, plain_frames, plain_regular_row, plain_outcome};
+ghost use Rattle.cd_type_reader.specs.PlainMachine.{plain_row, plain_chain, plain_around};
+ghost use Rattle.cd_type_reader.specs.PlainMachine.{plain_frame, plain_frames, plain_regular_row};
+ghost use Rattle.cd_type_reader.specs.PlainMachine.{plain_outcome};
 
 use crate::after::step_tree;
 use crate::frame::{Around, Frame, around_of};
@@ -14,7 +16,8 @@ use cd_syntax::base::into_types;
 use cd_syntax::tokens::{Span, TokenKind};
 use std::alloc::{AllocError, Global};
 
-/// A token with which a group is no group of a sequence, but a tuple, a type with names or an arrow in parentheses.
+/// A token with which a group is no group of a sequence, but a tuple, a type with names or an arrow
+/// in parentheses.
 pub(crate) fn go_as_tree(
     alloc: Global,
     chain: Chain,
@@ -23,7 +26,9 @@ pub(crate) fn go_as_tree(
     kind: &TokenKind,
     span: Span,
 ) -> Result<Outcome, AllocError>
-    ensures { IfOk result (λ outcome. plain_outcome outcome ≡ go_as_tree (plain_around top.value.around) top.value.room (plain_chain chain) (plain_frames below.items) kind.now span) }
+    ensures { IfOk result (λ outcome.
+        plain_outcome outcome ≡ go_as_tree (plain_around top.value.around) top.value.room
+        (plain_chain chain) (plain_frames below.items) kind.now span) }
 {
     let room = top.room;
     match as_tree(alloc, room, around_of(top))? {
@@ -34,7 +39,9 @@ pub(crate) fn go_as_tree(
 
 // The group as what stands in parentheses, where it is a union of types so far.
 fn as_tree(alloc: Global, room: usize, around: Around) -> Result<Option<Box<Frame>>, AllocError>
-    ensures { IfOk result (λ found. option_map (λ top. plain_frame top.value) found ≡ group_as_tree room (plain_around around)) }
+    ensures { IfOk result (λ found.
+        option_map (λ top. plain_frame top.value) found
+        ≡ group_as_tree room (plain_around around)) }
 {
     let Around::InSequence(listed) = around else {
         return Ok(None);
@@ -57,7 +64,9 @@ fn as_union(
     from: usize,
     alternatives: Option<RegularRow>,
 ) -> Result<Option<Box<Frame>>, AllocError>
-    ensures { IfOk result (λ found. option_map (λ top. plain_frame top.value) found ≡ machine.as_union room from (option_map plain_regular_row alternatives)) }
+    ensures { IfOk result (λ found.
+        option_map (λ top. plain_frame top.value) found
+        ≡ machine.as_union room from (option_map plain_regular_row alternatives)) }
 {
     let Some(row) = alternatives else {
         return Ok(Some(Box::new(alloc, tree_frame(alloc, room, from, None))?));

@@ -26,7 +26,9 @@ pub(crate) fn before(
     kind: &TokenKind,
     span: Span,
 ) -> Result<Outcome, AllocError>
-    ensures { IfOk result (λ outcome. plain_outcome outcome ≡ machine.step_before (plain_frame top.value) (plain_frames below.items) kind.now span) }
+    ensures { IfOk result (λ outcome.
+        plain_outcome outcome ≡ machine.step_before (plain_frame top.value)
+        (plain_frames below.items) kind.now span) }
 {
     match kind {
         TokenKind::Int(value) => {
@@ -54,7 +56,9 @@ fn before_letter(
     below: Vec<Box<Frame>>,
     span: Span,
 ) -> Result<Outcome, AllocError>
-    ensures { IfOk result (λ outcome. plain_outcome outcome ≡ machine.step_before (plain_frame top.value) (plain_frames below.items) (token.Chars name.now) span) }
+    ensures { IfOk result (λ outcome.
+        plain_outcome outcome ≡ machine.step_before (plain_frame top.value)
+        (plain_frames below.items) (token.Chars name.now) span) }
 {
     match name.only_character() {
         Some(c) => Ok(at_place(Place::Letter(c, span.from, span.to), top, below)),
@@ -70,7 +74,9 @@ fn before_word(
     below: Vec<Box<Frame>>,
     span: Span,
 ) -> Result<Outcome, AllocError>
-    ensures { IfOk result (λ outcome. plain_outcome outcome ≡ machine.put_kind (machine.kind_of name.now) span (plain_frame top.value) (plain_frames below.items)) }
+    ensures { IfOk result (λ outcome.
+        plain_outcome outcome ≡ machine.put_kind (machine.kind_of name.now) span
+        (plain_frame top.value) (plain_frames below.items)) }
 {
     match kind_of(name)? {
         Some(kind) => put(alloc, form(span.from, span.to, kind), top, below),
@@ -99,7 +105,9 @@ pub(crate) fn before_sign(
     below: Vec<Box<Frame>>,
     span: Span,
 ) -> Result<Outcome, AllocError>
-    ensures { IfOk result (λ outcome. plain_outcome outcome ≡ machine.step_before (plain_frame top.value) (plain_frames below.items) (token.Sign sign) span) }
+    ensures { IfOk result (λ outcome.
+        plain_outcome outcome ≡ machine.step_before (plain_frame top.value)
+        (plain_frames below.items) (token.Sign sign) span) }
 {
     match sign {
         Sign::StarTo => Ok(at_place(Place::Most(span.from), top, below)),
@@ -121,7 +129,9 @@ fn open_brace(
     below: Vec<Box<Frame>>,
     span: Span,
 ) -> Result<Outcome, AllocError>
-    ensures { IfOk result (λ outcome. plain_outcome outcome ≡ machine.step_before (plain_frame top.value) (plain_frames below.items) (token.Sign sign.OpenBrace) span) }
+    ensures { IfOk result (λ outcome.
+        plain_outcome outcome ≡ machine.step_before (plain_frame top.value)
+        (plain_frames below.items) (token.Sign sign.OpenBrace) span) }
 {
     if within(top.left).is_none() {
         return Ok(too_deep());
@@ -140,7 +150,9 @@ fn open_bracket(
     mut below: Vec<Box<Frame>>,
     span: Span,
 ) -> Result<Outcome, AllocError>
-    ensures { IfOk result (λ outcome. plain_outcome outcome ≡ machine.step_before (plain_frame top.value) (plain_frames below.items) (token.Sign sign.OpenBracket) span) }
+    ensures { IfOk result (λ outcome.
+        plain_outcome outcome ≡ machine.step_before (plain_frame top.value)
+        (plain_frames below.items) (token.Sign sign.OpenBracket) span) }
 {
     let Some(room) = within(top.left) else {
         return Ok(too_deep());
@@ -153,7 +165,9 @@ fn open_bracket(
 
 // A `<` was read.
 fn open_tag(top: Box<Frame>, below: Vec<Box<Frame>>, span: Span) -> Outcome
-    ensures { plain_outcome result ≡ machine.step_before (plain_frame top.value) (plain_frames below.items) (token.Sign sign.Less) span }
+    ensures { plain_outcome result
+        ≡ machine.step_before (plain_frame top.value) (plain_frames below.items)
+        (token.Sign sign.Less) span }
 {
     if within(top.left).is_none() {
         return too_deep();

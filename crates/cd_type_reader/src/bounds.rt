@@ -1,6 +1,7 @@
 ghost use Rattle.std.specs.Prelude.{◌≡◌, Ok, IfOk};
 ghost use Rattle.cd_type_reader.specs.Machine as machine;
-ghost use Rattle.cd_type_reader.specs.PlainMachine.{plain_part, plain_frame, plain_frames, plain_state, plain_outcome};
+ghost use Rattle.cd_type_reader.specs.PlainMachine.{plain_part, plain_frame, plain_frames};
+ghost use Rattle.cd_type_reader.specs.PlainMachine.{plain_state, plain_outcome};
 
 use crate::after_item::step_after;
 use crate::frame::Frame;
@@ -24,7 +25,9 @@ pub(crate) fn low(
     kind: &TokenKind,
     span: Span,
 ) -> Result<Outcome, AllocError>
-    ensures { IfOk result (λ outcome. plain_outcome outcome ≡ machine.step_low value from to (plain_frame top.value) (plain_frames below.items) kind.now span) }
+    ensures { IfOk result (λ outcome.
+        plain_outcome outcome ≡ machine.step_low value from to (plain_frame top.value)
+        (plain_frames below.items) kind.now span) }
 {
     match kind {
         TokenKind::Sign(Sign::To) => Ok(at_place(Place::Bound(value, from), top, below)),
@@ -58,7 +61,9 @@ pub(crate) fn bound(
     kind: &TokenKind,
     span: Span,
 ) -> Result<Outcome, AllocError>
-    ensures { IfOk result (λ outcome. plain_outcome outcome ≡ machine.step_bound value from (plain_frame top.value) (plain_frames below.items) kind.now span) }
+    ensures { IfOk result (λ outcome.
+        plain_outcome outcome ≡ machine.step_bound value from (plain_frame top.value)
+        (plain_frames below.items) kind.now span) }
 {
     let TokenKind::Int(high) = kind else {
         return Ok(syntax());
@@ -76,7 +81,9 @@ pub(crate) fn most(
     kind: &TokenKind,
     span: Span,
 ) -> Result<Outcome, AllocError>
-    ensures { IfOk result (λ outcome. plain_outcome outcome ≡ machine.step_most from (plain_frame top.value) (plain_frames below.items) kind.now span) }
+    ensures { IfOk result (λ outcome.
+        plain_outcome outcome ≡ machine.step_most from (plain_frame top.value)
+        (plain_frames below.items) kind.now span) }
 {
     let TokenKind::Int(high) = kind else {
         return Ok(syntax());
@@ -96,7 +103,9 @@ pub(crate) fn letter(
     kind: &TokenKind,
     span: Span,
 ) -> Result<Outcome, AllocError>
-    ensures { IfOk result (λ outcome. plain_outcome outcome ≡ machine.step_letter c from to (plain_frame top.value) (plain_frames below.items) kind.now span) }
+    ensures { IfOk result (λ outcome.
+        plain_outcome outcome ≡ machine.step_letter c from to (plain_frame top.value)
+        (plain_frames below.items) kind.now span) }
 {
     match kind {
         TokenKind::Sign(Sign::To) => Ok(at_place(Place::LetterBound(c, from), top, below)),
@@ -126,7 +135,9 @@ pub(crate) fn letter_bound(
     kind: &TokenKind,
     span: Span,
 ) -> Result<Outcome, AllocError>
-    ensures { IfOk result (λ outcome. plain_outcome outcome ≡ machine.step_letter_bound low from (plain_frame top.value) (plain_frames below.items) kind.now span) }
+    ensures { IfOk result (λ outcome.
+        plain_outcome outcome ≡ machine.step_letter_bound low from (plain_frame top.value)
+        (plain_frames below.items) kind.now span) }
 {
     let TokenKind::Chars(name) = kind else {
         return Ok(syntax());
@@ -151,7 +162,10 @@ fn step_put(
     kind: &TokenKind,
     span: Span,
 ) -> Result<Outcome, AllocError>
-    ensures { IfOk result (λ outcome. plain_outcome outcome ≡ machine.step_put (machine.put (plain_part one) (plain_frame top.value) (plain_frames below.items)) kind.now span) }
+    ensures { IfOk result (λ outcome.
+        plain_outcome outcome ≡ machine.step_put
+        (machine.put (plain_part one) (plain_frame top.value)
+        (plain_frames below.items)) kind.now span) }
 {
     match put(alloc, one, top, below)? {
         Outcome::Next(state) => step_put_at(alloc, state, kind, span),
@@ -165,7 +179,8 @@ fn step_put_at(
     kind: &TokenKind,
     span: Span,
 ) -> Result<Outcome, AllocError>
-    ensures { IfOk result (λ outcome. plain_outcome outcome ≡ machine.step_put (Ok (plain_state state)) kind.now span) }
+    ensures { IfOk result (λ outcome.
+        plain_outcome outcome ≡ machine.step_put (Ok (plain_state state)) kind.now span) }
 {
     let State { place, top, below } = state;
     match place {

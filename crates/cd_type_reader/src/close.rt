@@ -3,7 +3,9 @@ ghost use Rattle.cd_syntax.specs.PlainTree.{plain_regular};
 ghost use Rattle.cd_syntax.specs.PlainBase.{plain_base};
 ghost use Rattle.cd_syntax.specs.TypeTree.{Sequence};
 ghost use Rattle.cd_type_reader.specs.Machine as machine;
-ghost use Rattle.cd_type_reader.specs.PlainMachine.{plain_around, plain_frame, plain_frames, plain_listed, plain_regular_part, plain_outcome};
+ghost use Rattle.cd_type_reader.specs.PlainMachine.{plain_around, plain_frame, plain_frames};
+ghost use Rattle.cd_type_reader.specs.PlainMachine.{plain_listed, plain_regular_part};
+ghost use Rattle.cd_type_reader.specs.PlainMachine.{plain_outcome};
 
 use crate::frame::{Around, Frame};
 use crate::listed::{Listed, regular_end};
@@ -24,7 +26,9 @@ pub(crate) fn close_empty(
     span: Span,
     below: Vec<Box<Frame>>,
 ) -> Result<Outcome, AllocError>
-    ensures { IfOk result (λ outcome. plain_outcome outcome ≡ machine.close_empty may_end (plain_around around) span (plain_frames below.items)) }
+    ensures { IfOk result (λ outcome.
+        plain_outcome outcome ≡ machine.close_empty may_end (plain_around around) span
+        (plain_frames below.items)) }
 {
     if !may_end {
         return Ok(syntax());
@@ -42,7 +46,9 @@ fn close_none(
     span: Span,
     mut below: Vec<Box<Frame>>,
 ) -> Result<Outcome, AllocError>
-    ensures { IfOk result (λ outcome. plain_outcome outcome ≡ machine.close_bracket listed.group (plain_listed listed) span.to (machine.empty_at span.from) (plain_frames below.items)) }
+    ensures { IfOk result (λ outcome.
+        plain_outcome outcome ≡ machine.close_bracket listed.group (plain_listed listed) span.to
+        (machine.empty_at span.from) (plain_frames below.items)) }
 {
     if listed.group {
         return Ok(syntax());
@@ -63,7 +69,10 @@ pub(crate) fn close_bracket(
     to: usize,
     mut below: Vec<Box<Frame>>,
 ) -> Result<Outcome, AllocError>
-    ensures { IfOk result (λ outcome. plain_outcome outcome ≡ machine.close_bracket listed.group (plain_listed listed) to (machine.regular_end (plain_listed listed) (plain_regular_part last)).is (plain_frames below.items)) }
+    ensures { IfOk result (λ outcome.
+        plain_outcome outcome ≡ machine.close_bracket listed.group (plain_listed listed) to
+        (machine.regular_end (plain_listed listed) (plain_regular_part last)).is
+        (plain_frames below.items)) }
 {
     if listed.group {
         return Ok(syntax());
@@ -89,7 +98,9 @@ fn put_sequence(
     outer: Box<Frame>,
     below: Vec<Box<Frame>>,
 ) -> Result<Outcome, AllocError>
-    ensures { IfOk result (λ outcome. plain_outcome outcome ≡ machine.put (machine.part from to (Sequence (plain_regular is))) (plain_frame outer.value) (plain_frames below.items)) }
+    ensures { IfOk result (λ outcome.
+        plain_outcome outcome ≡ machine.put (machine.part from to (Sequence (plain_regular is)))
+        (plain_frame outer.value) (plain_frames below.items)) }
 {
     let kind = TreeKind::sequence(Box::new(alloc, is)?);
     put(alloc, form(from, to, kind), outer, below)
@@ -103,7 +114,10 @@ pub(crate) fn close_group(
     to: usize,
     mut below: Vec<Box<Frame>>,
 ) -> Result<Outcome, AllocError>
-    ensures { IfOk result (λ outcome. plain_outcome outcome ≡ machine.close_group listed.group (plain_listed listed) to (machine.regular_end (plain_listed listed) (plain_regular_part last)).is (plain_frames below.items)) }
+    ensures { IfOk result (λ outcome.
+        plain_outcome outcome ≡ machine.close_group listed.group (plain_listed listed) to
+        (machine.regular_end (plain_listed listed) (plain_regular_part last)).is
+        (plain_frames below.items)) }
 {
     if !listed.group {
         return Ok(syntax());
@@ -131,7 +145,9 @@ fn put_base(
     outer: Box<Frame>,
     below: Vec<Box<Frame>>,
 ) -> Result<Outcome, AllocError>
-    ensures { IfOk result (λ outcome. plain_outcome outcome ≡ machine.put_base (plain_base base) from to (plain_frame outer.value) (plain_frames below.items)) }
+    ensures { IfOk result (λ outcome.
+        plain_outcome outcome ≡ machine.put_base (plain_base base) from to (plain_frame outer.value)
+        (plain_frames below.items)) }
 {
     match base {
         Base::OfType(tree) => put(alloc, Part { tree, from, to }, outer, below),

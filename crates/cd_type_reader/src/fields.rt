@@ -1,7 +1,8 @@
 ghost use Rattle.std.specs.Prelude.{◌≡◌, IfOk};
 ghost use Rattle.cd_syntax.specs.declared.tokens.TokenKind.TheVariants as token;
 ghost use Rattle.cd_type_reader.specs.Machine as machine;
-ghost use Rattle.cd_type_reader.specs.PlainMachine.{plain_opened, plain_frame, plain_frames, plain_outcome};
+ghost use Rattle.cd_type_reader.specs.PlainMachine.{plain_opened, plain_frame, plain_frames};
+ghost use Rattle.cd_type_reader.specs.PlainMachine.{plain_outcome};
 
 use crate::frame::{Around, Frame, Opened, record_part, within};
 use crate::put::put;
@@ -20,7 +21,9 @@ pub(crate) fn field_next(
     kind: &TokenKind,
     span: Span,
 ) -> Result<Outcome, AllocError>
-    ensures { IfOk result (λ outcome. plain_outcome outcome ≡ machine.step_field (plain_opened opened) (plain_frame top.value) (plain_frames below.items) kind.now span) }
+    ensures { IfOk result (λ outcome.
+        plain_outcome outcome ≡ machine.step_field (plain_opened opened) (plain_frame top.value)
+        (plain_frames below.items) kind.now span) }
 {
     match kind {
         TokenKind::Word(label) => field_label(opened, label, top, below, span),
@@ -42,7 +45,9 @@ fn field_label(
     below: Vec<Box<Frame>>,
     span: Span,
 ) -> Result<Outcome, AllocError>
-    ensures { IfOk result (λ outcome. plain_outcome outcome ≡ machine.step_field (plain_opened opened) (plain_frame top.value) (plain_frames below.items) (token.Word label.now) span) }
+    ensures { IfOk result (λ outcome.
+        plain_outcome outcome ≡ machine.step_field (plain_opened opened) (plain_frame top.value)
+        (plain_frames below.items) (token.Word label.now) span) }
 {
     if label.is_spelled(&['_']) {
         return Ok(syntax());
@@ -61,7 +66,9 @@ pub(crate) fn label_read(
     below: Vec<Box<Frame>>,
     kind: &TokenKind,
 ) -> Result<Outcome, AllocError>
-    ensures { IfOk result (λ outcome. plain_outcome outcome ≡ machine.step_label (plain_opened opened) label at (plain_frame top.value) (plain_frames below.items) kind.now) }
+    ensures { IfOk result (λ outcome.
+        plain_outcome outcome ≡ machine.step_label (plain_opened opened) label at
+        (plain_frame top.value) (plain_frames below.items) kind.now) }
 {
     let optional = match kind {
         TokenKind::Sign(Sign::Equal) => false,
@@ -81,7 +88,9 @@ pub(crate) fn fields_end(
     kind: &TokenKind,
     span: Span,
 ) -> Result<Outcome, AllocError>
-    ensures { IfOk result (λ outcome. plain_outcome outcome ≡ machine.step_fields_end (plain_opened opened) (plain_frame top.value) (plain_frames below.items) kind.now span) }
+    ensures { IfOk result (λ outcome.
+        plain_outcome outcome ≡ machine.step_fields_end (plain_opened opened)
+        (plain_frame top.value) (plain_frames below.items) kind.now span) }
 {
     let TokenKind::Sign(Sign::CloseBrace) = kind else {
         return Ok(syntax());

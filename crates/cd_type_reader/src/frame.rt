@@ -3,7 +3,9 @@ ghost use Rattle.std.specs.Option.{option_map};
 ghost use Rattle.cd_syntax.specs.PlainTree.{plain, plain_declaration};
 ghost use Rattle.cd_type_reader.specs.Machine as machine;
 ghost use Rattle.cd_type_reader.specs.CodeSteps.{is_listed};
-ghost use Rattle.cd_type_reader.specs.PlainMachine.{plain_part, plain_row, plain_chain, plain_names, plain_opened, plain_around, plain_frame};
+ghost use Rattle.cd_type_reader.specs.PlainMachine.{plain_part, plain_row, plain_chain};
+ghost use Rattle.cd_type_reader.specs.PlainMachine.{plain_names, plain_opened, plain_around};
+ghost use Rattle.cd_type_reader.specs.PlainMachine.{plain_frame};
 
 use crate::listed::Listed;
 use crate::part::{Chain, Part, Row, arrow_part, form, meet_part, union_part};
@@ -112,7 +114,9 @@ pub(crate) fn declared_with(
     names: Names,
     last: Part,
 ) -> Result<(Part, Vec<Declaration>), AllocError>
-    ensures { IfOk result (λ all. (plain_part all.0 ≡ plain_part names.body) × (map plain_declaration all.1.items ≡ machine.declared_with (plain_names names) (plain_part last))) }
+    ensures { IfOk result (λ all. (plain_part all.0 ≡ plain_part names.body)
+        × (map plain_declaration all.1.items
+        ≡ machine.declared_with (plain_names names) (plain_part last))) }
 {
     let Names {
         body,
@@ -130,7 +134,8 @@ pub(crate) fn where_part(
     names: Option<Names>,
     last: Part,
 ) -> Result<Part, AllocError>
-    ensures { IfOk result (λ tree. plain_part tree ≡ machine.where_part (option_map plain_names names) (plain_part last)) }
+    ensures { IfOk result (λ tree.
+        plain_part tree ≡ machine.where_part (option_map plain_names names) (plain_part last)) }
 {
     match names {
         None => Ok(last),
@@ -151,7 +156,10 @@ pub(crate) fn arrow_end(
     unions: Option<Row>,
     chain: Chain,
 ) -> Result<Part, AllocError>
-    ensures { IfOk result (λ arrow. plain_part arrow ≡ machine.arrow_part (option_map plain_row arrows) (machine.union_part (option_map plain_row unions) (machine.meet_part (plain_chain chain)))) }
+    ensures { IfOk result (λ arrow.
+        plain_part arrow ≡ machine.arrow_part (option_map plain_row arrows)
+        (machine.union_part (option_map plain_row unions)
+        (machine.meet_part (plain_chain chain)))) }
 {
     let meet = meet_part(alloc, chain)?;
     arrow_part(arrows, union_part(unions, meet)?)
@@ -163,7 +171,8 @@ pub(crate) fn tree_end(
     top: Box<Frame>,
     chain: Chain,
 ) -> Result<(Around, Part), AllocError>
-    ensures { IfOk result (λ all. (plain_around all.0 ≡ plain_around top.value.around) × (plain_part all.1 ≡ machine.tree_end (plain_frame top.value) (plain_chain chain))) }
+    ensures { IfOk result (λ all. (plain_around all.0 ≡ plain_around top.value.around)
+        × (plain_part all.1 ≡ machine.tree_end (plain_frame top.value) (plain_chain chain))) }
 {
     let Frame {
         around,
@@ -184,7 +193,9 @@ pub(crate) fn fields_with(
     optional: bool,
     tree: Tree,
 ) -> Result<Opened, AllocError>
-    ensures { IfOk result (λ more. plain_opened more ≡ machine.fields_with (plain_opened opened) label at optional (plain tree)) }
+    ensures { IfOk result (λ more.
+        plain_opened more ≡ machine.fields_with (plain_opened opened) label at optional
+        (plain tree)) }
 {
     let Opened { from, mut fields } = opened;
     fields.push(FieldTree::new(label, at, optional, tree))?;

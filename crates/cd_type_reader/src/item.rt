@@ -15,7 +15,8 @@ use cd_syntax::sign::Sign;
 use cd_syntax::tokens::{Span, TokenKind};
 use std::alloc::{AllocError, Global};
 
-/// Where an item of a sequence has to come, or, with true, the sequence may end, of which nothing is read.
+/// Where an item of a sequence has to come, or, with true, the sequence may end, of which nothing
+/// is read.
 pub(crate) fn step_item(
     alloc: Global,
     may_end: bool,
@@ -24,7 +25,9 @@ pub(crate) fn step_item(
     kind: &TokenKind,
     span: Span,
 ) -> Result<Outcome, AllocError>
-    ensures { IfOk result (λ outcome. plain_outcome outcome ≡ machine.step_item may_end (plain_frame top.value) (plain_frames below.items) kind.now span) }
+    ensures { IfOk result (λ outcome.
+        plain_outcome outcome ≡ machine.step_item may_end (plain_frame top.value)
+        (plain_frames below.items) kind.now span) }
 {
     match kind {
         TokenKind::Chars(name) => item_letters(alloc, may_end, name, top, below, span),
@@ -44,7 +47,9 @@ fn item_letters(
     below: Vec<Box<Frame>>,
     span: Span,
 ) -> Result<Outcome, AllocError>
-    ensures { IfOk result (λ outcome. plain_outcome outcome ≡ machine.step_item may_end (plain_frame top.value) (plain_frames below.items) (token.Chars name.now) span) }
+    ensures { IfOk result (λ outcome.
+        plain_outcome outcome ≡ machine.step_item may_end (plain_frame top.value)
+        (plain_frames below.items) (token.Chars name.now) span) }
 {
     if let Some(c) = name.only_character() {
         return Ok(at_place(Place::Letter(c, span.from, span.to), top, below));
@@ -62,7 +67,9 @@ pub(crate) fn item_sign(
     below: Vec<Box<Frame>>,
     span: Span,
 ) -> Result<Outcome, AllocError>
-    ensures { IfOk result (λ outcome. plain_outcome outcome ≡ machine.step_item may_end (plain_frame top.value) (plain_frames below.items) (token.Sign sign) span) }
+    ensures { IfOk result (λ outcome.
+        plain_outcome outcome ≡ machine.step_item may_end (plain_frame top.value)
+        (plain_frames below.items) (token.Sign sign) span) }
 {
     match sign {
         Sign::OpenParenthesis => open_group(alloc, top, below, span),
@@ -78,7 +85,9 @@ fn open_group(
     mut below: Vec<Box<Frame>>,
     span: Span,
 ) -> Result<Outcome, AllocError>
-    ensures { IfOk result (λ outcome. plain_outcome outcome ≡ machine.step_item false (plain_frame top.value) (plain_frames below.items) (token.Sign sign.OpenParenthesis) span) }
+    ensures { IfOk result (λ outcome.
+        plain_outcome outcome ≡ machine.step_item false (plain_frame top.value)
+        (plain_frames below.items) (token.Sign sign.OpenParenthesis) span) }
 {
     let Some(room) = within(top.left) else {
         return Ok(too_deep());

@@ -15,7 +15,8 @@ pub(crate) fn letters_part(
     characters: &Name,
     span: Span,
 ) -> Result<RegularPart, AllocError>
-    ensures { IfOk result (λ all. plain_regular_part all ≡ machine.letters_part characters.now span) }
+    ensures { IfOk result (λ all.
+        plain_regular_part all ≡ machine.letters_part characters.now span) }
 {
     let all = letters(alloc, characters, span)?;
     Ok(RegularPart {
@@ -36,7 +37,8 @@ fn letters_kind(all: Vec<RegTree>) -> RegKind
 
 // An item for each of these characters.
 fn letters(alloc: Global, characters: &Name, span: Span) -> Result<Vec<RegTree>, AllocError>
-    ensures { IfOk result (λ all. map plain_regular all.items ≡ map (letter_of span) characters.now) }
+    ensures { IfOk result (λ all.
+        map plain_regular all.items ≡ map (letter_of span) characters.now) }
 {
     let mut all = Vec::new(alloc);
     for c in characters.as_str().chars() {

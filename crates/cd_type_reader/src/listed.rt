@@ -1,7 +1,8 @@
 ghost use Rattle.std.specs.Prelude.{◌≡◌, IfOk};
 ghost use Rattle.std.specs.Option.{option_map};
 ghost use Rattle.cd_type_reader.specs.Machine as machine;
-ghost use Rattle.cd_type_reader.specs.PlainMachine.{plain_regular_part, plain_regular_row, plain_listed};
+ghost use Rattle.cd_type_reader.specs.PlainMachine.{plain_regular_part, plain_regular_row};
+ghost use Rattle.cd_type_reader.specs.PlainMachine.{plain_listed};
 
 use crate::part::Row;
 use crate::regular::{RegularPart, RegularRow, alt_part, regular_row_with, seq_part};
@@ -37,7 +38,8 @@ pub(crate) fn with_one_more(
     listed: Listed,
     one: RegularPart,
 ) -> Result<Listed, AllocError>
-    ensures { IfOk result (λ more. plain_listed more ≡ machine.with_one_more (plain_listed listed) (plain_regular_part one)) }
+    ensures { IfOk result (λ more.
+        plain_listed more ≡ machine.with_one_more (plain_listed listed) (plain_regular_part one)) }
 {
     let Listed {
         from,
@@ -60,7 +62,9 @@ pub(crate) fn with_alternative(
     listed: Listed,
     last: RegularPart,
 ) -> Result<Listed, AllocError>
-    ensures { IfOk result (λ more. plain_listed more ≡ machine.with_alternative (plain_listed listed) (plain_regular_part last)) }
+    ensures { IfOk result (λ more.
+        plain_listed more ≡ machine.with_alternative (plain_listed listed)
+        (plain_regular_part last)) }
 {
     let Listed {
         from,
@@ -83,7 +87,9 @@ pub(crate) fn regular_end(
     items: Option<RegularRow>,
     last: RegularPart,
 ) -> Result<RegularPart, AllocError>
-    ensures { IfOk result (λ all. plain_regular_part all ≡ machine.alt_part (option_map plain_regular_row alternatives) (machine.seq_part (option_map plain_regular_row items) (plain_regular_part last))) }
+    ensures { IfOk result (λ all.
+        plain_regular_part all ≡ machine.alt_part (option_map plain_regular_row alternatives)
+        (machine.seq_part (option_map plain_regular_row items) (plain_regular_part last))) }
 {
     alt_part(alternatives, seq_part(items, last)?)
 }

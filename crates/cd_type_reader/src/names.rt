@@ -1,7 +1,8 @@
 ghost use Rattle.std.specs.Prelude.{◌≡◌, map, IfOk};
 ghost use Rattle.cd_syntax.specs.PlainTree.{plain_declaration};
 ghost use Rattle.cd_type_reader.specs.Machine as machine;
-ghost use Rattle.cd_type_reader.specs.PlainMachine.{plain_part, plain_names, plain_frame, plain_frames, plain_outcome};
+ghost use Rattle.cd_type_reader.specs.PlainMachine.{plain_part, plain_names, plain_frame};
+ghost use Rattle.cd_type_reader.specs.PlainMachine.{plain_frames, plain_outcome};
 
 use crate::frame::{Frame, Names};
 use crate::part::Part;
@@ -21,7 +22,10 @@ pub(crate) fn name_next(
     kind: &TokenKind,
     span: Span,
 ) -> Result<Outcome, AllocError>
-    ensures { IfOk result (λ outcome. plain_outcome outcome ≡ machine.step_name (plain_part body) (map plain_declaration declared.items) (plain_frame top.value) (plain_frames below.items) kind.now span) }
+    ensures { IfOk result (λ outcome.
+        plain_outcome outcome ≡ machine.step_name (plain_part body)
+        (map plain_declaration declared.items) (plain_frame top.value)
+        (plain_frames below.items) kind.now span) }
 {
     let TokenKind::Word(name) = kind else {
         return Ok(syntax());
@@ -43,7 +47,9 @@ pub(crate) fn name_read(
     below: Vec<Box<Frame>>,
     kind: &TokenKind,
 ) -> Outcome
-    ensures { plain_outcome result ≡ machine.step_equal (plain_part body) (map plain_declaration declared.items) name at (plain_frame top.value) (plain_frames below.items) kind.now }
+    ensures { plain_outcome result
+        ≡ machine.step_equal (plain_part body) (map plain_declaration declared.items) name at
+        (plain_frame top.value) (plain_frames below.items) kind.now }
 {
     let TokenKind::Sign(Sign::Equal) = kind else {
         return syntax();
@@ -58,7 +64,8 @@ pub(crate) fn name_read(
 }
 
 fn with_names(names: Names, mut top: Box<Frame>) -> Box<Frame>
-    ensures { plain_frame result.value ≡ machine.with_names (plain_names names) (plain_frame top.value) }
+    ensures { plain_frame result.value
+        ≡ machine.with_names (plain_names names) (plain_frame top.value) }
 {
     top.names = Some(names);
     top.arrows = None;

@@ -2,14 +2,15 @@ ghost use Rattle.std.specs.Prelude.{◌≡◌, Bool, List, [], ◌∷◌, ◌++�
 ghost use Rattle.std.specs.Option.{option_map};
 ghost use Rattle.cd_syntax.specs.PlainTree.{plain, plain_kind, plain_signed};
 ghost use Rattle.cd_type_reader.specs.Machine as machine;
-ghost use Rattle.cd_type_reader.specs.PlainMachine.{plain_part, plain_row, plain_chain, plain_pending};
+ghost use Rattle.cd_type_reader.specs.PlainMachine.{plain_part, plain_row, plain_chain};
+ghost use Rattle.cd_type_reader.specs.PlainMachine.{plain_pending};
 
 use cd_syntax::tokens::Span;
 use cd_syntax::type_tree::{SignedTree, Tree, TreeKind};
 use std::alloc::{AllocError, Global};
 
-/// The tree of a form, and the extent of its tokens: parentheses round a tree are none of its span, and are
-/// of the extent.
+/// The tree of a form, and the extent of its tokens: parentheses round a tree are none of its span,
+/// and are of the extent.
 #[derive(Drop)]
 pub(crate) struct Part {
     pub(crate) tree: Tree,
@@ -45,7 +46,8 @@ pub(crate) fn form(from: usize, to: usize, kind: TreeKind) -> Part
 
 /// The row with one more part.
 pub(crate) fn row_with(alloc: Global, row: Option<Row>, one: Part) -> Result<Row, AllocError>
-    ensures { IfOk result (λ row_with. plain_row row_with ≡ machine.row_with (option_map plain_row row) (plain_part one)) }
+    ensures { IfOk result (λ row_with.
+        plain_row row_with ≡ machine.row_with (option_map plain_row row) (plain_part one)) }
 {
     let Part { tree, from, to: _ } = one;
     match row {
@@ -73,7 +75,8 @@ pub(crate) fn chain_with(
     pending: Option<(Chain, bool)>,
     one: Part,
 ) -> Result<Chain, AllocError>
-    ensures { IfOk result (λ chain. plain_chain chain ≡ machine.chain_with (plain_pending pending) (plain_part one)) }
+    ensures { IfOk result (λ chain.
+        plain_chain chain ≡ machine.chain_with (plain_pending pending) (plain_part one)) }
 {
     match pending {
         None => {
@@ -89,7 +92,8 @@ pub(crate) fn chain_with(
 }
 
 fn longer(chain: Chain, kept: bool, one: Part) -> Result<Chain, AllocError>
-    ensures { IfOk result (λ longer. plain_chain longer ≡ machine.chain_with (Some (plain_chain chain, kept)) (plain_part one)) }
+    ensures { IfOk result (λ longer.
+        plain_chain longer ≡ machine.chain_with (Some (plain_chain chain, kept)) (plain_part one)) }
 {
     let Chain {
         first,
@@ -115,7 +119,8 @@ pub(crate) fn meet_part(alloc: Global, chain: Chain) -> Result<Part, AllocError>
 
 /// The part of a union that ends with this one.
 pub(crate) fn union_part(row: Option<Row>, last: Part) -> Result<Part, AllocError>
-    ensures { IfOk result (λ union. plain_part union ≡ machine.union_part (option_map plain_row row) (plain_part last)) }
+    ensures { IfOk result (λ union.
+        plain_part union ≡ machine.union_part (option_map plain_row row) (plain_part last)) }
 {
     match row {
         None => Ok(last),
@@ -128,7 +133,8 @@ pub(crate) fn union_part(row: Option<Row>, last: Part) -> Result<Part, AllocErro
 
 /// The part of a chain of arrows that ends with this one.
 pub(crate) fn arrow_part(row: Option<Row>, last: Part) -> Result<Part, AllocError>
-    ensures { IfOk result (λ arrow. plain_part arrow ≡ machine.arrow_part (option_map plain_row row) (plain_part last)) }
+    ensures { IfOk result (λ arrow.
+        plain_part arrow ≡ machine.arrow_part (option_map plain_row row) (plain_part last)) }
 {
     match row {
         None => Ok(last),
@@ -146,7 +152,8 @@ pub(crate) fn tuple_part(
     items: Vec<Tree>,
     last: Tree,
 ) -> Result<Part, AllocError>
-    ensures { IfOk result (λ tuple. plain_part tuple ≡ machine.tuple_part from to (map plain items.items) (plain last)) }
+    ensures { IfOk result (λ tuple.
+        plain_part tuple ≡ machine.tuple_part from to (map plain items.items) (plain last)) }
 {
     if items.is_empty() {
         return Ok(Part {

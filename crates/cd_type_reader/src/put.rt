@@ -1,7 +1,9 @@
 ghost use Rattle.std.specs.Prelude.{◌≡◌, IfOk};
 ghost use Rattle.cd_type_reader.specs.Machine as machine;
-ghost use Rattle.cd_type_reader.specs.CodeSteps.{is_content, content_end, is_attribute, put_inside, attribute_end};
-ghost use Rattle.cd_type_reader.specs.PlainMachine.{plain_part, plain_pending, plain_around, plain_frame, plain_frames, plain_outcome};
+ghost use Rattle.cd_type_reader.specs.CodeSteps.{is_content, content_end, is_attribute, put_inside};
+ghost use Rattle.cd_type_reader.specs.CodeSteps.{attribute_end};
+ghost use Rattle.cd_type_reader.specs.PlainMachine.{plain_part, plain_pending, plain_around};
+ghost use Rattle.cd_type_reader.specs.PlainMachine.{plain_frame, plain_frames, plain_outcome};
 
 use crate::frame::{Around, Frame, around_of};
 use crate::part::{Chain, Part, chain_with};
@@ -9,14 +11,17 @@ use crate::state::{Outcome, Place, at_place, syntax};
 use crate::tagged::{attributes_with, xml_part};
 use std::alloc::{AllocError, Global};
 
-/// A simple type was read. As the content of an XML type it ends that type, which is a simple one too.
+/// A simple type was read. As the content of an XML type it ends that type, which is a simple one
+/// too.
 pub(crate) fn put(
     alloc: Global,
     mut one: Part,
     mut top: Box<Frame>,
     mut below: Vec<Box<Frame>>,
 ) -> Result<Outcome, AllocError>
-    ensures { IfOk result (λ outcome. plain_outcome outcome ≡ machine.put (plain_part one) (plain_frame top.value) (plain_frames below.items)) }
+    ensures { IfOk result (λ outcome.
+        plain_outcome outcome ≡ machine.put (plain_part one) (plain_frame top.value)
+        (plain_frames below.items)) }
 {
     while is_content(&top.around) {
         let Some(outer) = below.pop() else {
@@ -37,7 +42,8 @@ fn is_content(around: &Around) -> bool
 
 // The XML type that ends with its content.
 fn content_end(alloc: Global, around: Around, one: Part) -> Result<Part, AllocError>
-    ensures { IfOk result (λ xml. plain_part xml ≡ content_end (plain_around around) (plain_part one)) }
+    ensures { IfOk result (λ xml.
+        plain_part xml ≡ content_end (plain_around around) (plain_part one)) }
 {
     match around {
         Around::InContent(from, tag, attributes) => xml_part(alloc, from, tag, attributes, one),
@@ -65,7 +71,9 @@ fn put_inside(
     top: Box<Frame>,
     mut below: Vec<Box<Frame>>,
 ) -> Result<Outcome, AllocError>
-    ensures { IfOk result (λ outcome. plain_outcome outcome ≡ put_inside (plain_part one) (plain_frame top.value) (plain_frames below.items)) }
+    ensures { IfOk result (λ outcome.
+        plain_outcome outcome ≡ put_inside (plain_part one) (plain_frame top.value)
+        (plain_frames below.items)) }
 {
     if !is_attribute(&top.around) {
         return put_here(alloc, one, top, below);
@@ -84,7 +92,9 @@ fn attribute_end(
     outer: Box<Frame>,
     below: Vec<Box<Frame>>,
 ) -> Result<Outcome, AllocError>
-    ensures { IfOk result (λ outcome. plain_outcome outcome ≡ attribute_end (plain_around around) (plain_part one) (plain_frame outer.value) (plain_frames below.items)) }
+    ensures { IfOk result (λ outcome.
+        plain_outcome outcome ≡ attribute_end (plain_around around) (plain_part one)
+        (plain_frame outer.value) (plain_frames below.items)) }
 {
     match around {
         Around::InAttribute(tagged, label, at, optional) => {
@@ -108,7 +118,9 @@ fn put_here(
     top: Box<Frame>,
     below: Vec<Box<Frame>>,
 ) -> Result<Outcome, AllocError>
-    ensures { IfOk result (λ outcome. plain_outcome outcome ≡ machine.put_here (plain_part one) (plain_frame top.value) (plain_frames below.items)) }
+    ensures { IfOk result (λ outcome.
+        plain_outcome outcome ≡ machine.put_here (plain_part one) (plain_frame top.value)
+        (plain_frames below.items)) }
 {
     let (pending, top) = settled(top);
     let chain = chain_with(alloc, pending, one)?;

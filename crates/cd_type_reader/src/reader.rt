@@ -2,7 +2,8 @@ ghost use Rattle.std.specs.Prelude.{◌≡◌, Ok, IfOk};
 ghost use Rattle.std.specs.Option.{option_map};
 ghost use Rattle.cd_syntax.specs.PlainTree.{plain};
 ghost use Rattle.cd_type_reader.specs.Machine as machine;
-ghost use Rattle.cd_type_reader.specs.PlainMachine.{plain_part, plain_chain, plain_frame, plain_frames, plain_state, plain_fault};
+ghost use Rattle.cd_type_reader.specs.PlainMachine.{plain_part, plain_chain, plain_frame};
+ghost use Rattle.cd_type_reader.specs.PlainMachine.{plain_frames, plain_state, plain_fault};
 ghost use Rattle.cd_type_reader.specs.Reading.{IsReading, made};
 
 use crate::bounds::{number, one_letter};
@@ -27,8 +28,8 @@ pub enum Reading {
     TooDeep(usize),
 }
 
-/// Reads the type that tokens write, all of them; at most `most` of the forms that are counted may be open at a
-/// place.
+/// Reads the type that tokens write, all of them; at most `most` of the forms that are counted may
+/// be open at a place.
 ///
 /// # Errors
 ///
@@ -40,7 +41,8 @@ pub fn read(alloc: Global, tokens: &[Token], most: usize) -> Result<Reading, All
 }
 
 fn run(alloc: Global, tokens: &[Token], most: usize) -> Result<Reading, AllocError>
-    ensures { IfOk result (λ reading. made reading ≡ machine.run 0 (machine.start most) tokens.now) }
+    ensures { IfOk result (λ reading.
+        made reading ≡ machine.run 0 (machine.start most) tokens.now) }
 {
     let mut state = State {
         place: Place::Before,
@@ -71,7 +73,8 @@ fn stopped(fault: Fault, index: usize) -> Reading
 impl State {
     // The tree, where the tokens end.
     fn finish(self, alloc: Global) -> Result<Option<Tree>, AllocError>
-        ensures { IfOk result (λ found. option_map plain found ≡ machine.finish (plain_state self)) }
+        ensures { IfOk result (λ found.
+            option_map plain found ≡ machine.finish (plain_state self)) }
     {
         let State { place, top, below } = self;
         match place {
@@ -90,7 +93,9 @@ fn ended_with(
     top: Box<Frame>,
     below: Vec<Box<Frame>>,
 ) -> Result<Option<Tree>, AllocError>
-    ensures { IfOk result (λ found. option_map plain found ≡ machine.finish_put (machine.put (plain_part one) (plain_frame top.value) (plain_frames below.items))) }
+    ensures { IfOk result (λ found.
+        option_map plain found ≡ machine.finish_put
+        (machine.put (plain_part one) (plain_frame top.value) (plain_frames below.items))) }
 {
     match put(alloc, one, top, below)? {
         Outcome::Next(state) => ended_at(alloc, state),
@@ -100,7 +105,8 @@ fn ended_with(
 
 // The tree, where a simple type ends with the tokens.
 fn ended_at(alloc: Global, state: State) -> Result<Option<Tree>, AllocError>
-    ensures { IfOk result (λ found. option_map plain found ≡ machine.finish_put (Ok (plain_state state))) }
+    ensures { IfOk result (λ found.
+        option_map plain found ≡ machine.finish_put (Ok (plain_state state))) }
 {
     let State { place, top, below } = state;
     let Place::After(chain) = place else {
@@ -116,7 +122,9 @@ fn ended(
     top: Box<Frame>,
     below: Vec<Box<Frame>>,
 ) -> Result<Option<Tree>, AllocError>
-    ensures { IfOk result (λ found. option_map plain found ≡ machine.ended (plain_chain chain) (plain_frame top.value) (plain_frames below.items)) }
+    ensures { IfOk result (λ found.
+        option_map plain found ≡ machine.ended (plain_chain chain) (plain_frame top.value)
+        (plain_frames below.items)) }
 {
     let (around, last) = tree_end(alloc, top, chain)?;
     let Around::Alone = around else {

@@ -2,7 +2,8 @@ ghost use Rattle.std.specs.Prelude.{◌≡◌, [], ◌∷◌, ◌++◌, map, IfO
 ghost use Rattle.std.specs.Option.{option_map};
 ghost use Rattle.cd_syntax.specs.PlainTree.{plain_regular, plain_regular_kind};
 ghost use Rattle.cd_type_reader.specs.Machine as machine;
-ghost use Rattle.cd_type_reader.specs.PlainMachine.{plain_part, plain_regular_part, plain_regular_row};
+ghost use Rattle.cd_type_reader.specs.PlainMachine.{plain_part, plain_regular_part};
+ghost use Rattle.cd_type_reader.specs.PlainMachine.{plain_regular_row};
 
 use crate::part::Part;
 use cd_syntax::tokens::Span;
@@ -41,7 +42,9 @@ pub(crate) fn regular_row_with(
     row: Option<RegularRow>,
     one: RegularPart,
 ) -> Result<RegularRow, AllocError>
-    ensures { IfOk result (λ longer. plain_regular_row longer ≡ machine.regular_row_with (option_map plain_regular_row row) (plain_regular_part one)) }
+    ensures { IfOk result (λ longer.
+        plain_regular_row longer
+        ≡ machine.regular_row_with (option_map plain_regular_row row) (plain_regular_part one)) }
 {
     let RegularPart { is, from, to: _ } = one;
     match row {
@@ -57,7 +60,8 @@ pub(crate) fn regular_row_with(
 }
 
 fn added(mut all: Vec<RegTree>, last: RegTree) -> Result<Vec<RegTree>, AllocError>
-    ensures { IfOk result (λ more. map plain_regular more.items ≡ map plain_regular all.items ++ plain_regular last ∷ []) }
+    ensures { IfOk result (λ more.
+        map plain_regular more.items ≡ map plain_regular all.items ++ plain_regular last ∷ []) }
 {
     all.push(last)?;
     Ok(all)
@@ -68,7 +72,9 @@ pub(crate) fn seq_part(
     row: Option<RegularRow>,
     last: RegularPart,
 ) -> Result<RegularPart, AllocError>
-    ensures { IfOk result (λ seq. plain_regular_part seq ≡ machine.seq_part (option_map plain_regular_row row) (plain_regular_part last)) }
+    ensures { IfOk result (λ seq.
+        plain_regular_part seq ≡ machine.seq_part (option_map plain_regular_row row)
+        (plain_regular_part last)) }
 {
     match row {
         None => Ok(last),
@@ -84,7 +90,9 @@ pub(crate) fn alt_part(
     row: Option<RegularRow>,
     last: RegularPart,
 ) -> Result<RegularPart, AllocError>
-    ensures { IfOk result (λ alt. plain_regular_part alt ≡ machine.alt_part (option_map plain_regular_row row) (plain_regular_part last)) }
+    ensures { IfOk result (λ alt.
+        plain_regular_part alt ≡ machine.alt_part (option_map plain_regular_row row)
+        (plain_regular_part last)) }
 {
     match row {
         None => Ok(last),
@@ -111,7 +119,8 @@ pub(crate) fn repeated_part(
     mark: Post,
     to: usize,
 ) -> Result<RegularPart, AllocError>
-    ensures { IfOk result (λ all. plain_regular_part all ≡ machine.repeated_part (plain_regular_part one) mark to) }
+    ensures { IfOk result (λ all.
+        plain_regular_part all ≡ machine.repeated_part (plain_regular_part one) mark to) }
 {
     let RegularPart { is, from, to: _ } = one;
     Ok(regular_form(from, to, RegKind::repeat(Box::new(alloc, is)?, mark)))

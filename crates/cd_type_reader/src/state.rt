@@ -1,6 +1,7 @@
 ghost use Rattle.std.specs.Prelude.{◌≡◌, ◌∷◌, Err, IfOk};
 ghost use Rattle.cd_type_reader.specs.Machine as machine;
-ghost use Rattle.cd_type_reader.specs.PlainMachine.{plain_around, plain_frame, plain_frames, plain_place, plain_outcome};
+ghost use Rattle.cd_type_reader.specs.PlainMachine.{plain_around, plain_frame, plain_frames};
+ghost use Rattle.cd_type_reader.specs.PlainMachine.{plain_place, plain_outcome};
 
 use crate::frame::{Around, Frame, Opened, begun};
 use crate::part::{Chain, Part};
@@ -78,7 +79,8 @@ pub(crate) enum Outcome {
 
 /// The machine goes on at a place.
 pub(crate) fn at_place(place: Place, top: Box<Frame>, below: Vec<Box<Frame>>) -> Outcome
-    ensures { plain_outcome result ≡ machine.at_place (plain_place place) (plain_frame top.value) (plain_frames below.items) }
+    ensures { plain_outcome result
+        ≡ machine.at_place (plain_place place) (plain_frame top.value) (plain_frames below.items) }
 {
     Outcome::Next(State { place, top, below })
 }
@@ -105,7 +107,10 @@ pub(crate) fn open_tree(
     top: Box<Frame>,
     mut below: Vec<Box<Frame>>,
 ) -> Result<Outcome, AllocError>
-    ensures { IfOk result (λ outcome. plain_outcome outcome ≡ machine.opened room (λ room. machine.at_place machine.Before (machine.frame room (plain_around around)) (plain_frame top.value ∷ plain_frames below.items))) }
+    ensures { IfOk result (λ outcome.
+        plain_outcome outcome ≡ machine.opened room
+        (λ room. machine.at_place machine.Before (machine.frame room (plain_around around))
+        (plain_frame top.value ∷ plain_frames below.items))) }
 {
     let Some(room) = room else {
         return Ok(too_deep());

@@ -19,7 +19,8 @@ use std::alloc::{AllocError, Global};
 impl State {
     /// One more token.
     pub(crate) fn step(self, alloc: Global, token: &Token) -> Result<Outcome, AllocError>
-        ensures { IfOk result (λ outcome. plain_outcome outcome ≡ machine.step (plain_state self) token.now) }
+        ensures { IfOk result (λ outcome.
+            plain_outcome outcome ≡ machine.step (plain_state self) token.now) }
     {
         let State { place, top, below } = self;
         let kind = &token.kind;

@@ -10,7 +10,8 @@ use cd_syntax::tokens::Span;
 use cd_syntax::type_tree::{FieldTree, Tree, TreeKind};
 use std::alloc::{AllocError, Global};
 
-/// An XML type so far, from its `<` on: its tag and its attributes, which begin and end at these bytes.
+/// An XML type so far, from its `<` on: its tag and its attributes, which begin and end at these
+/// bytes.
 #[derive(Drop)]
 pub(crate) struct Tagged {
     pub(crate) from: usize,
@@ -52,7 +53,9 @@ pub(crate) fn attributes_with(
     optional: bool,
     one: Part,
 ) -> Result<Tagged, AllocError>
-    ensures { IfOk result (λ more. plain_tagged more ≡ machine.attributes_with (plain_tagged tagged) label at optional (plain_part one)) }
+    ensures { IfOk result (λ more.
+        plain_tagged more ≡ machine.attributes_with (plain_tagged tagged) label at optional
+        (plain_part one)) }
 {
     let Tagged {
         from,
@@ -80,7 +83,8 @@ pub(crate) fn attributes_tree(
     place: usize,
     more: bool,
 ) -> Tree
-    ensures { plain result ≡ machine.attributes_from start to place (Record (fields_of (map plain_field fields.items)) more) }
+    ensures { plain result ≡ machine.attributes_from start to place
+        (Record (fields_of (map plain_field fields.items)) more) }
 {
     let span = match start {
         None => Span {
@@ -100,7 +104,9 @@ pub(crate) fn xml_part(
     attributes: Box<Tree>,
     content: Part,
 ) -> Result<Part, AllocError>
-    ensures { IfOk result (λ xml. plain_part xml ≡ machine.xml_part from (plain tag.value) (plain attributes.value) (plain_part content)) }
+    ensures { IfOk result (λ xml.
+        plain_part xml ≡ machine.xml_part from (plain tag.value) (plain attributes.value)
+        (plain_part content)) }
 {
     let Part { tree, from: _, to } = content;
     let kind = TreeKind::xml(tag, attributes, Box::new(alloc, tree)?);

@@ -3,7 +3,8 @@ ghost use Rattle.cd_syntax.specs.PlainTree.{plain, plain_kind};
 ghost use Rattle.cd_syntax.specs.declared.sign.Sign.TheVariants as sign;
 ghost use Rattle.cd_syntax.specs.declared.tokens.TokenKind.TheVariants as token;
 ghost use Rattle.cd_type_reader.specs.Machine as machine;
-ghost use Rattle.cd_type_reader.specs.PlainMachine.{plain_frame, plain_frames, plain_tagged, plain_outcome};
+ghost use Rattle.cd_type_reader.specs.PlainMachine.{plain_frame, plain_frames, plain_tagged};
+ghost use Rattle.cd_type_reader.specs.PlainMachine.{plain_outcome};
 
 use crate::frame::{Around, Frame, within, within_two};
 use crate::state::{Outcome, Place, at_place, open_tree, syntax};
@@ -24,7 +25,9 @@ pub(crate) fn step_tag(
     kind: &TokenKind,
     span: Span,
 ) -> Result<Outcome, AllocError>
-    ensures { IfOk result (λ outcome. plain_outcome outcome ≡ machine.step_tag from (plain_frame top.value) (plain_frames below.items) kind.now span) }
+    ensures { IfOk result (λ outcome.
+        plain_outcome outcome ≡ machine.step_tag from (plain_frame top.value)
+        (plain_frames below.items) kind.now span) }
 {
     match kind {
         TokenKind::Word(name) => {
@@ -61,7 +64,9 @@ pub(crate) fn step_attribute(
     kind: &TokenKind,
     span: Span,
 ) -> Result<Outcome, AllocError>
-    ensures { IfOk result (λ outcome. plain_outcome outcome ≡ machine.step_attribute (plain_tagged tagged) after_one (plain_frame top.value) (plain_frames below.items) kind.now span) }
+    ensures { IfOk result (λ outcome.
+        plain_outcome outcome ≡ machine.step_attribute (plain_tagged tagged) after_one
+        (plain_frame top.value) (plain_frames below.items) kind.now span) }
 {
     match kind {
         TokenKind::Word(label) => attribute_label(tagged, label, top, below, span),
@@ -80,7 +85,9 @@ fn attribute_label(
     below: Vec<Box<Frame>>,
     span: Span,
 ) -> Result<Outcome, AllocError>
-    ensures { IfOk result (λ outcome. plain_outcome outcome ≡ machine.step_attribute (plain_tagged tagged) false (plain_frame top.value) (plain_frames below.items) (token.Word label.now) span) }
+    ensures { IfOk result (λ outcome.
+        plain_outcome outcome ≡ machine.step_attribute (plain_tagged tagged) false
+        (plain_frame top.value) (plain_frames below.items) (token.Word label.now) span) }
 {
     if label.is_spelled(&['_']) {
         return Ok(syntax());
@@ -99,7 +106,9 @@ fn attribute_sign(
     below: Vec<Box<Frame>>,
     span: Span,
 ) -> Result<Outcome, AllocError>
-    ensures { IfOk result (λ outcome. plain_outcome outcome ≡ machine.step_attribute (plain_tagged tagged) after_one (plain_frame top.value) (plain_frames below.items) (token.Sign sign) span) }
+    ensures { IfOk result (λ outcome.
+        plain_outcome outcome ≡ machine.step_attribute (plain_tagged tagged) after_one
+        (plain_frame top.value) (plain_frames below.items) (token.Sign sign) span) }
 {
     match sign {
         Sign::Dots => Ok(at_place(Place::AttributesEnd(going_to(tagged, span)), top, below)),
@@ -118,7 +127,9 @@ fn after_semicolon(
     below: Vec<Box<Frame>>,
     span: Span,
 ) -> Outcome
-    ensures { plain_outcome result ≡ machine.step_attribute (plain_tagged tagged) after_one (plain_frame top.value) (plain_frames below.items) (token.Sign sign.Semicolon) span }
+    ensures { plain_outcome result
+        ≡ machine.step_attribute (plain_tagged tagged) after_one (plain_frame top.value)
+        (plain_frames below.items) (token.Sign sign.Semicolon) span }
 {
     if !after_one {
         return syntax();
@@ -137,7 +148,9 @@ fn open_attributes(
     top: Box<Frame>,
     below: Vec<Box<Frame>>,
 ) -> Result<Outcome, AllocError>
-    ensures { IfOk result (λ outcome. plain_outcome outcome ≡ machine.open_attributes tagged.start (plain_tagged tagged) (plain_frame top.value) (plain_frames below.items)) }
+    ensures { IfOk result (λ outcome.
+        plain_outcome outcome ≡ machine.open_attributes tagged.start (plain_tagged tagged)
+        (plain_frame top.value) (plain_frames below.items)) }
 {
     let Tagged {
         from,
@@ -167,7 +180,9 @@ pub(crate) fn step_attribute_label(
     below: Vec<Box<Frame>>,
     kind: &TokenKind,
 ) -> Result<Outcome, AllocError>
-    ensures { IfOk result (λ outcome. plain_outcome outcome ≡ machine.step_attribute_label (plain_tagged tagged) label at (plain_frame top.value) (plain_frames below.items) kind.now) }
+    ensures { IfOk result (λ outcome.
+        plain_outcome outcome ≡ machine.step_attribute_label (plain_tagged tagged) label at
+        (plain_frame top.value) (plain_frames below.items) kind.now) }
 {
     let optional = match kind {
         TokenKind::Sign(Sign::Equal) => false,
@@ -187,7 +202,9 @@ pub(crate) fn step_attributes_end(
     kind: &TokenKind,
     span: Span,
 ) -> Result<Outcome, AllocError>
-    ensures { IfOk result (λ outcome. plain_outcome outcome ≡ machine.step_attributes_end (plain_tagged tagged) (plain_frame top.value) (plain_frames below.items) kind.now span) }
+    ensures { IfOk result (λ outcome.
+        plain_outcome outcome ≡ machine.step_attributes_end (plain_tagged tagged)
+        (plain_frame top.value) (plain_frames below.items) kind.now span) }
 {
     let TokenKind::Sign(Sign::Greater) = kind else {
         return Ok(syntax());
@@ -205,7 +222,9 @@ pub(crate) fn step_content(
     below: Vec<Box<Frame>>,
     kind: &TokenKind,
 ) -> Result<Outcome, AllocError>
-    ensures { IfOk result (λ outcome. plain_outcome outcome ≡ machine.step_content from (plain tag.value) (plain attributes.value) (plain_frame top.value) (plain_frames below.items) kind.now) }
+    ensures { IfOk result (λ outcome.
+        plain_outcome outcome ≡ machine.step_content from (plain tag.value) (plain attributes.value)
+        (plain_frame top.value) (plain_frames below.items) kind.now) }
 {
     let TokenKind::Sign(Sign::Greater) = kind else {
         return Ok(syntax());
@@ -228,7 +247,10 @@ fn open_content_of(
     top: Box<Frame>,
     below: Vec<Box<Frame>>,
 ) -> Result<Outcome, AllocError>
-    ensures { IfOk result (λ outcome. plain_outcome outcome ≡ machine.open_content tagged.from (plain tagged.tag.value) (machine.attributes_tree (plain_tagged tagged) place more) (plain_frame top.value) (plain_frames below.items)) }
+    ensures { IfOk result (λ outcome.
+        plain_outcome outcome ≡ machine.open_content tagged.from (plain tagged.tag.value)
+        (machine.attributes_tree (plain_tagged tagged) place more) (plain_frame top.value)
+        (plain_frames below.items)) }
 {
     let Tagged {
         from,
