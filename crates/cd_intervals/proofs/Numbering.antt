@@ -10,7 +10,7 @@ use Rattle.cd_intervals.specs.declared.combine.Operation.{Operation}
 use Rattle.cd_intervals.specs.Interval.{is_between, holds}
 use Rattle.cd_syntax.specs.Integer.{LEAST, GREATEST}
 use Rattle.cd_intervals.specs.Rises.{Rises, IsRising}
-use Rattle.cd_intervals.specs.Combine.{keeps_of}
+use Rattle.cd_intervals.specs.Inner.Combine.{keeps_of}
 use Rattle.cd_intervals.specs.Characters.{is_among, holds_character, number_of, character_at, characters_of, IsOfCharacters, AreOfCharacters}
 use Rattle.cd_intervals.proofs.Rising.{rises_later, rises_bounds, holds_before, holds_after}
 use Rattle.cd_intervals.proofs.Sweep.{keeps_neither}

@@ -7,7 +7,7 @@ use Rattle.cd_intervals.specs.declared.combine.Operation.TheVariants.{Union, Int
 use Rattle.cd_intervals.specs.Interval.{holds}
 use Rattle.cd_syntax.specs.Integer.{LEAST, GREATEST}
 use Rattle.cd_intervals.specs.Rises.{IsRising}
-use Rattle.cd_intervals.specs.Combine.{keeps_of, IsAhead, IsSwept}
+use Rattle.cd_intervals.specs.Inner.Combine.{keeps_of, IsAhead, IsSwept}
 use Rattle.cd_intervals.proofs.Rising.{holds_before, holds_after, rises_later}
 
 -- no operation keeps a number that neither set holds

@@ -1,5 +1,5 @@
 pub mod Interval
 pub mod Rises
-pub mod Combine
 pub mod Characters
 pub mod Atoms
+pub mod Inner

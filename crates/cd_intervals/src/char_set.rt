@@ -3,7 +3,7 @@ ghost use Rattle.std.specs.Prelude.{◌||◌, not, ◌↔◌, IsTrue, IfOk, Matc
 ghost use Rattle.std.specs.Char.{IsScalar};
 ghost use Rattle.std.specs.Option.{option_map};
 ghost use Rattle.cd_intervals.specs.Interval.{holds};
-ghost use Rattle.cd_intervals.specs.Combine.{keeps_of};
+ghost use Rattle.cd_intervals.specs.Inner.Combine.{keeps_of};
 ghost use Rattle.cd_intervals.specs.Characters.{is_among, holds_character, HoldsNoCharacter};
 ghost use Rattle.cd_intervals.specs.Characters.{bounding_characters, number_of, character_at};
 ghost use Rattle.cd_intervals.specs.Characters.{characters_of, IsOfCharacters};

@@ -2,7 +2,7 @@ ghost use Rattle.std.specs.Prelude.{◌≡◌, ℤ, pos, ◌+ℤ◌, ◌≤ℤ�
 ghost use Rattle.cd_intervals.specs.Interval.{is_between, holds};
 ghost use Rattle.cd_syntax.specs.Integer.{LEAST, GREATEST};
 ghost use Rattle.cd_intervals.specs.Rises.{Rises, IsRising};
-ghost use Rattle.cd_intervals.specs.Combine.{keeps_of, IsAhead, swept, IsSwept, come_to};
+ghost use Rattle.cd_intervals.specs.Inner.Combine.{keeps_of, IsAhead, swept, IsSwept, come_to};
 
 use crate::interval::Interval;
 use std::alloc::{AllocError, Global};

@@ -2,7 +2,7 @@ ghost use Rattle.std.specs.Prelude.{◌≡◌, ℤ, ◌≤ℤ◌, ◌∷◌, Boo
 ghost use Rattle.std.specs.Prelude.{IsTrue, IfOk, MatchOption, slice_get};
 ghost use Rattle.std.specs.Option.{option_map};
 ghost use Rattle.cd_intervals.specs.Interval.{is_between, holds, HoldsNothing, bounds_of};
-ghost use Rattle.cd_intervals.specs.Combine.{keeps_of};
+ghost use Rattle.cd_intervals.specs.Inner.Combine.{keeps_of};
 
 use crate::combine::{Operation, combine};
 use crate::interval::Interval;

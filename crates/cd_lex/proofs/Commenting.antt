@@ -8,7 +8,7 @@ use Rattle.cd_syntax.specs.Comments.Closes.{last, close, another, character}
 use Rattle.cd_lex.specs.declared.comment.Before.{Before}
 use Rattle.cd_lex.specs.declared.comment.Before.TheVariants.{Nothing, Parenthesis, Star}
 use Rattle.cd_lex.specs.declared.comment.Place.{Place}
-use Rattle.cd_lex.specs.Commenting.{begins, within, after, step, length_from}
+use Rattle.cd_lex.specs.Inner.Commenting.{begins, within, after, step, length_from}
 
 -- a place within a comment
 abbrev at : ℕ → Before → Place

@@ -20,9 +20,9 @@ use Rattle.cd_syntax.specs.Tokens.{is_blank, begins_negative, bytes, joins, toke
 use Rattle.cd_syntax.specs.Tokens as tokens
 use Rattle.cd_syntax.specs.Faults.{is_other, Breaks, Fails}
 use Rattle.cd_syntax.specs.Faults as faults
-use Rattle.cd_lex.specs.Standing.{IsDroppedFront, IsTokenFront, FaultAtFront, IsAtomFront, NoAtomFront}
-use Rattle.cd_lex.specs.Commenting.{within, length_from}
-use Rattle.cd_lex.specs.SignTable.{first_sign}
+use Rattle.cd_lex.specs.Inner.Standing.{IsDroppedFront, IsTokenFront, FaultAtFront, IsAtomFront, NoAtomFront}
+use Rattle.cd_lex.specs.Inner.Commenting.{within, length_from}
+use Rattle.cd_lex.specs.Inner.SignTable.{first_sign}
 use Rattle.cd_lex.proofs.Commenting.{closing_is}
 use Rattle.cd_lex.proofs.Signing.{none_stands, first_is_longest}
 use Rattle.cd_lex.proofs.WordFronts.{word_front, number_front, negative_front, number_fault, negative_fault, atom_front, no_atom, no_atom_alone, after_backquote, lone_backquote}

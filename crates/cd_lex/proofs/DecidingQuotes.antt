@@ -8,7 +8,7 @@ use Rattle.std.proofs.lemmas.List.{append_assoc, append-nil, length-append}
 use Rattle.cd_syntax.specs.Digits.{AreDigits, decimal_value, BeginsWithNoDigit}
 use Rattle.cd_syntax.specs.Quotes.{Quotes, IsEscapeLetter, line_feed, carriage_return, tab, backslash, apostrophe, IsCode, BreaksEscape, EndsHalf}
 use Rattle.cd_syntax.specs.Quotes as quotes
-use Rattle.cd_lex.specs.Quoted.{IsClosed, IsBroken, IsOpen}
+use Rattle.cd_lex.specs.Inner.Quoted.{IsClosed, IsBroken, IsOpen}
 use Rattle.cd_lex.proofs.Wording.{digits_stand, taken_and_rest}
 
 -- a letter after `\` means a character, or none

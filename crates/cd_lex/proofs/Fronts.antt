@@ -15,9 +15,9 @@ use Rattle.cd_syntax.specs.Tokens.{begins_negative, bytes, IsDropped, Writes}
 use Rattle.cd_syntax.specs.Tokens as tokens
 use Rattle.cd_syntax.specs.Faults.{is_other, Breaks}
 use Rattle.cd_syntax.specs.Faults as faults
-use Rattle.cd_lex.specs.Standing.{IsDroppedFront, IsTokenFront}
+use Rattle.cd_lex.specs.Inner.Standing.{IsDroppedFront, IsTokenFront}
 use Rattle.cd_lex.proofs.WordFronts.{token_front}
-use Rattle.cd_lex.specs.Quoted.{IsClosed, IsBroken, IsOpen}
+use Rattle.cd_lex.specs.Inner.Quoted.{IsClosed, IsBroken, IsOpen}
 
 -- a blank
 pub blank_stands : (c : ℕ) (rest : List ℕ) → tokens.is_blank c ≡ true → IsDroppedFront (c ∷ rest) 1

@@ -26,8 +26,8 @@ use Rattle.cd_syntax.specs.Tokens.{is_blank, begins_negative, bytes, joins, toke
 use Rattle.cd_syntax.specs.Tokens as tokens
 use Rattle.cd_syntax.specs.Faults.{is_quote, is_other, Breaks}
 use Rattle.cd_syntax.specs.Faults as faults
-use Rattle.cd_lex.specs.Commenting.{within, length_from}
-use Rattle.cd_lex.specs.SignTable.{first_sign}
+use Rattle.cd_lex.specs.Inner.Commenting.{within, length_from}
+use Rattle.cd_lex.specs.Inner.SignTable.{first_sign}
 use Rattle.cd_lex.proofs.Commenting.{finds, closing_is}
 use Rattle.cd_lex.proofs.Signing.{first_is_longest, longest_is_first}
 use Rattle.cd_lex.proofs.Wording.{digits_taken, word_taken, taken_and_rest, left}

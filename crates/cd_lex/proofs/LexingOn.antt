@@ -7,8 +7,8 @@ use Rattle.cd_syntax.specs.declared.tokens.LexError.{LexError}
 use Rattle.cd_syntax.specs.declared.tokens.LexError.TheVariants.{Memory}
 use Rattle.cd_syntax.specs.Tokens.{bytes, joins, token_at, Spells, nothing, dropped, token}
 use Rattle.cd_syntax.specs.Faults.{Breaks, Fails, here, after_dropped, after_token}
-use Rattle.cd_lex.specs.Standing.{FaultAtFront, IsDroppedFront, IsTokenFront}
-use Rattle.cd_lex.specs.Reading.{IsRead}
+use Rattle.cd_lex.specs.Inner.Standing.{FaultAtFront, IsDroppedFront, IsTokenFront}
+use Rattle.cd_lex.specs.Inner.Reading.{IsRead}
 use Rattle.cd_lex.proofs.Fronts.{bytes_append}
 
 -- at first nothing is read

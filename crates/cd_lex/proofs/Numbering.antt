@@ -16,7 +16,7 @@ use Rattle.std.proofs.lemmas.Str.Parse.{IsDigitsTest, FoldsDigits, IsNumeralMode
 use mir.Syntax.{w128}
 use Rattle.cd_syntax.specs.Integer.{IsInteger}
 use Rattle.cd_syntax.specs.Digits.{AreDigits, decimal_value}
-use Rattle.cd_lex.specs.Number.{signed}
+use Rattle.cd_lex.specs.Inner.Number.{signed}
 
 -- a digit is in its range
 pub digit_range : (c : ℕ) → is_ascii_digit c ≡ true → (48 ≤ c) × (c ≤ 57)

@@ -11,7 +11,7 @@ use Rattle.std.proofs.lemmas.List.{append_assoc, take-append-drop, take_all, len
 use Rattle.std.proofs.lemmas.List.Folds.{length-prefix_len}
 use Rattle.cd_syntax.specs.Quotes.{Quotes, nothing, itself, letter, code, IsEscapeLetter, BreaksEscape, no_letter, no_code, no_semicolon, EndsHalf, alone}
 use Rattle.cd_syntax.specs.Digits.{AreDigits, decimal_value, BeginsWithNoDigit}
-use Rattle.cd_lex.specs.Quoted.{IsClosed, IsOpen}
+use Rattle.cd_lex.specs.Inner.Quoted.{IsClosed, IsOpen}
 
 -- the value of digits after a number
 abbrev pub number_after : ℕ → List ℕ → ℕ

@@ -10,7 +10,7 @@ use Rattle.std.proofs.lemmas.Slice.Eq.{starts_is}
 use Rattle.cd_syntax.specs.Signs.{characters, BeginsWith, IsLongest}
 use Rattle.cd_syntax.specs.declared.sign.Sign.{Sign}
 use Rattle.cd_syntax.specs.declared.sign.Sign.TheVariants as sign
-use Rattle.cd_lex.specs.SignTable.{signs, begins_with, first_sign}
+use Rattle.cd_lex.specs.Inner.SignTable.{signs, begins_with, first_sign}
 
 -- the test is exact
 begins_so : (text : List ℕ) (is : Sign) → begins_with text is ≡ true → BeginsWith text is

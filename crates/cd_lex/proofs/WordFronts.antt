@@ -17,7 +17,7 @@ use Rattle.cd_syntax.specs.Digits.{AreDigits, decimal_value}
 use Rattle.cd_syntax.specs.Signs.{characters}
 use Rattle.cd_syntax.specs.Tokens.{EndsWord, Writes, word as writes_word, number as writes_number, negative as writes_negative, atom as writes_atom}
 use Rattle.cd_syntax.specs.Faults.{Breaks, character as breaks_character, number as breaks_number, negative as breaks_negative}
-use Rattle.cd_lex.specs.Standing.{IsTokenFront, FaultAtFront, IsAtomFront, NoAtomFront}
+use Rattle.cd_lex.specs.Inner.Standing.{IsTokenFront, FaultAtFront, IsAtomFront, NoAtomFront}
 use Rattle.cd_lex.proofs.Numbering.{Finds, value_of}
 use Rattle.cd_lex.proofs.Wording.{word_stands, digits_stand, taken_first, taken_again, taken_and_rest, begins_goes, word_taken}
 

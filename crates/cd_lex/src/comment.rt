@@ -1,7 +1,7 @@
 ghost use Rattle.std.specs.Prelude.{◌≡◌, ◌≤◌, ◌<◌, ◌++◌, List, ℕ, length, take, MatchOption};
 ghost use Rattle.cd_syntax.specs.Comments.{Closes};
-ghost use Rattle.cd_lex.specs.Commenting.{begins as begins_of, within as within_of, step_of};
-ghost use Rattle.cd_lex.specs.Commenting.{length_from};
+ghost use Rattle.cd_lex.specs.Inner.Commenting.{begins as begins_of, within as within_of, step_of};
+ghost use Rattle.cd_lex.specs.Inner.Commenting.{length_from};
 
 /// How many characters close the comment that stands open before this text. None where no front of
 /// the text closes it.

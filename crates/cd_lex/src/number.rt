@@ -3,7 +3,7 @@ ghost use Rattle.std.specs.Prelude.{if◌then◌else◌, string_bytes, encode_ut
 ghost use Rattle.std.specs.Char.{is_ascii_digit};
 ghost use Rattle.cd_syntax.specs.Integer.{IsInteger};
 ghost use Rattle.cd_syntax.specs.Digits.{AreDigits, decimal_value};
-ghost use Rattle.cd_lex.specs.Number.{signed};
+ghost use Rattle.cd_lex.specs.Inner.Number.{signed};
 
 use std::alloc::{AllocError, Global};
 

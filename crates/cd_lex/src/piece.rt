@@ -7,7 +7,7 @@ ghost use Rattle.cd_syntax.specs.Tokens.{is_blank as is_blank_of};
 ghost use Rattle.cd_syntax.specs.Tokens.{begins_negative as begins_negative_of, bytes as bytes_of};
 ghost use Rattle.cd_syntax.specs.Faults.{is_other};
 ghost use Rattle.cd_syntax.specs.declared.tokens.TokenKind.TheVariants.{Text, Chars};
-ghost use Rattle.cd_lex.specs.Standing.{Stands, FaultAtFront, IsAtomFront, NoAtomFront};
+ghost use Rattle.cd_lex.specs.Inner.Standing.{Stands, FaultAtFront, IsAtomFront, NoAtomFront};
 
 use crate::comment::closing_length;
 use crate::number::{digits_length, number};

@@ -2,8 +2,8 @@ ghost use Rattle.std.specs.Prelude.{◌≤◌, IfOk, IsTrue, SomeIff, length};
 ghost use Rattle.std.specs.Char.{IsScalar, is_ascii_digit};
 ghost use Rattle.std.specs.List.{list_all};
 ghost use Rattle.cd_syntax.specs.Digits.{decimal_value};
-ghost use Rattle.cd_lex.specs.Quoted.{IsQuoted};
-ghost use Rattle.cd_lex.specs.Quoting.{IsMeant, IsEscape};
+ghost use Rattle.cd_lex.specs.Inner.Quoted.{IsQuoted};
+ghost use Rattle.cd_lex.specs.Inner.Quoting.{IsMeant, IsEscape};
 
 use crate::number::digits_length;
 use std::alloc::{AllocError, Global};

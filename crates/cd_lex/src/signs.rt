@@ -2,7 +2,7 @@ ghost use Rattle.std.specs.Prelude.{◌≡◌, length, MatchOption};
 ghost use Rattle.cd_syntax.specs.Signs.{characters as characters_of, BeginsWith, IsLongest};
 ghost use Rattle.cd_syntax.specs.Signs.{closes as closes_of};
 ghost use Rattle.cd_syntax.specs.declared.sign.Sign.{Sign as ASign};
-ghost use Rattle.cd_lex.specs.SignTable.{signs as all_signs};
+ghost use Rattle.cd_lex.specs.Inner.SignTable.{signs as all_signs};
 
 use cd_syntax::sign::Sign;
 

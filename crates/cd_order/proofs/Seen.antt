@@ -1,7 +1,7 @@
 -- What is seen when one number more is.
 use Rattle.std.proofs.Common.{◌≡◌, ℕ, zero, suc, ◌+◌, ◌<◌, ◌⊎◌, inl, inr, Bool, true, false, List, [], ◌∷◌, length, refl, ap, get_or, set, arith}
 use Rattle.cd_order.specs.Order.{row}
-use Rattle.cd_order.specs.Search.{IsSeen, AreKept, unseen_steps}
+use Rattle.cd_order.specs.Inner.Search.{IsSeen, AreKept, unseen_steps}
 
 -- what was seen is still seen when one number more is
 still_seen : (seen : List Bool) (number other : ℕ) → IsSeen seen other → IsSeen (set seen number true) other

@@ -4,7 +4,7 @@ use Rattle.std.proofs.lemmas.List.{length-set}
 use Rattle.std.specs.List.{slice_get}
 use Rattle.cd_order.specs.declared.search.Frame.{Frame}
 use Rattle.cd_order.specs.Order.{IsOneOf, row, AreRows, Ends, IsOrder}
-use Rattle.cd_order.specs.Search.{IsSeen, IsOpen, AreKept, AllSeen, Leads, AllLead, AreOpen, IsSound}
+use Rattle.cd_order.specs.Inner.Search.{IsSeen, IsOpen, AreKept, AllSeen, Leads, AllLead, AreOpen, IsSound}
 use Rattle.cd_order.proofs.Lists.{each_at, each_weaker, each_more, each_taken, each_to_end, one_at, one_in_front, one_at_last, one_of_more, come_after_more}
 use Rattle.cd_order.proofs.Ways.{leads_to, no_way_back, all_lead_on, open_leads}
 use Rattle.cd_order.proofs.Seen.{kept_with, is_seen_now, seen_before}

@@ -3,7 +3,7 @@ use Rattle.std.proofs.Common.{◌≡◌, ℕ, ◌+◌, ◌<◌, Bool, true, fals
 use Rattle.std.specs.List.{slice_get}
 use Rattle.cd_order.specs.declared.search.Frame.{Frame}
 use Rattle.cd_order.specs.Order.{row}
-use Rattle.cd_order.specs.Search.{steps}
+use Rattle.cd_order.specs.Inner.Search.{steps}
 use Rattle.cd_order.proofs.Lists.{place_within}
 use Rattle.cd_order.proofs.Seen.{fewer_unseen}
 

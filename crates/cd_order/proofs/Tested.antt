@@ -3,7 +3,7 @@ use Rattle.std.proofs.Common.{◌≡◌, ℕ, zero, suc, ◌<◌, ◌⊎◌, inl
 use Rattle.std.specs.Prelude.{nat_lt}
 use Rattle.std.proofs.lemmas.Bool.{and_parts, ltb-true}
 use Rattle.cd_order.specs.Order.{Each, row, AreRows, IsShort, Ends}
-use Rattle.cd_order.specs.Tested.{all_of, are_rows, is_short, are_short, can_be_ordered}
+use Rattle.cd_order.specs.Inner.Tested.{all_of, are_rows, is_short, are_short, can_be_ordered}
 
 -- what a test shows of each, where each passes it
 each_of : (test : ℕ → Bool) (Fact : ℕ → Type 0) (list : List ℕ) → ((number : ℕ) → test number ≡ true → Fact number)

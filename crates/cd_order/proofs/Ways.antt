@@ -2,7 +2,7 @@
 use Rattle.std.proofs.Common.{ℕ, zero, suc, ◌<◌, inl, inr, List, [], ◌∷◌, subst, arith}
 use Rattle.cd_order.specs.declared.search.Frame.{Frame}
 use Rattle.cd_order.specs.Order.{IsOneOf, row, IsShort, Ends}
-use Rattle.cd_order.specs.Search.{IsOpen, Leads, AllLead}
+use Rattle.cd_order.specs.Inner.Search.{IsOpen, Leads, AllLead}
 use Rattle.cd_order.proofs.Lists.{each_at}
 
 -- the ways from what is in a number's row are shorter than those from the number

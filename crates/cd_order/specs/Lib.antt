@@ -1,3 +1,2 @@
 pub mod Order
-pub mod Search
-pub mod Tested
+pub mod Inner

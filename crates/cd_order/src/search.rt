@@ -3,7 +3,7 @@ ghost use Rattle.std.specs.Prelude.{◌≡◌, ℕ, ◌+◌, ◌^◌, ◌<◌, [
 ghost use Rattle.std.specs.Prelude.{replicate, slice_set, true, false, Some, None, IfOk, IfSome};
 ghost use Rattle.std.specs.List.{slice_get};
 ghost use Rattle.cd_order.specs.Order.{AreRows, Ends, row};
-ghost use Rattle.cd_order.specs.Search.{IsSeen, AreKept, IsSound, steps};
+ghost use Rattle.cd_order.specs.Inner.Search.{IsSeen, AreKept, IsSound, steps};
 
 use std::alloc::{AllocError, Global};
 

@@ -4,7 +4,7 @@ use Rattle.std.specs.Prelude.{Option, length, take, drop}
 use Rattle.std.specs.List.{slice_get}
 use Rattle.cd_syntax.specs.declared.tokens.Token.{Token}
 use Rattle.cd_syntax.specs.declared.tokens.TokenKind.{TokenKind}
-use Rattle.cd_parse_types.specs.Declaring.{HasKind, BeginAlike}
+use Rattle.cd_parse_types.specs.Inner.Declaring.{HasKind, BeginAlike}
 
 -- where a second cut of the same tokens is
 pub data Cuts (first rest second more : List Token) : Type 0 where

@@ -16,7 +16,7 @@ use Rattle.cd_parse_types.specs.declared.error.ParseError.{ParseError}
 use Rattle.cd_parse_types.specs.declared.error.ParseError.TheVariants.{Syntax, TooDeep, Memory}
 use Rattle.cd_parse_types.specs.Front.{HaveNoFront, IsFrontFault}
 use Rattle.cd_parse_types.specs.Parsed.{IsFault}
-use Rattle.cd_parse_types.specs.Declaring.{HaveHead, head}
+use Rattle.cd_parse_types.specs.Inner.Declaring.{HaveHead, head}
 use Rattle.cd_parse_types.proofs.DeclaringCuts.{Cuts, at_once, later, sooner, cuts}
 use Rattle.cd_parse_types.proofs.DeclaringForms.{Parts, AreAfter, HaveTree, have_tree, after_parts}
 use Rattle.cd_parse_types.proofs.DeclaringFronts.{is_front}

@@ -14,7 +14,7 @@ use Rattle.cd_syntax.specs.TypeGrammar.{at, IsTree, AreDeclared}
 use Rattle.cd_syntax.specs.SyntaxFaults.{SomeDeclarations}
 use Rattle.cd_type_reader.proofs.Ending.{deeper, none_goes_on}
 use Rattle.cd_parse_types.specs.Front.{IsFront}
-use Rattle.cd_parse_types.specs.Declaring.{HasKind, HaveHead, head, BeginAlike, AreFront}
+use Rattle.cd_parse_types.specs.Inner.Declaring.{HasKind, HaveHead, head, BeginAlike, AreFront}
 use Rattle.cd_parse_types.proofs.DeclaringCuts.{Cuts, at_once, later, sooner, cuts, Next, next, found}
 use Rattle.cd_parse_types.proofs.DeclaringForms.{Parts, AreAfter, others_next, semicolons_next, HaveTree, have_tree, first_is, after_parts}
 

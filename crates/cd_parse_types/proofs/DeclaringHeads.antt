@@ -12,7 +12,7 @@ use Rattle.cd_syntax.specs.TypeTree.{tree, Text, NoTree, NoSign, NoDeclaration, 
 use Rattle.cd_syntax.specs.TypeGrammar as grammar
 use Rattle.cd_syntax.specs.TypeGrammar.{at, IsTree}
 use Rattle.cd_syntax.specs.SyntaxFaults.{SomeDeclarations, IsSyntaxFault, at_token, at_end, place_of}
-use Rattle.cd_parse_types.specs.Declaring.{HasKind, HaveName, HaveHead, head}
+use Rattle.cd_parse_types.specs.Inner.Declaring.{HasKind, HaveName, HaveHead, head}
 use Rattle.cd_parse_types.proofs.DeclaringForms.{first_is, second_is, third_is, more_than_one, more_than_two}
 
 -- three tokens of these kinds

@@ -13,7 +13,7 @@ use Rattle.cd_type_reader.proofs.Ending.{deeper}
 use Rattle.cd_parse_types.specs.declared.error.ParseError.{ParseError}
 use Rattle.cd_parse_types.specs.declared.error.ParseError.TheVariants.{Syntax, TooDeep, Memory}
 use Rattle.cd_parse_types.specs.Parsed.{IsFault}
-use Rattle.cd_parse_types.specs.Declaring.{BeginAlike, and_then, AreFront}
+use Rattle.cd_parse_types.specs.Inner.Declaring.{BeginAlike, and_then, AreFront}
 use Rattle.cd_parse_types.proofs.DeclaringCuts.{begin_alike, taken_alike, front_alike}
 
 -- where a token after others stands

@@ -1,3 +1,3 @@
 pub mod Parsed
 pub mod Front
-pub mod Declaring
+pub mod Inner

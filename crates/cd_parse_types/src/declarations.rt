@@ -8,7 +8,7 @@ ghost use Rattle.cd_syntax.specs.PlainTree.{plain_declaration, plain_declaration
 ghost use Rattle.cd_syntax.specs.TypeGrammar.{AreDeclared};
 ghost use Rattle.cd_syntax.specs.SyntaxFaults.{SomeDeclarations};
 ghost use Rattle.cd_parse_types.specs.Parsed.{IsFault};
-ghost use Rattle.cd_parse_types.specs.Declaring.{HasKind, HaveName, HaveHead, AreFront};
+ghost use Rattle.cd_parse_types.specs.Inner.Declaring.{HasKind, HaveName, HaveHead, AreFront};
 
 use crate::error::{MOST_OPEN, ParseError, place_of};
 use crate::front::front;

@@ -1,7 +1,7 @@
 -- Where a simple type goes that was read.
 use Rattle.std.proofs.Common.{◌≡◌, sym, true, false, List, [], ◌∷◌, Result, refl}
 use Rattle.cd_type_reader.specs.Machine.{Around, InAttribute, InContent, Part, Frame, State, Fault, put, put_here, put_within}
-use Rattle.cd_type_reader.specs.CodeSteps.{is_content, content_end, is_attribute, put_inside, attribute_end}
+use Rattle.cd_type_reader.specs.Inner.CodeSteps.{is_content, content_end, is_attribute, put_inside, attribute_end}
 
 -- it ends the XML type whose content it is
 within_content : (around : Around) (one : Part) (top outer : Frame) (below : List Frame) (next : Part → Result State Fault) → is_content around ≡ true

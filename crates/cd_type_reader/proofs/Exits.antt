@@ -7,7 +7,7 @@ use Rattle.cd_type_reader.specs.declared.frame.Frame.{Frame}
 use Rattle.cd_type_reader.specs.declared.state.Outcome.{Outcome}
 use Rattle.cd_type_reader.specs.Machine as machine
 use Rattle.cd_type_reader.specs.Machine.{State, Fault}
-use Rattle.cd_type_reader.specs.PlainMachine.{plain_frame, plain_frames, plain_outcome}
+use Rattle.cd_type_reader.specs.Inner.PlainMachine.{plain_frame, plain_frames, plain_outcome}
 
 pub leads_on : {E : Type 0} (result : Result Outcome E) {made wanted : Result State Fault} → made ≡ wanted
     → IfOk result (λ outcome. plain_outcome outcome ≡ made) → IfOk result (λ outcome. plain_outcome outcome ≡ wanted)

@@ -7,7 +7,7 @@ use Rattle.cd_syntax.specs.declared.tokens.Span.{Span}
 use Rattle.cd_syntax.specs.TypeTree.{Regular, regular, Seq, regulars_of, ARegular}
 use Rattle.cd_syntax.specs.TypeGrammar.{letters}
 use Rattle.cd_type_reader.specs.Machine.{letters_of}
-use Rattle.cd_type_reader.specs.PlainMachine.{letter_of, letters_kind}
+use Rattle.cd_type_reader.specs.Inner.PlainMachine.{letter_of, letters_kind}
 
 letters_are : (span : Span) (text : List ℕ) → regulars_of (map (letter_of span) text) ≡ letters span text
 letters_are span [] = refl

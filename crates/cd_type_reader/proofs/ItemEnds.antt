@@ -5,7 +5,7 @@ use Rattle.cd_syntax.specs.declared.tokens.Span.{Span}
 use Rattle.cd_syntax.specs.declared.tokens.TokenKind.{TokenKind}
 use Rattle.cd_syntax.specs.declared.tokens.TokenKind.TheVariants as token
 use Rattle.cd_type_reader.specs.Machine.{Around, InSequence, Chain, Frame, Listed, meet_part, item_part, post_of, step_item_word, step_post, step_in_sequence, step_after_in, step_regular_in}
-use Rattle.cd_type_reader.specs.CodeSteps.{is_listed, meet_sign, goes_as_tree}
+use Rattle.cd_type_reader.specs.Inner.CodeSteps.{is_listed, meet_sign, goes_as_tree}
 
 -- the item ends
 as_an_item : (listed : Listed) (chain : Chain) (top : Frame) (below : List Frame) (kind : TokenKind) (span : Span) → meet_sign kind ≡ None

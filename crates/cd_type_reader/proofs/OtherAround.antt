@@ -5,7 +5,7 @@ use Rattle.cd_type_reader.specs.declared.listed.Listed.{Listed}
 use Rattle.cd_type_reader.specs.declared.frame.Around.{Around}
 use Rattle.cd_type_reader.specs.declared.frame.Around.TheVariants as around
 use Rattle.cd_type_reader.specs.Machine.{Part, Frame, Syntax, next_item, close_parenthesis, close_empty}
-use Rattle.cd_type_reader.specs.PlainMachine.{plain_around}
+use Rattle.cd_type_reader.specs.Inner.PlainMachine.{plain_around}
 
 -- no tree in parentheses
 pub no_tuple : (at : Around) (room : ℕ) (last : Part) (below : List Frame) → ((from : ℕ) (items : _) → at ≡ around.InParentheses from items → ⊥)

@@ -4,7 +4,7 @@ use Rattle.cd_type_reader.specs.declared.part.Chain.{Chain}
 use Rattle.cd_type_reader.specs.declared.state.Place.{Place}
 use Rattle.cd_type_reader.specs.declared.state.Place.TheVariants as place
 use Rattle.cd_type_reader.specs.Machine.{Frame, finish_at, finish_put_at}
-use Rattle.cd_type_reader.specs.PlainMachine.{plain_place}
+use Rattle.cd_type_reader.specs.Inner.PlainMachine.{plain_place}
 
 pub no_end : (at : Place) (top : Frame) (below : List Frame) → ((chain : Chain) → at ≡ place.After chain → ⊥)
     → ((n : ℤ) (from to : ℕ) → at ≡ place.Low n from to → ⊥) → ((c from to : ℕ) → at ≡ place.Letter c from to → ⊥) → None ≡ finish_at (plain_place at) top below

@@ -3,9 +3,9 @@ ghost use Rattle.std.specs.Option.{option_map};
 ghost use Rattle.cd_syntax.specs.PlainTree.{plain_declaration};
 ghost use Rattle.cd_syntax.specs.declared.tokens.TokenKind.TheVariants as token;
 ghost use Rattle.cd_type_reader.specs.Machine as machine;
-ghost use Rattle.cd_type_reader.specs.PlainMachine.{plain_part, plain_chain, plain_names};
-ghost use Rattle.cd_type_reader.specs.PlainMachine.{plain_around, plain_frame, plain_frames};
-ghost use Rattle.cd_type_reader.specs.PlainMachine.{plain_outcome};
+ghost use Rattle.cd_type_reader.specs.Inner.PlainMachine.{plain_part, plain_chain, plain_names};
+ghost use Rattle.cd_type_reader.specs.Inner.PlainMachine.{plain_around, plain_frame, plain_frames};
+ghost use Rattle.cd_type_reader.specs.Inner.PlainMachine.{plain_outcome};
 
 use crate::frame::{
     Around, Frame, Names, arrow_end, begun, declared_with, fields_with, record_part, tree_end,

@@ -1,8 +1,8 @@
 ghost use Rattle.std.specs.Prelude.{◌≡◌, true, IfOk};
 ghost use Rattle.cd_type_reader.specs.Machine as machine;
-ghost use Rattle.cd_type_reader.specs.CodeSteps.{is_listed, meet_sign, goes_as_tree};
-ghost use Rattle.cd_type_reader.specs.PlainMachine.{plain_chain, plain_around, plain_frame};
-ghost use Rattle.cd_type_reader.specs.PlainMachine.{plain_frames, plain_outcome};
+ghost use Rattle.cd_type_reader.specs.Inner.CodeSteps.{is_listed, meet_sign, goes_as_tree};
+ghost use Rattle.cd_type_reader.specs.Inner.PlainMachine.{plain_chain, plain_around, plain_frame};
+ghost use Rattle.cd_type_reader.specs.Inner.PlainMachine.{plain_frames, plain_outcome};
 
 use crate::after::{pending, step_tree};
 use crate::after_regular::step_regular;

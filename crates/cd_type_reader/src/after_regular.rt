@@ -1,9 +1,9 @@
 ghost use Rattle.std.specs.Prelude.{◌≡◌, false, IfOk};
 ghost use Rattle.cd_syntax.specs.declared.tokens.TokenKind.TheVariants as token;
 ghost use Rattle.cd_type_reader.specs.Machine as machine;
-ghost use Rattle.cd_type_reader.specs.CodeSteps.{mark_of};
-ghost use Rattle.cd_type_reader.specs.PlainMachine.{plain_frame, plain_frames, plain_listed};
-ghost use Rattle.cd_type_reader.specs.PlainMachine.{plain_regular_part, plain_outcome};
+ghost use Rattle.cd_type_reader.specs.Inner.CodeSteps.{mark_of};
+ghost use Rattle.cd_type_reader.specs.Inner.PlainMachine.{plain_frame, plain_frames, plain_listed};
+ghost use Rattle.cd_type_reader.specs.Inner.PlainMachine.{plain_regular_part, plain_outcome};
 
 use crate::close::{close_bracket, close_group};
 use crate::frame::{Around, Frame, around_of, begun, is_listed};

@@ -1,10 +1,11 @@
 ghost use Rattle.std.specs.Prelude.{◌≡◌, IfOk};
 ghost use Rattle.std.specs.Option.{option_map};
 ghost use Rattle.cd_type_reader.specs.Machine as machine;
-ghost use Rattle.cd_type_reader.specs.CodeSteps.{group_as_tree, go_as_tree};
-ghost use Rattle.cd_type_reader.specs.PlainMachine.{plain_row, plain_chain, plain_around};
-ghost use Rattle.cd_type_reader.specs.PlainMachine.{plain_frame, plain_frames, plain_regular_row};
-ghost use Rattle.cd_type_reader.specs.PlainMachine.{plain_outcome};
+ghost use Rattle.cd_type_reader.specs.Inner.CodeSteps.{group_as_tree, go_as_tree};
+ghost use Rattle.cd_type_reader.specs.Inner.PlainMachine.{plain_row, plain_chain, plain_around};
+ghost use Rattle.cd_type_reader.specs.Inner.PlainMachine.{plain_frame, plain_frames};
+ghost use Rattle.cd_type_reader.specs.Inner.PlainMachine.{plain_regular_row};
+ghost use Rattle.cd_type_reader.specs.Inner.PlainMachine.{plain_outcome};
 
 use crate::after::step_tree;
 use crate::frame::{Around, Frame, around_of};

@@ -4,7 +4,7 @@ ghost use Rattle.cd_syntax.specs.PlainTree.{plain_kind};
 ghost use Rattle.cd_syntax.specs.declared.sign.Sign.TheVariants as sign;
 ghost use Rattle.cd_syntax.specs.declared.tokens.TokenKind.TheVariants as token;
 ghost use Rattle.cd_type_reader.specs.Machine as machine;
-ghost use Rattle.cd_type_reader.specs.PlainMachine.{plain_frame, plain_frames, plain_outcome};
+ghost use Rattle.cd_type_reader.specs.Inner.PlainMachine.{plain_frame, plain_frames, plain_outcome};
 
 use crate::builtin::builtin;
 use crate::frame::{Around, Frame, Opened, begun, within};

@@ -1,7 +1,7 @@
 ghost use Rattle.std.specs.Prelude.{◌≡◌, Ok, IfOk};
 ghost use Rattle.cd_type_reader.specs.Machine as machine;
-ghost use Rattle.cd_type_reader.specs.PlainMachine.{plain_part, plain_frame, plain_frames};
-ghost use Rattle.cd_type_reader.specs.PlainMachine.{plain_state, plain_outcome};
+ghost use Rattle.cd_type_reader.specs.Inner.PlainMachine.{plain_part, plain_frame, plain_frames};
+ghost use Rattle.cd_type_reader.specs.Inner.PlainMachine.{plain_state, plain_outcome};
 
 use crate::after_item::step_after;
 use crate::frame::Frame;

@@ -3,9 +3,9 @@ ghost use Rattle.cd_syntax.specs.PlainTree.{plain_regular};
 ghost use Rattle.cd_syntax.specs.PlainBase.{plain_base};
 ghost use Rattle.cd_syntax.specs.TypeTree.{Sequence};
 ghost use Rattle.cd_type_reader.specs.Machine as machine;
-ghost use Rattle.cd_type_reader.specs.PlainMachine.{plain_around, plain_frame, plain_frames};
-ghost use Rattle.cd_type_reader.specs.PlainMachine.{plain_listed, plain_regular_part};
-ghost use Rattle.cd_type_reader.specs.PlainMachine.{plain_outcome};
+ghost use Rattle.cd_type_reader.specs.Inner.PlainMachine.{plain_around, plain_frame, plain_frames};
+ghost use Rattle.cd_type_reader.specs.Inner.PlainMachine.{plain_listed, plain_regular_part};
+ghost use Rattle.cd_type_reader.specs.Inner.PlainMachine.{plain_outcome};
 
 use crate::frame::{Around, Frame};
 use crate::listed::{Listed, regular_end};

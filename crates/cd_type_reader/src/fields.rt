@@ -1,8 +1,8 @@
 ghost use Rattle.std.specs.Prelude.{◌≡◌, IfOk};
 ghost use Rattle.cd_syntax.specs.declared.tokens.TokenKind.TheVariants as token;
 ghost use Rattle.cd_type_reader.specs.Machine as machine;
-ghost use Rattle.cd_type_reader.specs.PlainMachine.{plain_opened, plain_frame, plain_frames};
-ghost use Rattle.cd_type_reader.specs.PlainMachine.{plain_outcome};
+ghost use Rattle.cd_type_reader.specs.Inner.PlainMachine.{plain_opened, plain_frame, plain_frames};
+ghost use Rattle.cd_type_reader.specs.Inner.PlainMachine.{plain_outcome};
 
 use crate::frame::{Around, Frame, Opened, record_part, within};
 use crate::put::put;

@@ -2,10 +2,10 @@ ghost use Rattle.std.specs.Prelude.{◌≡◌, map, IfOk};
 ghost use Rattle.std.specs.Option.{option_map};
 ghost use Rattle.cd_syntax.specs.PlainTree.{plain, plain_declaration};
 ghost use Rattle.cd_type_reader.specs.Machine as machine;
-ghost use Rattle.cd_type_reader.specs.CodeSteps.{is_listed};
-ghost use Rattle.cd_type_reader.specs.PlainMachine.{plain_part, plain_row, plain_chain};
-ghost use Rattle.cd_type_reader.specs.PlainMachine.{plain_names, plain_opened, plain_around};
-ghost use Rattle.cd_type_reader.specs.PlainMachine.{plain_frame};
+ghost use Rattle.cd_type_reader.specs.Inner.CodeSteps.{is_listed};
+ghost use Rattle.cd_type_reader.specs.Inner.PlainMachine.{plain_part, plain_row, plain_chain};
+ghost use Rattle.cd_type_reader.specs.Inner.PlainMachine.{plain_names, plain_opened, plain_around};
+ghost use Rattle.cd_type_reader.specs.Inner.PlainMachine.{plain_frame};
 
 use crate::listed::Listed;
 use crate::part::{Chain, Part, Row, arrow_part, form, meet_part, union_part};

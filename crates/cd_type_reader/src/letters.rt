@@ -1,7 +1,8 @@
 ghost use Rattle.std.specs.Prelude.{◌≡◌, map, IfOk};
 ghost use Rattle.cd_syntax.specs.PlainTree.{plain_regular, plain_regular_kind};
 ghost use Rattle.cd_type_reader.specs.Machine as machine;
-ghost use Rattle.cd_type_reader.specs.PlainMachine.{plain_regular_part, letter_of, letters_kind};
+ghost use Rattle.cd_type_reader.specs.Inner.PlainMachine.{plain_regular_part, letter_of};
+ghost use Rattle.cd_type_reader.specs.Inner.PlainMachine.{letters_kind};
 
 use crate::regular::RegularPart;
 use cd_syntax::name::Name;

@@ -1,8 +1,8 @@
 ghost use Rattle.std.specs.Prelude.{◌≡◌, IfOk};
 ghost use Rattle.std.specs.Option.{option_map};
 ghost use Rattle.cd_type_reader.specs.Machine as machine;
-ghost use Rattle.cd_type_reader.specs.PlainMachine.{plain_regular_part, plain_regular_row};
-ghost use Rattle.cd_type_reader.specs.PlainMachine.{plain_listed};
+ghost use Rattle.cd_type_reader.specs.Inner.PlainMachine.{plain_regular_part, plain_regular_row};
+ghost use Rattle.cd_type_reader.specs.Inner.PlainMachine.{plain_listed};
 
 use crate::part::Row;
 use crate::regular::{RegularPart, RegularRow, alt_part, regular_row_with, seq_part};

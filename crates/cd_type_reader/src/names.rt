@@ -1,8 +1,8 @@
 ghost use Rattle.std.specs.Prelude.{◌≡◌, map, IfOk};
 ghost use Rattle.cd_syntax.specs.PlainTree.{plain_declaration};
 ghost use Rattle.cd_type_reader.specs.Machine as machine;
-ghost use Rattle.cd_type_reader.specs.PlainMachine.{plain_part, plain_names, plain_frame};
-ghost use Rattle.cd_type_reader.specs.PlainMachine.{plain_frames, plain_outcome};
+ghost use Rattle.cd_type_reader.specs.Inner.PlainMachine.{plain_part, plain_names, plain_frame};
+ghost use Rattle.cd_type_reader.specs.Inner.PlainMachine.{plain_frames, plain_outcome};
 
 use crate::frame::{Frame, Names};
 use crate::part::Part;

@@ -2,8 +2,8 @@ ghost use Rattle.std.specs.Prelude.{◌≡◌, Bool, List, [], ◌∷◌, ◌++�
 ghost use Rattle.std.specs.Option.{option_map};
 ghost use Rattle.cd_syntax.specs.PlainTree.{plain, plain_kind, plain_signed};
 ghost use Rattle.cd_type_reader.specs.Machine as machine;
-ghost use Rattle.cd_type_reader.specs.PlainMachine.{plain_part, plain_row, plain_chain};
-ghost use Rattle.cd_type_reader.specs.PlainMachine.{plain_pending};
+ghost use Rattle.cd_type_reader.specs.Inner.PlainMachine.{plain_part, plain_row, plain_chain};
+ghost use Rattle.cd_type_reader.specs.Inner.PlainMachine.{plain_pending};
 
 use cd_syntax::tokens::Span;
 use cd_syntax::type_tree::{SignedTree, Tree, TreeKind};

@@ -1,9 +1,10 @@
 ghost use Rattle.std.specs.Prelude.{◌≡◌, IfOk};
 ghost use Rattle.cd_type_reader.specs.Machine as machine;
-ghost use Rattle.cd_type_reader.specs.CodeSteps.{is_content, content_end, is_attribute, put_inside};
-ghost use Rattle.cd_type_reader.specs.CodeSteps.{attribute_end};
-ghost use Rattle.cd_type_reader.specs.PlainMachine.{plain_part, plain_pending, plain_around};
-ghost use Rattle.cd_type_reader.specs.PlainMachine.{plain_frame, plain_frames, plain_outcome};
+ghost use Rattle.cd_type_reader.specs.Inner.CodeSteps.{is_content, content_end, is_attribute};
+ghost use Rattle.cd_type_reader.specs.Inner.CodeSteps.{put_inside};
+ghost use Rattle.cd_type_reader.specs.Inner.CodeSteps.{attribute_end};
+ghost use Rattle.cd_type_reader.specs.Inner.PlainMachine.{plain_part, plain_pending, plain_around};
+ghost use Rattle.cd_type_reader.specs.Inner.PlainMachine.{plain_frame, plain_frames, plain_outcome};
 
 use crate::frame::{Around, Frame, around_of};
 use crate::part::{Chain, Part, chain_with};

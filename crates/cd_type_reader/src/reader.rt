@@ -2,8 +2,8 @@ ghost use Rattle.std.specs.Prelude.{◌≡◌, Ok, IfOk};
 ghost use Rattle.std.specs.Option.{option_map};
 ghost use Rattle.cd_syntax.specs.PlainTree.{plain};
 ghost use Rattle.cd_type_reader.specs.Machine as machine;
-ghost use Rattle.cd_type_reader.specs.PlainMachine.{plain_part, plain_chain, plain_frame};
-ghost use Rattle.cd_type_reader.specs.PlainMachine.{plain_frames, plain_state, plain_fault};
+ghost use Rattle.cd_type_reader.specs.Inner.PlainMachine.{plain_part, plain_chain, plain_frame};
+ghost use Rattle.cd_type_reader.specs.Inner.PlainMachine.{plain_frames, plain_state, plain_fault};
 ghost use Rattle.cd_type_reader.specs.Reading.{IsReading, made};
 
 use crate::bounds::{number, one_letter};

@@ -2,8 +2,8 @@ ghost use Rattle.std.specs.Prelude.{◌≡◌, [], ◌∷◌, ◌++◌, map, IfO
 ghost use Rattle.std.specs.Option.{option_map};
 ghost use Rattle.cd_syntax.specs.PlainTree.{plain_regular, plain_regular_kind};
 ghost use Rattle.cd_type_reader.specs.Machine as machine;
-ghost use Rattle.cd_type_reader.specs.PlainMachine.{plain_part, plain_regular_part};
-ghost use Rattle.cd_type_reader.specs.PlainMachine.{plain_regular_row};
+ghost use Rattle.cd_type_reader.specs.Inner.PlainMachine.{plain_part, plain_regular_part};
+ghost use Rattle.cd_type_reader.specs.Inner.PlainMachine.{plain_regular_row};
 
 use crate::part::Part;
 use cd_syntax::tokens::Span;

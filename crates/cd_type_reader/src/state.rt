@@ -1,7 +1,7 @@
 ghost use Rattle.std.specs.Prelude.{◌≡◌, ◌∷◌, Err, IfOk};
 ghost use Rattle.cd_type_reader.specs.Machine as machine;
-ghost use Rattle.cd_type_reader.specs.PlainMachine.{plain_around, plain_frame, plain_frames};
-ghost use Rattle.cd_type_reader.specs.PlainMachine.{plain_place, plain_outcome};
+ghost use Rattle.cd_type_reader.specs.Inner.PlainMachine.{plain_around, plain_frame, plain_frames};
+ghost use Rattle.cd_type_reader.specs.Inner.PlainMachine.{plain_place, plain_outcome};
 
 use crate::frame::{Around, Frame, Opened, begun};
 use crate::part::{Chain, Part};

@@ -1,6 +1,6 @@
 ghost use Rattle.std.specs.Prelude.{◌≡◌, IfOk};
 ghost use Rattle.cd_type_reader.specs.Machine as machine;
-ghost use Rattle.cd_type_reader.specs.PlainMachine.{plain_state, plain_outcome};
+ghost use Rattle.cd_type_reader.specs.Inner.PlainMachine.{plain_state, plain_outcome};
 
 use crate::after_item::step_after;
 use crate::after_regular::step_regular;

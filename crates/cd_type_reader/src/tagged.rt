@@ -2,7 +2,7 @@ ghost use Rattle.std.specs.Prelude.{◌≡◌, map, IfOk};
 ghost use Rattle.cd_syntax.specs.TypeTree.{Record, fields_of};
 ghost use Rattle.cd_syntax.specs.PlainTree.{plain, plain_field};
 ghost use Rattle.cd_type_reader.specs.Machine as machine;
-ghost use Rattle.cd_type_reader.specs.PlainMachine.{plain_part, plain_tagged};
+ghost use Rattle.cd_type_reader.specs.Inner.PlainMachine.{plain_part, plain_tagged};
 
 use crate::part::{Part, form};
 use cd_syntax::name::Name;

@@ -3,8 +3,8 @@ ghost use Rattle.cd_syntax.specs.PlainTree.{plain, plain_kind};
 ghost use Rattle.cd_syntax.specs.declared.sign.Sign.TheVariants as sign;
 ghost use Rattle.cd_syntax.specs.declared.tokens.TokenKind.TheVariants as token;
 ghost use Rattle.cd_type_reader.specs.Machine as machine;
-ghost use Rattle.cd_type_reader.specs.PlainMachine.{plain_frame, plain_frames, plain_tagged};
-ghost use Rattle.cd_type_reader.specs.PlainMachine.{plain_outcome};
+ghost use Rattle.cd_type_reader.specs.Inner.PlainMachine.{plain_frame, plain_frames, plain_tagged};
+ghost use Rattle.cd_type_reader.specs.Inner.PlainMachine.{plain_outcome};
 
 use crate::frame::{Around, Frame, within, within_two};
 use crate::state::{Outcome, Place, at_place, open_tree, syntax};

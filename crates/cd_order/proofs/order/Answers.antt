@@ -1,6 +1,6 @@
 use Rattle.std.proofs.Common.{◌<◌, map, length, arith}
 use Rattle.std.proofs.lemmas.List.{length-map}
-use Rattle.cd_order.specs.Search.{AllSeen}
+use Rattle.cd_order.specs.Inner.Search.{AllSeen}
 use Rattle.cd_order.proofs.Sound.{order_of_all}
 use Rattle.cd_order.proofs.order.Goals as goal
 

@@ -1,5 +1,5 @@
 use Rattle.std.proofs.Common.{◌≡◌, [], map}
-use Rattle.cd_order.specs.Search.{AllSeen, IsSound}
+use Rattle.cd_order.specs.Inner.Search.{AllSeen, IsSound}
 use Rattle.cd_order.proofs.order.Given as goal
 
 -- none is open, and all numbers that were begun with are seen

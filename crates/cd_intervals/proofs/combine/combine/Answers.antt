@@ -2,7 +2,7 @@ use Rattle.std.proofs.Common.{◌≡◌, pos, ◌+ℤ◌, ◌≤ℤ◌, ◌<ℤ�
 use Rattle.std.proofs.lemmas.Int.{ints, by_lt_z}
 use Rattle.cd_intervals.specs.Interval.{holds}
 use Rattle.cd_syntax.specs.Integer.{GREATEST}
-use Rattle.cd_intervals.specs.Combine.{swept, come_to}
+use Rattle.cd_intervals.specs.Inner.Combine.{swept, come_to}
 use Rattle.cd_intervals.proofs.Sweep.{keeps_neither, ahead_at_start, ahead_earlier, swept_later, holds_below_least, holds_above_greatest, swept_on, count_falls}
 use Rattle.cd_intervals.proofs.combine.combine.Goals as goal
 

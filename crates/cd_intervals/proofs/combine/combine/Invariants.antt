@@ -1,6 +1,6 @@
 use Rattle.std.proofs.Common.{◌≡◌, ℤ, ◌≤ℤ◌, ◌<ℤ◌}
 use Rattle.cd_intervals.specs.Interval.{holds}
-use Rattle.cd_intervals.specs.Combine.{keeps_of, IsAhead, swept, IsSwept, come_to}
+use Rattle.cd_intervals.specs.Inner.Combine.{keeps_of, IsAhead, swept, IsSwept, come_to}
 use Rattle.cd_intervals.proofs.Sweep.{count_from}
 use Rattle.cd_intervals.proofs.combine.combine.Given as goal
 

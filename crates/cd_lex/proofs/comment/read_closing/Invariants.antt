@@ -1,6 +1,6 @@
 use Rattle.std.proofs.Common.{◌≡◌, ◌≤◌, ◌+◌, drop}
 use Rattle.std.specs.Option.{option_map}
-use Rattle.cd_lex.specs.Commenting.{within, length_from}
+use Rattle.cd_lex.specs.Inner.Commenting.{within, length_from}
 use Rattle.cd_lex.proofs.comment.read_closing.Given as goal
 
 -- what closes the comment from here on closes it from the start, after the characters so far; each place around took one of them

@@ -1,5 +1,5 @@
 use Rattle.std.proofs.Common.{◌-◌, length}
-use Rattle.cd_lex.specs.Reading.{IsRead}
+use Rattle.cd_lex.specs.Inner.Reading.{IsRead}
 use Rattle.cd_lex.proofs.lexer.tokens_of.Given as goal
 
 abbrev pub invariant-loop-read : goal.invariant-loop-read

@@ -1,5 +1,5 @@
 use Rattle.std.proofs.Common.{◌≡◌, ◌++◌, drop, string_bytes, encode_utf8_all}
-use Rattle.cd_lex.specs.Number.{signed}
+use Rattle.cd_lex.specs.Inner.Number.{signed}
 use Rattle.cd_lex.proofs.number.written.Given as goal
 
 -- the text so far and that of the digits that are left are the text of all

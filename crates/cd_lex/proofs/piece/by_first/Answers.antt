@@ -1,5 +1,5 @@
 use Rattle.std.proofs.Common.{subst, sym, ◌∙◌}
-use Rattle.cd_lex.specs.Standing.{IsDroppedFront}
+use Rattle.cd_lex.specs.Inner.Standing.{IsDroppedFront}
 use Rattle.cd_lex.proofs.Fronts.{blank_stands}
 use Rattle.cd_lex.proofs.piece.by_first.Goals as goal
 

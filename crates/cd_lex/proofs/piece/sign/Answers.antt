@@ -1,6 +1,6 @@
 use Rattle.std.proofs.Common.{inr, length, subst, sym}
 use Rattle.cd_syntax.specs.declared.tokens.TokenKind.TheVariants.{Sign}
-use Rattle.cd_lex.specs.Standing.{IsTokenFront}
+use Rattle.cd_lex.specs.Inner.Standing.{IsTokenFront}
 use Rattle.cd_lex.proofs.Fronts.{sign_stands, no_sign}
 use Rattle.cd_lex.proofs.piece.sign.Goals as goal
 

@@ -3,7 +3,7 @@ use Rattle.std.proofs.lemmas.Iterator.{YieldsList-from_slice}
 use Rattle.std.proofs.lemmas.Iterator.Search.{find_from_yields_List}
 use Rattle.cd_syntax.specs.Signs.{BeginsWith, IsLongest}
 use Rattle.cd_syntax.specs.declared.sign.Sign.{Sign}
-use Rattle.cd_lex.specs.SignTable.{signs, begins_with, first_sign}
+use Rattle.cd_lex.specs.Inner.SignTable.{signs, begins_with, first_sign}
 use Rattle.cd_lex.proofs.Signing.{first_is_longest, none_stands}
 use Rattle.cd_lex.proofs.signs.longest_sign.Goals as goal
 

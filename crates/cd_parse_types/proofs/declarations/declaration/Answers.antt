@@ -10,7 +10,7 @@ use Rattle.cd_syntax.specs.Name.{Name}
 use Rattle.cd_syntax.specs.TypeTree.{Tree, Declaration}
 use Rattle.cd_syntax.specs.PlainTree.{plain, plain_declaration}
 use Rattle.cd_parse_types.specs.Front.{IsFront, IsFrontFault}
-use Rattle.cd_parse_types.specs.Declaring.{HasKind, HaveHead, AreFront}
+use Rattle.cd_parse_types.specs.Inner.Declaring.{HasKind, HaveHead, AreFront}
 use Rattle.cd_parse_types.proofs.DeclaringFronts.{one_front, separated_front}
 use Rattle.cd_parse_types.proofs.DeclaringFaults.{front_fault}
 use Rattle.cd_parse_types.proofs.declarations.declaration.Goals as goal

@@ -1,7 +1,7 @@
 use Rattle.std.proofs.Common.{sym, subst, ◌∙◌}
 use Rattle.std.proofs.lemmas.Bool.{true≢false}
 use Rattle.cd_syntax.specs.SyntaxFaults.{SomeDeclarations, IsSyntaxFault}
-use Rattle.cd_parse_types.specs.Declaring.{HaveHead}
+use Rattle.cd_parse_types.specs.Inner.Declaring.{HaveHead}
 use Rattle.cd_parse_types.proofs.DeclaringHeads.{head_is, no_type, no_name, no_equal}
 use Rattle.cd_parse_types.proofs.declarations.declared_name.Goals as goal
 

@@ -6,7 +6,7 @@ use Rattle.cd_syntax.specs.PlainTree.{plain_declaration}
 use Rattle.cd_syntax.specs.TypeGrammar.{AreDeclared}
 use Rattle.cd_syntax.specs.SyntaxFaults.{SomeDeclarations}
 use Rattle.cd_parse_types.specs.Parsed.{IsFault}
-use Rattle.cd_parse_types.specs.Declaring.{AreFront}
+use Rattle.cd_parse_types.specs.Inner.Declaring.{AreFront}
 use Rattle.cd_parse_types.proofs.DeclaringOn.{none_read, more_read, all_read, fault_later}
 use Rattle.cd_parse_types.proofs.declarations.parse_declarations.Goals as goal
 

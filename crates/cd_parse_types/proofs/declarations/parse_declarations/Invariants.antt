@@ -1,7 +1,7 @@
 use Rattle.std.proofs.Common.{◌-◌, length}
 use Rattle.std.specs.Prelude.{map}
 use Rattle.cd_syntax.specs.PlainTree.{plain_declaration}
-use Rattle.cd_parse_types.specs.Declaring.{AreFront}
+use Rattle.cd_parse_types.specs.Inner.Declaring.{AreFront}
 use Rattle.cd_parse_types.proofs.declarations.parse_declarations.Given as goal
 
 abbrev pub invariant-loop-from : goal.invariant-loop-from

@@ -1,6 +1,6 @@
 use Rattle.std.proofs.Common.{◌∙◌, ap}
 use Rattle.cd_type_reader.specs.Machine as machine
-use Rattle.cd_type_reader.specs.PlainMachine.{plain_chain, plain_frame, plain_frames}
+use Rattle.cd_type_reader.specs.Inner.PlainMachine.{plain_chain, plain_frame, plain_frames}
 use Rattle.cd_type_reader.proofs.OtherAround.{no_tuple}
 use Rattle.cd_type_reader.proofs.after.after_comma.Goals as goal
 

@@ -1,5 +1,5 @@
 use Rattle.std.proofs.Common.{sym, ◌∙◌}
-use Rattle.cd_type_reader.specs.PlainMachine.{plain_chain, plain_frame, plain_frames}
+use Rattle.cd_type_reader.specs.Inner.PlainMachine.{plain_chain, plain_frame, plain_frames}
 use Rattle.cd_type_reader.proofs.OtherSigns.{other_sign}
 use Rattle.cd_type_reader.proofs.after.after_sign.Goals as goal
 

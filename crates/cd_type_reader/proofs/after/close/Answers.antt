@@ -1,5 +1,5 @@
 use Rattle.std.proofs.Common.{◌∙◌}
-use Rattle.cd_type_reader.specs.PlainMachine.{plain_part, plain_frames}
+use Rattle.cd_type_reader.specs.Inner.PlainMachine.{plain_part, plain_frames}
 use Rattle.cd_type_reader.proofs.OtherAround.{no_close}
 use Rattle.cd_type_reader.proofs.after.close.Goals as goal
 

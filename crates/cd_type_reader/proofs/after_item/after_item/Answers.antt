@@ -1,7 +1,7 @@
 use Rattle.std.proofs.Common.{◌≡◌, ◌∙◌, None, true, false, sym, ap}
 use Rattle.cd_type_reader.specs.Machine as machine
-use Rattle.cd_type_reader.specs.CodeSteps.{meet_sign, goes_as_tree}
-use Rattle.cd_type_reader.specs.PlainMachine.{plain_chain, plain_around, plain_frame, plain_frames}
+use Rattle.cd_type_reader.specs.Inner.CodeSteps.{meet_sign, goes_as_tree}
+use Rattle.cd_type_reader.specs.Inner.PlainMachine.{plain_chain, plain_around, plain_frame, plain_frames}
 use Rattle.cd_type_reader.proofs.Exits.{leads_on}
 use Rattle.cd_type_reader.proofs.ItemEnds.{ends_item}
 use Rattle.cd_type_reader.proofs.after_item.after_item.Goals as goal

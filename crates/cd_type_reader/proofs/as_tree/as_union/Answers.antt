@@ -1,7 +1,7 @@
 use Rattle.std.proofs.Common.{◌≡◌, Some, None, map, ap, ◌∙◌}
 use Rattle.cd_syntax.specs.PlainTree.{plain, plain_regular}
 use Rattle.cd_syntax.specs.PlainBase.{types_in}
-use Rattle.cd_type_reader.specs.PlainMachine.{plain_frame, plain_regular_row}
+use Rattle.cd_type_reader.specs.Inner.PlainMachine.{plain_frame, plain_regular_row}
 use Rattle.cd_type_reader.proofs.SoFar.{no_union, a_union}
 use Rattle.cd_type_reader.proofs.as_tree.as_union.Goals as goal
 

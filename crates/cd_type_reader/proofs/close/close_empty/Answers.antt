@@ -1,5 +1,5 @@
 use Rattle.std.proofs.Common.{◌∙◌}
-use Rattle.cd_type_reader.specs.PlainMachine.{plain_frames}
+use Rattle.cd_type_reader.specs.Inner.PlainMachine.{plain_frames}
 use Rattle.cd_type_reader.proofs.OtherAround.{no_sequence}
 use Rattle.cd_type_reader.proofs.close.close_empty.Goals as goal
 

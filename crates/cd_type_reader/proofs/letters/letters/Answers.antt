@@ -3,7 +3,7 @@ use Rattle.std.specs.Str.{chars}
 use Rattle.std.proofs.lemmas.List.{map_push}
 use Rattle.std.proofs.lemmas.Str.{IsUtf8-past_char}
 use Rattle.cd_syntax.specs.PlainTree.{plain_regular}
-use Rattle.cd_type_reader.specs.PlainMachine.{letter_of}
+use Rattle.cd_type_reader.specs.Inner.PlainMachine.{letter_of}
 use Rattle.cd_type_reader.proofs.InTurn.{one_more, all_made}
 use Rattle.cd_type_reader.proofs.letters.letters.Goals as goal
 

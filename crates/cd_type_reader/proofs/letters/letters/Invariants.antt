@@ -1,7 +1,7 @@
 use Rattle.std.proofs.Common.{◌≡◌, ◌++◌, map}
 use Rattle.std.specs.Str.{chars, IsUtf8}
 use Rattle.cd_syntax.specs.PlainTree.{plain_regular}
-use Rattle.cd_type_reader.specs.PlainMachine.{letter_of}
+use Rattle.cd_type_reader.specs.Inner.PlainMachine.{letter_of}
 use Rattle.cd_type_reader.proofs.letters.letters.Given as goal
 
 -- the items so far, and those of the characters that are left, are all

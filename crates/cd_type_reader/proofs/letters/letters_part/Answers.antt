@@ -1,7 +1,7 @@
 use Rattle.std.proofs.Common.{◌∙◌, ap}
 use Rattle.cd_syntax.specs.TypeTree.{Regular, regular}
 use Rattle.cd_type_reader.specs.Machine.{RegularPart}
-use Rattle.cd_type_reader.specs.PlainMachine.{letters_kind}
+use Rattle.cd_type_reader.specs.Inner.PlainMachine.{letters_kind}
 use Rattle.cd_type_reader.proofs.InTurn.{letters_part_is}
 use Rattle.cd_type_reader.proofs.letters.letters_part.Goals as goal
 

@@ -1,6 +1,6 @@
 use Rattle.std.proofs.Common.{◌≡◌, false, sym, ◌∙◌}
-use Rattle.cd_type_reader.specs.CodeSteps.{is_content}
-use Rattle.cd_type_reader.specs.PlainMachine.{plain_part, plain_around, plain_frame, plain_frames}
+use Rattle.cd_type_reader.specs.Inner.CodeSteps.{is_content}
+use Rattle.cd_type_reader.specs.Inner.PlainMachine.{plain_part, plain_around, plain_frame, plain_frames}
 use Rattle.cd_type_reader.proofs.Contents.{put_other}
 use Rattle.cd_type_reader.proofs.Exits.{leads_on}
 use Rattle.cd_type_reader.proofs.put.put.Goals as goal

@@ -1,6 +1,6 @@
 use Rattle.std.proofs.Common.{◌≡◌, length}
 use Rattle.cd_type_reader.specs.Machine as machine
-use Rattle.cd_type_reader.specs.PlainMachine.{plain_part, plain_frame, plain_frames}
+use Rattle.cd_type_reader.specs.Inner.PlainMachine.{plain_part, plain_frame, plain_frames}
 use Rattle.cd_type_reader.proofs.put.put.Given as goal
 
 -- the part that is put now leads where the one that was read does

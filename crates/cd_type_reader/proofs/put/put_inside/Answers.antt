@@ -1,6 +1,6 @@
 use Rattle.std.proofs.Common.{◌≡◌, true, false, sym, ap, ◌∙◌}
-use Rattle.cd_type_reader.specs.CodeSteps.{is_attribute, attribute_end, put_inside}
-use Rattle.cd_type_reader.specs.PlainMachine.{plain_part, plain_around, plain_frame, plain_frames}
+use Rattle.cd_type_reader.specs.Inner.CodeSteps.{is_attribute, attribute_end, put_inside}
+use Rattle.cd_type_reader.specs.Inner.PlainMachine.{plain_part, plain_around, plain_frame, plain_frames}
 use Rattle.cd_type_reader.proofs.Contents.{put_no_attribute, put_attribute}
 use Rattle.cd_type_reader.proofs.Exits.{leads_on, with_outer}
 use Rattle.cd_type_reader.proofs.put.put_inside.Goals as goal

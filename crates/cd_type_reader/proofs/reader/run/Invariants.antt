@@ -1,6 +1,6 @@
 use Rattle.std.proofs.Common.{◌≡◌, drop}
 use Rattle.cd_type_reader.specs.Machine.{run, start}
-use Rattle.cd_type_reader.specs.PlainMachine.{plain_state}
+use Rattle.cd_type_reader.specs.Inner.PlainMachine.{plain_state}
 use Rattle.cd_type_reader.proofs.reader.run.Given as goal
 
 -- the state and the tokens that are left make what all the tokens make

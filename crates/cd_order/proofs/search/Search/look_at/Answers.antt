@@ -1,7 +1,7 @@
 use Rattle.std.proofs.Common.{◌≡◌, ◌<◌, ◌∷◌, ◌∙◌, map, length, reverse, false, sym, get_or, arith}
 use Rattle.std.proofs.lemmas.List.{length-map, get_or_read}
 use Rattle.std.proofs.lemmas.Result.{IfOk-weaker}
-use Rattle.cd_order.specs.Search.{IsSeen}
+use Rattle.cd_order.specs.Inner.Search.{IsSeen}
 use Rattle.cd_order.proofs.Sound.{sound_when_added, sound_when_passed, all_lead_next, next_has_row}
 use Rattle.cd_order.proofs.Steps.{fewer_when_passed, fewer_when_added}
 use Rattle.cd_order.proofs.search.Search.look_at.Goals as goal

@@ -1,5 +1,5 @@
 use Rattle.std.proofs.Common.{map, reverse}
-use Rattle.cd_order.specs.Search.{IsSeen, AreKept, IsSound, steps}
+use Rattle.cd_order.specs.Inner.Search.{IsSeen, AreKept, IsSound, steps}
 use Rattle.cd_order.proofs.search.Search.visit.Given as goal
 
 -- the search is sound, and has seen the number and all that it had seen

@@ -1,4 +1,4 @@
-use Rattle.cd_type_reader.specs.PlainMachine.{plain_frame, plain_frames}
+use Rattle.cd_type_reader.specs.Inner.PlainMachine.{plain_frame, plain_frames}
 use Rattle.cd_type_reader.proofs.OtherPlaces.{no_end}
 use Rattle.cd_type_reader.proofs.state.State.finish.Goals as goal
 

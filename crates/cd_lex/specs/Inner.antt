@@ -1,0 +1,8 @@
+-- What serves private functions. No public clause speaks of it.
+pub mod Quoted
+pub mod Standing
+pub mod Number
+pub mod Commenting
+pub mod Quoting
+pub mod SignTable
+pub mod Reading
