@@ -1,9 +1,10 @@
-ghost use Rattle.std.specs.Prelude.{◌≡◌};
+ghost use Rattle.std.specs.Prelude.{◌≡◌, IfOk};
 ghost use Rattle.cd_shapes.specs.Names.{node_of};
 
 use crate::compare::is_same;
 use cd_sets::node_id::NodeId;
 use cd_syntax::name::Name;
+use std::alloc::AllocError;
 use std::marker::Model;
 
 /// Names, and the node that each of them has. A contract sees the list of these pairs.
@@ -35,6 +36,17 @@ impl Names {
         ensures { result.now ≡ self.now }
     {
         self.items.as_slice()
+    }
+
+    /// An equal list.
+    pub fn copy(&self) -> Result<Names, AllocError>
+        ensures { IfOk result (λ copy. copy ≡ self.now) }
+    {
+        let mut items = Vec::new(*self.items.allocator());
+        for (name, id) in self.items.iter() {
+            items.push((name.copy()?, *id))?;
+        }
+        Ok(Names { items })
     }
 
     /// The node of a name, or of the first where several have it.
