@@ -1,8 +1,9 @@
 use Rattle.std.proofs.Common.{sym, subst}
 use Rattle.cd_syntax.specs.PlainTree.{plain}
-use Rattle.cd_model.specs.Written.{StandsFor}
+use Rattle.cd_model.specs.StandsFor.{StandsFor}
 use Rattle.cd_resolve.specs.Named.{AreNamed}
-use Rattle.cd_resolve.proofs.Kept.{type_kept, names_kept}
+use Rattle.cd_model.proofs.StandsKept.{stands_kept}
+use Rattle.cd_resolve.proofs.Kept.{names_kept}
 use Rattle.cd_empty.specs.Seen.{graph_of}
 use Rattle.cd_driver.specs.Texts.{type_of}
 use Rattle.cd_driver.proofs.Comparing.{of_types_told}
@@ -31,7 +32,7 @@ returns g c =
     let first = type_of g.list (plain c.args.first.now) in
     let second = type_of g.list (plain c.args.second.now) in
     let grows = c.in_ok-second.ensures.grows in
-    let kept = type_kept (graph_of c.node.new.world) grows.0 c.in_ok-first.first first c.in_ok-first.ensures.graph c.in_ok-first.ensures.stands in
+    let kept = stands_kept (graph_of c.node.new.world) grows.0 c.in_ok-first.first first c.in_ok-first.ensures.graph c.in_ok-first.ensures.stands in
     let stands = subst (λ graph. StandsFor graph c.in_ok-first.first first) (sym grows.1) kept in
     of_types_told (graph_of c.node-2.new.world) c.in_ok-first.first c.in_ok-second.second first second stands c.in_ok-second.ensures.stands
     c.compare_nodes.result c.compare_nodes.ensures
