@@ -2,11 +2,12 @@
 use Rattle.std.proofs.Common.{ℤ, ℕ, Bool, true, false, Option, ◌↔◌, bytes_eq}
 use Rattle.cd_syntax.specs.Name.{Name}
 use Rattle.cd_model.specs.Alike as heads
-use Rattle.cd_model.specs.Alike.{Standing, FieldsStand, HeadsIfAny, ReadAlike, AnswerAlike, MapAlike, PresentAlike}
-use Rattle.cd_model.specs.Thing.{Thing, Integer, Character, Atom, Pair, Xml, Record, Function, Closure, Fields, NoField, Field, Pairs, NoPair, Maps, Fails, EachClosure, EachOfFields, EachOfPairs}
+use Rattle.cd_model.specs.Alike.{Standing, FieldsStand, HeadsIfAny, ReadAlike, AnswerAlike, MapAlike}
+use Rattle.cd_model.specs.Thing.{Thing, Integer, Character, Atom, Pair, Xml, Record, Function, Closure, Fields, NoField, Field, Pairs, NoPair, Maps, Fails}
 use Rattle.cd_model.specs.Types.{FieldOf, field_of, Head, Items, Answers, Reader, Presentation, Labelled, Mapping, at_head, items_of_atom, with_item, fits, integer_at, character_at, atom_at, pair_at, with_sequences, xml_at, record_at, function_at, reader, items, labelled, mapping, answers}
 use Rattle.cd_model.proofs.BothWays.{itself, same_as, both_agree, three_agree, one_agrees, each_agrees, some_agrees, chosen_agree}
 use Rattle.cd_model.proofs.Regulars.{fits_alike}
+use Rattle.cd_model.proofs.Sorts.{Sort}
 use Rattle.cd_model.proofs.Sequences.{ItemsAlike, alike_of_atom, alike_with_item, are_alike}
 
 module _ {X Y : Type 0} (Stands : Standing X Y) where
@@ -77,62 +78,82 @@ module _ {X Y : Type 0} (Stands : Standing X Y) where
   function_alike one other alike _ _ (heads.arrows a b c d is_a is_b) answer = alike a b c d is_a is_b answer
   function_alike one other alike _ _ _ answer = itself
 
-module _ {X Y : Type 0} (Stands : Standing X Y) (at : Presentation X) (for : Presentation Y)
-    (closed : ℕ → Mapping X) (closing : ℕ → Mapping Y) (present : PresentAlike Stands at for closed closing) where
-  abbrev pub Closes : ℕ → Type 0
-  Closes function = MapAlike Stands (closed function) (closing function)
+-- what reads heads alike, of this sort, answers types alike
+abbrev pub PresentAlikeOf : {X Y : Type 0} → (Thing → Type 0) → Standing X Y → Presentation X → Presentation Y
+    → (ℕ → Mapping X) → (ℕ → Mapping Y) → Type 0
+PresentAlikeOf Of Stands at for closed closing = (is : Thing) → Of is → ReadAlike Stands (reader at closed is) (reader for closing is)
+    → AnswerAlike Stands (answers at closed is) (answers for closing is)
 
+module _ {X Y : Type 0} (sort : Sort) (Stands : Standing X Y) (at : Presentation X) (for : Presentation Y)
+    (closed : ℕ → Mapping X) (closing : ℕ → Mapping Y) (present : PresentAlikeOf sort.Of Stands at for closed closing)
+    (closures : (function : ℕ) → MapAlike Stands (closed function) (closing function)) where
   mutual
-    pub reads_alike : (is : Thing) → EachClosure Closes is → ReadAlike Stands (reader at closed is) (reader for closing is)
-    reads_alike (Integer n) close = integer_alike Stands n
-    reads_alike (Character c) close = character_alike Stands c
-    reads_alike (Atom name) close = sequences_alike Stands (items_of_atom name) (atom_at name) (items_of_atom name) (atom_at name)
+    pub reads_alike : (is : Thing) → sort.Of is → ReadAlike Stands (reader at closed is) (reader for closing is)
+    reads_alike (Integer n) of = integer_alike Stands n
+    reads_alike (Character c) of = character_alike Stands c
+    reads_alike (Atom name) of = sequences_alike Stands (items_of_atom name) (atom_at name) (items_of_atom name) (atom_at name)
         (alike_of_atom _ name) (atom_alike Stands name)
-    reads_alike (Pair first second) close = sequences_alike Stands
+    reads_alike (Pair first second) of = sequences_alike Stands
         (with_item (answers at closed first) (items at closed second)) (pair_at (answers at closed first) (answers at closed second))
         (with_item (answers for closing first) (items for closing second)) (pair_at (answers for closing first) (answers for closing second))
-        (alike_with_item _ (items at closed second) (items for closing second) (present first (reads_alike first close.0)) (items_alike second close.1))
+        (alike_with_item _ (items at closed second) (items for closing second) (present first parts.0 (reads_alike first parts.0)) (items_alike second parts.1))
         (pair_alike Stands (answers at closed first) (answers at closed second) (answers for closing first) (answers for closing second)
-        (present first (reads_alike first close.0)) (present second (reads_alike second close.1)))
-    reads_alike (Xml tag attributes content) close = xml_alike Stands
+        (present first parts.0 (reads_alike first parts.0)) (present second parts.1 (reads_alike second parts.1)))
+      where
+        parts : sort.Of first × sort.Of second
+        parts = sort.pair first second of
+    reads_alike (Xml tag attributes content) of = xml_alike Stands
         (answers at closed tag) (answers at closed attributes) (answers at closed content)
         (answers for closing tag) (answers for closing attributes) (answers for closing content)
-        (present tag (reads_alike tag close.0)) (present attributes (reads_alike attributes close.1))
-        (present content (reads_alike content close.2))
-    reads_alike (Record fields) close = record_alike Stands (labelled at closed fields) (labelled for closing fields) (fields_alike fields close)
-    reads_alike (Function pairs) close = function_alike Stands (mapping at closed pairs) (mapping for closing pairs) (pairs_alike pairs close)
-    reads_alike (Closure function environment) close = function_alike Stands (closed function) (closing function) close
+        (present tag parts.0 (reads_alike tag parts.0)) (present attributes parts.1 (reads_alike attributes parts.1))
+        (present content parts.2 (reads_alike content parts.2))
+      where
+        parts : sort.Of tag × sort.Of attributes × sort.Of content
+        parts = sort.xml tag attributes content of
+    reads_alike (Record fields) of = record_alike Stands (labelled at closed fields) (labelled for closing fields)
+        (fields_alike fields (sort.fields fields of))
+    reads_alike (Function pairs) of = function_alike Stands (mapping at closed pairs) (mapping for closing pairs)
+        (pairs_alike pairs (sort.pairs pairs of))
+    reads_alike (Closure function environment) of = function_alike Stands (closed function) (closing function) (closures function)
 
-    items_alike : (is : Thing) → EachClosure Closes is
+    items_alike : (is : Thing) → sort.Of is
         → ItemsAlike (λ (one : Answers X) (other : Answers Y). AnswerAlike Stands one other) (items at closed is) (items for closing is)
-    items_alike (Atom name) close = alike_of_atom _ name
-    items_alike (Pair first second) close =
-        alike_with_item _ (items at closed second) (items for closing second) (present first (reads_alike first close.0)) (items_alike second close.1)
-    items_alike _ close = tt
+    items_alike (Atom name) of = alike_of_atom _ name
+    items_alike (Pair first second) of = alike_with_item _ (items at closed second) (items for closing second)
+        (present first parts.0 (reads_alike first parts.0)) (items_alike second parts.1)
+      where
+        parts : sort.Of first × sort.Of second
+        parts = sort.pair first second of
+    items_alike _ of = tt
 
-    fields_alike : (fields : Fields) → EachOfFields Closes fields → LabelAlike Stands (labelled at closed fields) (labelled for closing fields)
-    fields_alike NoField close = λ label x y field answer. same_as answer field.optional
-    fields_alike (Field name is rest) close = λ label x y field answer. chosen_agree (bytes_eq name label)
-        (present is (reads_alike is close.0) x.type y.type field.type answer)
-        (fields_alike rest close.1 label x y field answer)
+    fields_alike : (fields : Fields) → sort.OfFields fields → LabelAlike Stands (labelled at closed fields) (labelled for closing fields)
+    fields_alike NoField of = λ label x y field answer. same_as answer field.optional
+    fields_alike (Field name is rest) of = λ label x y field answer. chosen_agree (bytes_eq name label)
+        (present is parts.0 (reads_alike is parts.0) x.type y.type field.type answer)
+        (fields_alike rest parts.1 label x y field answer)
+      where
+        parts : sort.Of is × sort.OfFields rest
+        parts = sort.field name is rest of
 
-    pub pairs_alike : (pairs : Pairs) → EachOfPairs Closes pairs → MapAlike Stands (mapping at closed pairs) (mapping for closing pairs)
-    pairs_alike NoPair close = λ a b c d is_a is_b answer. itself
-    pairs_alike (Maps from to rest) close = λ a b c d is_a is_b.
-        let from_alike = present from (reads_alike from close.0) a c is_a in
-        let to_alike = present to (reads_alike to close.1) b d is_b in
-        let rest_alike = pairs_alike rest close.2 a b c d is_a is_b in
+    pub pairs_alike : (pairs : Pairs) → sort.OfPairs pairs → MapAlike Stands (mapping at closed pairs) (mapping for closing pairs)
+    pairs_alike NoPair of = λ a b c d is_a is_b answer. itself
+    pairs_alike (Maps from to rest) of = λ a b c d is_a is_b.
+        let parts = sort.maps from to rest of in
+        let from_alike = present from parts.0 (reads_alike from parts.0) a c is_a in
+        let to_alike = present to parts.1 (reads_alike to parts.1) b d is_b in
+        let rest_alike = pairs_alike rest parts.2 a b c d is_a is_b in
         elim [
           | true ↦ both_agree (one_agrees (from_alike false) (to_alike true)) (rest_alike true)
           | false ↦ one_agrees (both_agree (from_alike true) (to_alike false)) (rest_alike false)
         ]
-    pairs_alike (Fails from rest) close = λ a b c d is_a is_b.
-        let from_alike = present from (reads_alike from close.0) a c is_a in
-        let rest_alike = pairs_alike rest close.1 a b c d is_a is_b in
+    pairs_alike (Fails from rest) of = λ a b c d is_a is_b.
+        let parts = sort.fails from rest of in
+        let from_alike = present from parts.0 (reads_alike from parts.0) a c is_a in
+        let rest_alike = pairs_alike rest parts.1 a b c d is_a is_b in
         elim [
           | true ↦ both_agree (from_alike false) (rest_alike true)
           | false ↦ one_agrees (from_alike true) (rest_alike false)
         ]
 
-  pub answers_alike : (is : Thing) → EachClosure Closes is → AnswerAlike Stands (answers at closed is) (answers for closing is)
-  answers_alike is close = present is (reads_alike is close)
+  pub answers_alike : (is : Thing) → sort.Of is → AnswerAlike Stands (answers at closed is) (answers for closing is)
+  answers_alike is of = present is of (reads_alike is of)

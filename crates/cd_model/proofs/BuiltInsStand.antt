@@ -25,7 +25,7 @@ pub record IsNodeOf (id : NodeId) (written : WrittenType) : Type 0 where
 named : (name : BuiltinName) → IsNodeOf (node_named name) (type_named name)
 named name = record { name = name; node = refl; kind = refl }
 
-formula_is : (more : Graph) (name : BuiltinName) → formula_at (built_ins ++ more) (node_named name) ≡ built_in node_named name
+pub formula_is : (more : Graph) (name : BuiltinName) → formula_at (built_ins ++ more) (node_named name) ≡ built_in node_named name
 formula_is more builtin.Empty = refl
 formula_is more builtin.Any = refl
 formula_is more builtin.Int = refl

@@ -36,7 +36,7 @@ module _ (Fact : Declared → Type 0) (guards : (is : Declared) → Fact is → 
         through (undeclared one count scope name answer found) (turned (undeclared other count' scope name answer found))
 
     -- neither number matters where each is at least that of the names that a place leads to
-    names_alike : (count count' : ℕ) (names : List Declared) → length names ≤ count → length names ≤ count'
+    pub names_alike : (count count' : ℕ) (names : List Declared) → length names ≤ count → length names ≤ count'
         → AlikeAtNames (Leads Fact names) (name_holds one count) (name_holds other count')
     names_alike zero count' names fits fits' scope name leads answer =
         both_undeclared zero count' scope name answer (is_undeclared Fact names fits scope name leads)

@@ -28,42 +28,42 @@ head_at [] [] after some = absurd (omega arith)
 head_at [] (is ∷ batch) after some = refl
 head_at (one ∷ before) batch after some = head_at before batch after some
 
-regrouped : (graph formulas before batch after more : List Formula)
-    → graph ++ (formulas ++ (before ++ batch ++ after)) ++ more ≡ graph ++ formulas ++ before ++ batch ++ (after ++ more)
-regrouped graph formulas before batch after more = simp append_assoc refl
+regrouped : (graph formulas before batch after : List Formula)
+    → graph ++ (formulas ++ (before ++ batch ++ after)) ≡ graph ++ formulas ++ before ++ batch ++ after
+regrouped graph formulas before batch after = simp append_assoc refl
 
 -- tables with these roots and shapes
 abbrev with_shapes : List Place → List Shape → Tables
 with_shapes roots shapes = record { roots = roots; shapes = shapes }
 
-module _ (roots : List Place) (old new : List Shape) (first start : ℕ) (graph formulas batches more : List Formula)
+module _ (roots : List Place) (old new : List Shape) (first start : ℕ) (graph formulas batches : List Formula)
     (have : HaveLeaves (node_at first (length roots)) start old new batches)
     (long : length (graph ++ formulas) ≡ start)
-    (made : AreMade (graph ++ (formulas ++ batches) ++ more) first (with_shapes roots new)) where
+    (made : AreMade (graph ++ (formulas ++ batches)) first (with_shapes roots new)) where
   sequence_closes : (number : ℕ) (is : Regular) (places : List Place)
       → LeafAt (node_at first (length roots)) start is places number new batches
-      → HoldsAt (graph ++ (formulas ++ batches) ++ more) (node (first + (length roots + number)))
+      → HoldsAt (graph ++ (formulas ++ batches)) (node (first + (length roots + number)))
       (over_nodes (node_at first (length roots)) is places)
   sequence_closes number is places at = record {
     before = before;
     batch = at.batch;
-    after = at.after ++ more;
+    after = at.after;
     parts = parts;
     holds = subst (λ first'. HoldsSequences first' (over_nodes (node_at first (length roots)) is places) at.batch)
         (omega (arith, length-append (graph ++ formulas) at.before)) at.holds;
     same = made.shapes number _ at.there
-        ∙ head_at before at.batch (at.after ++ more) at.holds.some
+        ∙ head_at before at.batch at.after at.holds.some
         ∙ ap (λ graph. formula_at graph (node (length before))) (sym parts);
   }
     where
       before : List Formula
       before = graph ++ formulas ++ at.before
 
-      parts : graph ++ (formulas ++ batches) ++ more ≡ before ++ at.batch ++ (at.after ++ more)
-      parts = ap (λ batches. graph ++ (formulas ++ batches) ++ more) at.parts
-          ∙ regrouped graph formulas at.before at.batch at.after more
+      parts : graph ++ (formulas ++ batches) ≡ before ++ at.batch ++ at.after
+      parts = ap (λ batches. graph ++ (formulas ++ batches)) at.parts
+          ∙ regrouped graph formulas at.before at.batch at.after
 
-  shapes_close : Closes (graph ++ (formulas ++ batches) ++ more) first (with_shapes roots old)
+  shapes_close : Closes (graph ++ (formulas ++ batches)) first (with_shapes roots old)
   shapes_close = record {
     roots = made.roots;
     shapes = λ number shape at is_none. made.shapes number shape
@@ -76,8 +76,8 @@ module _ (roots : List Place) (old new : List Shape) (first start : ℕ) (graph 
 pub record AllClose (first : ℕ) (tables : Tables) (old : Graph) (batch : List Formula) : Type 0 where
   pub number : size_of tables ≤ length batch
   pub formulas : Each (IsFormula (first + length batch)) batch
-  pub closes : (graph more : Graph) → length graph ≡ first → AgreesWith old graph
-      → Closes (graph ++ batch ++ more) first tables
+  pub closes : (graph : Graph) → length graph ≡ first → AgreesWith old graph
+      → Closes (graph ++ batch) first tables
 
 module _ (counts : Counts) (tables leaves : Tables) (counted : Counted counts tables) (batches : List Formula)
     (have : TablesHaveLeaves (node_at counts.before counts.names) (counts.before + (counts.names + counts.shapes)) tables leaves
@@ -129,17 +129,17 @@ module _ (counts : Counts) (tables leaves : Tables) (counted : Counted counts ta
     fits : counts.before + (counts.names + counts.shapes) + length batches ≤ counts.before + length (formulas ++ batches)
     fits = let whole : _ = long in omega (arith, length-append formulas batches)
 
-    all_closes : (graph more : Graph) → length graph ≡ counts.before → AgreesWith old graph
-        → Closes (graph ++ (formulas ++ batches) ++ more) counts.before tables
-    all_closes graph more first agrees = shapes_close tables.roots tables.shapes leaves.shapes counts.before
-        (counts.before + (counts.names + counts.shapes)) graph formulas batches more
+    all_closes : (graph : Graph) → length graph ≡ counts.before → AgreesWith old graph
+        → Closes (graph ++ (formulas ++ batches)) counts.before tables
+    all_closes graph first agrees = shapes_close tables.roots tables.shapes leaves.shapes counts.before
+        (counts.before + (counts.names + counts.shapes)) graph formulas batches
         (subst (λ names. HaveLeaves (node_at counts.before names) (counts.before + (counts.names + counts.shapes)) tables.shapes
         leaves.shapes batches) counted.names have.shapes)
         (let whole : _ = long in omega (arith, length-append graph formulas))
         (subst (λ graph. AreMade graph counts.before (with_shapes tables.roots leaves.shapes))
         (simp append_assoc refl)
-        (subst (AreMade (graph ++ formulas ++ (batches ++ more)) counts.before) (sym leaves_are)
-        (closed.made graph (batches ++ more) first agrees)))
+        (subst (AreMade (graph ++ formulas ++ batches) counts.before) (sym leaves_are)
+        (closed.made graph batches first agrees)))
 
     pub all_close : AllClose counts.before tables old (formulas ++ batches)
     all_close = record {

@@ -8,7 +8,7 @@ use Rattle.cd_model.specs.Formula.{Formula}
 use Rattle.cd_model.specs.Guarded.{IsOneOf, IsSigned}
 use Rattle.cd_model.specs.Scope.{Scope}
 use Rattle.cd_model.specs.Written.{kind_of}
-use Rattle.cd_model.proofs.SameWritten.{AreClosed}
+use Rattle.cd_model.proofs.Places.{AreClosed}
 use Rattle.cd_order.specs.Order.{Each, Ends}
 use Rattle.cd_shapes.specs.declared.place.Place.{Place}
 use Rattle.cd_shapes.specs.declared.place.Place.TheVariants as place

@@ -150,7 +150,7 @@ sorted_found named label = after_found [] named label tt
 
 -- what a record type says of a label, where this was found
 abbrev pub field_found : (Place → NodeId) → NodeId → Option FieldPlace → Field
-field_found node_of rest None = record { optional = true; node = rest }
+field_found node_of rest None = record { optional = true; type = rest }
 field_found node_of rest (Some field) = field_at node_of field
 
 -- what the made fields say of a label

@@ -9,9 +9,9 @@ use Rattle.cd_model.specs.Each.{Each, One}
 use Rattle.cd_model.specs.Guarded.{IsOneOf, IsSigned}
 use Rattle.cd_model.specs.Guarded as guarded
 use Rattle.cd_model.specs.Scope.{Scope, Declared, tree_in, declared_or, declared_as}
-use Rattle.cd_model.specs.Written.{kind_of, tuple_rest, arrows_rest, field_of}
+use Rattle.cd_model.specs.Written.{kind_of, tuple_rest, arrows_rest}
 use Rattle.cd_model.proofs.Covered.{each_parts, each_both}
-use Rattle.cd_model.proofs.SameWritten.{AreClosed}
+use Rattle.cd_model.proofs.Places.{AreClosed}
 use Rattle.cd_resolve.specs.Free.{free_or, free_names, free_in_kind, free_in_trees, free_in_signs, free_in_fields, free_in_declared}
 
 -- the free names of the trees that the lists of a scope declare
@@ -196,20 +196,3 @@ module _ (Used : Name → Type 0) where
       by_content : Each Used (free_names scope tag ++ free_names scope attributes) × Each Used (free_names scope content)
           → XmlUses Used scope tag attributes content
       by_content parts = by_all (each_parts Used (free_names scope tag) (free_names scope attributes) parts.0) parts.1
-
-  -- what a record type says of a label
-  pub uses_field : (scope : Scope) (fields : type.Fields) (more : Bool) (label : Name)
-      → Each Used (free_in_fields scope fields) → Each Used (free_over scope)
-      → Uses Used scope (field_of fields more label).kind
-  uses_field scope type.NoField more label within over = record { within = tt; over = over }
-  uses_field scope (type.AField name at optional is rest) more label within over = by_name
-      (cases_Bool (bytes_eq name label))
-      (each_parts Used (free_names scope is) (free_in_fields scope rest) within)
-      (λ within. uses_field scope rest more label within over)
-    where
-      by_name : (bytes_eq name label ≡ true) ⊎ (bytes_eq name label ≡ false)
-          → Each Used (free_names scope is) × Each Used (free_in_fields scope rest)
-          → (Each Used (free_in_fields scope rest) → Uses Used scope (field_of rest more label).kind)
-          → Uses Used scope (field_of (type.AField name at optional is rest) more label).kind
-      by_name (inl equal) parts later = rw equal (uses_tree scope is parts.0 over)
-      by_name (inr differs) parts later = rw differs (later parts.1)

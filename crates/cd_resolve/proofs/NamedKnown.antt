@@ -9,7 +9,7 @@ use Rattle.cd_model.specs.Formula.{Graph}
 use Rattle.cd_model.specs.Guarded.{IsOneOf, IsSigned}
 use Rattle.cd_model.specs.Guarded as guarded
 use Rattle.cd_model.specs.Scope.{Scope, Declared, tree_in, declared_or, declared_as}
-use Rattle.cd_model.specs.Written.{StandsFor}
+use Rattle.cd_model.specs.StandsFor.{StandsFor}
 use Rattle.cd_model.proofs.Covered.{each_both}
 use Rattle.cd_names.specs.Faults.{Fault, IsField, IsItem, IsItemOfOne, IsPart, IsDeclared, IsFault, IsFaultOfList}
 use Rattle.cd_names.specs.Faults as fault

@@ -8,7 +8,7 @@ use Rattle.cd_syntax.specs.TypeTree.{Tree, Declarations, NoDeclaration, ADeclara
 use Rattle.cd_model.specs.BuiltIns.{node}
 use Rattle.cd_model.specs.Formula.{Graph}
 use Rattle.cd_model.specs.Scope.{tree_in}
-use Rattle.cd_model.specs.Written.{StandsFor}
+use Rattle.cd_model.specs.StandsFor.{StandsFor}
 use Rattle.cd_shapes.specs.Frames.{index_in}
 use Rattle.cd_shapes.specs.Names.{node_of}
 use Rattle.cd_resolve.specs.Named.{numbered, type_named, IsNamed, AreNamed}

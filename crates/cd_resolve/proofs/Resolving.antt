@@ -3,17 +3,14 @@ use Rattle.std.proofs.Common.{◌≡◌, ℕ, zero, suc, ◌+◌, ◌<◌, ◌�
 use Rattle.std.proofs.lemmas.List.{append_assoc, length-append}
 use Rattle.std.proofs.lemmas.Option.{slice_get_within}
 use Rattle.cd_sets.specs.declared.node_id.NodeId.{NodeId}
-use Rattle.cd_model.specs.Thing.{Thing, IsElement, IsValue}
 use Rattle.cd_syntax.specs.Name.{Name}
 use Rattle.cd_syntax.specs.TypeTree.{Tree, tree, Kind, Named, Declarations}
 use Rattle.cd_model.specs.BuiltIns.{built_ins, node}
 use Rattle.cd_model.specs.Each.{One}
 use Rattle.cd_model.specs.Formula.{Graph, IsGraph, formula_at}
-use Rattle.cd_model.specs.Membership as node_level
 use Rattle.cd_model.specs.Scope.{Declared, names_in, names_over, names_seen}
-use Rattle.cd_model.specs.Interfaces.{Interfaces}
-use Rattle.cd_model.specs.Written as written
-use Rattle.cd_model.specs.Written.{Written, StandsFor, kind_of}
+use Rattle.cd_model.specs.StandsFor.{StandsFor}
+use Rattle.cd_model.specs.Written.{Written, kind_of}
 use Rattle.cd_names.specs.Faults.{Fault, IsFault, IsFaultOfList}
 use Rattle.cd_names.proofs.GuardedNames.{names_are_guarded}
 use Rattle.cd_shapes.specs.declared.place.Place.{Place}
@@ -28,13 +25,12 @@ use Rattle.cd_resolve.specs.Links.{links}
 use Rattle.cd_resolve.specs.Free.{free_names}
 use Rattle.cd_resolve.specs.Named.{numbered, type_named, AreNamed, AreKnown}
 use Rattle.cd_resolve.proofs.FreeNames.{Uses, every_name, one_name, each_name, uses_tree}
-use Rattle.cd_resolve.proofs.Agree.{AgreesAtNames}
-use Rattle.cd_resolve.proofs.Given.{given_elements, given_values}
 use Rattle.cd_resolve.proofs.Guards.{list_is_guarded}
+use Rattle.cd_resolve.proofs.KnownNames.{given_names}
 use Rattle.cd_resolve.proofs.LinksEnd.{ends}
 use Rattle.cd_resolve.proofs.NamesFound.{IsInside, IsOutside, found}
 use Rattle.cd_resolve.proofs.Numbered.{all_named}
-use Rattle.cd_resolve.proofs.Standing.{Fact, stands}
+use Rattle.cd_resolve.proofs.Standing.{stands}
 
 -- a place is within counts that are the same
 pub place_counted : (nodes names shapes nodes' names' shapes' : ℕ) (at : Place) → nodes ≡ nodes' → names ≡ names' → shapes ≡ shapes'
@@ -100,7 +96,7 @@ module _ (declarations : Declarations) (none : (fault : Fault) → IsFaultOfList
       by_place (inr outside) = absurd cc (sym place_is ∙ outside.at)
 
   pub declarations_stand : (graph batch : Graph) → length graph ≡ first → (rest : Graph) × (graph ≡ built_ins ++ rest)
-      → 14 ≤ first → size_of tables ≤ length batch → ((more : Graph) → Closes (graph ++ batch ++ more) first tables)
+      → 14 ≤ first → size_of tables ≤ length batch → Closes (graph ++ batch) first tables
       → AreNamed (graph ++ batch) declarations (numbered first declarations)
   declarations_stand graph batch long begins enough size closes =
       all_named (graph ++ batch) declarations first each
@@ -122,7 +118,7 @@ module _ (declarations : Declarations) (none : (fault : Fault) → IsFaultOfList
           (sym (ap (λ index. declared_or 0 index (given None)) at)) (list_is_guarded declarations none)
           (λ name. Unit {0}) all_used (graph ++ batch) begun
           (among_more (node_is_there 14 first tables (place.Declared 0 index) enough (has_root name index at)) total)
-          closes (λ more is element name used. refl) (λ more is value name used. refl)
+          closes (λ name used. refl)
 
       each : (name : Name) (index : ℕ) → index_in declarations name ≡ Some index
           → StandsFor (graph ++ batch) (node (first + index)) (type_named declarations name)
@@ -165,13 +161,13 @@ module _ (declarations : Declarations) (none : (fault : Fault) → IsFaultOfList
       (names_are_guarded declarations none is none_inside)
 
   pub type_stands : (batch : Graph) → size_of tables ≤ length batch
-      → ((more : Graph) → Closes (old ++ batch ++ more) (length old) tables)
+      → Closes (old ++ batch) (length old) tables
       → StandsFor (old ++ batch) (node_at (length old) (length tables.roots) root)
       (record { scope = declarations ∷ []; tree = is })
   type_stands batch size closes = stands (length old) names lists tables (declarations ∷ []) [] is root read.roots tt shaped
       (names_are_guarded declarations none is none_inside) IsUsed uses (old ++ batch) begun
       (among_more (node_is_there (length old) (length old) tables root (omega arith) there) total)
-      closes old_elements old_values
+      closes (given_names old sound declarations (list_is_guarded declarations none) names IsUsed is_known count fits batch)
     where
       begun : (rest : Graph) × (old ++ batch ≡ built_ins ++ rest)
       begun = (begins.0 ++ batch, ap (λ graph. graph ++ batch) begins.1 ∙ append_assoc built_ins begins.0 batch)
@@ -179,33 +175,13 @@ module _ (declarations : Declarations) (none : (fault : Fault) → IsFaultOfList
       total : length old + size_of tables ≤ length (old ++ batch)
       total = omega (arith, length-append old batch)
 
-      TheFact : Declared → Type 0
-      TheFact = Fact (length old) names lists tables (declarations ∷ []) [] is root read.roots tt shaped
-
-      old_elements : (more : Graph) (e : Thing) → IsElement e
-          → AgreesAtNames (old ++ batch ++ more) (length old) names lists tables (declarations ∷ []) TheFact IsUsed count
-          (node_level.reader (old ++ batch ++ more) e) (written.reader count e)
-      old_elements more e element = subst (λ graph. AgreesAtNames graph (length old) names lists tables (declarations ∷ [])
-          TheFact IsUsed count (node_level.reader graph e) (written.reader count e)) (sym (append_assoc old batch more))
-          (given_elements old sound declarations (list_is_guarded declarations none) names IsUsed is_known count fits
-          (length old) lists tables TheFact (batch ++ more) e element)
-
-      old_values : (more : Graph) (interfaces : Interfaces) (v : Thing) → IsValue (length (old ++ batch ++ more)) v
-          → AgreesAtNames (old ++ batch ++ more) (length old) names lists tables (declarations ∷ []) TheFact IsUsed count
-          (node_level.value_reader (old ++ batch ++ more) v) (written.value_reader (old ++ batch ++ more) count v)
-      old_values more v value = subst (λ graph. IsValue (length graph) v → AgreesAtNames graph (length old) names lists tables
-          (declarations ∷ []) TheFact IsUsed count (node_level.value_reader graph interfaces v) (written.value_reader graph interfaces count v))
-          (sym (append_assoc old batch more))
-          (given_values old sound declarations (list_is_guarded declarations none) names IsUsed is_known count fits
-          (length old) lists tables TheFact (batch ++ more) v) value
-
   -- where the number of nodes and the root are known by equations
   pub type_stands_at : (first : ℕ) → first ≡ length old → (batch : Graph) → size_of tables ≤ length batch
-      → ((more : Graph) → Closes (old ++ batch ++ more) first tables)
+      → Closes (old ++ batch) first tables
       → (id : NodeId) → id ≡ node_at first (length tables.roots) root
       → StandsFor (old ++ batch) id (record { scope = declarations ∷ []; tree = is })
   type_stands_at first same batch size closes id at = subst (λ id. StandsFor (old ++ batch) id the_type) (sym at)
-      (subst (λ first. ((more : Graph) → Closes (old ++ batch ++ more) first tables)
+      (subst (λ first. Closes (old ++ batch) first tables
       → StandsFor (old ++ batch) (node_at first (length tables.roots) root) the_type) (sym same) (type_stands batch size) closes)
     where
       the_type : Written

@@ -29,7 +29,7 @@ mutual
   formula_among_more nodes more larger (formula.Xml tag attributes content) sound = (omega arith, omega arith, omega arith)
   formula_among_more nodes more larger (formula.Record named rest) sound = (
     sound.0,
-    each_follows (λ (field : Name × Field). field.1.node.0 < nodes) (λ (field : Name × Field). field.1.node.0 < more)
+    each_follows (λ (field : Name × Field). field.1.type.0 < nodes) (λ (field : Name × Field). field.1.type.0 < more)
         (λ field small. omega arith) named sound.1,
     omega arith,
   )
@@ -137,7 +137,7 @@ module _ (old : Graph) (counts : Counts) (fit : Fit counts) (total : ℕ)
 
     fields_are : (named : List (Name × FieldPlace))
         → Each (λ (field : Name × FieldPlace). IsPlace counts.nodes counts.names counts.shapes field.1.place) named
-        → Each (λ (field : Name × Field). field.1.node.0 < total)
+        → Each (λ (field : Name × Field). field.1.type.0 < total)
         (map (λ field. (field.0, field_at (node_at counts.before counts.names) field.1)) named)
     fields_are [] are = tt
     fields_are (field ∷ named) are = (node_below field.1.place are.0, fields_are named are.1)

@@ -34,7 +34,7 @@ signed false is = formula.Not is
 
 -- the formula of a shape, where each place has this node, and each part of a connective this formula
 abbrev pub field_at : (Place → NodeId) → FieldPlace → Field
-field_at node_of field = record { optional = field.optional; node = node_of field.place }
+field_at node_of field = record { optional = field.optional; type = node_of field.place }
 
 abbrev pub made : (Place → NodeId) → (Place → Formula) → Shape → Formula
 made node_of formula_of (Leaf is) = is

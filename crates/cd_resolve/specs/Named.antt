@@ -7,7 +7,8 @@ use Rattle.cd_model.specs.BuiltIns.{node}
 use Rattle.cd_model.specs.Each.{Each}
 use Rattle.cd_model.specs.Formula.{Graph}
 use Rattle.cd_model.specs.Scope.{tree_in}
-use Rattle.cd_model.specs.Written.{Written, StandsFor}
+use Rattle.cd_model.specs.StandsFor.{StandsFor}
+use Rattle.cd_model.specs.Written.{Written}
 use Rattle.cd_shapes.specs.Names.{node_of}
 
 -- the type that a name writes under a list of declarations

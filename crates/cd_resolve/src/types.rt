@@ -6,7 +6,7 @@ ghost use Rattle.cd_syntax.specs.WellMade.{IsWellMade, AreWellMadeDeclarations};
 ghost use Rattle.cd_model.specs.Each.{Each};
 ghost use Rattle.cd_model.specs.BuiltIns.{built_ins};
 ghost use Rattle.cd_model.specs.Formula.{Graph as PlainGraph, IsFormula};
-ghost use Rattle.cd_model.specs.Written.{StandsFor};
+ghost use Rattle.cd_model.specs.StandsFor.{StandsFor};
 ghost use Rattle.cd_graph.specs.Nodes.{nodes};
 ghost use Rattle.cd_graph.specs.PlainFormula.{plain_list};
 ghost use Rattle.cd_names.specs.Faults.{Fault, IsFault, IsFaultOfList};

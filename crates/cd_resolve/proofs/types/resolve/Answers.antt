@@ -20,5 +20,5 @@ returns-clause-stand c = λ graph long begins. subst
     (declarations_stand (plain_declarations c.args.declared.now) c.requires.sound c.in_ok-tables.ensures.read.0
     (plain_tables c.in_ok-tables.tables) c.in_ok-tables.ensures.read.1 c.args.first
     graph (plain_list c.in_ok-formulas.formulas) long begins c.requires.built_ins c.in_ok-formulas.ensures.number
-    (λ more. c.in_ok-formulas.ensures.closes graph more long
+    (c.in_ok-formulas.ensures.closes graph long
     (subst (λ old. AgreesWith old graph) (sym c.in_ok-new.ensures) (begins_agree built_ins graph begins.0 begins.1))))

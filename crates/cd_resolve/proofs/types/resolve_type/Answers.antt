@@ -45,6 +45,6 @@ returns-clause-stands g c =
     (c.in_ok-tables.ensures.read.1 (g.declared ∷ [])) c.in_ok-tables.ensures.read.2 bounds.1
     c.len-first.result c.len-first.ensures.count
     (plain_list c.in_ok-formulas.formulas) c.in_ok-formulas.ensures.number
-    (λ more. c.in_ok-formulas.ensures.closes (nodes c.args.graph.now) more (sym c.len-first.ensures.count)
+    (c.in_ok-formulas.ensures.closes (nodes c.args.graph.now) (sym c.len-first.ensures.count)
     (itself_agrees (nodes c.args.graph.now)))
     c.node_of-root.result at
