@@ -13,6 +13,7 @@ use Rattle.cd_model.specs.Each.{Each}
 use Rattle.cd_model.specs.Formula.{Graph}
 use Rattle.cd_model.specs.Kinds.{kind_of}
 use Rattle.cd_model.specs.Membership.{answers, reader}
+use Rattle.cd_model.specs.Types.{no_closure}
 use Rattle.cd_rules.specs.Clauses.{Clause, Ints, Chars, Atoms, Pairs, Xmls, Pair, Triple, IsInClause}
 use Rattle.cd_rules.specs.Reduced.{AreApart}
 use Rattle.cd_rules.proofs.Asking.{each_of_map}
@@ -86,12 +87,12 @@ module _ (graph : Graph) where
     no_xml : (xmls : List Triple) → AreXmlsApart graph xmls → (tag attributes content : Thing)
         → IsElement (thing.Xml tag attributes content) → InParts tag attributes content xmls → ⊥
     no_xml xmls (inl apart) tag attributes content is inside = apart tag is.2 (
-      tag_in graph begins tag is.0,
+      tag_in graph begins no_closure tag is.0,
       each_of_map (λ parts. parts.0) (λ id. answers graph tag id true) xmls
           (each_weaker _ (λ parts. answers graph tag parts.0 true) (λ parts all. all.0) xmls inside),
     )
     no_xml xmls (inr (inl apart)) tag attributes content is inside = apart attributes is.3 (
-      attributes_in graph begins attributes is.1,
+      attributes_in graph begins no_closure attributes is.1,
       each_of_map (λ parts. parts.1) (λ id. answers graph attributes id true) xmls
           (each_weaker _ (λ parts. answers graph attributes parts.1 true) (λ parts all. all.1) xmls inside),
     )

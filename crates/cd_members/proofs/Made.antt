@@ -6,9 +6,10 @@ use Rattle.cd_model.specs.Thing.{Thing, IsElement}
 use Rattle.cd_model.specs.Formula.{Graph}
 use Rattle.cd_model.specs.Kinds.{kind_of}
 use Rattle.cd_model.specs.Membership.{reader}
+use Rattle.cd_model.specs.Types.{no_closure}
 use Rattle.cd_rules.specs.Clauses.{Clause, Pairs, Xmls, Records, Arrows, IsInClause}
 use Rattle.cd_rules.specs.Needs.{arrow_way, splits}
-use Rattle.cd_rules.proofs.RowsOfThings.{elements_exact}
+use Rattle.cd_rules.proofs.RowsOfThings.{record_exact}
 use Rattle.cd_elements.specs.declared.shape.ElementId.{ElementId}
 use Rattle.cd_expand.specs.declared.needs.Needs.{Needs}
 use Rattle.cd_expand.specs.declared.needs.Needs.TheVariants.{Pair, Xml, Function, Record}
@@ -53,7 +54,7 @@ made_is_in graph table questions marks are (Function needs) (Arrows wanted refus
 made_is_in graph table questions marks are (Record rows) (Records wanted refused) names is element_is made = by_kind is made
   where
     by_kind : (is : Thing) → IsMade table marks (Record rows) is → Is graph is (Records wanted refused)
-    by_kind (thing.Record fields) made = (elements_exact graph wanted refused fields).1
+    by_kind (thing.Record fields) made = (record_exact graph no_closure wanted refused fields).1
         (record_made graph table questions marks are fields wanted refused rows.items names made)
     by_kind _ made = absurd made
 made_is_in graph table questions marks are _ _ names is element_is made = absurd names

@@ -34,7 +34,7 @@ module _ (graph : Graph) (wanted refused : List Pair) (one : Pair) (pairs : thin
       let outside = map_of_each (λ (parts : Pair). parts.0) (λ id. answers graph from id false) given of_from.1 in
       let inside = map_of_each (λ (parts : Pair). parts.1) (λ id. answers graph to id true) (first ∷ others) of_to.0 in
       with_maps graph wanted refused one pairs rest from to from_is to_is of_from.0.0 of_to.1.0
-      (splits_back (ArgumentIsOutside graph from) (ResultIsInside graph to) wanted (given, first ∷ others) is
+      (splits_back (ArgumentIsOutside (answers graph from)) (ResultIsInside (answers graph to)) wanted (given, first ∷ others) is
       outside inside)
 
   -- and one that also fails at an element of the only question of a way
@@ -46,11 +46,11 @@ module _ (graph : Graph) (wanted refused : List Pair) (one : Pair) (pairs : thin
   more_fails from from_is given [] is has =
       let of_from = each_of_asked (answers graph from) (one.0 ∷ []) (map (λ parts. parts.0) given) has.0 in
       let outside = map_of_each (λ (parts : Pair). parts.0) (λ id. answers graph from id false) given of_from.1 in
-      let right = splits_back (ArgumentIsOutside graph from) (λ parts. ⊥) wanted (given, []) is outside tt in
+      let right = splits_back (ArgumentIsOutside (answers graph from)) (λ parts. ⊥) wanted (given, []) is outside tt in
       with_fails graph wanted refused one pairs rest from from_is of_from.0.0
-      (each_weaker (λ parts. ArgumentIsOutside graph from parts ⊎ ⊥) (ArgumentIsOutside graph from) only wanted right)
+      (each_weaker (λ parts. ArgumentIsOutside (answers graph from) parts ⊎ ⊥) (ArgumentIsOutside (answers graph from)) only wanted right)
     where
-      only : (parts : Pair) → ArgumentIsOutside graph from parts ⊎ ⊥ → ArgumentIsOutside graph from parts
+      only : (parts : Pair) → ArgumentIsOutside (answers graph from) parts ⊎ ⊥ → ArgumentIsOutside (answers graph from) parts
       only parts (inl out) = out
       only parts (inr no_way) = absurd no_way
 

@@ -14,7 +14,7 @@ use Rattle.cd_rules.specs.Needs.{question}
 use Rattle.cd_rules.specs.Rows as rows
 use Rattle.cd_rules.specs.Rows.{Reasons, labels_of, reasons_of, types_elsewhere, row_of, rows_of}
 use Rattle.cd_rules.specs.InRow as rule
-use Rattle.cd_rules.specs.InRow.{element_at, HasElsewhere, IsInRow}
+use Rattle.cd_rules.specs.InRow.{thing_at, HasElsewhere, IsInRow}
 use Rattle.cd_rules.proofs.Answered.{each_of_asked}
 use Rattle.cd_rules.proofs.Asking.{asked_of_each, each_of_map}
 use Rattle.cd_rules.proofs.Ones.{one_leads, one_with_each, each_of_all}
@@ -68,11 +68,11 @@ module _ (graph : Graph) (table : List Thing) (questions : List Question) (marks
 
   module _ (fields : thing.Fields) where
     cell_made : (cell : Cell) (of : Name × rows.Cell) → NamesCell questions cell of
-        → IsInCell table marks cell (element_at fields cell.label)
-        → rule.IsInCell (answers graph) (element_at fields of.0) of.1
+        → IsInCell table marks cell (thing_at fields cell.label)
+        → rule.IsInCell (answers graph) (thing_at fields of.0) of.1
     cell_made cell of names is =
-        subst (λ (label : Name). rule.IsInCell (answers graph) (element_at fields label) of.1) names.0
-        (cell_has cell of names (element_at fields cell.label) is)
+        subst (λ (label : Name). rule.IsInCell (answers graph) (thing_at fields label) of.1) names.0
+        (cell_has cell of names (thing_at fields cell.label) is)
 
     module _ (row : Row) (of : rows.Row) (names : NamesRow questions row of) where
       -- a label of no cell of the one row is of no cell of the other
@@ -86,7 +86,7 @@ module _ (graph : Graph) (table : List Thing) (questions : List Question) (marks
 
       -- an element of a question that stands at a label
       abbrev HasThere : Name → Question → Type 0
-      HasThere label of_question = (is : Thing) × Has graph of_question is × (element_at fields label ≡ Some is)
+      HasThere label of_question = (is : Thing) × Has graph of_question is × (thing_at fields label ≡ Some is)
 
       there : (label : Name) (id : QuestionId) (question : Question) → IsNumber questions id question
           → HasAt table marks fields label id → HasThere label question
@@ -96,7 +96,7 @@ module _ (graph : Graph) (table : List Thing) (questions : List Question) (marks
       -- for each of the other questions the record has an element at a label of no cell
       elsewhere : (id : QuestionId) (question : Question) → IsNumber questions id question
           → (label : Name) × IsOfNoCell table marks row.cells.items label × HasAt table marks fields label id
-          → HasElsewhere (answers graph) (element_at fields) of question
+          → HasElsewhere (answers graph) (thing_at fields) of question
       elsewhere id of_question number (label, none, at) =
           let is = there label id of_question number at in (
             label,
@@ -107,8 +107,8 @@ module _ (graph : Graph) (table : List Thing) (questions : List Question) (marks
 
       -- and at such a label it has nothing or one of these elements
       every : IsEverywhere graph of → (label : Name)
-          → (element_at fields label ≡ None) ⊎ One (HasAt table marks fields label) row.some.items
-          → rule.IsInCell (answers graph) (element_at fields label) (record { absent = true; value = of.every })
+          → (thing_at fields label ≡ None) ⊎ One (HasAt table marks fields label) row.some.items
+          → rule.IsInCell (answers graph) (thing_at fields label) (record { absent = true; value = of.every })
       every everywhere label (inl none) = subst (λ (what : Option Thing).
           rule.IsInCell (answers graph) what (record { absent = true; value = of.every })) (sym none) refl
       every everywhere label (inr one) = one_leads
@@ -120,30 +120,30 @@ module _ (graph : Graph) (table : List Thing) (questions : List Question) (marks
         where
           by_question : (question : Question)
               → HasThere label question × ((is : Thing) → Has graph question is → Has graph of.every is)
-              → rule.IsInCell (answers graph) (element_at fields label) (record { absent = true; value = of.every })
+              → rule.IsInCell (answers graph) (thing_at fields label) (record { absent = true; value = of.every })
           by_question of_question (is, leads) = subst (λ (what : Option Thing).
               rule.IsInCell (answers graph) what (record { absent = true; value = of.every })) (sym is.2) (leads is.0 is.1)
 
       -- so the record is in the row
       row_made : IsEverywhere graph of → IsOfRow table marks row fields
-          → IsInRow (answers graph) (element_at fields) of
+          → IsInRow (answers graph) (thing_at fields) of
       row_made everywhere is = (
-        along_each (NamesCell questions) (λ cell. IsInCell table marks cell (element_at fields cell.label))
-            (λ cell. rule.IsInCell (answers graph) (element_at fields cell.0) cell.1) cell_made
+        along_each (NamesCell questions) (λ cell. IsInCell table marks cell (thing_at fields cell.label))
+            (λ cell. rule.IsInCell (answers graph) (thing_at fields cell.0) cell.1) cell_made
             row.cells.items of.cells names.0 is.cells,
         λ label none. every everywhere label (is.others label (none_of_names label none)),
         along_each (IsNumber questions)
             (λ id. (label : Name) × IsOfNoCell table marks row.cells.items label × HasAt table marks fields label id)
-            (HasElsewhere (answers graph) (element_at fields) of) elsewhere row.some.items of.some names.1 is.some,
+            (HasElsewhere (answers graph) (thing_at fields) of) elsewhere row.some.items of.some names.1 is.some,
       )
 
     -- a record of one of the rows of the code is in one of the clause's rows
     pub record_made : (wanted refused : List RecordType) (all : List Row)
         → Along (NamesRow questions) all (rows_of wanted refused)
         → One (λ row. IsOfRow table marks row fields) all
-        → One (IsInRow (answers graph) (element_at fields)) (rows_of wanted refused)
+        → One (IsInRow (answers graph) (thing_at fields)) (rows_of wanted refused)
     record_made wanted refused all names = along_one (λ row of. NamesRow questions row of × IsEverywhere graph of)
-        (λ row. IsOfRow table marks row fields) (IsInRow (answers graph) (element_at fields))
+        (λ row. IsOfRow table marks row fields) (IsInRow (answers graph) (thing_at fields))
         (λ row of both is. row_made row of both.0 both.1 is) all (rows_of wanted refused)
         (along_with (NamesRow questions) (IsEverywhere graph) all (rows_of wanted refused) names
         (all_everywhere graph wanted refused))

@@ -15,7 +15,7 @@ use Rattle.cd_elements.specs.declared.shape.ElementId.{ElementId}
 use Rattle.cd_elements.specs.Parts.{AreRisingLabels}
 use Rattle.cd_elements.specs.Table as table
 use Rattle.cd_elements.specs.Table.{fields_of}
-use Rattle.cd_rules.specs.InRow.{element_at}
+use Rattle.cd_rules.specs.InRow.{thing_at}
 use Rattle.cd_rules.proofs.MembersFields as members
 use Rattle.cd_rules.proofs.MembersFields.{found, found_there, found_elsewhere}
 use Rattle.cd_members.specs.Shapes.{put}
@@ -36,7 +36,7 @@ is_above : (label name : Name) → slice_cmp nat_cmp label name ≡ Greater → 
 is_above label name greater = nat_list_cmp_total.antisymm name label ∙ ap ordering_reverse greater
 
 -- what fields have at a label, in two words
-found_is : (fields : Fields) (label : Name) → element_at fields label ≡ found fields label
+found_is : (fields : Fields) (label : Name) → thing_at fields label ≡ found fields label
 found_is NoField label = refl
 found_is (Field name is rest) label =
     ap (λ (later : Option Thing). if bytes_eq name label then Some is else later) (found_is rest label)
@@ -92,18 +92,18 @@ module _ (elements : List Thing) where
 
   -- what some fields have at a label
   abbrev pub at : List (Name × ElementId) → Name → Option Thing
-  at parts label = element_at (fields_of elements parts) label
+  at parts label = thing_at (fields_of elements parts) label
 
   module _ (label : Name) (id : ElementId) (parts : List (Name × ElementId)) where
     -- they have the element there
     pub at_there : at (put label id parts) label ≡ Some (table.element_at elements id)
-    at_there = ap (λ (fields : Fields). element_at fields label) (put_is label id parts)
+    at_there = ap (λ (fields : Fields). thing_at fields label) (put_is label id parts)
         ∙ found_is (members.put label (table.element_at elements id) (fields_of elements parts)) label
         ∙ found_there label (table.element_at elements id) (fields_of elements parts)
 
     -- and at another label what they had
     pub at_elsewhere : (other : Name) → (label ≡ other → ⊥) → at (put label id parts) other ≡ at parts other
-    at_elsewhere other differ = ap (λ (fields : Fields). element_at fields other) (put_is label id parts)
+    at_elsewhere other differ = ap (λ (fields : Fields). thing_at fields other) (put_is label id parts)
         ∙ found_is (members.put label (table.element_at elements id) (fields_of elements parts)) other
         ∙ found_elsewhere label (table.element_at elements id) (fields_of elements parts) other (names_differ label other differ)
         ∙ sym (found_is (fields_of elements parts) other)

@@ -6,7 +6,7 @@ use Rattle.cd_model.specs.Thing.{Thing, IsAtom, IsRecord}
 use Rattle.cd_model.specs.Each.{Each, One}
 use Rattle.cd_asked.specs.declared.asked.QuestionId.{QuestionId}
 use Rattle.cd_elements.specs.declared.shape.ElementId.{ElementId}
-use Rattle.cd_rules.specs.InRow.{element_at}
+use Rattle.cd_rules.specs.InRow.{thing_at}
 use Rattle.cd_expand.specs.Named.{Along}
 use Rattle.cd_expand.specs.declared.needs.Cell.{Cell}
 use Rattle.cd_expand.specs.declared.needs.Row.{Row}
@@ -46,15 +46,15 @@ module _ (table : List Thing) (marks : List (Option ElementId)) where
 
   -- a record has the element of a question at this label
   abbrev pub HasAt : thing.Fields → Name → QuestionId → Type 0
-  HasAt fields label id = (is : Thing) × (marked table marks id ≡ Some is) × (element_at fields label ≡ Some is)
+  HasAt fields label id = (is : Thing) × (marked table marks id ≡ Some is) × (thing_at fields label ≡ Some is)
 
   -- A record is of a row where it is so at each cell's label; where it has, for each of the other questions, its element at a label of no
   -- cell; and where it has nothing else
   pub record IsOfRow (row : Row) (fields : thing.Fields) : Type 0 where
-    pub cells : Each (λ cell. IsInCell cell (element_at fields cell.label)) row.cells.items
+    pub cells : Each (λ cell. IsInCell cell (thing_at fields cell.label)) row.cells.items
     pub some : Each (λ id. (label : Name) × IsOfNoCell row.cells.items label × HasAt fields label id) row.some.items
     pub others : (label : Name) → IsOfNoCell row.cells.items label
-        → (element_at fields label ≡ None) ⊎ One (HasAt fields label) row.some.items
+        → (thing_at fields label ≡ None) ⊎ One (HasAt fields label) row.some.items
 
   -- an element is made of the elements that questions of its needs are marked with
   abbrev pub IsMade : Needs → Thing → Type 0

@@ -6,8 +6,8 @@ use Rattle.cd_syntax.specs.Name.{Name}
 use Rattle.cd_syntax.specs.declared.builtin.BuiltinName.TheVariants as builtin
 use Rattle.cd_model.specs.BuiltIns.{built_ins, node_named, NIL}
 use Rattle.cd_model.specs.Formula.{Graph, nodes}
-use Rattle.cd_model.specs.Kinds.{kind_of, IsByte, IsBool, IsNil, IsString, IsSound, AreSound, AnInteger, ACharacter, AnAtom, APair, AnXml, ARecord, AFunction}
-use Rattle.cd_model.specs.Thing.{Thing, Integer, Character, Atom, Pair, Xml, Record, Function, Closure, Fields, NoField, Field, Pairs, NoPair, Maps, Fails, IsAtom, IsData, AreData, LabelsRise, IsElement, AreFields, IsValue, AreValues}
+use Rattle.cd_model.specs.Kinds.{kind_of, IsByte, IsBool, IsNil, IsString, IsSound, AreSound, ArePairsSound, AnInteger, ACharacter, AnAtom, APair, AnXml, ARecord, AFunction}
+use Rattle.cd_model.specs.Thing.{Thing, Integer, Character, Atom, Pair, Xml, Record, Function, Closure, Fields, NoField, Field, Pairs, NoPair, Maps, Fails, IsAtom, IsData, AreData, LabelsRise, IsElement, AreFields, ArePairs, IsValue, AreValues}
 use Rattle.cd_model.specs.Types.{Mapping, Admits, labelled, mapping, answers, no_closure, closure_maps}
 use Rattle.cd_model.proofs.EachLabel.{at_each_label}
 use Rattle.cd_model.proofs.RisingLabels.{nothing_more}
@@ -20,25 +20,45 @@ mutual
   pub elements_are_sound : (is : Thing) → IsElement is → IsSound is
   elements_are_sound (Integer n) sound = sound
   elements_are_sound (Character c) sound = sound
+  elements_are_sound (Atom name) sound = sound
   elements_are_sound (Pair first second) sound = (elements_are_sound first sound.0, elements_are_sound second sound.1)
-  elements_are_sound (Xml tag attributes content) sound =
-      (sound.0, elements_are_sound attributes sound.3, elements_are_sound content sound.4)
+  elements_are_sound (Xml tag attributes content) sound = (
+    sound.0,
+    sound.1,
+    elements_are_sound tag sound.2,
+    elements_are_sound attributes sound.3,
+    elements_are_sound content sound.4,
+  )
   elements_are_sound (Record fields) sound = (sound.0, element_fields fields sound.1)
-  elements_are_sound _ sound = tt
+  elements_are_sound (Function pairs) sound = element_pairs pairs sound
+  elements_are_sound (Closure function environment) sound = absurd sound
 
   element_fields : (fields : Fields) → AreFields fields → AreSound fields
   element_fields NoField sound = tt
   element_fields (Field label value rest) sound = (elements_are_sound value sound.1, element_fields rest sound.2)
 
+  element_pairs : (pairs : Pairs) → ArePairs pairs → ArePairsSound pairs
+  element_pairs NoPair sound = tt
+  element_pairs (Maps argument result rest) sound =
+      (elements_are_sound argument sound.0, elements_are_sound result sound.1, element_pairs rest sound.2)
+  element_pairs (Fails argument rest) sound = (elements_are_sound argument sound.0, element_pairs rest sound.1)
+
 mutual
   pub values_are_sound : (is : Thing) → IsValue is → IsSound is
   values_are_sound (Integer n) sound = sound
   values_are_sound (Character c) sound = sound
+  values_are_sound (Atom name) sound = sound
   values_are_sound (Pair first second) sound = (values_are_sound first sound.0, values_are_sound second sound.1)
-  values_are_sound (Xml tag attributes content) sound =
-      (sound.0, values_are_sound attributes sound.3, values_are_sound content sound.4)
+  values_are_sound (Xml tag attributes content) sound = (
+    sound.0,
+    sound.1,
+    values_are_sound tag sound.2,
+    values_are_sound attributes sound.3,
+    values_are_sound content sound.4,
+  )
   values_are_sound (Record fields) sound = (sound.0, value_fields fields sound.1)
-  values_are_sound _ sound = tt
+  values_are_sound (Function pairs) sound = absurd sound
+  values_are_sound (Closure function environment) sound = tt
 
   value_fields : (fields : Fields) → AreValues fields → AreSound fields
   value_fields NoField sound = tt
@@ -130,7 +150,7 @@ module _ (more : Graph) (closed : ℕ → Mapping NodeId) where
         (answers (nodes graph) closed first) (answers (nodes graph) closed second) (data_are first sound.0) (data_are second sound.1)
     data_are (Xml tag attributes content) sound =
         xml_in_data (answers (nodes graph) closed tag) (answers (nodes graph) closed attributes) (answers (nodes graph) closed content)
-        (tag_is tag sound.0) (data_are attributes sound.1) (data_are content sound.2)
+        (tag_is tag sound.0) (data_are attributes sound.3) (data_are content sound.4)
     data_are (Record fields) sound =
         record_in_data (labelled (nodes graph) closed fields) (fields_are fields None sound.0 sound.1)
     data_are (Function pairs) sound = function_in_data (mapping (nodes graph) closed pairs)

@@ -2,7 +2,8 @@
 use Rattle.std.specs.Prelude.{◌≡◌, ◌<◌, ◌⊎◌, codes, None}
 use Rattle.cd_syntax.specs.Integer.{IsInteger}
 use Rattle.std.specs.Char.{IsScalar}
-use Rattle.cd_model.specs.Thing.{Thing, Integer, Character, Atom, Pair, Xml, Record, Function, Closure, Fields, NoField, Field, IsAtom, LabelsRise}
+use Rattle.cd_syntax.specs.Name.{IsLabel}
+use Rattle.cd_model.specs.Thing.{Thing, Integer, Character, Atom, Pair, Xml, Record, Function, Closure, Fields, NoField, Field, Pairs, NoPair, Maps, Fails, IsAtom, IsRecord, LabelsRise}
 
 pub data Kind : Type 0 where
   AnInteger : Kind
@@ -43,16 +44,25 @@ abbrev pub IsString : Thing → Type 0
 IsString (Pair first second) = (kind_of first ≡ ACharacter) × IsString second
 IsString is = IsNil is
 
--- a thing that is sound outside its functions, as elements and values are
+-- a thing that is sound, whatever its closures are, as elements and values are
 abbrev mutual
   pub IsSound : Thing → Type 0
   IsSound (Integer n) = IsInteger n
   IsSound (Character c) = IsScalar c
+  IsSound (Atom name) = IsLabel name
   IsSound (Pair first second) = IsSound first × IsSound second
-  IsSound (Xml tag attributes content) = IsAtom tag × IsSound attributes × IsSound content
+  IsSound (Xml tag attributes content) =
+      IsAtom tag × IsRecord attributes × IsSound tag × IsSound attributes × IsSound content
   IsSound (Record fields) = LabelsRise None fields × AreSound fields
-  IsSound is = Unit {0}
+  IsSound (Function pairs) = ArePairsSound pairs
+  IsSound (Closure function environment) = Unit {0}
 
   pub AreSound : Fields → Type 0
   AreSound NoField = Unit {0}
   AreSound (Field label value rest) = IsSound value × AreSound rest
+
+  pub ArePairsSound : Pairs → Type 0
+  ArePairsSound NoPair = Unit {0}
+  ArePairsSound (Maps argument result rest) =
+      IsSound argument × IsSound result × ArePairsSound rest
+  ArePairsSound (Fails argument rest) = IsSound argument × ArePairsSound rest

@@ -8,19 +8,18 @@ use Rattle.cd_model.specs.Each.{Each}
 use Rattle.cd_model.specs.Formula as formula
 use Rattle.cd_model.specs.Formula.{Formula, Graph}
 use Rattle.cd_sets.specs.declared.node_id.NodeId.{NodeId}
-use Rattle.cd_model.specs.Formula.{nodes, at_formula}
-use Rattle.cd_model.specs.Interfaces.{admits, Interfaces}
+use Rattle.cd_model.specs.Formula.{at_formula}
 use Rattle.cd_model.specs.Types as types
-use Rattle.cd_model.specs.Types.{Items, items_of_atom, atom_at, with_sequences, no_closure, closure_maps}
-use Rattle.cd_model.specs.Membership.{value_answers}
+use Rattle.cd_model.specs.Types.{Items, items_of_atom, atom_at, with_sequences, no_closure}
 use Rattle.cd_model.specs.Kinds.{Kind, AnInteger, ACharacter, AnAtom, APair, AnXml, ARecord, AFunction, kind_of}
 use Rattle.cd_model.specs.Membership as node
 use Rattle.cd_model.specs.Membership.{Reader, Answers, Labelled, Mapping, integer_reader, character_reader, atom_reader}
-use Rattle.cd_model.specs.Membership.{pair_reader, xml_reader, record_reader, function_reader, at_nodes}
+use Rattle.cd_model.specs.Membership.{pair_reader, xml_reader, record_reader, function_reader}
 use Rattle.cd_rules.specs.Choices.{Choice, Meets}
 use Rattle.cd_rules.specs.Clauses.{Clause, Ints, Chars, Atoms, Pairs, Xmls, Records, Arrows, kind_of_formula, AllOf}
 use Rattle.cd_rules.specs.Clauses.{integers_of, characters_of, atoms_of, pair_of, xml_of, record_of, arrow_of}
 use Rattle.cd_rules.specs.Clauses.{one_more, parts_in, IsClauseOf, IsInClause}
+use Rattle.cd_rules.proofs.Things.{reader_of, answers_of, labelled_of, mapping_of}
 
 -- a thing that is in formulas of one kind alone
 abbrev pub IsOfKind : Kind → Reader → Type 0
@@ -218,30 +217,19 @@ kind_of_sequence items read kind of (formula.Record a b) is = of (formula.Record
 kind_of_sequence items read kind of (formula.Arrow a b) is = of (formula.Arrow a b) is
 kind_of_sequence items read kind of _ is = absurd (true≢false is)
 
-module _ (graph : Graph) where
-  -- an element is in formulas of its kind alone
-  pub kind_of_element : (e : Thing) (is : Formula) → node.reader graph e is true → kind_of_formula is ≡ Some (kind_of e)
-  kind_of_element (thing.Integer n) = kind_of_integer n
-  kind_of_element (thing.Character c) = kind_of_character c
-  kind_of_element (thing.Atom name) = kind_of_sequence (items_of_atom name) (atom_at name) AnAtom (kind_of_atom name)
-  kind_of_element (thing.Pair first second) = kind_of_sequence _ _ APair (kind_of_pair (at_nodes graph (node.reader graph first)) (at_nodes graph (node.reader graph second)))
-  kind_of_element (thing.Xml tag attributes content) = kind_of_xml (at_nodes graph (node.reader graph tag))
-      (at_nodes graph (node.reader graph attributes)) (at_nodes graph (node.reader graph content))
-  kind_of_element (thing.Record fields) = kind_of_record (node.labelled graph fields)
-  kind_of_element (thing.Function pairs) = kind_of_function (node.mapping graph pairs)
-  kind_of_element (thing.Closure function environment) = kind_of_function (no_closure function)
+-- a thing is in formulas of its kind alone
+module _ (graph : Graph) (closed : ℕ → Mapping) where
+  pub kind_of_thing : (is : Thing) → IsOfKind (kind_of is) (reader_of graph closed is)
+  kind_of_thing (thing.Integer n) = kind_of_integer n
+  kind_of_thing (thing.Character c) = kind_of_character c
+  kind_of_thing (thing.Atom name) = kind_of_sequence (items_of_atom name) (atom_at name) AnAtom (kind_of_atom name)
+  kind_of_thing (thing.Pair first second) = kind_of_sequence _ _ APair
+      (kind_of_pair (answers_of graph closed first) (answers_of graph closed second))
+  kind_of_thing (thing.Xml tag attributes content) = kind_of_xml
+      (answers_of graph closed tag) (answers_of graph closed attributes) (answers_of graph closed content)
+  kind_of_thing (thing.Record fields) = kind_of_record (labelled_of graph closed fields)
+  kind_of_thing (thing.Function pairs) = kind_of_function (mapping_of graph closed pairs)
+  kind_of_thing (thing.Closure function environment) = kind_of_function (closed function)
 
-  -- and so is a value
-  pub kind_of_read : (interfaces : Interfaces) (v : Thing) (is : Formula)
-      → node.value_reader graph interfaces v is true → kind_of_formula is ≡ Some (kind_of v)
-  kind_of_read interfaces (thing.Integer n) = kind_of_integer n
-  kind_of_read interfaces (thing.Character c) = kind_of_character c
-  kind_of_read interfaces (thing.Atom name) = kind_of_sequence (items_of_atom name) (atom_at name) AnAtom (kind_of_atom name)
-  kind_of_read interfaces (thing.Pair first second) = kind_of_sequence _ _ APair
-      (kind_of_pair (value_answers graph interfaces first) (value_answers graph interfaces second))
-  kind_of_read interfaces (thing.Xml tag attributes content) = kind_of_xml (value_answers graph interfaces tag)
-      (value_answers graph interfaces attributes) (value_answers graph interfaces content)
-  kind_of_read interfaces (thing.Record fields) = kind_of_record (node.value_labelled graph interfaces fields)
-  kind_of_read interfaces (thing.Function pairs) = kind_of_function (types.mapping (nodes graph) (closure_maps (nodes graph) (admits interfaces)) pairs)
-  kind_of_read interfaces (thing.Closure function environment) =
-      kind_of_function (node.closure_mapping graph interfaces function)
+pub kind_of_element : (graph : Graph) (is : Thing) → IsOfKind (kind_of is) (node.reader graph is)
+kind_of_element graph = kind_of_thing graph no_closure

@@ -1,17 +1,19 @@
 -- A thing is in a question just where it is in one of its clauses.
-use Rattle.std.proofs.Common.{true, List, [], ◌∷◌, inl, inr, ◌↔◌}
+use Rattle.std.proofs.Common.{ℕ, true, List, [], ◌∷◌, inl, inr, ◌↔◌}
 use Rattle.cd_sets.specs.declared.question.Question.{Question}
 use Rattle.cd_model.specs.Each.{One}
 use Rattle.cd_model.specs.Formula.{Graph}
-use Rattle.cd_model.specs.Kinds.{Kind}
-use Rattle.cd_model.specs.Membership.{Reader, at_nodes, asked}
+use Rattle.cd_model.specs.Kinds.{Kind, kind_of}
+use Rattle.cd_model.specs.Membership.{Reader, Mapping, at_nodes, asked}
+use Rattle.cd_model.specs.Thing.{Thing}
 use Rattle.cd_rules.specs.Choices.{Choice, Meets, choices_of}
 use Rattle.cd_rules.specs.Clauses.{Clause, IsClauseOf, IsClauseOfQuestion, IsInClause}
 use Rattle.cd_rules.proofs.ChoicesExact.{question_exact}
 use Rattle.cd_rules.proofs.ClauseBack.{clause_back}
-use Rattle.cd_rules.proofs.ClauseOf.{IsOfKind, in_clause}
-use Rattle.cd_rules.proofs.Elsewhere.{IsElsewhere}
+use Rattle.cd_rules.proofs.ClauseOf.{IsOfKind, in_clause, kind_of_thing}
+use Rattle.cd_rules.proofs.Elsewhere.{IsElsewhere, thing_is_elsewhere}
 use Rattle.cd_rules.proofs.Ones.{one_weaker}
+use Rattle.cd_rules.proofs.Things.{reader_of, answers_of}
 
 module _ (kind : Kind) (reader : Reader) where
   -- a clause of one of some choices, and the thing is in it
@@ -39,3 +41,10 @@ module _ (kind : Kind) (reader : Reader) where
     λ asking. clause_of_one of_kind (choices_of graph question) ((question_exact reader graph question).0 asking),
     λ is. (question_exact reader graph question).1 (one_of_clause elsewhere (choices_of graph question) is),
   )
+
+-- a thing is in a question just where it is in one of the question's clauses
+pub thing_exact : (graph : Graph) (closed : ℕ → Mapping) (question : Question) (is : Thing)
+    → asked (answers_of graph closed is) question true
+    ↔ ((clause : Clause) × IsClauseOfQuestion graph question clause × IsInClause (kind_of is) (reader_of graph closed is) clause)
+thing_exact graph closed question is = clauses_exact (kind_of is) (reader_of graph closed is)
+    (kind_of_thing graph closed is) (thing_is_elsewhere graph closed is) graph question

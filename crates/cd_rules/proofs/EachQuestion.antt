@@ -7,9 +7,9 @@ use Rattle.cd_model.specs.BuiltIns.{built_ins}
 use Rattle.cd_model.specs.Each.{Each, One}
 use Rattle.cd_model.specs.Formula.{Graph, IsGraph}
 use Rattle.cd_model.specs.Interfaces.{Interfaces}
-use Rattle.cd_model.specs.Kinds.{kind_of}
 use Rattle.cd_model.specs.Membership.{asked, answers, reader, value_answers, value_reader}
 use Rattle.cd_model.specs.Thing.{Thing, IsValue}
+use Rattle.cd_model.specs.Types.{no_closure}
 use Rattle.cd_rules.specs.Choices.{choices_of}
 use Rattle.cd_rules.specs.Clauses.{Clause, Ints, Chars, Atoms, Pairs, Xmls, Records, Arrows, IsClauseOfQuestion}
 use Rattle.cd_rules.specs.Family.{IsOfFamily, IsCovered, Breaks, IsClosed, AsksNodes}
@@ -20,10 +20,8 @@ use Rattle.cd_rules.specs.Settled.{IsSettled, AreSettled, HasSettledRow, IsSettl
 use Rattle.cd_rules.proofs.Among.{set_among}
 use Rattle.cd_rules.proofs.Answered.{each_of_asked}
 use Rattle.cd_rules.proofs.Asking.{each_of_set}
-use Rattle.cd_rules.proofs.ClauseOf.{kind_of_element}
-use Rattle.cd_rules.proofs.ClausesExact.{clauses_exact}
+use Rattle.cd_rules.proofs.ClausesExact.{thing_exact}
 use Rattle.cd_rules.proofs.Covering.{covers_own, covers_more}
-use Rattle.cd_rules.proofs.Elsewhere.{is_elsewhere}
 use Rattle.cd_rules.proofs.MembersOfClauses.{supplied_has}
 use Rattle.cd_rules.proofs.NoMember.{element_out, value_out}
 use Rattle.cd_rules.proofs.NumbersBeyond.{has_built_ins, named, of_nodes, asks_nodes, asked_there, asked_back}
@@ -133,8 +131,7 @@ module _ (graph more : Graph) (begins : graph ≡ built_ins ++ more) (sound : Is
             inr (
               is,
               member.1,
-              (clauses_exact (kind_of is) (reader graph is) (kind_of_element graph is) (is_elsewhere graph is) graph one).1
-                  (clause, supplied.1, member.2),
+              (thing_exact graph no_closure one is).1 (clause, supplied.1, member.2),
             )
 
   -- a family without one of its questions, which has an element

@@ -6,15 +6,15 @@ use Rattle.cd_model.specs.Thing.{Thing}
 use Rattle.cd_model.specs.Formula as formula
 use Rattle.cd_model.specs.Formula.{Formula, Graph}
 use Rattle.cd_sets.specs.declared.node_id.NodeId.{NodeId}
-use Rattle.cd_model.specs.Formula.{nodes, at_formula}
-use Rattle.cd_model.specs.Interfaces.{admits, Interfaces}
+use Rattle.cd_model.specs.Formula.{at_formula}
 use Rattle.cd_model.specs.Types as types
-use Rattle.cd_model.specs.Types.{Items, with_sequences}
+use Rattle.cd_model.specs.Types.{Items, items_of_atom, atom_at, with_sequences, no_closure}
 use Rattle.cd_model.specs.Kinds.{Kind, AnInteger, ACharacter, AnAtom, APair, AnXml, ARecord, AFunction, kind_of}
 use Rattle.cd_model.specs.Membership as node
 use Rattle.cd_model.specs.Membership.{Reader, Answers, Labelled, Mapping, integer_reader, character_reader, atom_reader}
-use Rattle.cd_model.specs.Membership.{pair_reader, xml_reader, record_reader, function_reader, at_nodes}
+use Rattle.cd_model.specs.Membership.{pair_reader, xml_reader, record_reader, function_reader}
 use Rattle.cd_rules.specs.Clauses.{kind_of_formula}
+use Rattle.cd_rules.proofs.Things.{reader_of, answers_of, labelled_of, mapping_of}
 
 -- a formula that is not of this kind
 abbrev pub IsOfOther : Kind → Formula → Type 0
@@ -64,22 +64,19 @@ elsewhere_sequence items read kind out (formula.Record a b) other = out (formula
 elsewhere_sequence items read kind out (formula.Arrow a b) other = out (formula.Arrow a b) other
 elsewhere_sequence items read kind out _ other = refl
 
--- an element, and a value, is outside formulas of other kinds
+-- a thing is outside formulas of other kinds
 module _ (graph : Graph) (closed : ℕ → Mapping) where
-  pub thing_is_elsewhere : (e : Thing) → IsElsewhere (kind_of e) (at_formula (types.reader (nodes graph) closed e))
+  pub thing_is_elsewhere : (is : Thing) → IsElsewhere (kind_of is) (reader_of graph closed is)
   thing_is_elsewhere (thing.Integer n) = elsewhere_integer n
   thing_is_elsewhere (thing.Character c) = elsewhere_character c
-  thing_is_elsewhere (thing.Atom name) = elsewhere_sequence (types.items_of_atom name) (types.atom_at name) AnAtom (elsewhere_atom name)
+  thing_is_elsewhere (thing.Atom name) = elsewhere_sequence (items_of_atom name) (atom_at name) AnAtom (elsewhere_atom name)
   thing_is_elsewhere (thing.Pair first second) = elsewhere_sequence _ _ APair
-      (elsewhere_pair (types.answers (nodes graph) closed first) (types.answers (nodes graph) closed second))
-  thing_is_elsewhere (thing.Xml tag attributes content) = elsewhere_xml (types.answers (nodes graph) closed tag)
-      (types.answers (nodes graph) closed attributes) (types.answers (nodes graph) closed content)
-  thing_is_elsewhere (thing.Record fields) = elsewhere_record (types.labelled (nodes graph) closed fields)
-  thing_is_elsewhere (thing.Function pairs) = elsewhere_function (types.mapping (nodes graph) closed pairs)
+      (elsewhere_pair (answers_of graph closed first) (answers_of graph closed second))
+  thing_is_elsewhere (thing.Xml tag attributes content) = elsewhere_xml
+      (answers_of graph closed tag) (answers_of graph closed attributes) (answers_of graph closed content)
+  thing_is_elsewhere (thing.Record fields) = elsewhere_record (labelled_of graph closed fields)
+  thing_is_elsewhere (thing.Function pairs) = elsewhere_function (mapping_of graph closed pairs)
   thing_is_elsewhere (thing.Closure function environment) = elsewhere_function (closed function)
 
-pub is_elsewhere : (graph : Graph) (e : Thing) → IsElsewhere (kind_of e) (node.reader graph e)
-is_elsewhere graph = thing_is_elsewhere graph types.no_closure
-
-pub value_is_elsewhere : (graph : Graph) (interfaces : Interfaces) (v : Thing) → IsElsewhere (kind_of v) (node.value_reader graph interfaces v)
-value_is_elsewhere graph interfaces = thing_is_elsewhere graph (types.closure_maps (nodes graph) (admits interfaces))
+pub is_elsewhere : (graph : Graph) (is : Thing) → IsElsewhere (kind_of is) (node.reader graph is)
+is_elsewhere graph = thing_is_elsewhere graph no_closure

@@ -1,3 +1,4 @@
+pub mod Things
 pub mod Asking
 pub mod Answered
 pub mod Ones

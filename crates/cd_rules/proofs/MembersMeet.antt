@@ -1,6 +1,5 @@
 -- The needs of a clause that has a member are met: its parts are in the questions of one way of each need, or of a row.
 use Rattle.std.proofs.Common.{◌≡◌, true, false, List, [], ◌∷◌, ◌++◌, map, inr, refl}
-use Rattle.cd_sets.specs.declared.question.Question.{Question}
 use Rattle.cd_model.specs.Thing as thing
 use Rattle.cd_model.specs.Thing.{Thing, IsElement}
 use Rattle.cd_model.specs.BuiltIns.{built_ins}
@@ -8,23 +7,24 @@ use Rattle.cd_model.specs.Each.{Each}
 use Rattle.cd_model.specs.Formula.{Graph}
 use Rattle.cd_model.specs.Kinds.{kind_of}
 use Rattle.cd_model.specs.Membership as node
-use Rattle.cd_model.specs.Membership.{asked, answers, reader}
+use Rattle.cd_model.specs.Membership.{answers, reader}
+use Rattle.cd_model.specs.Types.{no_closure}
 use Rattle.cd_rules.specs.Clauses.{Clause, Ints, Chars, Atoms, Pairs, Xmls, Records, Arrows, Pair, IsInClause}
 use Rattle.cd_rules.specs.Needs.{arrow_way, splits}
 use Rattle.cd_rules.specs.Members.{HasElement, IsMet, IsSupplied}
-use Rattle.cd_rules.proofs.ArrowsForward.{arrows_forward, parts_have}
+use Rattle.cd_rules.proofs.ArrowsForward.{ElementsHave, arrows_forward, parts_have}
 use Rattle.cd_rules.proofs.NoMember.{tag_in, attributes_in}
 use Rattle.cd_rules.proofs.PairsForward.{pairs_forward}
 use Rattle.cd_rules.proofs.RecordsForward.{records_forward}
-use Rattle.cd_rules.proofs.RecordsOfThings.{FieldsHave, elements_have}
+use Rattle.cd_rules.proofs.RecordsOfThings.{FieldsHave, record_has}
 use Rattle.cd_rules.proofs.XmlsForward.{xmls_forward}
 
 module _ (graph : Graph) (begins : (more : Graph) × (graph ≡ built_ins ++ more)) where
   -- what an element is asked has an element
-  asked_has : (e : Thing) → IsElement e → (question : Question) → asked (answers graph e) question true → HasElement graph question
+  asked_has : ElementsHave graph (HasElement graph)
   asked_has e is question asking = (e, is, asking)
 
-  fields_have : (fields : thing.Fields) → thing.AreFields fields → FieldsHave graph (HasElement graph) fields
+  fields_have : (fields : thing.Fields) → thing.AreFields fields → FieldsHave graph no_closure (HasElement graph) fields
   fields_have thing.NoField are = tt
   fields_have (thing.Field name is rest) are = (asked_has is are.1, fields_have rest are.2)
 
@@ -35,7 +35,7 @@ module _ (graph : Graph) (begins : (more : Graph) × (graph ≡ built_ins ++ mor
       → Each (IsMet (HasElement graph)) (map (λ one. map (arrow_way one) (splits wanted)) refused)
   arrows_met pairs is wanted [] inside outside = tt
   arrows_met pairs is wanted (one ∷ refused) inside outside = (
-    arrows_forward graph pairs (HasElement graph) (parts_have graph (HasElement graph) asked_has pairs is) wanted one inside outside.0,
+    arrows_forward graph no_closure (HasElement graph) pairs (parts_have graph (HasElement graph) asked_has pairs is) wanted one inside outside.0,
     arrows_met pairs is wanted refused inside outside.1,
   )
 
@@ -63,14 +63,14 @@ module _ (graph : Graph) (begins : (more : Graph) × (graph ≡ built_ins ++ mor
     (
       xmls_forward (answers graph tag) (answers graph attributes) (answers graph content) (HasElement graph)
           (asked_has tag is.2) (asked_has attributes is.3) (asked_has content is.4)
-          (tag_in graph begins tag is.0) (attributes_in graph begins attributes is.1) wanted refused within.1 within.2,
+          (tag_in graph begins no_closure tag is.0) (attributes_in graph begins no_closure attributes is.1) wanted refused within.1 within.2,
       tt,
     ),
   )
   member_supplies (Xmls wanted refused) _ is within = absurd cc
   member_supplies (Records wanted refused) (thing.Record fields) is within =
       records_forward (node.labelled graph fields) (HasElement graph)
-      (elements_have graph (HasElement graph) fields (fields_have fields is.1)) wanted refused within.1 within.2
+      (record_has graph no_closure (HasElement graph) fields (fields_have fields is.1)) wanted refused within.1 within.2
   member_supplies (Records wanted refused) _ is within = absurd cc
   member_supplies (Arrows wanted refused) (thing.Function pairs) is within =
       (_, refl, arrows_met pairs is wanted refused within.1 within.2)

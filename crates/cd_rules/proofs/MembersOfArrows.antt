@@ -21,10 +21,10 @@ IsOutsideArrow graph pairs parts = mapping graph pairs parts.0 parts.1 false
 -- a function is in each wanted arrow and outside each refused one
 abbrev pub IsInArrows : Graph → (wanted refused : List Pair) → thing.Pairs → Type 0
 IsInArrows graph wanted refused pairs =
-    ArePairs pairs × Each (IsInArrow graph pairs) wanted × Each (IsOutsideArrow graph pairs) refused
+    ArePairs pairs × Each (IsInArrow (mapping graph pairs)) wanted × Each (IsOutsideArrow graph pairs) refused
 
 -- a function without pairs is in all arrows
-pub none_in_arrows : (graph : Graph) (wanted : List Pair) → Each (IsInArrow graph thing.NoPair) wanted
+pub none_in_arrows : (graph : Graph) (wanted : List Pair) → Each (IsInArrow (mapping graph thing.NoPair)) wanted
 none_in_arrows graph [] = tt
 none_in_arrows graph (parts ∷ wanted) = (refl, none_in_arrows graph wanted)
 
@@ -33,11 +33,11 @@ module _ (graph : Graph) (wanted refused : List Pair) (one : Pair) (pairs : thin
   -- a pair that maps an argument of one more arrow out of its result, and is right for the wanted ones
   pub with_maps : (from to : Thing) → IsElement from → IsElement to
       → answers graph from one.0 true → answers graph to one.1 false
-      → Each (λ parts. ArgumentIsOutside graph from parts ⊎ ResultIsInside graph to parts) wanted
+      → Each (λ parts. ArgumentIsOutside (answers graph from) parts ⊎ ResultIsInside (answers graph to) parts) wanted
       → IsInArrows graph wanted (one ∷ refused) (thing.Maps from to pairs)
   with_maps from to from_is to_is inside outside right = (
     (from_is, to_is, rest.0),
-    both_of_each (λ parts. ArgumentIsOutside graph from parts ⊎ ResultIsInside graph to parts) (IsInArrow graph pairs)
+    both_of_each (λ parts. ArgumentIsOutside (answers graph from) parts ⊎ ResultIsInside (answers graph to) parts) (IsInArrow (mapping graph pairs))
         wanted right rest.1,
     (
       inl (inside, outside),
@@ -48,11 +48,11 @@ module _ (graph : Graph) (wanted refused : List Pair) (one : Pair) (pairs : thin
 
   -- a pair that fails at an argument of one more arrow, and is right for the wanted ones
   pub with_fails : (from : Thing) → IsElement from → answers graph from one.0 true
-      → Each (ArgumentIsOutside graph from) wanted
+      → Each (ArgumentIsOutside (answers graph from)) wanted
       → IsInArrows graph wanted (one ∷ refused) (thing.Fails from pairs)
   with_fails from from_is inside right = (
     (from_is, rest.0),
-    both_of_each (ArgumentIsOutside graph from) (IsInArrow graph pairs) wanted right rest.1,
+    both_of_each (ArgumentIsOutside (answers graph from)) (IsInArrow (mapping graph pairs)) wanted right rest.1,
     (
       inl inside,
       each_weaker (IsOutsideArrow graph pairs) (IsOutsideArrow graph (thing.Fails from pairs))
@@ -68,13 +68,13 @@ module _ (graph : Graph) (wanted refused : List Pair) (one : Pair) (pairs : thin
       let from = have.0.0 in
       let asked = each_of_asked (answers graph from) (one.0 ∷ []) (map (λ parts. parts.0) given) have.0.2 in
       let outside = map_of_each (λ (parts : Pair). parts.0) (λ id. answers graph from id false) given asked.1 in
-      let right = splits_back (ArgumentIsOutside graph from) (λ parts. ⊥) wanted (given, []) is outside tt in (
+      let right = splits_back (ArgumentIsOutside (answers graph from)) (λ parts. ⊥) wanted (given, []) is outside tt in (
         thing.Fails from pairs,
-        with_fails from have.0.1 asked.0.0 (each_weaker (λ parts. ArgumentIsOutside graph from parts ⊎ ⊥)
-            (ArgumentIsOutside graph from) only wanted right),
+        with_fails from have.0.1 asked.0.0 (each_weaker (λ parts. ArgumentIsOutside (answers graph from) parts ⊎ ⊥)
+            (ArgumentIsOutside (answers graph from)) only wanted right),
       )
     where
-      only : (parts : Pair) → ArgumentIsOutside graph have.0.0 parts ⊎ ⊥ → ArgumentIsOutside graph have.0.0 parts
+      only : (parts : Pair) → ArgumentIsOutside (answers graph have.0.0) parts ⊎ ⊥ → ArgumentIsOutside (answers graph have.0.0) parts
       only parts (inl out) = out
       only parts (inr no_way) = absurd no_way
 
@@ -92,7 +92,7 @@ module _ (graph : Graph) (wanted refused : List Pair) (one : Pair) (pairs : thin
       let inside = map_of_each (λ (parts : Pair). parts.1) (λ id. answers graph to id true) (first ∷ others) of_to.0 in (
         thing.Maps from to pairs,
         with_maps from to have.0.1 have.1.0.1 of_from.0.0 of_to.1.0
-            (splits_back (ArgumentIsOutside graph from) (ResultIsInside graph to) wanted (given, first ∷ others) is
+            (splits_back (ArgumentIsOutside (answers graph from)) (ResultIsInside (answers graph to)) wanted (given, first ∷ others) is
             outside inside),
       )
 

@@ -13,6 +13,7 @@ use Rattle.cd_rules.specs.InRow.{IsInCell, HasElsewhere, IsInRow}
 use Rattle.cd_rules.proofs.InCells.{Says}
 use Rattle.cd_rules.proofs.Ones.{each_weaker, one_weaker}
 use Rattle.cd_rules.proofs.RowsExact.{labelled_by, rows_exact}
+use Rattle.cd_rules.proofs.Things.{IsAskedFact}
 
 -- What a record has at a label: nothing, so that fields which may be absent are right; or a value, so that a field is right
 -- where its node is, and what the value is asked has the fact
@@ -21,7 +22,7 @@ pub data HasAt (labelled : Labelled) (Fact : Question → Type 0) (label : Name)
       → HasAt labelled Fact label
   HasValue : (answers : Answers)
       → ((field : Field) (answer : Bool) → labelled label field answer → answers field.type answer)
-      → ((asking : Question) → asked answers asking true → Fact asking) → HasAt labelled Fact label
+      → IsAskedFact Fact answers → HasAt labelled Fact label
 
 module _ (labelled : Labelled) (Fact : Question → Type 0) (has : (label : Name) → HasAt labelled Fact label) where
   -- a label where there is something stands for what is there

@@ -1,14 +1,13 @@
--- What a record of elements, and one of values, has at each label.
-use Rattle.std.proofs.Common.{◌≡◌, Bool, true, false, bytes_eq, ◌⊎◌, inl, inr}
+-- What a record has at each label.
+use Rattle.std.proofs.Common.{◌≡◌, ℕ, Bool, true, false, bytes_eq, ◌⊎◌, inl, inr}
 use Rattle.std.proofs.lemmas.Bool.{cases_Bool}
 use Rattle.cd_sets.specs.declared.question.Question.{Question}
 use Rattle.cd_syntax.specs.Name.{Name}
-use Rattle.cd_model.specs.Interfaces.{Interfaces}
-use Rattle.cd_model.specs.Thing as thing
+use Rattle.cd_model.specs.Thing.{Fields, NoField, Field}
 use Rattle.cd_model.specs.Formula.{Graph}
-use Rattle.cd_model.specs.Membership.{Answers, Labelled, asked, either, absent}
-use Rattle.cd_model.specs.Membership.{labelled, value_labelled, answers, value_answers}
+use Rattle.cd_model.specs.Membership.{Answers, Labelled, Mapping, either, absent}
 use Rattle.cd_rules.proofs.RecordsForward.{HasAt, HasNothing, HasValue}
+use Rattle.cd_rules.proofs.Things.{IsAskedFact, answers_of, labelled_of}
 
 -- what a test chooses where it holds, and where it fails
 the_one : (test : Bool) (one other : Type 0) → test ≡ true → either test one other → one
@@ -30,8 +29,7 @@ module _ (Fact : Question → Type 0) where
   nothing_has label = HasNothing (λ field answer is. is)
 
   -- a record has the value of its first field, or what the others have
-  pub field_has : (name : Name) (is : Answers) (others : Labelled)
-      → ((asking : Question) → asked is asking true → Fact asking)
+  pub field_has : (name : Name) (is : Answers) (others : Labelled) → IsAskedFact Fact is
       → (label : Name) → HasAt others Fact label → HasAt (with_field name is others) Fact label
   field_has name is others asked_so label later = by_name (cases_Bool (bytes_eq name label)) later
     where
@@ -44,28 +42,13 @@ module _ (Fact : Question → Type 0) where
       by_name (inr differ) (HasValue these right others_asked) = HasValue these (λ field answer here. right field answer
           (the_other (bytes_eq name label) (is field.type answer) (others label field answer) differ here)) others_asked
 
--- what the value of each field is asked has the fact
-abbrev pub FieldsHave : Graph → (Question → Type 0) → thing.Fields → Type 0
-FieldsHave graph Fact thing.NoField = Unit {0}
-FieldsHave graph Fact (thing.Field name is rest) =
-    ((asking : Question) → asked (answers graph is) asking true → Fact asking) × FieldsHave graph Fact rest
+module _ (graph : Graph) (closed : ℕ → Mapping) (Fact : Question → Type 0) where
+  -- what the value of each field is asked has the fact
+  abbrev pub FieldsHave : Fields → Type 0
+  FieldsHave NoField = Unit {0}
+  FieldsHave (Field name is rest) = IsAskedFact Fact (answers_of graph closed is) × FieldsHave rest
 
-abbrev pub ValuesHave : Graph → Interfaces → (Question → Type 0) → thing.Fields → Type 0
-ValuesHave graph interfaces Fact thing.NoField = Unit {0}
-ValuesHave graph interfaces Fact (thing.Field name is rest) =
-    ((asking : Question) → asked (value_answers graph interfaces is) asking true → Fact asking) × ValuesHave graph interfaces Fact rest
-
--- a record of elements
-pub elements_have : (graph : Graph) (Fact : Question → Type 0) (fields : thing.Fields) → FieldsHave graph Fact fields
-    → (label : Name) → HasAt (labelled graph fields) Fact label
-elements_have graph Fact thing.NoField each label = nothing_has Fact label
-elements_have graph Fact (thing.Field name is rest) each label =
-    field_has Fact name (answers graph is) (labelled graph rest) each.0 label (elements_have graph Fact rest each.1 label)
-
--- a record of values
-pub values_have : (graph : Graph) (interfaces : Interfaces) (Fact : Question → Type 0) (fields : thing.Fields) → ValuesHave graph interfaces Fact fields
-    → (label : Name) → HasAt (value_labelled graph interfaces fields) Fact label
-values_have graph interfaces Fact thing.NoField each label = nothing_has Fact label
-values_have graph interfaces Fact (thing.Field name is rest) each label =
-    field_has Fact name (value_answers graph interfaces is) (value_labelled graph interfaces rest) each.0 label
-    (values_have graph interfaces Fact rest each.1 label)
+  pub record_has : (fields : Fields) → FieldsHave fields → (label : Name) → HasAt (labelled_of graph closed fields) Fact label
+  record_has NoField each label = nothing_has Fact label
+  record_has (Field name is rest) each label = field_has Fact name (answers_of graph closed is) (labelled_of graph closed rest)
+      each.0 label (record_has rest each.1 label)

@@ -2,22 +2,22 @@
 use Rattle.std.proofs.Common.{◌≡◌, ℕ, true, false, List, [], ◌∷◌, ◌++◌, ◌⊎◌, map, inl, inr, subst}
 use Rattle.cd_sets.specs.declared.node_id.NodeId.{NodeId}
 use Rattle.cd_model.specs.Thing as thing
-use Rattle.cd_model.specs.Thing.{Thing, IsElement, IsValue}
+use Rattle.cd_model.specs.Thing.{Thing, IsAtom, IsRecord, IsElement, IsValue}
 use Rattle.cd_model.specs.BuiltIns.{built_ins, ATOM, RECORD}
 use Rattle.cd_model.specs.Each.{Each}
-use Rattle.cd_model.specs.Formula.{Graph, IsGraph, nodes, at_formula}
-use Rattle.cd_model.specs.Interfaces.{Interfaces, admits}
+use Rattle.cd_model.specs.Formula.{Graph, IsGraph}
+use Rattle.cd_model.specs.Interfaces.{Interfaces}
 use Rattle.cd_model.specs.Kinds.{kind_of, APair, AnXml}
-use Rattle.cd_model.specs.Membership.{Answers, Mapping, answers, value_answers, pair_reader, xml_reader}
-use Rattle.cd_model.specs.Types as types
-use Rattle.cd_model.specs.Types.{no_closure, closure_maps}
+use Rattle.cd_model.specs.Membership.{Answers, Mapping, reader, value_reader, value_answers, closure_mapping, pair_reader, xml_reader}
+use Rattle.cd_model.specs.Types.{no_closure}
 use Rattle.cd_model.proofs.DecidedAtNodes.{in_or_outside}
 use Rattle.cd_rules.specs.Clauses.{Clause, Pairs, Xmls, Pair, Triple, IsInClause}
 use Rattle.cd_rules.specs.Reduced.{AreApart, LeavesOut, none, keeps, leaves, IsPairApart, IsXmlApart, IsReduced}
 use Rattle.cd_rules.proofs.Asking.{each_of_map}
 use Rattle.cd_rules.proofs.EachQuestion.{element_too}
-use Rattle.cd_rules.proofs.NoMember.{tag_in, attributes_in, value_tag_in, value_attributes_in}
+use Rattle.cd_rules.proofs.NoMember.{tag_in, attributes_in}
 use Rattle.cd_rules.proofs.Ones.{each_weaker}
+use Rattle.cd_rules.proofs.Things.{reader_of, answers_of}
 
 -- what is so of each that is kept, and of all that are apart, is so of each
 pub each_of_kept : {X : Type 0} (Apart fact : X → Type 0) → ((x : X) → Apart x → fact x) → (all kept : List X)
@@ -97,76 +97,49 @@ module _ (graph : Graph) where
           (xml_outside held.1) refused kept leaving held.2,
     )
 
-  -- things whose closures map so
-  module _ (closed : ℕ → Mapping) where
-    abbrev answers_of : Thing → Answers
-    answers_of = types.answers (nodes graph) closed
-
+  -- Things whose closures map so, of which some are known to be sound: each of these is outside what is apart from the nodes it is in
+  module _ (begins : (more : Graph) × (graph ≡ built_ins ++ more)) (closed : ℕ → Mapping) (Sound : Thing → Type 0)
+      (of_pair : (first second : Thing) → Sound (thing.Pair first second) → Sound first × Sound second)
+      (of_xml : (tag attributes content : Thing) → Sound (thing.Xml tag attributes content)
+      → IsAtom tag × IsRecord attributes × Sound tag × Sound attributes × Sound content)
+      (outside : (is : Thing) → Sound is → IsOutsideApart (answers_of graph closed is)) where
     abbrev Holds : Thing → Clause → Type 0
-    Holds e clause = IsInClause (kind_of e) (at_formula (types.reader (nodes graph) closed e)) clause
+    Holds is clause = IsInClause (kind_of is) (reader_of graph closed is) clause
 
-    -- what is needed of the parts of a pair and of an XML thing
-    abbrev HasParts : Thing → Type 0
-    HasParts (thing.Pair first second) = IsOutsideApart (answers_of first) × IsOutsideApart (answers_of second)
-    HasParts (thing.Xml tag attributes content) = IsOutsideApart (answers_of tag) × IsOutsideApart (answers_of attributes)
-        × IsOutsideApart (answers_of content) × answers_of tag ATOM true × answers_of attributes RECORD true
-    HasParts _ = Unit {0}
-
-    reduced_held : (e : Thing) → HasParts e → (clause reduced : Clause) → IsReduced graph clause reduced → Holds e reduced → Holds e clause
-    reduced_held (thing.Pair first second) has (Pairs wanted refused) (Pairs same kept) reduces held =
-        pairs_held (answers_of first) (answers_of second) has.0 has.1 wanted refused kept reduces.1
+    pub reduced_held : (clause reduced : Clause) (is : Thing) → IsReduced graph clause reduced → Sound is
+        → Holds is reduced → Holds is clause
+    reduced_held (Pairs wanted refused) (Pairs same kept) (thing.Pair first second) reduces sound held =
+        let parts = of_pair first second sound in
+        pairs_held (answers_of graph closed first) (answers_of graph closed second)
+        (outside first parts.0) (outside second parts.1) wanted refused kept reduces.1
         (subst (λ wanted. Holds (thing.Pair first second) (Pairs wanted kept)) reduces.0 held)
-    reduced_held (thing.Xml tag attributes content) has (Xmls wanted refused) (Xmls same kept) reduces held =
-        xmls_held (answers_of tag) (answers_of attributes) (answers_of content) has.0 has.1 has.2 has.3 has.4 wanted refused kept reduces.1
+    reduced_held (Xmls wanted refused) (Xmls same kept) (thing.Xml tag attributes content) reduces sound held =
+        let parts = of_xml tag attributes content sound in
+        xmls_held (answers_of graph closed tag) (answers_of graph closed attributes) (answers_of graph closed content)
+        (outside tag parts.2) (outside attributes parts.3) (outside content parts.4)
+        (tag_in graph begins closed tag parts.0) (attributes_in graph begins closed attributes parts.1)
+        wanted refused kept reduces.1
         (subst (λ wanted. Holds (thing.Xml tag attributes content) (Xmls wanted kept)) reduces.0 held)
-    reduced_held e has (Pairs wanted refused) (Pairs same kept) reduces held = absurd cc
-    reduced_held e has (Xmls wanted refused) (Xmls same kept) reduces held = absurd cc
-    reduced_held e has (Pairs wanted refused) reduced reduces held = absurd cc
-    reduced_held e has (Xmls wanted refused) reduced reduces held = absurd cc
-    reduced_held e has clause reduced same held = subst (Holds e) same held
+    reduced_held (Pairs wanted refused) (Pairs same kept) is reduces sound held = absurd cc
+    reduced_held (Xmls wanted refused) (Xmls same kept) is reduces sound held = absurd cc
+    reduced_held (Pairs wanted refused) reduced is reduces sound held = absurd cc
+    reduced_held (Xmls wanted refused) reduced is reduces sound held = absurd cc
+    reduced_held clause reduced is same sound held = subst (Holds is) same held
 
   module _ (begins : (more : Graph) × (graph ≡ built_ins ++ more)) where
-    -- elements
-    element_outside : (e : Thing) → IsElement e → IsOutsideApart (answers graph e)
-    element_outside e is id ids apart each = by_answer (in_or_outside graph e id) (λ within. apart e is (within, each))
-
-    elements_have : (e : Thing) → IsElement e → HasParts no_closure e
-    elements_have (thing.Pair first second) is = (element_outside first is.0, element_outside second is.1)
-    elements_have (thing.Xml tag attributes content) is = (
-      element_outside tag is.2,
-      element_outside attributes is.3,
-      element_outside content is.4,
-      tag_in graph begins tag is.0,
-      attributes_in graph begins attributes is.1,
-    )
-    elements_have _ is = tt
-
     pub elements_held : (clause reduced : Clause) (e : Thing) → IsReduced graph clause reduced → IsElement e
-        → Holds no_closure e reduced → Holds no_closure e clause
-    elements_held clause reduced e reduces is = reduced_held no_closure e (elements_have e is) clause reduced reduces
+        → IsInClause (kind_of e) (reader graph e) reduced → IsInClause (kind_of e) (reader graph e) clause
+    elements_held = reduced_held begins no_closure IsElement (λ first second is. is) (λ tag attributes content is. is)
+        (λ e is id ids apart each. by_answer (in_or_outside graph e id) (λ within. apart e is (within, each)))
 
     -- values, where each is in a node or outside it: where one is in some nodes, an element is
-    module _ (sound : IsGraph graph) (interfaces : Interfaces)
-        (decided : (v : Thing) (id : NodeId) → value_answers graph interfaces v id true ⊎ value_answers graph interfaces v id false) where
-      abbrev closures : ℕ → Mapping
-      closures = closure_maps (nodes graph) (admits interfaces)
-
-      value_outside : (v : Thing) → IsValue v → IsOutsideApart (value_answers graph interfaces v)
-      value_outside v is id ids apart each = by_answer (decided v id) (λ within.
-          let found = element_too graph begins.0 begins.1 sound (record { pos = id ∷ ids; neg = [] }) interfaces v is ((within, each), tt) in
-          apart found.0 found.1 found.2.0)
-
-      values_have : (v : Thing) → IsValue v → HasParts closures v
-      values_have (thing.Pair first second) is = (value_outside first is.0, value_outside second is.1)
-      values_have (thing.Xml tag attributes content) is = (
-        value_outside tag is.2,
-        value_outside attributes is.3,
-        value_outside content is.4,
-        value_tag_in graph begins interfaces tag is.0,
-        value_attributes_in graph begins interfaces attributes is.1,
-      )
-      values_have _ is = tt
-
-      pub values_held : (clause reduced : Clause) (v : Thing) → IsReduced graph clause reduced → IsValue v
-          → Holds closures v reduced → Holds closures v clause
-      values_held clause reduced v reduces is = reduced_held closures v (values_have v is) clause reduced reduces
+    pub values_held : IsGraph graph → (interfaces : Interfaces)
+        → ((v : Thing) (id : NodeId) → value_answers graph interfaces v id true ⊎ value_answers graph interfaces v id false)
+        → (clause reduced : Clause) (v : Thing) → IsReduced graph clause reduced → IsValue v
+        → IsInClause (kind_of v) (value_reader graph interfaces v) reduced
+        → IsInClause (kind_of v) (value_reader graph interfaces v) clause
+    values_held sound interfaces decided = reduced_held begins (closure_mapping graph interfaces) IsValue
+        (λ first second is. is) (λ tag attributes content is. is)
+        (λ v is id ids apart each. by_answer (decided v id) (λ within.
+        let found = element_too graph begins.0 begins.1 sound (record { pos = id ∷ ids; neg = [] }) interfaces v is ((within, each), tt) in
+        apart found.0 found.1 found.2.0))

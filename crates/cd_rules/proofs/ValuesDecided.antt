@@ -9,7 +9,7 @@ use Rattle.cd_model.specs.Formula.{Graph, IsGraph, nodes, at_formula, holds}
 use Rattle.cd_model.specs.Interfaces.{OfNodes, OfWritten, ArrowOf, ArrowsAgree, admits, value_in_node, value_reader}
 use Rattle.cd_model.specs.Membership.{mapping}
 use Rattle.cd_model.specs.Thing.{Thing}
-use Rattle.cd_model.specs.Types.{AllMap, closure_maps}
+use Rattle.cd_model.specs.Types.{AllMap, no_closure, closure_maps}
 use Rattle.cd_model.specs.Written.{WrittenType}
 use Rattle.cd_model.proofs.Admitting.{interfaces_agree}
 use Rattle.cd_model.proofs.Decided.{answers_decide}
@@ -56,7 +56,7 @@ module _ (graph more : Graph) (begins : graph ≡ built_ins ++ more) (sound : Is
     all_else : (IsMet (HasElement graph) need → ⊥) → AllAre
     all_else never pairs is inside = elim (mapping_decided graph pairs argument result) [
       | inl within ↦ within
-      | inr out ↦ absurd (never (arrows_forward graph pairs (HasElement graph)
+      | inr out ↦ absurd (never (arrows_forward graph no_closure (HasElement graph) pairs
           (parts_have graph (HasElement graph) (λ e element q asking. (e, element, asking)) pairs is) wanted (argument, result)
           (each_of_map parts_of (λ parts. mapping graph pairs parts.0 parts.1 true) (interfaces function) inside) out))
     ]

@@ -8,14 +8,11 @@ use Rattle.cd_model.specs.Each.{Each, One}
 use Rattle.cd_model.specs.Membership.{Answers, asked}
 use Rattle.cd_rules.specs.Rows.{Cell, Row}
 
--- what a record of elements, and one of values, has at a label
-abbrev pub element_at : thing.Fields → Name → Option Thing
-element_at thing.NoField label = None
-element_at (thing.Field name is rest) label = if bytes_eq name label then Some is else element_at rest label
-
-abbrev pub value_at : thing.Fields → Name → Option Thing
-value_at thing.NoField label = None
-value_at (thing.Field name is rest) label = if bytes_eq name label then Some is else value_at rest label
+-- what a record has at a label
+abbrev pub thing_at : thing.Fields → Name → Option Thing
+thing_at thing.NoField label = None
+thing_at (thing.Field name is rest) label =
+    if bytes_eq name label then Some is else thing_at rest label
 
 -- what is at a label is in a cell: nothing, if that may be, or a value that is in the cell's question
 abbrev pub IsInCell : {X : Type 0} → (X → Answers) → Option X → Cell → Type 0

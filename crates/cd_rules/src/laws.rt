@@ -16,7 +16,7 @@ ghost use Rattle.cd_rules.specs.Examples.{asks, both};
 ghost use Rattle.cd_rules.specs.Needs.{set_of, splits, splits_in_three, pair_way, xml_way, arrow_way};
 ghost use Rattle.cd_rules.specs.Rows.{rows_of};
 ghost use Rattle.cd_rules.specs.InWay.{AreInWay};
-ghost use Rattle.cd_rules.specs.InRow.{element_at, value_at, IsInRow};
+ghost use Rattle.cd_rules.specs.InRow.{thing_at, IsInRow};
 ghost use Rattle.cd_model.specs.Kinds.{kind_of, APair, AnXml, ARecord};
 ghost use Rattle.cd_rules.specs.Clauses.{Clause, Pair, Triple, RecordType, Pairs, Xmls, Records, IsClauseOfQuestion, IsInClause};
 ghost use Rattle.cd_rules.specs.Members.{HasElement, HasMember, IsSupplied, NamesLabels};
@@ -44,10 +44,10 @@ pub fn clauses_are_exact()
 pub fn rows_are_exact()
     ensures elements { (graph : Graph) (wanted refused : List RecordType) (fields : thing.Fields)
         → IsInClause ARecord (reader graph (thing.Record fields)) (Records wanted refused)
-        ↔ One (IsInRow (answers graph) (element_at fields)) (rows_of wanted refused) }
+        ↔ One (IsInRow (answers graph) (thing_at fields)) (rows_of wanted refused) }
     ensures values { (graph : Graph) (interfaces : Interfaces) (wanted refused : List RecordType) (fields : thing.Fields)
         → IsInClause ARecord (value_reader graph interfaces (thing.Record fields)) (Records wanted refused)
-        ↔ One (IsInRow (value_answers graph interfaces) (value_at fields)) (rows_of wanted refused) }
+        ↔ One (IsInRow (value_answers graph interfaces) (thing_at fields)) (rows_of wanted refused) }
 {}
 
 /// No element is in a question that a closed family covers, nor is a value, whatever arrows of the graph its closures have.
