@@ -52,10 +52,11 @@ impl Graph {
         Ok(first)
     }
 
-    /// The formula of a node.
+    /// The formula of a node, which is one of the graph.
     pub fn formula(&self, id: NodeId) -> &Formula
         requires { id.0 < length (nodes self.now) }
-        ensures { plain result.now ≡ formula_at (nodes self.now) id }
+        ensures formula { plain result.now ≡ formula_at (nodes self.now) id }
+        ensures sound { IsFormula (length (nodes self.now)) (plain result.now) }
     {
         &self.formulas.items()[id.0]
     }
