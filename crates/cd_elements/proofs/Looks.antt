@@ -53,6 +53,7 @@ part_written (thing.Pair first second) = refl
 part_written (thing.Xml tag attributes content) = refl
 part_written (thing.Record fields) = refl
 part_written (thing.Function pairs) = refl
+part_written (thing.Closure function environment) = refl
 
 pub parts_written : (table : List Thing) (ids : List ElementId)
     → map part_text (map (part_in table) ids) ≡ map (text_in table) ids

@@ -5,7 +5,7 @@ use Rattle.cd_syntax.specs.Name.{Name}
 use Rattle.cd_model.specs.Thing.{Thing}
 use Rattle.cd_elements.specs.declared.shape.ElementId.{ElementId}
 use Rattle.cd_elements.specs.declared.task.Task.{Task}
-use Rattle.cd_elements.specs.declared.task.Task.TheVariants.{Mark, Letter, Field, Thing as AnElement}
+use Rattle.cd_elements.specs.declared.task.Task.TheVariants.{Mark, Letter, Field, Element as AnElement}
 use Rattle.cd_elements.specs.declared.task.Tasks.{Tasks}
 use Rattle.cd_elements.specs.Table.{element_at}
 use Rattle.cd_elements.specs.Marks.{mark_text}

@@ -1,7 +1,7 @@
 //! What is left to be written of a text.
 ghost use Rattle.std.specs.Prelude.{◌≡◌, List, [], OnOk, MatchOption};
 ghost use Rattle.std.specs.Str.{chars};
-ghost use Rattle.cd_model.specs.Thing.{Element as AnElement};
+ghost use Rattle.cd_model.specs.Thing.{Thing};
 ghost use Rattle.cd_elements.specs.Marks.{mark_text};
 ghost use Rattle.cd_elements.specs.Tasks.{task_text, tasks_text, text_in, Puts};
 
@@ -67,7 +67,7 @@ pub(crate) struct Tasks<'a> {
 impl<'a> Tasks<'a> {
     /// Nothing is left.
     pub(crate) fn new(alloc: Global) -> Tasks<'a>
-        ensures { (all : List AnElement) → tasks_text all result ≡ [] }
+        ensures { (all : List Thing) → tasks_text all result ≡ [] }
     {
         Tasks {
             items: Vec::new(alloc),
@@ -101,7 +101,7 @@ impl<'a> Tasks<'a> {
     #[tactic(auto, using(crate::proofs::Stacks::stack_push))]
     pub(crate) fn pop(&mut self) -> Option<Task<'a>>
         ensures { MatchOption result
-            ((all : List AnElement) → tasks_text all self.old ≡ [])
+            ((all : List Thing) → tasks_text all self.old ≡ [])
             (λ task. Puts (λ all. task_text all task) self.new self.old) }
     {
         self.items.pop()

@@ -13,7 +13,7 @@ use Rattle.cd_rules.specs.Needs.{AreNeeds}
 use Rattle.cd_rules.specs.Reduced.{IsReduced}
 use Rattle.cd_expand.specs.declared.needs.Needs.{Needs}
 use Rattle.cd_expand.specs.declared.expansion.Expansion.{Expansion}
-use Rattle.cd_expand.specs.declared.expansion.Expansion.TheVariants.{Thing as AnElement, Clauses}
+use Rattle.cd_expand.specs.declared.expansion.Expansion.TheVariants.{Element as AnElement, Clauses}
 use Rattle.cd_expand.specs.Named.{Names}
 
 -- what a shape makes over any table is an element of the question

@@ -8,7 +8,7 @@ use Rattle.cd_apart.specs.Within.{IsPairWithin, IsXmlWithin}
 
 -- the node of each field of a record type is among so many, and its rest
 abbrev pub IsTypeWithin : (nodes : ℕ) → RecordType → Type 0
-IsTypeWithin nodes type = Each (λ field. field.1.node.0 < nodes) type.named × (type.rest.0 < nodes)
+IsTypeWithin nodes type = Each (λ field. field.1.type.0 < nodes) type.named × (type.rest.0 < nodes)
 
 -- so are all parts of a clause
 abbrev pub IsWithin : (nodes : ℕ) → Clause → Type 0

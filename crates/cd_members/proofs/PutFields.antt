@@ -8,9 +8,8 @@ use Rattle.std.specs.declared.cmp.Ordering.TheVariants.{Less, Equal, Greater}
 use Rattle.std.proofs.lemmas.Cmp.{nat_list_cmp_total}
 use Rattle.std.proofs.lemmas.Map.Text.{is_eq-slice_cmp}
 use Rattle.std.proofs.lemmas.Slice.Eq.{bytes_eq-Decides}
-use Rattle.cd_syntax.specs.Name.{Name, IsLabel}
+use Rattle.cd_syntax.specs.Name.{Name, IsLabel, IsAbove}
 use Rattle.cd_model.specs.Thing.{Thing, Fields, NoField, Field}
-use Rattle.cd_syntax.specs.Name.{IsAbove}
 use Rattle.cd_model.specs.Each.{Each}
 use Rattle.cd_elements.specs.declared.shape.ElementId.{ElementId}
 use Rattle.cd_elements.specs.Parts.{AreRisingLabels}

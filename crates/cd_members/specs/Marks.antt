@@ -1,5 +1,5 @@
 -- Questions that are marked with elements which they have.
-use Rattle.std.specs.Prelude.{◌≡◌, true, List, [], ◌∷◌, Option, Some, None, slice_index_or, MatchOption}
+use Rattle.std.specs.Prelude.{true, List, [], ◌∷◌, Option, Some, None, slice_index_or, MatchOption}
 use Rattle.std.specs.Option.{option_map}
 use Rattle.cd_sets.specs.declared.question.Question.{Question}
 use Rattle.cd_model.specs.Thing.{Thing}

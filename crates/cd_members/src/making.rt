@@ -1,5 +1,5 @@
 ghost use Rattle.std.specs.Prelude.{◌≡◌, ◌<◌, ◌++◌, List, length, IfOk, MatchOption};
-ghost use Rattle.cd_model.specs.Thing.{Element as AnElement};
+ghost use Rattle.cd_model.specs.Thing.{Thing};
 ghost use Rattle.cd_elements.specs.Elements.{table};
 ghost use Rattle.cd_elements.specs.Table.{Names, element_at};
 ghost use Rattle.cd_members.specs.Marks.{AreNumbers};
@@ -29,7 +29,7 @@ pub fn member(
     requires fit { IsFit (table elements.old) marks.now needs.now }
     ensures made { IfOk result (λ found. MatchOption found (IsStuck marks.now needs.now) (λ id. Names (table elements.new) id
         × IsMade (table elements.old) marks.now needs.now (element_at (table elements.new) id))) }
-    ensures grows { (more : List AnElement) × (table elements.new ≡ table elements.old ++ more) }
+    ensures grows { (more : List Thing) × (table elements.new ≡ table elements.old ++ more) }
 {
     match shape_of(alloc, marks, needs)? {
         Some(shape) => Ok(Some(elements.make(shape)?)),

@@ -27,7 +27,7 @@ fn is_reason(label: &Name, chosen: &Chosen<'_>) -> bool
 
 // The nodes of the wanted types at a label.
 fn wanted_nodes(alloc: Global, wanted: &[Fields], label: &Name) -> Result<Vec<NodeId>, AllocError>
-    ensures { IfOk result (λ nodes. nodes.items ≡ map (λ type. (field_at_of type label.now).node) (record_types wanted.now)) }
+    ensures { IfOk result (λ nodes. nodes.items ≡ map (λ type. (field_at_of type label.now).type) (record_types wanted.now)) }
 {
     let mut nodes = Vec::new(alloc);
     for fields in wanted {
@@ -42,7 +42,7 @@ fn refused_nodes(
     reasons: &[Chosen<'_>],
     label: &Name,
 ) -> Result<Vec<NodeId>, AllocError>
-    ensures { IfOk result (λ nodes. nodes.items ≡ map (λ type. (field_at_of type label.now).node) (types_at label.now (plain_reasons reasons.now))) }
+    ensures { IfOk result (λ nodes. nodes.items ≡ map (λ type. (field_at_of type label.now).type) (types_at label.now (plain_reasons reasons.now))) }
 {
     let mut nodes = Vec::new(alloc);
     for chosen in reasons {

@@ -6,6 +6,6 @@ use Rattle.cd_records.proofs.cell.refused_nodes.Given as goal
 -- the nodes so far, and those of the types that are left, are all
 abbrev pub invariant-loop-chosen : goal.invariant-loop-chosen
 invariant-loop-chosen l =
-    l.nodes.items ++ map (λ type. (field_at type l.label).node)
+    l.nodes.items ++ map (λ type. (field_at type l.label).type)
     (types_at l.label (plain_reasons (drop l.chosen-index l.reasons)))
-    ≡ map (λ type. (field_at type l.label).node) (types_at l.label (plain_reasons l.fn.reasons))
+    ≡ map (λ type. (field_at type l.label).type) (types_at l.label (plain_reasons l.fn.reasons))

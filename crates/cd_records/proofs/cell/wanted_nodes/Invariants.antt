@@ -6,5 +6,5 @@ use Rattle.cd_records.proofs.cell.wanted_nodes.Given as goal
 -- the nodes so far, and those of the types that are left, are all
 abbrev pub invariant-loop-fields : goal.invariant-loop-fields
 invariant-loop-fields l =
-    l.nodes.items ++ map (λ type. (field_at type l.label).node) (record_types (drop l.fields-index l.wanted))
-    ≡ map (λ type. (field_at type l.label).node) (record_types l.fn.wanted)
+    l.nodes.items ++ map (λ type. (field_at type l.label).type) (record_types (drop l.fields-index l.wanted))
+    ≡ map (λ type. (field_at type l.label).type) (record_types l.fn.wanted)
