@@ -5,7 +5,7 @@ use Rattle.cd_model.specs.Each.{Each}
 use Rattle.cd_model.specs.Formula.{Graph, IsGraph}
 use Rattle.cd_rules.specs.Clauses.{Clause, Pairs, Xmls, IsClauseOfQuestion}
 use Rattle.cd_rules.specs.Within.{IsPairWithin, IsXmlWithin}
-use Rattle.cd_rules.specs.Within as rules
+use Rattle.cd_rules.specs.Within as whole
 use Rattle.cd_rules.proofs.PartsAsk as rules
 use Rattle.cd_normal.specs.declared.clause.Clause.{Clause as CodeClause}
 use Rattle.cd_normal.specs.declared.clause.Clause.TheVariants as code
@@ -18,7 +18,7 @@ have_both : {X : Type 0} (has : X → Type 0) {pos neg wanted refused : List X} 
 have_both has same both = (subst (Each has) (sym same.0) both.0, subst (Each has) (sym same.1) both.1)
 
 -- a clause that stands for one of these parts has them
-stands_within : (nodes : ℕ) (clause : CodeClause) (is : Clause) → Stands clause is → rules.IsWithin nodes is → IsWithin nodes clause
+stands_within : (nodes : ℕ) (clause : CodeClause) (is : Clause) → Stands clause is → whole.IsWithin nodes is → IsWithin nodes clause
 stands_within nodes (code.Pairs pos neg) (Pairs wanted refused) stands within = have_both (IsPairWithin nodes) stands within
 stands_within nodes (code.Xmls pos neg) (Xmls wanted refused) stands within = have_both (IsXmlWithin nodes) stands within
 stands_within nodes (code.Pairs pos neg) _ stands within = absurd stands
