@@ -1,4 +1,4 @@
-ghost use Rattle.std.specs.Prelude.{◌≡◌, ◌++◌, ◌<◌, ◌≤◌, ℕ, [], List, Some, length, slice_get, IfOk, IfSome, OnOk, MatchOption};
+ghost use Rattle.std.specs.Prelude.{◌≡◌, ◌++◌, ◌<◌, ◌≤◌, ℕ, [], List, Some, None, length, slice_get, IfOk, IfSome, OnOk, MatchOption};
 ghost use Rattle.std.specs.Option.{option_map};
 ghost use Rattle.cd_sets.specs.declared.question.Question.{Question as AQuestion};
 ghost use Rattle.cd_model.specs.Thing.{Thing};
@@ -72,6 +72,16 @@ impl Decider {
         let _count = self.asked.len();
         let id = self.asked.find(question)?;
         self.verdict_at(id)
+    }
+
+    /// The question at a place among those that are settled, and its verdict.
+    pub(crate) fn kept_at(&self, place: usize) -> Option<(&Question, Verdict)>
+        ensures { MatchOption result (slice_get (kept self.now) place ≡ None)
+            (λ one. slice_get (kept self.now) place ≡ Some (one.0.now, one.1)) }
+    {
+        let verdict = self.verdict_at(QuestionId(place))?;
+        let question = self.asked.get(QuestionId(place))?;
+        Some((question, verdict))
     }
 
     /// What the decider takes its memory from.

@@ -22,7 +22,7 @@ pub struct World {
 }
 
 impl World {
-    ghost use Rattle.std.specs.Prelude.{◌≡◌, ℕ, ◌+◌, ◌<◌, ◌++◌, [], ◌∷◌, true, List, length, IfOk, OnOk, OnErr, MatchOption};
+    ghost use Rattle.std.specs.Prelude.{◌≡◌, ℕ, ◌+◌, ◌<◌, ◌++◌, [], ◌∷◌, true, List, Some, None, length, slice_get, IfOk, OnOk, OnErr, MatchOption};
     ghost use Rattle.cd_sets.specs.declared.node_id.NodeId.{NodeId as AnId};
     ghost use Rattle.cd_sets.specs.declared.question.Question.{Question as AQuestion};
     ghost use Rattle.cd_model.specs.Thing.{Thing, IsElement, IsValue};
@@ -126,6 +126,14 @@ impl World {
     {
         self.know();
         self.decider.settled(question)
+    }
+
+    /// The question at a place among those whose verdicts are kept, and its verdict. So the questions without elements can be gone over.
+    pub fn kept_at(&self, place: usize) -> Option<(&Question, Verdict)>
+        ensures { MatchOption result (slice_get (kept self.now) place ≡ None)
+            (λ one. slice_get (kept self.now) place ≡ Some (one.0.now, one.1)) }
+    {
+        self.decider.kept_at(place)
     }
 
     // All verdicts that are kept are of questions of the graph and exact, and the questions without elements are a closed family. It does
