@@ -1,4 +1,3 @@
-pub mod ChoicesOfGraph
 pub mod PartsWithin
 mod PartsBelow
 mod Emptying

@@ -7,7 +7,7 @@ use Rattle.cd_model.specs.Formula.{Graph}
 use Rattle.cd_rules.specs.Clauses.{Pair, Triple}
 use Rattle.cd_rules.proofs.Asking.{each_of_map}
 use Rattle.cd_rules.proofs.Ones.{each_weaker}
-use Rattle.cd_apart.specs.Within.{IsPairWithin, IsXmlWithin}
+use Rattle.cd_rules.specs.Within.{IsPairWithin, IsXmlWithin}
 
 module _ (nodes : ℕ) where
   -- a node among so many

@@ -1,17 +1,13 @@
--- Clauses whose pairs and XML types name nodes among so many.
-use Rattle.std.specs.Prelude.{ℕ, ◌<◌}
+-- Clauses of the code whose pairs and XML types name nodes among so many.
+use Rattle.std.specs.Prelude.{ℕ}
 use Rattle.cd_model.specs.Each.{Each}
-use Rattle.cd_rules.specs.Clauses.{Pair, Triple}
+use Rattle.cd_rules.specs.Within.{IsPairWithin, IsXmlWithin}
 use Rattle.cd_normal.specs.declared.clause.Clause.{Clause}
 use Rattle.cd_normal.specs.declared.clause.Clause.TheVariants as code
 
-abbrev pub IsPairWithin : (nodes : ℕ) → Pair → Type 0
-IsPairWithin nodes parts = (parts.0.0 < nodes) × (parts.1.0 < nodes)
-
-abbrev pub IsXmlWithin : (nodes : ℕ) → Triple → Type 0
-IsXmlWithin nodes parts = (parts.0.0 < nodes) × (parts.1.0 < nodes) × (parts.2.0 < nodes)
-
 abbrev pub IsWithin : (nodes : ℕ) → Clause → Type 0
-IsWithin nodes (code.Pairs wanted refused) = Each (IsPairWithin nodes) wanted.items × Each (IsPairWithin nodes) refused.items
-IsWithin nodes (code.Xmls wanted refused) = Each (IsXmlWithin nodes) wanted.items × Each (IsXmlWithin nodes) refused.items
+IsWithin nodes (code.Pairs wanted refused) =
+    Each (IsPairWithin nodes) wanted.items × Each (IsPairWithin nodes) refused.items
+IsWithin nodes (code.Xmls wanted refused) =
+    Each (IsXmlWithin nodes) wanted.items × Each (IsXmlWithin nodes) refused.items
 IsWithin nodes clause = Unit {0}

@@ -5,7 +5,8 @@ ghost use Rattle.cd_model.specs.Each.{Each};
 ghost use Rattle.cd_graph.specs.Nodes.{nodes};
 ghost use Rattle.cd_rules.specs.Reduced.{AreApart};
 ghost use Rattle.cd_apart.specs.Emptiness.{IsEmpty, ArePairsApart, AreXmlsApart};
-ghost use Rattle.cd_apart.specs.Within.{IsPairWithin, IsXmlWithin, IsWithin};
+ghost use Rattle.cd_rules.specs.Within.{IsPairWithin, IsXmlWithin};
+ghost use Rattle.cd_apart.specs.Within.{IsWithin};
 
 use crate::asking::clauses_of_all;
 use crate::parts::{attributes, contents, firsts, seconds, tags};

@@ -7,7 +7,8 @@ ghost use Rattle.cd_rules.specs.Clauses.{Clause as PlainClause};
 ghost use Rattle.cd_rules.specs.Reduced.{IsPairApart, IsXmlApart, LeavesOut, IsReduced};
 ghost use Rattle.cd_normal.specs.Standing.{Stands};
 ghost use Rattle.cd_apart.specs.Reducing.{Reduces};
-ghost use Rattle.cd_apart.specs.Within.{IsPairWithin, IsXmlWithin, IsWithin};
+ghost use Rattle.cd_rules.specs.Within.{IsPairWithin, IsXmlWithin};
+ghost use Rattle.cd_apart.specs.Within.{IsWithin};
 
 use crate::apart::{are_pairs_apart, are_xmls_apart};
 use cd_graph::Graph;

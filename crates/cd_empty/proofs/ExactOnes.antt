@@ -11,8 +11,10 @@ use Rattle.cd_model.specs.BuiltIns.{built_ins}
 use Rattle.cd_model.specs.Each.{Each}
 use Rattle.cd_model.specs.Formula.{Graph}
 use Rattle.cd_model.specs.Membership.{asked, answers}
-use Rattle.cd_model.proofs.Apart.{not_both}
-use Rattle.cd_model.proofs.Decided.{in_or_outside}
+use Rattle.cd_model.specs.Formula.{nodes}
+use Rattle.cd_model.proofs.Apart.{element_apart}
+use Rattle.cd_model.proofs.ApartAtNodes.{nodes_keep}
+use Rattle.cd_model.proofs.DecidedAtNodes.{in_or_outside}
 use Rattle.cd_elements.specs.declared.shape.ElementId.{ElementId}
 use Rattle.cd_elements.specs.Table.{element_at}
 use Rattle.cd_rules.specs.Family.{IsOfFamily, IsClosed, AsksNodes}
@@ -37,6 +39,9 @@ pub each_had : {X : Type 0} (fact : X → Type 0) → ((one : X) → ∥ fact on
 each_had fact had [] known = tt
 each_had fact had (one ∷ rest) known =
     (had one (∥∥₁_map known (λ each. each.0)), each_had fact had rest (∥∥₁_map known (λ each. each.1)))
+
+not_both : (graph : Graph) (is : Thing) (id : NodeId) → answers graph is id true → answers graph is id false → ⊥
+not_both graph = element_apart (nodes graph) (nodes_keep graph)
 
 -- an element is in a node, or outside it, where that is known
 inside_had : (graph : Graph) (is : Thing) (id : NodeId) → ∥ answers graph is id true ∥₁ → answers graph is id true
@@ -77,9 +82,9 @@ module _ (graph : Graph) (begins : (more : Graph) × (graph ≡ built_ins ++ mor
   none_in family asks closed question there = (
     λ is element asking. ∥∥₁_elim closed never_in_two_ways
         (λ closed. element_out graph begins family closed is element question asking (covers_own family question there)),
-    λ more is value asking. ∥∥₁_elim closed never_in_two_ways
+    λ more interfaces v value asking. ∥∥₁_elim closed never_in_two_ways
         (λ closed. value_out (graph ++ more) (grows_then built_ins graph (graph ++ more) begins (more, refl)) family
-        (closed_stays graph more family asks closed) is value question asking (covers_own family question there)),
+        (closed_stays graph more family asks closed) interfaces v value question asking (covers_own family question there)),
   )
 
   marked_exact : (questions : List Question) (marks : List (Option ElementId)) → ∥ AreMarked graph table questions marks ∥₁
@@ -103,6 +108,13 @@ module _ (graph : Graph) (begins : (more : Graph) × (graph ≡ built_ins ++ mor
       → Each (λ one. IsExact graph table one.0 one.1) (with_verdicts questions marks)
   all_exact questions marks asks known closed = marked_exact questions marks known
       (none_in (unmarked questions marks) (each_of_unmarked (AsksNodes (length graph)) questions marks asks) closed)
+
+-- a fact of each question is one of each that has a verdict
+pub all_ask : (fact : Question → Type 0) (questions : List Question) (marks : List (Option ElementId)) → Each fact questions
+    → Each (λ one. fact one.0) (with_verdicts questions marks)
+all_ask fact [] marks each = tt
+all_ask fact (question ∷ questions) [] each = tt
+all_ask fact (question ∷ questions) (mark ∷ marks) each = (each.0, all_ask fact questions marks each.1)
 
 -- a verdict that is kept among exact ones is exact
 pub kept_exact : (graph : Graph) (table : List Thing) (kept : List (Question × Verdict)) (question : Question) (verdict : Verdict)

@@ -38,6 +38,16 @@ in_first (suc first) [] number below = refl
 in_first (suc first) (x ∷ list) zero below = refl
 in_first (suc first) (x ∷ list) (suc number) below = in_first first list number (omega arith)
 
+-- only the first ones have a mark
+is_first : (settled : ℕ) (marks : List (Option ElementId)) (number : ℕ) (mark : Option ElementId)
+    → slice_get (take settled marks) number ≡ Some mark → number < settled
+is_first settled marks number mark marked = omega (arith, slice_get_within (take settled marks) number mark marked, few settled marks)
+  where
+    few : (settled : ℕ) (marks : List (Option ElementId)) → length (take settled marks) ≤ settled
+    few zero marks = omega arith
+    few (suc settled) [] = omega arith
+    few (suc settled) (mark ∷ marks) = omega (arith, few settled marks)
+
 -- a question with a mark has the verdict of this mark
 pub kept_at : (asked : List Question) (marks : List (Option ElementId)) (number : ℕ) (question : Question) (mark : Option ElementId)
     → slice_get asked number ≡ Some question → slice_get marks number ≡ Some mark
@@ -50,6 +60,33 @@ kept_at (one ∷ asked) (other ∷ marks) zero question mark at marked =
     inl (λ i. (same i, verdict_of (alike i)))
 kept_at (one ∷ asked) (other ∷ marks) (suc number) question mark at marked = inr (kept_at asked marks number question mark at marked)
 
+-- so it stands at the question's number, and where there is no question or no mark there is none
+verdict_stands : (asked : List Question) (marks : List (Option ElementId)) (number : ℕ) (question : Question) (mark : Option ElementId)
+    → slice_get asked number ≡ Some question → slice_get marks number ≡ Some mark
+    → slice_get (with_verdicts asked marks) number ≡ Some (question, verdict_of mark)
+verdict_stands [] marks number question mark at marked = absurd (none-some question at)
+verdict_stands (one ∷ asked) [] number question mark at marked = absurd (none-some mark marked)
+verdict_stands (one ∷ asked) (other ∷ marks) zero question mark at marked =
+    let same : one ≡ question = grind arith in
+    let alike : other ≡ mark = grind arith in
+    λ i. Some (same i, verdict_of (alike i))
+verdict_stands (one ∷ asked) (other ∷ marks) (suc number) question mark at marked =
+    verdict_stands asked marks number question mark at marked
+
+no_question : (asked : List Question) (marks : List (Option ElementId)) (number : ℕ) → slice_get asked number ≡ None
+    → slice_get (with_verdicts asked marks) number ≡ None
+no_question [] marks number none = refl
+no_question (one ∷ asked) [] number none = refl
+no_question (one ∷ asked) (other ∷ marks) zero none = absurd (none-some one (sym none))
+no_question (one ∷ asked) (other ∷ marks) (suc number) none = no_question asked marks number none
+
+no_mark : (asked : List Question) (marks : List (Option ElementId)) (number : ℕ) → slice_get marks number ≡ None
+    → slice_get (with_verdicts asked marks) number ≡ None
+no_mark [] marks number none = refl
+no_mark (one ∷ asked) [] number none = refl
+no_mark (one ∷ asked) (other ∷ marks) zero none = absurd (none-some other (sym none))
+no_mark (one ∷ asked) (other ∷ marks) (suc number) none = no_mark asked marks number none
+
 -- a verdict that is kept is that of a question's mark
 pub kept_has : (asked : List Question) (marks : List (Option ElementId)) (question : Question) (verdict : Verdict)
     → IsKept (with_verdicts asked marks) question verdict
@@ -59,6 +96,40 @@ kept_has (one ∷ asked) [] question verdict kept = elim kept [ ]
 kept_has (one ∷ asked) (mark ∷ marks) question verdict (inl same) = (0, (λ i. Some (same i).0), (λ i. Some (same i).1))
 kept_has (one ∷ asked) (mark ∷ marks) question verdict (inr later) =
     let rest = kept_has asked marks question verdict later in (suc rest.0, rest.1, rest.2)
+
+-- the verdict of a number, whose question is asked
+pub stands_at : (asked : List Question) (marks : List (Option ElementId)) (settled number : ℕ) (question : Question) (verdict : Verdict)
+    → slice_get asked number ≡ Some question → option_map verdict_of (slice_get (take settled marks) number) ≡ Some verdict
+    → slice_get (with_verdicts (take settled asked) (take settled marks)) number ≡ Some (question, verdict)
+stands_at asked marks settled number question verdict at given = by_mark (slice_get (take settled marks) number) refl given
+  where
+    by_mark : (found : Option (Option ElementId)) → slice_get (take settled marks) number ≡ found
+        → option_map verdict_of found ≡ Some verdict
+        → slice_get (with_verdicts (take settled asked) (take settled marks)) number ≡ Some (question, verdict)
+    by_mark None is none = absurd (none-some verdict none)
+    by_mark (Some mark) is some = verdict_stands (take settled asked) (take settled marks) number question mark
+        (in_first settled asked number (is_first settled marks number mark is) ∙ at) is
+        ∙ ap (λ (verdict : Verdict). Some (question, verdict)) (same_Some (verdict_of mark) verdict some)
+
+-- where a number has no verdict, or no question, none is kept there
+pub no_verdict : (asked : List Question) (marks : List (Option ElementId)) (number : ℕ)
+    → option_map verdict_of (slice_get marks number) ≡ None → slice_get (with_verdicts asked marks) number ≡ None
+no_verdict asked marks number none = no_mark asked marks number (by_mark (slice_get marks number) none)
+  where
+    by_mark : (found : Option (Option ElementId)) → option_map verdict_of found ≡ None → found ≡ None
+    by_mark None none = refl
+    by_mark (Some mark) none = absurd (none-some (verdict_of mark) (sym none))
+
+pub none_asked : (asked : List Question) (marks : List (Option ElementId)) (settled number : ℕ) → slice_get asked number ≡ None
+    → slice_get (with_verdicts (take settled asked) (take settled marks)) number ≡ None
+none_asked asked marks settled number none =
+    no_question (take settled asked) (take settled marks) number (none_first settled asked number none)
+  where
+    none_first : (first : ℕ) (list : List Question) (number : ℕ) → slice_get list number ≡ None → slice_get (take first list) number ≡ None
+    none_first zero list number none = refl
+    none_first (suc first) [] number none = refl
+    none_first (suc first) (x ∷ list) zero none = none
+    none_first (suc first) (x ∷ list) (suc number) none = none_first first list number none
 
 -- What a look-up of a question finds, where each is asked once: its verdict is kept, or none is
 pub found_or_none : (asked : List Question) (marks : List (Option ElementId)) (settled number : ℕ) (question : Question)
@@ -70,16 +141,6 @@ pub found_or_none : (asked : List Question) (marks : List (Option ElementId)) (s
     (λ verdict. IsKept (with_verdicts (take settled asked) (take settled marks)) question verdict)
 found_or_none asked marks settled number question at once = by_mark (slice_get (take settled marks) number) refl
   where
-    -- only the first ones have a mark
-    is_first : (settled : ℕ) (marks : List (Option ElementId)) (number : ℕ) (mark : Option ElementId)
-        → slice_get (take settled marks) number ≡ Some mark → number < settled
-    is_first settled marks number mark marked = omega (arith, slice_get_within (take settled marks) number mark marked, few settled marks)
-      where
-        few : (settled : ℕ) (marks : List (Option ElementId)) → length (take settled marks) ≤ settled
-        few zero marks = omega arith
-        few (suc settled) [] = omega arith
-        few (suc settled) (mark ∷ marks) = omega (arith, few settled marks)
-
     by_mark : (found : Option (Option ElementId)) → slice_get (take settled marks) number ≡ found
         → MatchOption (option_map verdict_of found)
         ((verdict : Verdict) → IsKept (with_verdicts (take settled asked) (take settled marks)) question verdict → ⊥)

@@ -12,12 +12,5 @@ pub mod KeptOnes
 pub mod Longer
 pub mod ExactOnes
 pub mod Passing
-pub mod HoldsOrNot
-pub mod NodeSets
-pub mod BasicNeeds
-pub mod ClausesAnswer
-pub mod WaysMade
-pub mod EachQuestion
-pub mod ClosuresDecided
-pub mod ValuesDecided
 pub mod Subtypes
+pub mod GrowingWorlds

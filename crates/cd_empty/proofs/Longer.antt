@@ -17,6 +17,7 @@ use Rattle.cd_rules.proofs.Ones.{each_weaker, each_of_two}
 use Rattle.cd_members.specs.Marks.{AreMarked, unmarked}
 use Rattle.cd_empty.specs.declared.decider.Decider.{Decider}
 use Rattle.cd_empty.specs.Kept.{settled_questions, settled_marks, Fits}
+use Rattle.cd_empty.proofs.Growing.{Grows, grows_not}
 
 -- a fact of each is one of each of the first ones, and of each without a mark
 pub each_of_first : {X : Type 0} (fact : X → Type 0) (first : ℕ) (list : List X) → Each fact list → Each fact (take first list)
@@ -77,6 +78,12 @@ still_fits graph more table decider alike fits = record {
   where
     settled_ask : Each (AsksNodes (length graph)) (settled_questions decider)
     settled_ask = each_of_first (AsksNodes (length graph)) decider.settled decider.asked fits.asks
+
+-- what a call left of a graph, which put formulas after it or left it as it was, is the graph and more
+pub graph_grows : {T E : Type 0} (graph batch other : Graph) (result : Result T E) → OnOk result (other ≡ graph ++ batch)
+    → OnErr result (other ≡ graph) → Grows graph other
+graph_grows graph batch other (Ok one) added kept = (batch, added)
+graph_grows graph batch other (Err one) added kept = subst (Grows graph) (sym kept) (grows_not graph)
 
 -- So a decider fits what a call left of its graph, which put formulas after it or left it as it was
 pub fits_extended : {T E : Type 0} (graph batch other : Graph) (table : List Thing) (decider : Decider) (result : Result T E)

@@ -26,7 +26,7 @@ use Rattle.cd_rules.proofs.ClauseOf.{kind_of_element}
 use Rattle.cd_rules.proofs.ClausesExact.{clauses_exact}
 use Rattle.cd_rules.proofs.Elsewhere.{is_elsewhere}
 use Rattle.cd_rules.proofs.Ones.{each_weaker, one_with_each, one_leads}
-use Rattle.cd_rules.proofs.ReducedHeld.{reduced_held}
+use Rattle.cd_rules.proofs.ReducedHeld.{elements_held}
 use Rattle.cd_members.specs.Marks.{AreMarked, AreNumbers, IsMarked}
 use Rattle.cd_members.specs.Making.{IsMade, IsFit}
 use Rattle.cd_members.proofs.Fit.{named_is_fit}
@@ -81,7 +81,7 @@ made_is_asked graph begins table asked_all marks are question is sound needs mad
     let of = made.1 in
     let held = made_is_in graph table asked_all marks are needs of.1 of.5 is sound made.0 in
     (clauses_exact (kind_of is) (reader graph is) (kind_of_element graph is) (is_elsewhere graph is) graph question).1
-    (of.0, of.2, reduced_held graph begins of.0 of.1 is of.3 sound held)
+    (of.0, of.2, elements_held graph begins of.0 of.1 is of.3 sound held)
 
 made_is_marked : (graph : Graph) (begins : (more : Graph) × (graph ≡ built_ins ++ more)) (table : List Thing) (asked_all : List Question)
     (marks : List (Option ElementId)) → AreMarked graph table asked_all marks → (question : Question) (all : List Needs)

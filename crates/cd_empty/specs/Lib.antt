@@ -5,3 +5,4 @@ pub mod Rounds
 pub mod Kept
 pub mod Steps
 pub mod Seen
+pub mod Growth

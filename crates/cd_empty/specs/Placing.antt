@@ -7,7 +7,7 @@ use Rattle.cd_elements.specs.declared.shape.ElementId.{ElementId}
 use Rattle.cd_elements.specs.Table.{IsShape}
 use Rattle.cd_expand.specs.declared.needs.Needs.{Needs}
 use Rattle.cd_expand.specs.declared.expansion.Expansion.{Expansion}
-use Rattle.cd_expand.specs.declared.expansion.Expansion.TheVariants.{Thing as AnElement, Clauses}
+use Rattle.cd_expand.specs.declared.expansion.Expansion.TheVariants.{Element as AnElement, Clauses}
 use Rattle.cd_expand.specs.Expansion.{IsExpansion}
 use Rattle.cd_members.specs.Marks.{IsMarked}
 use Rattle.cd_empty.specs.Deciding.{IsExpanded}

@@ -1,5 +1,5 @@
 -- Questions with their verdicts.
-use Rattle.std.specs.Prelude.{◌≡◌, ◌++◌, true, List, [], ◌∷◌, length}
+use Rattle.std.specs.Prelude.{◌≡◌, ◌++◌, true, List, [], ◌∷◌}
 use Rattle.cd_sets.specs.declared.question.Question.{Question}
 use Rattle.cd_model.specs.Thing.{Thing, IsElement, IsValue}
 use Rattle.cd_model.specs.Each.{One}
@@ -14,10 +14,10 @@ use Rattle.cd_empty.specs.declared.verdict.Verdict.TheVariants.{Empty, Inhabited
 abbrev pub HasNoElement : Graph → Question → Type 0
 HasNoElement graph question = (is : Thing) → IsElement is → asked (answers graph is) question true → ⊥
 
--- no value is in a question, whose closures may have arrows of any graph that begins with this one
+-- no value is in a question, in any graph that begins with this one, whatever the interfaces of functions are
 abbrev pub HasNoValue : Graph → Question → Type 0
-HasNoValue graph question =
-    (more : Graph) (interfaces : Interfaces) (is : Thing) → IsValue (length (graph ++ more)) is → asked (value_answers (graph ++ more) is) question true → ⊥
+HasNoValue graph question = (more : Graph) (interfaces : Interfaces) (v : Thing) → IsValue v
+    → asked (value_answers (graph ++ more) interfaces v) question true → ⊥
 
 -- a verdict is exact: the question has no element, or it has this one of the table
 abbrev pub IsExact : Graph → List Thing → Question → Verdict → Type 0

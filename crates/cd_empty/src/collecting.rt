@@ -1,7 +1,7 @@
 //! The questions that a question leads to.
 ghost use Rattle.std.specs.Prelude.{◌≡◌, ◌++◌, ◌≤◌, List, Option, drop, length, map, take, OnOk, IfOk};
 ghost use Rattle.cd_sets.specs.declared.question.Question.{Question as AQuestion};
-ghost use Rattle.cd_model.specs.Thing.{Element as AnElement};
+ghost use Rattle.cd_model.specs.Thing.{Thing};
 ghost use Rattle.cd_model.specs.Each.{Each};
 ghost use Rattle.cd_model.specs.Formula.{Graph as PlainGraph};
 ghost use Rattle.cd_graph.specs.Nodes.{nodes};
@@ -29,7 +29,7 @@ fn found(
     ensures found { IfOk result (λ found. (graph : PlainGraph) (asked : List AQuestion) (question : AQuestion)
         → IsExpansion graph asked question expansion
         → IsMarked graph (table elements.new) question found.0 × IsExpanded graph asked question found.0 found.1.items) }
-    ensures grows { (more : List AnElement) × (table elements.new ≡ table elements.old ++ more) }
+    ensures grows { (more : List Thing) × (table elements.new ≡ table elements.old ++ more) }
 {
     match expansion {
         Expansion::Element(shape) => Ok((Some(elements.make(shape)?), Vec::new(alloc))),
@@ -49,7 +49,7 @@ fn place(
     ensures placed { OnOk result (IsPlaced (table elements.new) expansion marks.old.items marks.new.items
         (map (λ all. all.items) cases.old.items) (map (λ all. all.items) cases.new.items)) }
     ensures marks_grow { (more : List (Option AnId)) × (marks.new.items ≡ marks.old.items ++ more) }
-    ensures grows { (more : List AnElement) × (table elements.new ≡ table elements.old ++ more) }
+    ensures grows { (more : List Thing) × (table elements.new ≡ table elements.old ++ more) }
 {
     let (mark, needs) = found(alloc, expansion, elements)?;
     marks.push(mark)?;
@@ -75,7 +75,7 @@ pub(crate) fn collect(
         (drop (length marks.old.items) marks.new.items) (map (λ all. all.items) cases.items)) }
     ensures asks_nodes { (more : List AQuestion) × (asked.new ≡ asked.old ++ more) × Each (AsksNodes (length (nodes graph.now))) more }
     ensures marks_grow { (more : List (Option AnId)) × (marks.new.items ≡ marks.old.items ++ more) }
-    ensures grows { (more : List AnElement) × (table elements.new ≡ table elements.old ++ more) }
+    ensures grows { (more : List Thing) × (table elements.new ≡ table elements.old ++ more) }
 {
     let mut cases = Vec::new(alloc);
     while let Some(question) = asked.get(QuestionId(marks.len())) {

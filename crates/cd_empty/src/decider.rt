@@ -1,7 +1,7 @@
-ghost use Rattle.std.specs.Prelude.{◌≡◌, ◌++◌, ◌<◌, ◌≤◌, ℕ, [], List, Some, length, slice_get, IfOk, IfSome, OnOk, MatchOption};
+ghost use Rattle.std.specs.Prelude.{◌≡◌, ◌++◌, ◌<◌, ◌≤◌, ℕ, [], List, Some, None, length, slice_get, IfOk, IfSome, OnOk, MatchOption};
 ghost use Rattle.std.specs.Option.{option_map};
 ghost use Rattle.cd_sets.specs.declared.question.Question.{Question as AQuestion};
-ghost use Rattle.cd_model.specs.Thing.{Element as AnElement};
+ghost use Rattle.cd_model.specs.Thing.{Thing};
 ghost use Rattle.cd_model.specs.Each.{Each};
 ghost use Rattle.cd_model.specs.Formula.{Graph as PlainGraph};
 ghost use Rattle.cd_graph.specs.Nodes.{nodes};
@@ -34,7 +34,7 @@ impl Decider {
     /// No questions.
     pub(crate) fn new(alloc: Global) -> Decider
         ensures nothing { kept result ≡ [] }
-        ensures fits { (graph : PlainGraph) (elements : List AnElement) → Fits graph elements result }
+        ensures fits { (graph : PlainGraph) (elements : List Thing) → Fits graph elements result }
     {
         Decider {
             asked: Asked::new(alloc),
@@ -55,7 +55,7 @@ impl Decider {
         ensures fits { ∥ Fits (nodes graph.now) (table elements.new) self.new ∥₁ }
         ensures settled { IfOk result (λ verdict. IsKept (kept self.new) question.now verdict) }
         ensures stays { (more : List (AQuestion × AVerdict)) × (kept self.new ≡ kept self.old ++ more) }
-        ensures grows { (more : List AnElement) × (table elements.new ≡ table elements.old ++ more) }
+        ensures grows { (more : List Thing) × (table elements.new ≡ table elements.old ++ more) }
     {
         let id = self.place(question)?;
         self.settle_to(id, graph, elements)?;
@@ -72,6 +72,16 @@ impl Decider {
         let _count = self.asked.len();
         let id = self.asked.find(question)?;
         self.verdict_at(id)
+    }
+
+    /// The question at a place among those that are settled, and its verdict.
+    pub(crate) fn kept_at(&self, place: usize) -> Option<(&Question, Verdict)>
+        ensures { MatchOption result (slice_get (kept self.now) place ≡ None)
+            (λ one. slice_get (kept self.now) place ≡ Some (one.0.now, one.1)) }
+    {
+        let verdict = self.verdict_at(QuestionId(place))?;
+        let question = self.asked.get(QuestionId(place))?;
+        Some((question, verdict))
     }
 
     /// What the decider takes its memory from.
@@ -117,7 +127,7 @@ impl Decider {
         ensures settled { OnOk result (id.0 < self.new.settled) }
         ensures asked { (more : List AQuestion) × (self.new.asked ≡ self.old.asked ++ more) }
         ensures stays { (more : List (AQuestion × AVerdict)) × (kept self.new ≡ kept self.old ++ more) }
-        ensures grows { (more : List AnElement) × (table elements.new ≡ table elements.old ++ more) }
+        ensures grows { (more : List Thing) × (table elements.new ≡ table elements.old ++ more) }
     {
         if id.0 < self.settled {
             return Ok(());
@@ -133,7 +143,7 @@ impl Decider {
         ensures settled { OnOk result (length self.old.asked ≤ self.new.settled) }
         ensures asked { (more : List AQuestion) × (self.new.asked ≡ self.old.asked ++ more) }
         ensures stays { (more : List (AQuestion × AVerdict)) × (kept self.new ≡ kept self.old ++ more) }
-        ensures grows { (more : List AnElement) × (table elements.new ≡ table elements.old ++ more) }
+        ensures grows { (more : List Thing) × (table elements.new ≡ table elements.old ++ more) }
     {
         // The contract of this call says that the graph begins with the built-in nodes.
         let _count = graph.len();

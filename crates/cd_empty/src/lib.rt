@@ -3,6 +3,7 @@
 
 mod collecting;
 mod decider;
+pub mod laws;
 mod settling;
 pub mod verdict;
 pub mod world;

@@ -1,7 +1,7 @@
 //! The elements of questions, as far as what they need leads to some.
 ghost use Rattle.std.specs.Prelude.{◌≡◌, ◌++◌, ◌<◌, List, drop, length, map, take, OnOk, OnErr, IfOk, MatchOption};
 ghost use Rattle.cd_sets.specs.declared.question.Question.{Question as AQuestion};
-ghost use Rattle.cd_model.specs.Thing.{Element as AnElement};
+ghost use Rattle.cd_model.specs.Thing.{Thing};
 ghost use Rattle.cd_model.specs.BuiltIns.{built_ins};
 ghost use Rattle.cd_model.specs.Each.{Each};
 ghost use Rattle.cd_model.specs.Formula.{Graph as PlainGraph};
@@ -33,7 +33,7 @@ pub(crate) fn settle(
     ensures stuck { OnOk result (AreStuck marks.new.items (drop first marks.new.items) (map (λ all. all.items) cases.now)) }
     ensures count { length marks.new.items ≡ length marks.old.items }
     ensures kept { take first marks.new.items ≡ take first marks.old.items }
-    ensures grows { (more : List AnElement) × (table elements.new ≡ table elements.old ++ more) }
+    ensures grows { (more : List Thing) × (table elements.new ≡ table elements.old ++ more) }
 {
     'rounds: while go_round(elements, marks, first, cases)? {}
     Ok(())
@@ -74,7 +74,7 @@ fn mark(
     ensures step { IfOk result (λ made. IsStep (table elements.old) marks.old.items place all.now made
         (table elements.new) marks.new.items) }
     ensures kept { OnErr result (marks.new.items ≡ marks.old.items) }
-    ensures grows { (more : List AnElement) × (table elements.new ≡ table elements.old ++ more) }
+    ensures grows { (more : List Thing) × (table elements.new ≡ table elements.old ++ more) }
 {
     if marks[place].is_some() {
         return Ok(false);
@@ -100,7 +100,7 @@ fn first_member(
     requires fit { Each (IsFit (table elements.old) marks.now) all.now }
     ensures made { IfOk result (λ found. MatchOption found (Each (IsStuck marks.now) all.now)
         (λ id. IsMadeFor (table elements.old) marks.now all.now (table elements.new) id)) }
-    ensures grows { (more : List AnElement) × (table elements.new ≡ table elements.old ++ more) }
+    ensures grows { (more : List Thing) × (table elements.new ≡ table elements.old ++ more) }
 {
     for needs in all {
         if let Some(id) = member(alloc, elements, marks, needs)? {

@@ -22,16 +22,15 @@ pub struct World {
 }
 
 impl World {
-    ghost use Rattle.std.specs.Prelude.{◌≡◌, ◌+◌, ◌<◌, ◌++◌, [], ◌∷◌, true, List, length, IfOk, OnOk, OnErr, MatchOption};
+    ghost use Rattle.std.specs.Prelude.{◌≡◌, ℕ, ◌+◌, ◌<◌, ◌++◌, [], ◌∷◌, true, List, Some, None, length, slice_get, IfOk, OnOk, OnErr, MatchOption};
     ghost use Rattle.cd_sets.specs.declared.node_id.NodeId.{NodeId as AnId};
     ghost use Rattle.cd_sets.specs.declared.question.Question.{Question as AQuestion};
-    ghost use Rattle.cd_model.specs.Thing.{Element as AnElement, IsElement};
+    ghost use Rattle.cd_model.specs.Thing.{Thing, IsElement, IsValue};
     ghost use Rattle.cd_model.specs.BuiltIns.{built_ins};
     ghost use Rattle.cd_model.specs.Each.{Each};
     ghost use Rattle.cd_model.specs.Formula.{Graph as PlainGraph, IsFormula, IsGraph};
     ghost use Rattle.cd_model.specs.Membership.{answers, value_answers};
-    ghost use Rattle.cd_model.specs.Interfaces.{Interfaces};
-ghost use Rattle.cd_model.specs.Thing.{IsValue};
+    ghost use Rattle.cd_model.specs.Interfaces.{ArrowOf, OfNodes};
     ghost use Rattle.cd_graph.specs.PlainFormula.{plain_list};
     ghost use Rattle.cd_rules.specs.Family.{AsksNodes, IsClosed};
     ghost use Rattle.cd_rules.specs.Needs.{question};
@@ -39,6 +38,7 @@ ghost use Rattle.cd_model.specs.Thing.{IsValue};
     ghost use Rattle.cd_empty.specs.declared.verdict.Verdict.TheVariants.{Empty};
     ghost use Rattle.cd_empty.specs.Verdicts.{IsExact, IsKept, family};
     ghost use Rattle.cd_empty.specs.Seen.{graph_of, table_of, kept};
+    ghost use Rattle.cd_empty.specs.Growth.{Grows};
 
     /// The graph of the built-in nodes alone, of which nothing is settled.
     pub fn new(alloc: Global) -> Result<World, AllocError>
@@ -53,15 +53,17 @@ ghost use Rattle.cd_model.specs.Thing.{IsValue};
         })
     }
 
-    /// Puts formulas after those of the graph, and gives the number of the first. What is settled stays so. Where memory runs out the graph
-    /// stays as it was.
+    /// Puts formulas after those of the graph, which stays sound, and gives the number of the first. What is settled stays so. Where memory
+    /// runs out the graph stays as it was.
     pub fn extend(&mut self, batch: Formulas) -> Result<NodeId, AllocError>
         requires { Each (IsFormula (length (graph_of self.old) + length (plain_list batch))) (plain_list batch) }
         ensures first { IfOk result (λ first. first.0 ≡ length (graph_of self.old)) }
         ensures added { OnOk result (graph_of self.new ≡ graph_of self.old ++ plain_list batch) }
         ensures unchanged { OnErr result (graph_of self.new ≡ graph_of self.old) }
+        ensures sound { IsGraph (graph_of self.new) }
         ensures settled { kept self.new ≡ kept self.old }
         ensures elements { table_of self.new ≡ table_of self.old }
+        ensures grows { Grows self.old self.new }
     {
         self.graph.extend(batch)
     }
@@ -76,9 +78,8 @@ ghost use Rattle.cd_model.specs.Thing.{IsValue};
         requires { AsksNodes (length (graph_of self.old)) question.now }
         ensures exact { IfOk result (λ verdict. IsExact (graph_of self.old) (table_of self.new) question.now verdict) }
         ensures settled { IfOk result (λ verdict. IsKept (kept self.new) question.now verdict) }
-        ensures stays { (more : List (AQuestion × AVerdict)) × (kept self.new ≡ kept self.old ++ more) }
         ensures graph { graph_of self.new ≡ graph_of self.old }
-        ensures grows { (more : List AnElement) × (table_of self.new ≡ table_of self.old ++ more) }
+        ensures grows { Grows self.old self.new }
     {
         let verdict = self
             .decider
@@ -96,16 +97,16 @@ ghost use Rattle.cd_model.specs.Thing.{IsValue};
     pub fn subtype(&mut self, first: NodeId, second: NodeId) -> Result<Verdict, AllocError>
         requires first { first.0 < length (graph_of self.old) }
         requires second { second.0 < length (graph_of self.old) }
-        ensures elements { IfOk result (λ verdict. verdict ≡ Empty → (is : AnElement) → IsElement is
+        ensures elements { IfOk result (λ verdict. verdict ≡ Empty → (is : Thing) → IsElement is
             → answers (graph_of self.old) is first true → answers (graph_of self.old) is second true) }
-        ensures values { IfOk result (λ verdict. verdict ≡ Empty → (more : PlainGraph) (is : AValue) → IsGraph (graph_of self.old ++ more)
-            → IsValue (length (graph_of self.old ++ more)) is
-            → value_answers (graph_of self.old ++ more) is first true → value_answers (graph_of self.old ++ more) is second true) }
+        ensures values { IfOk result (λ verdict. verdict ≡ Empty → (more : PlainGraph) (arrows : ℕ → List (ArrowOf AnId)) (v : Thing)
+            → IsGraph (graph_of self.old ++ more) → IsValue v
+            → value_answers (graph_of self.old ++ more) (OfNodes (graph_of self.old ++ more) arrows) v first true
+            → value_answers (graph_of self.old ++ more) (OfNodes (graph_of self.old ++ more) arrows) v second true) }
         ensures exact { IfOk result (λ verdict. IsExact (graph_of self.old) (table_of self.new) (question (first ∷ []) (second ∷ [])) verdict) }
         ensures settled { IfOk result (λ verdict. IsKept (kept self.new) (question (first ∷ []) (second ∷ [])) verdict) }
-        ensures stays { (more : List (AQuestion × AVerdict)) × (kept self.new ≡ kept self.old ++ more) }
         ensures graph { graph_of self.new ≡ graph_of self.old }
-        ensures grows { (more : List AnElement) × (table_of self.new ≡ table_of self.old ++ more) }
+        ensures grows { Grows self.old self.new }
     {
         // The contract of this call says that the graph begins with the built-in nodes.
         let _nodes = self.graph.len();
@@ -113,11 +114,12 @@ ghost use Rattle.cd_model.specs.Thing.{IsValue};
         self.decide(&question)
     }
 
-    /// The verdict that is kept for a question. All that are kept are exact, one for each question, and the questions without elements are
-    /// a closed family.
+    /// The verdict that is kept for a question. All that are kept are of questions of the graph and exact, one for each question, and the
+    /// questions without elements are a closed family.
     pub fn settled(&self, question: &Question) -> Option<Verdict>
         ensures found { MatchOption result ((verdict : AVerdict) → IsKept (kept self.now) question.now verdict → ⊥)
             (λ verdict. IsKept (kept self.now) question.now verdict) }
+        ensures asks { Each (λ one. AsksNodes (length (graph_of self.now)) one.0) (kept self.now) }
         ensures exact { Each (λ one. IsExact (graph_of self.now) (table_of self.now) one.0 one.1) (kept self.now) }
         ensures once { (asked : AQuestion) (one other : AVerdict) → IsKept (kept self.now) asked one → IsKept (kept self.now) asked other → one ≡ other }
         ensures closed { ∥ IsClosed (graph_of self.now) (family (kept self.now)) ∥₁ }
@@ -126,8 +128,18 @@ ghost use Rattle.cd_model.specs.Thing.{IsValue};
         self.decider.settled(question)
     }
 
-    // All verdicts that are kept are exact, and the questions without elements are a closed family. It does nothing.
+    /// The question at a place among those whose verdicts are kept, and its verdict. So the questions without elements can be gone over.
+    pub fn kept_at(&self, place: usize) -> Option<(&Question, Verdict)>
+        ensures { MatchOption result (slice_get (kept self.now) place ≡ None)
+            (λ one. slice_get (kept self.now) place ≡ Some (one.0.now, one.1)) }
+    {
+        self.decider.kept_at(place)
+    }
+
+    // All verdicts that are kept are of questions of the graph and exact, and the questions without elements are a closed family. It does
+    // nothing.
     fn know(&self)
+        ensures asks { Each (λ one. AsksNodes (length (graph_of self.now)) one.0) (kept self.now) }
         ensures exact { Each (λ one. IsExact (graph_of self.now) (table_of self.now) one.0 one.1) (kept self.now) }
         ensures closed { ∥ IsClosed (graph_of self.now) (family (kept self.now)) ∥₁ }
     {
@@ -136,10 +148,14 @@ ghost use Rattle.cd_model.specs.Thing.{IsValue};
         let _elements = self.elements.len();
     }
 
-    /// The graph.
+    /// The graph, which is sound and begins with the built-in nodes.
     pub fn graph(&self) -> &Graph
-        ensures { nodes result.now ≡ graph_of self.now }
+        ensures graph { nodes result.now ≡ graph_of self.now }
+        ensures sound { IsGraph (graph_of self.now) }
+        ensures built_in { (more : PlainGraph) × (graph_of self.now ≡ built_ins ++ more) }
     {
+        // The contract of this call says that the graph is sound and begins with the built-in nodes.
+        let _nodes = self.graph.len();
         &self.graph
     }
 

@@ -13,10 +13,11 @@ use Rattle.cd_normal.specs.Standing.{Stands}
 use Rattle.cd_records.specs.RecordTypes.{record_types}
 use Rattle.cd_expand.specs.Added.{Adds}
 use Rattle.cd_expand.specs.OfClauses.{ClauseAsks}
-use Rattle.cd_expand.specs.Within.{IsWithin, StandsInGraph}
+use Rattle.cd_expand.specs.Within.{StandsInGraph}
+use Rattle.cd_rules.specs.Within.{IsWithin}
 use Rattle.cd_expand.proofs.Adding.{adds_for}
 use Rattle.cd_expand.proofs.Expanding.{IsToldOf, AreTold}
-use Rattle.cd_expand.proofs.PartsAsk.{clause_is_within, pair_ways_ask, xml_ways_ask, arrow_ways_ask, rows_ask}
+use Rattle.cd_rules.proofs.PartsAsk.{clause_is_within, pair_ways_ask, xml_ways_ask, arrow_ways_ask, rows_ask}
 use Rattle.cd_expand.proofs.Reducing.{AreReduced, kept_in_graph}
 
 -- parts that are the same are within the same bound
@@ -51,18 +52,18 @@ reduced_adds graph clause kept told = adds_for (λ nodes. StandsInGraph nodes cl
 
 -- the clauses of a question stand for those of the graph
 pub all_in_graph : (graph : Graph) → IsGraph graph → (more : Graph) × (graph ≡ built_ins ++ more) → (question : Question)
-    → AsksNodes (length graph) question → (clauses : List Clause) → AreTold graph question clauses
+    → (clauses : List Clause) → AreTold graph question clauses
     → Each (StandsInGraph (length graph)) clauses
-all_in_graph graph sound begins question asks clauses told = each_weaker (IsToldOf graph question) (StandsInGraph (length graph))
-    (λ clause of. (least, of.0, of.2, clause_is_within graph sound question asks of.0 of.1)) clauses told.sound
+all_in_graph graph sound begins question clauses told = each_weaker (IsToldOf graph question) (StandsInGraph (length graph))
+    (λ clause of. (least, of.0, of.2, clause_is_within graph sound question of.0 of.1)) clauses told.sound
   where
     least : 14 ≤ length graph
     least = let long = ap length begins.1 ∙ length-append built_ins begins.0 in omega arith
 
 -- and so each question that is added asks nodes of the graph
 pub added_asks : (graph : Graph) → IsGraph graph → (more : Graph) × (graph ≡ built_ins ++ more) → (question : Question)
-    → AsksNodes (length graph) question → (clauses : List Clause) → AreTold graph question clauses → (old new : List Question)
+    → (clauses : List Clause) → AreTold graph question clauses → (old new : List Question)
     → Adds (λ nodes. Each (StandsInGraph nodes) clauses) old new
     → (more : List Question) × (new ≡ old ++ more) × Each (AsksNodes (length graph)) more
-added_asks graph sound begins question asks clauses told old new adds =
-    (adds.more, adds.grown, adds.asking (length graph) (all_in_graph graph sound begins question asks clauses told))
+added_asks graph sound begins question clauses told old new adds =
+    (adds.more, adds.grown, adds.asking (length graph) (all_in_graph graph sound begins question clauses told))

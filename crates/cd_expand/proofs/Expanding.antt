@@ -21,7 +21,7 @@ use Rattle.cd_expand.specs.Expansion.{HasShape, AreOfClauses, CoverClauses}
 use Rattle.cd_expand.specs.Named.{Names}
 use Rattle.cd_expand.specs.OfClauses.{NamesReduced, NamesEach}
 use Rattle.cd_expand.proofs.Basics.{nothing_needed, integer_in, character_in, atom_in}
-use Rattle.cd_expand.proofs.PartsAsk.{clause_names_labels}
+use Rattle.cd_rules.proofs.PartsAsk.{clause_names_labels}
 use Rattle.cd_expand.proofs.Reducing.{reduced_names_labels}
 
 -- a clause of the code stands for one of the question
@@ -65,10 +65,10 @@ element_told graph question clauses told shape one =
     (λ clause of here. shape_in graph question clause of.0 shape of.1 of.2 here) clauses told.sound one
 
 -- what is needed for the clauses of the code is needed for reduced clauses of the question
-pub needs_told : (graph : Graph) → IsGraph graph → (question : Question) → AsksNodes (length graph) question
+pub needs_told : (graph : Graph) → IsGraph graph → (question : Question)
     → (clauses : List Clause) → AreTold graph question clauses → (asked : List Question) (all : List Needs)
     → NamesEach graph asked clauses all → AreOfClauses graph asked question all
-needs_told graph sound question asks clauses told asked all names =
+needs_told graph sound question clauses told asked all names =
     each_weaker (λ named. One (λ clause. NamesReduced graph asked clause named) clauses) Fact
     (λ named one. with_one (IsToldOf graph question) (λ clause. NamesReduced graph asked clause named) (Fact named) (of_one named)
     clauses told.sound one) all names.0
@@ -80,7 +80,7 @@ needs_told graph sound question asks clauses told asked all names =
     of_one : (named : Needs) (clause : Clause) → IsToldOf graph question clause → NamesReduced graph asked clause named → Fact named
     of_one named clause of here =
         let less = here of.0 of.2 in
-        let labels = clause_names_labels graph sound question asks of.0 of.1 in
+        let labels = clause_names_labels graph sound question of.0 of.1 in
         (of.0, less.0, of.1, less.1, reduced_names_labels graph of.0 less.0 less.1 labels, less.2)
 
 -- the needs of a reduced form of a clause of the question are there, or it needs what has no way

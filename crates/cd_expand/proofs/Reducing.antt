@@ -10,12 +10,13 @@ use Rattle.cd_rules.specs.Reduced.{LeavesOut, none, keeps, leaves, IsPairApart, 
 use Rattle.cd_normal.specs.declared.clause.Clause.{Clause}
 use Rattle.cd_normal.specs.declared.clause.Clause.TheVariants as code
 use Rattle.cd_normal.specs.Standing.{Stands}
-use Rattle.cd_apart.specs.Within.{IsPairWithin, IsXmlWithin, IsWithin as CodeIsWithin}
+use Rattle.cd_rules.specs.Within.{IsPairWithin, IsXmlWithin, IsWithin}
+use Rattle.cd_apart.specs.Within.{IsWithin as CodeIsWithin}
 use Rattle.cd_expand.specs.declared.needs.Needs.{Needs}
 use Rattle.cd_expand.specs.Basic.{IsBasic}
 use Rattle.cd_expand.specs.Named.{Names}
 use Rattle.cd_expand.specs.OfClauses.{NamesNeeded, NamesClause, NamesOne}
-use Rattle.cd_expand.specs.Within.{IsWithin, StandsInGraph}
+use Rattle.cd_expand.specs.Within.{StandsInGraph}
 
 -- what is so of each of a list is so of each that is kept of it
 each_kept : {X : Type 0} (Apart fact : X → Type 0) (all kept : List X) → LeavesOut Apart all kept → Each fact all → Each fact kept

@@ -4,3 +4,5 @@ mod OfQuestion
 pub mod Reading
 pub mod Members
 pub mod Labels
+mod FieldAt
+mod SameNames

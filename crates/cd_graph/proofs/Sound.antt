@@ -1,5 +1,5 @@
 -- What a graph is known by: it is sound, it begins with the built-in nodes, and both stay so where formulas are added.
-use Rattle.std.proofs.Common.{◌≡◌, ℕ, ◌+◌, ◌<◌, ◌≤◌, List, [], ◌∷◌, ◌++◌, length, take, drop, Option, Some, None, Result, Ok, Err, OnOk, OnErr, IsTrue, false, codes, bytes_eq, refl, sym, ap, ◌∙◌, subst, arith, length-append, lit<, true≢false}
+use Rattle.std.proofs.Common.{◌≡◌, ℕ, zero, suc, map, get_or, ◌+◌, ◌<◌, ◌≤◌, List, [], ◌∷◌, ◌++◌, length, take, drop, Option, Some, None, Result, Ok, Err, OnOk, OnErr, IsTrue, false, codes, bytes_eq, refl, sym, ap, ◌∙◌, subst, arith, length-append, lit<, true≢false}
 use Rattle.std.proofs.Props.{props}
 use Rattle.std.proofs.lemmas.List.{take-append-le, take-append-drop, length-take}
 use Rattle.std.proofs.lemmas.Slice.Eq.{bytes_eq-Decides}
@@ -10,6 +10,8 @@ use Rattle.cd_syntax.specs.Name.{IsAbove}
 use Rattle.cd_model.specs.Each.{Each}
 use Rattle.cd_model.specs.Formula.{Formula, Formulas, Nothing, Everything, Ints, Chars, Atoms, Pair, Xml, Record, Arrow, And, Or, Not, NoFormula, AFormula, Field, Graph, AreRisingLabels, IsFormula, AreFormulas, IsGraph}
 use Rattle.cd_model.specs.BuiltIns.{built_ins}
+use Rattle.cd_graph.specs.PlainFormula.{plain}
+use Rattle.cd_graph.specs.declared.formula.Formula.{Formula as CodeFormula}
 use Rattle.cd_graph.proofs.Same.{formulas_are_a_set}
 
 -- each of these facts has one proof at most
@@ -143,3 +145,10 @@ built_ins_are_sound =
     let string : 7 < 14 = lit< tt in
     let data_node : 12 < 14 = lit< tt in
     assumption
+
+-- where all formulas are of a graph, the one at a place is
+pub item_is_sound : (nodes : ℕ) (items : List CodeFormula) (place : ℕ) (d : CodeFormula) → Each (IsFormula nodes) (map plain items)
+    → place < length items → IsFormula nodes (plain (get_or items place d))
+item_is_sound nodes [] place d each within = absurd (omega arith)
+item_is_sound nodes (is ∷ items) zero d each within = each.0
+item_is_sound nodes (is ∷ items) (suc place) d each within = item_is_sound nodes items place d each.1 (omega arith)

@@ -1,6 +1,7 @@
-ghost use Rattle.std.specs.Prelude.{◌≡◌, None, IfOk};
+ghost use Rattle.std.specs.Prelude.{◌≡◌, None, IfOk, bytes_eq};
+ghost use Rattle.cd_model.specs.Types.{field_of};
 ghost use Rattle.cd_model.specs.Formula.{AreRisingLabels};
-ghost use Rattle.cd_graph.specs.PlainFormula.{plain_named};
+ghost use Rattle.cd_graph.specs.PlainFormula.{plain_field, plain_named};
 
 use cd_sets::node_id::NodeId;
 use cd_syntax::name::Name;
@@ -76,6 +77,21 @@ pub struct Fields {
 }
 
 impl Fields {
+    /// What it says of a label: its field of this label, or else that nothing may stand there or what is in the rest.
+    pub fn at(&self, label: &Name) -> Field
+        ensures { plain_field result ≡ field_of (plain_named self.now.named) self.now.rest label.now }
+    {
+        for field in self.named.items() {
+            if is_same(&field.0, label) {
+                return field.1;
+            }
+        }
+        Field {
+            optional: true,
+            node: self.rest,
+        }
+    }
+
     /// An equal record type.
     pub fn copy(&self) -> Result<Fields, AllocError>
         ensures { IfOk result (λ copy. copy ≡ self.now) }
@@ -85,4 +101,11 @@ impl Fields {
             rest: self.rest,
         })
     }
+}
+
+/// Whether two names are equal.
+pub fn is_same(one: &Name, other: &Name) -> bool
+    ensures { result ≡ bytes_eq one.now other.now }
+{
+    one.as_str() == other.as_str()
 }

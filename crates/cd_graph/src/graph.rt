@@ -35,8 +35,8 @@ impl Graph {
         })
     }
 
-    /// Puts formulas after those of the graph, and gives the number of the first. Each old node holds what it held. Where
-    /// memory runs out the graph stays as it was.
+    /// Puts formulas after those of the graph, which stays sound, and gives the number of the first. Each old node holds what it
+    /// held. Where memory runs out the graph stays as it was.
     pub fn extend(&mut self, batch: Formulas) -> Result<NodeId, AllocError>
         requires { Each (IsFormula (length (nodes self.old) + length (plain_list batch))) (plain_list batch) }
         ensures first { IfOk result (λ first. first.0 ≡ length (nodes self.old)) }
@@ -46,16 +46,18 @@ impl Graph {
         ensures values { OnOk result ((interfaces : Interfaces) (is : Thing) (id : AnId) (answer : Bool) → id.0 < length (nodes self.old)
             → value_answers (nodes self.old) interfaces is id answer ↔ value_answers (nodes self.new) interfaces is id answer) }
         ensures kept { OnErr result (nodes self.new ≡ nodes self.old) }
+        ensures sound { IsGraph (nodes self.new) }
     {
         let first = NodeId(self.len());
         self.formulas.append(batch)?;
         Ok(first)
     }
 
-    /// The formula of a node.
+    /// The formula of a node, which is one of the graph.
     pub fn formula(&self, id: NodeId) -> &Formula
         requires { id.0 < length (nodes self.now) }
-        ensures { plain result.now ≡ formula_at (nodes self.now) id }
+        ensures formula { plain result.now ≡ formula_at (nodes self.now) id }
+        ensures sound { IsFormula (length (nodes self.now)) (plain result.now) }
     {
         &self.formulas.items()[id.0]
     }

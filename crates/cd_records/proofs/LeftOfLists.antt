@@ -18,12 +18,6 @@ pub at_item : {X Y : Type 0} (F : List X → Y) (items : List X) (index : ℕ) (
 at_item F items index item is more = at_drop_more F items index item more ∙ ap (λ next. F (next ∷ drop (index + 1) items))
     (sym is)
 
--- the first field is of this label
-pub found_here : (field : Name × Field) (fields : List (Name × Field)) (rest : NodeId) (label : Name)
-    → bytes_eq field.0 label ≡ true
-    → field_of (plain_named (field ∷ fields)) rest label ≡ plain_field field.1
-found_here field fields rest label same = rw same refl
-
 -- the choices with the first label as the reason, and those with the others
 pub next_label : (type : RecordType) (labels : List (Bor Name)) (index : ℕ) (label : Bor Name) (others : List Reasons)
     → label ≡ get_or labels index label → index < length labels

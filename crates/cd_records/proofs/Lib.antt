@@ -1,4 +1,3 @@
 pub mod LabelsOfTypes
 pub mod LeftOfLists
-pub mod SameNames
 pub mod LettersOfTests

@@ -5,11 +5,9 @@ ghost use Rattle.cd_rules.specs.Rows.{field_at as field_at_of, is_reason as is_r
 ghost use Rattle.cd_records.specs.RecordTypes.{record_types, plain_cell};
 ghost use Rattle.cd_records.specs.PlainReasons.{plain_chosen, plain_reasons};
 
-use crate::at::field_at;
-use crate::compare::is_same;
 use crate::reasons::Chosen;
 use crate::row::FieldCell;
-use cd_graph::fields::Fields;
+use cd_graph::fields::{Fields, is_same};
 use cd_needs::asking::question;
 use cd_sets::node_id::NodeId;
 use cd_syntax::name::Name;
@@ -27,12 +25,11 @@ fn is_reason(label: &Name, chosen: &Chosen<'_>) -> bool
 
 // The nodes of the wanted types at a label.
 fn wanted_nodes(alloc: Global, wanted: &[Fields], label: &Name) -> Result<Vec<NodeId>, AllocError>
-    ensures { IfOk result (λ nodes. nodes.items
-        ≡ map (λ type. (field_at_of type label.now).type) (record_types wanted.now)) }
+    ensures { IfOk result (λ nodes. nodes.items ≡ map (λ type. (field_at_of type label.now).type) (record_types wanted.now)) }
 {
     let mut nodes = Vec::new(alloc);
     for fields in wanted {
-        nodes.push(field_at(fields, label).node)?;
+        nodes.push(fields.at(label).node)?;
     }
     Ok(nodes)
 }
@@ -43,13 +40,12 @@ fn refused_nodes(
     reasons: &[Chosen<'_>],
     label: &Name,
 ) -> Result<Vec<NodeId>, AllocError>
-    ensures { IfOk result (λ nodes. nodes.items ≡ map (λ type. (field_at_of type label.now).type)
-        (types_at label.now (plain_reasons reasons.now))) }
+    ensures { IfOk result (λ nodes. nodes.items ≡ map (λ type. (field_at_of type label.now).type) (types_at label.now (plain_reasons reasons.now))) }
 {
     let mut nodes = Vec::new(alloc);
     for chosen in reasons {
         if is_reason(label, chosen) {
-            nodes.push(field_at(chosen.refused, label).node)?;
+            nodes.push(chosen.refused.at(label).node)?;
         }
     }
     Ok(nodes)
@@ -60,7 +56,7 @@ fn all_optional(wanted: &[Fields], label: &Name) -> bool
     ensures { result ≡ list_all (λ type. (field_at_of type label.now).optional) (record_types wanted.now) }
 {
     for fields in wanted {
-        if !field_at(fields, label).optional {
+        if !fields.at(label).optional {
             return false;
         }
     }
@@ -72,7 +68,7 @@ fn none_optional(reasons: &[Chosen<'_>], label: &Name) -> bool
     ensures { result ≡ list_all (λ type. not (field_at_of type label.now).optional) (types_at label.now (plain_reasons reasons.now)) }
 {
     for chosen in reasons {
-        if is_reason(label, chosen) && field_at(chosen.refused, label).optional {
+        if is_reason(label, chosen) && chosen.refused.at(label).optional {
             return false;
         }
     }

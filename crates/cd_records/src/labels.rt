@@ -6,8 +6,7 @@ ghost use Rattle.cd_rules.specs.Rows.{with_label as with_label_of, labels_after,
 ghost use Rattle.cd_records.specs.RecordTypes.{record_types};
 ghost use Rattle.cd_records.specs.PlainReasons.{plain_labels, labels_before};
 
-use crate::compare::is_same;
-use cd_graph::fields::{Field, Fields};
+use cd_graph::fields::{Field, Fields, is_same};
 use cd_syntax::name::Name;
 use std::alloc::{AllocError, Global};
 

@@ -25,14 +25,14 @@ use Rattle.cd_rules.proofs.Covering.{covers_own, covers_more}
 use Rattle.cd_rules.proofs.MembersOfClauses.{supplied_has}
 use Rattle.cd_rules.proofs.NoMember.{element_out, value_out}
 use Rattle.cd_rules.proofs.NumbersBeyond.{has_built_ins, named, of_nodes, asks_nodes, asked_there, asked_back}
-use Rattle.cd_rules.proofs.Ones.{each_weaker}
+use Rattle.cd_rules.proofs.Ones.{each_weaker, each_of_all}
 use Rattle.cd_rules.proofs.Settling.{each_or_one, clause_settled}
 use Rattle.cd_rules.specs.Within.{IsWithin}
 use Rattle.cd_rules.proofs.PartsAsk.{RowAsks, clause_is_within, clause_names_labels, pair_ways_ask, xml_ways_ask, arrow_ways_ask, rows_ask}
 use Rattle.cd_rules.proofs.BasicNeeds.{needs_known, integer_or_not, character_or_not, atom_or_not}
 use Rattle.cd_rules.proofs.ClausesAnswer.{Answer, choices_answer}
 use Rattle.cd_model.proofs.HoldsOrNot.{HoldsOrNot}
-use Rattle.cd_rules.proofs.NodeSets.{all_questions, among_all, all_ask_nodes}
+use Rattle.cd_rules.proofs.NodeSets.{all_questions, among_all}
 
 -- a basic kind has no questions
 basic_settled : {X : Type 0} (fact : Question → Type 0) (family : List Question) (IsMember : X → Type 0) (needs : List Need)
@@ -116,16 +116,16 @@ module _ (graph more : Graph) (begins : graph ≡ built_ins ++ more) (sound : Is
     abbrev IsBroken : Question → Type 0
     IsBroken one = (clause : Clause) → IsClauseOfQuestion graph one clause → Breaks family clause
 
-    broken_or_has : (one : Question) → AsksNodes nodes one → IsBroken one ⊎ HasElement graph one
-    broken_or_has one asks = by_answer (choices_answer (HasElement graph) family (choices_of graph one)
+    broken_or_has : (one : Question) → IsBroken one ⊎ HasElement graph one
+    broken_or_has one = by_answer (choices_answer (HasElement graph) family (choices_of graph one)
         (λ clause of. clause_settled (HasElement graph) family clause
-        (all_settled clause (clause_is_within graph sound one asks clause of))))
+        (all_settled clause (clause_is_within graph sound one clause of))))
       where
         by_answer : Answer (HasElement graph) family (IsClauseOfQuestion graph one) → IsBroken one ⊎ HasElement graph one
         by_answer (inl broken) = inl broken
         by_answer (inr supplied) =
             let clause = supplied.0 in
-            let names = clause_names_labels graph sound one asks clause supplied.1 in
+            let names = clause_names_labels graph sound one clause supplied.1 in
             let member = supplied_has graph more begins clause names supplied.2 in
             let is = member.0 in
             inr (
@@ -139,7 +139,6 @@ module _ (graph more : Graph) (begins : graph ≡ built_ins ++ more) (sound : Is
     rest : List Question
     shorter : suc (length rest) ≡ length family
     others : (one : Question) → IsOfFamily one family → HasOrIsOf rest one
-    asks : Each (AsksNodes nodes) family → Each (AsksNodes nodes) rest
 
   without : (family : List Question) → One (HasElement graph) family → Without family
   without [] has = elim has [ ]
@@ -147,7 +146,6 @@ module _ (graph more : Graph) (begins : graph ≡ built_ins ++ more) (sound : Is
     rest = family;
     shorter = refl;
     others = λ one there. elim there [ inl same ↦ inl (subst (HasElement graph) same has) | inr later ↦ inr later ];
-    asks = λ each. each.1;
   }
   without (first ∷ family) (inr later) = let less = without family later in record {
     rest = first ∷ less.rest;
@@ -156,32 +154,31 @@ module _ (graph more : Graph) (begins : graph ≡ built_ins ++ more) (sound : Is
       | inl same ↦ inr (inl same)
       | inr further ↦ elim (less.others one further) [ inl has ↦ inl has | inr stays ↦ inr (inr stays) ]
     ];
-    asks = λ each. (each.0, less.asks each.1);
   }
 
   -- there is a closed family
   abbrev HasClosed : Type 0
   HasClosed = (family : List Question) × IsClosed graph family × Covers family
 
-  closed_of : (most : ℕ) (family : List Question) → length family ≤ most → Each (AsksNodes nodes) family → Covers family → HasClosed
-  closed_of most [] short asks covers = ([], tt, covers)
-  closed_of zero (first ∷ family) short asks covers = absurd (omega arith)
-  closed_of (suc most) (first ∷ family) short asks covers =
+  closed_of : (most : ℕ) (family : List Question) → length family ≤ most → Covers family → HasClosed
+  closed_of most [] short covers = ([], tt, covers)
+  closed_of zero (first ∷ family) short covers = absurd (omega arith)
+  closed_of (suc most) (first ∷ family) short covers =
       by_answer (each_or_one (IsBroken (first ∷ family) covers) (HasElement graph) (first ∷ family)
-      (each_weaker (AsksNodes nodes) (λ one. IsBroken (first ∷ family) covers one ⊎ HasElement graph one)
-      (broken_or_has (first ∷ family) covers) (first ∷ family) asks)) (closed_of most)
+      (each_of_all (λ one. IsBroken (first ∷ family) covers one ⊎ HasElement graph one)
+      (broken_or_has (first ∷ family) covers) (first ∷ family))) (closed_of most)
     where
       by_answer : Each (IsBroken (first ∷ family) covers) (first ∷ family) ⊎ One (HasElement graph) (first ∷ family)
-          → ((family : List Question) → length family ≤ most → Each (AsksNodes nodes) family → Covers family → HasClosed) → HasClosed
+          → ((family : List Question) → length family ≤ most → Covers family → HasClosed) → HasClosed
       by_answer (inl closed) go_on = (first ∷ family, closed, covers)
       by_answer (inr has) go_on =
           let less = without (first ∷ family) has in
           let shorter = less.shorter in
-          go_on less.rest (omega arith) (less.asks asks)
+          go_on less.rest (omega arith)
           (λ one there. elim (covers one there) [ inl has ↦ inl has | inr of ↦ less.others one of ])
 
   closed : HasClosed
-  closed = closed_of (length (all_questions nodes)) (all_questions nodes) (omega arith) (all_ask_nodes nodes) (λ one there. inr there)
+  closed = closed_of (length (all_questions nodes)) (all_questions nodes) (omega arith) (λ one there. inr there)
 
   -- so a question has an element, or the family covers that of the same nodes
   has_or_covered : (one : Question) → HasElement graph one ⊎ IsCovered (of_nodes graph more begins one) closed.0

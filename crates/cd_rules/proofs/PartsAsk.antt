@@ -197,15 +197,15 @@ by_choices Fact graph whole question clause leads of =
     of (choices_of_question_are (length graph) graph whole question))
 
 -- a clause of a question has its parts among the nodes of the graph
-pub clause_is_within : (graph : Graph) → IsGraph graph → (question : Question) → AsksNodes (length graph) question
+pub clause_is_within : (graph : Graph) → IsGraph graph → (question : Question)
     → (clause : Clause) → IsClauseOfQuestion graph question clause → IsWithin (length graph) clause
-clause_is_within graph whole question asks clause of = by_choices (IsWithin (length graph)) graph whole question clause
+clause_is_within graph whole question clause of = by_choices (IsWithin (length graph)) graph whole question clause
     (within_by_choice (length graph) clause) of
 
 -- and its record types name labels
-pub clause_names_labels : (graph : Graph) → IsGraph graph → (question : Question) → AsksNodes (length graph) question
+pub clause_names_labels : (graph : Graph) → IsGraph graph → (question : Question)
     → (clause : Clause) → IsClauseOfQuestion graph question clause → NamesLabels clause
-clause_names_labels graph whole question asks clause of = by_choices NamesLabels graph whole question clause
+clause_names_labels graph whole question clause of = by_choices NamesLabels graph whole question clause
     (labels_by_choice (length graph) clause) of
 
 -- what each of a list has, each of the sides to which it is given has

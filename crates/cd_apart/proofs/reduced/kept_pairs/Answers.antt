@@ -1,6 +1,6 @@
 use Rattle.std.proofs.Common.{length}
 use Rattle.cd_graph.specs.Nodes.{nodes}
-use Rattle.cd_apart.specs.Within.{IsPairWithin}
+use Rattle.cd_rules.specs.Within.{IsPairWithin}
 use Rattle.cd_apart.proofs.Leaving.{at_index, one_kept, one_left_out, at_end}
 use Rattle.cd_apart.proofs.reduced.kept_pairs.Goals as goal
 use Rattle.cd_apart.proofs.reduced.kept_pairs.Goals.{then-not-branch+in_ok-push, else-not-branch}

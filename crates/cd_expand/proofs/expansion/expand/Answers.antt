@@ -23,7 +23,7 @@ needs_of_each-requires c =
     let question = c.args.question.now in
     let clauses = c.in_ok-clauses.clauses.items in
     let told = are_told graph question clauses c.in_ok-clauses.ensures.sound c.in_ok-clauses.ensures.complete in
-    all_in_graph graph c.len-sound.ensures.sound c.len-sound.ensures.built_in question c.requires clauses told
+    all_in_graph graph c.len-sound.ensures.sound c.len-sound.ensures.built_in question clauses told
 
 -- the needs are those of the question, and what is added asks nodes of the graph
 pub returns-in_err-needs-in-None-clause-grows : goal.returns-in_err-needs-in-None-clause-grows
@@ -32,7 +32,7 @@ returns-in_err-needs-in-None-clause-grows c =
     let question = c.args.question.now in
     let clauses = c.in_ok-clauses.clauses.items in
     let told = are_told graph question clauses c.in_ok-clauses.ensures.sound c.in_ok-clauses.ensures.complete in
-    added_asks graph c.len-sound.ensures.sound c.len-sound.ensures.built_in question c.requires clauses told c.args.asked.now
+    added_asks graph c.len-sound.ensures.sound c.len-sound.ensures.built_in question clauses told c.args.asked.now
     c.needs_of_each.new.asked c.in_err-needs-in-None.ensures.grows
 
 pub returns-in_ok-needs-in-None-clause-grows : goal.returns-in_ok-needs-in-None-clause-grows
@@ -41,7 +41,7 @@ returns-in_ok-needs-in-None-clause-grows c =
     let question = c.args.question.now in
     let clauses = c.in_ok-clauses.clauses.items in
     let told = are_told graph question clauses c.in_ok-clauses.ensures.sound c.in_ok-clauses.ensures.complete in
-    added_asks graph c.len-sound.ensures.sound c.len-sound.ensures.built_in question c.requires clauses told c.args.asked.now
+    added_asks graph c.len-sound.ensures.sound c.len-sound.ensures.built_in question clauses told c.args.asked.now
     c.needs_of_each.new.asked c.in_ok-needs-in-None.ensures.grows
 
 pub returns-in_ok-needs-in-None-clause-exact : goal.returns-in_ok-needs-in-None-clause-exact
@@ -54,6 +54,6 @@ returns-in_ok-needs-in-None-clause-exact c =
     let names = c.in_ok-needs-in-None.ensures.names in
     let told = are_told graph question clauses c.in_ok-clauses.ensures.sound c.in_ok-clauses.ensures.complete in
     let none = subst (Each IsNoSet) c.as_slice.ensures.value (rw c.in-None.is at c.in_ok-shape.ensures) in (
-      needs_told graph c.len-sound.ensures.sound question c.requires clauses told asked all names,
+      needs_told graph c.len-sound.ensures.sound question clauses told asked all names,
       needs_cover graph question clauses told none asked all names,
     )

@@ -24,6 +24,13 @@ invariant_of-self c =
           (without_others _ was.built_in) (still_begins _ _ (without_others _ was.built_in)) ∣₁;
     }
 
+pub returns-clause-sound : goal.returns-clause-sound
+returns-clause-sound c =
+    let was = c.len.ensures in
+    let call = c.append in
+    either_way IsGraph _ _ _ call.result call.ensures.added call.ensures.kept
+    was.sound (still_sound _ _ was.sound c.requires)
+
 -- the new graph is the old one and the batch after it
 pub returns-clause-elements : goal.returns-clause-elements
 returns-clause-elements c = λ is id answer below.

@@ -1,6 +1,6 @@
 use Rattle.std.proofs.Common.{◌∙◌}
-use Rattle.cd_records.proofs.SameNames.{same_names}
-use Rattle.cd_records.proofs.compare.is_same.Goals as goal
+use Rattle.cd_graph.proofs.SameNames.{same_names}
+use Rattle.cd_graph.proofs.fields.is_same.Goals as goal
 
 -- equal texts spell equal names, and unequal ones unequal names
 pub returns : goal.returns
