@@ -88,11 +88,11 @@ module _ (Fact : Declared → Type 0) (guards : (is : Declared) → Fact is → 
         answer)
 
 -- the names that a type sees are those of a place, and all of them are guarded
-abbrev IsOfType : Written → Declared → Type 0
+abbrev pub IsOfType : Written → Declared → Type 0
 IsOfType type is = IsGuarded is × IsIn is (names_seen type.scope type.tree)
 
 module _ (type : Written) (are_guarded : NamesAreGuarded type) where
-  all_seen : IsSeen (IsOfType type) (type_of type) (type_of type)
+  pub all_seen : IsSeen (IsOfType type) (type_of type) (type_of type)
   all_seen = by_parts (each_parts (IsOfType type) (names_in type.scope type.tree) (names_over type.scope)
       (of_each (IsOfType type) (names_seen type.scope type.tree)
       (λ is place. (at_name IsGuarded (names_seen type.scope type.tree) is are_guarded place, place))))

@@ -36,7 +36,7 @@ use Rattle.cd_resolve.proofs.FormsFields.{Named, found, field_found, field_is_fo
 use Rattle.cd_resolve.proofs.FormsSequences.{IsOver, regular_over, means_sequences}
 use Rattle.cd_resolve.proofs.FormsSets.{none_between, none_among, means_no_integer, means_no_character}
 use Rattle.cd_resolve.proofs.FreeNames.{free_over, uses_tree, uses_first, uses_tuple, uses_argument, uses_arrows, uses_xml}
-use Rattle.cd_resolve.proofs.NodesOfTypes.{IsAlone, IsOf, Stands, placed, alone}
+use Rattle.cd_resolve.proofs.NodesOfTypes.{IsAlone, of_tree, IsOf, Stands, placed, alone}
 use Rattle.cd_model.proofs.Resolved as form
 use Rattle.cd_model.proofs.Resolved.{IsForm, IsFormOf, MeansIn, KnownIn, means_its_head}
 
@@ -99,21 +99,17 @@ module _ (graph : Graph) (first : ℕ) (names : List (Name × NodeId)) (lists : 
       (alone (type.Chars c c) shaped.0 tt shaped.3) (alone (type.Text later) shaped.1 tt shaped.4)))
   alone_form most scope _ at is shaped = absurd is
 
-  -- the shapes of a tree are those of its kind, and those of a chain's rest are those of what is written there
-  shaped_kind : (frames : Frames) (is : Tree) (at : Place) → Shaped names lists tables.shapes frames is at
-      → ShapedKind names lists tables.shapes frames (kind_of is) at
-  shaped_kind frames (tree span kind) at shaped = shaped
-
+  -- the shapes of a chain's rest are those of what is written there
   tuple_shaped : (frames : Frames) (is : Tree) (rest : Trees) (at : Place)
       → ShapedChain names lists tables.shapes frames Pairs (ATree is rest) at
       → ShapedKind names lists tables.shapes frames (tuple_rest (ATree is rest)) at
-  tuple_shaped frames is NoTree at shaped = shaped_kind frames is at shaped
+  tuple_shaped frames is NoTree at shaped = of_tree names lists tables frames is at shaped
   tuple_shaped frames is (ATree next rest) at shaped = shaped
 
   arrows_shaped : (frames : Frames) (is : Tree) (rest : Trees) (at : Place)
       → ShapedChain names lists tables.shapes frames Arrows (ATree is rest) at
       → ShapedKind names lists tables.shapes frames (arrows_rest (ATree is rest)) at
-  arrows_shaped frames is NoTree at shaped = shaped_kind frames is at shaped
+  arrows_shaped frames is NoTree at shaped = of_tree names lists tables frames is at shaped
   arrows_shaped frames is (ATree next rest) at shaped = shaped
 
   abbrev IsHere : Frames → Kind → Place → Type 0
@@ -179,7 +175,7 @@ module _ (graph : Graph) (first : ℕ) (names : List (Name × NodeId)) (lists : 
       (by_its_head most _ (type.Tuple (ATree one (ATree next rest))) _ _ _ tt refl refl (heads.products _ _ _ _
       (placed frames (kind_of one) is.shaped.0 (record {
         met = is.met;
-        shaped = shaped_kind frames one is.shaped.0 is.shaped.3;
+        shaped = of_tree names lists tables frames one is.shaped.0 is.shaped.3;
         covered = covered_first Fact (scope_of base frames) one (ATree next rest) is.covered;
         uses = uses_first Used (scope_of [] frames) one (ATree next rest) is.uses;
       }))
@@ -196,7 +192,7 @@ module _ (graph : Graph) (first : ℕ) (names : List (Name × NodeId)) (lists : 
       (by_its_head most _ (type.Arrows (ATree one (ATree next rest))) _ _ _ tt refl refl (heads.arrows _ _ _ _
       (placed frames (kind_of one) is.shaped.0 (record {
         met = is.met;
-        shaped = shaped_kind frames one is.shaped.0 is.shaped.3;
+        shaped = of_tree names lists tables frames one is.shaped.0 is.shaped.3;
         covered = covered_argument Fact (scope_of base frames) one (ATree next rest) is.covered;
         uses = uses_argument Used (scope_of [] frames) one (ATree next rest) is.uses;
       }))
@@ -229,7 +225,7 @@ module _ (graph : Graph) (first : ℕ) (names : List (Name × NodeId)) (lists : 
       (alone (type.Builtin (any_or_none more)) (place.Node (node_named (any_or_none more))) tt refl)
       (λ one at shaped within uses. record {
         met = is.met;
-        shaped = shaped_kind frames one at shaped;
+        shaped = of_tree names lists tables frames one at shaped;
         covered = covered_tree Fact (scope_of base frames) one within is.covered.over;
         uses = uses_tree Used (scope_of [] frames) one uses is.uses.over;
       })
@@ -239,19 +235,19 @@ module _ (graph : Graph) (first : ℕ) (names : List (Name × NodeId)) (lists : 
       (by_its_head most _ (type.Xml tag attributes content) _ _ _ tt refl refl (heads.xmls _ _ _ _ _ _
       (placed frames (kind_of tag) is.shaped.0 (record {
         met = is.met;
-        shaped = shaped_kind frames tag is.shaped.0 is.shaped.4;
+        shaped = of_tree names lists tables frames tag is.shaped.0 is.shaped.4;
         covered = (covered_xml Fact (scope_of base frames) tag attributes content is.covered).tag_is;
         uses = (uses_xml Used (scope_of [] frames) tag attributes content is.uses).tag_is;
       }))
       (placed frames (kind_of attributes) is.shaped.1 (record {
         met = is.met;
-        shaped = shaped_kind frames attributes is.shaped.1 is.shaped.5;
+        shaped = of_tree names lists tables frames attributes is.shaped.1 is.shaped.5;
         covered = (covered_xml Fact (scope_of base frames) tag attributes content is.covered).attributes_are;
         uses = (uses_xml Used (scope_of [] frames) tag attributes content is.uses).attributes_are;
       }))
       (placed frames (kind_of content) is.shaped.2 (record {
         met = is.met;
-        shaped = shaped_kind frames content is.shaped.2 is.shaped.6;
+        shaped = of_tree names lists tables frames content is.shaped.2 is.shaped.6;
         covered = (covered_xml Fact (scope_of base frames) tag attributes content is.covered).content_is;
         uses = (uses_xml Used (scope_of [] frames) tag attributes content is.uses).content_is;
       }))))

@@ -1,6 +1,6 @@
 -- The formula at a node that holds the sequences of an expression means this expression, and its items stand for those of the
 -- written one.
-use Rattle.std.proofs.Common.{◌≡◌, ◌↔◌, ℕ, zero, suc, Bool, List, [], ◌∷◌, Some, length, map, refl, ap, sym, subst, ◌∙◌}
+use Rattle.std.proofs.Common.{◌≡◌, ◌↔◌, ℕ, zero, suc, Bool, List, [], ◌∷◌, ◌++◌, Some, length, map, refl, ap, sym, subst, ◌∙◌}
 use Rattle.std.specs.List.{slice_get}
 use Rattle.std.specs.Option.{unwrap_or}
 use Rattle.std.proofs.lemmas.Option.{same_Some}
@@ -35,7 +35,7 @@ use Rattle.cd_shapes.specs.Reading.{AreMet}
 use Rattle.cd_resolve.specs.Closing.{HoldsAt, node_at}
 use Rattle.cd_resolve.specs.Free.{free_in_regular, free_in_regular_kind, free_in_regulars}
 use Rattle.cd_resolve.proofs.FreeNames.{free_over, uses_tree}
-use Rattle.cd_resolve.proofs.NodesOfTypes.{Stands, placed}
+use Rattle.cd_resolve.proofs.NodesOfTypes.{of_tree, Stands, placed}
 use Rattle.cd_model.proofs.Resolved.{MeansIn}
 
 -- what a thing answers at a sequence
@@ -45,39 +45,26 @@ at_sequence at closed (thing.Atom name) expression answer = itself
 at_sequence at closed (thing.Pair first second) expression answer = itself
 at_sequence at closed _ expression answer = itself
 
--- a node that holds the sequences of an expression
-module _ (graph : Graph) (id : NodeId) (is : Regular) (at : HoldsAt graph id is) where
-  element_at : (e : Thing) (answer : Bool) → holds (at_formula (reader (nodes graph) no_closure e)) (formula_at graph id) answer
-      ↔ are_in (items (nodes graph) no_closure e) (fits is) answer
-  element_at e answer =
-      subst (λ formula. holds (at_formula (reader (nodes graph) no_closure e)) formula answer
-      ↔ are_in (items (nodes graph) no_closure e) (fits is) answer) (sym at.same)
-      (subst (λ graph. nodes graph (reader (nodes graph) no_closure e) (node (length at.before)) answer
-      ↔ are_in (items (nodes graph) no_closure e) (fits is) answer) (sym at.parts)
-      (at.holds.elements at.before at.after e answer refl))
+-- the formula at a node that holds the sequences of an expression
+pub means_sequences : (graph : Graph) (id : NodeId) (is : Regular) → HoldsAt graph id is
+    → (expression : types.Regular NodeId) → types.fits expression ≡ fits is
+    → MeansIn graph (formula_at graph id) (Sequences expression)
+means_sequences graph id is at expression same =
+    subst (λ formula. MeansIn graph formula (Sequences expression)) (sym at.same)
+    (subst (λ graph. MeansIn graph (formula_at graph (node (length at.before))) (Sequences expression)) (sym at.parts) (record {
+      elements = λ e answer. through (at.holds.elements at.before at.after e answer refl) (read no_closure e answer);
+      values = λ interfaces v answer. through (at.holds.values at.before at.after interfaces v answer refl)
+          (read (closure_maps (nodes whole) (admits interfaces)) v answer);
+    }))
+  where
+    whole : Graph
+    whole = at.before ++ at.batch ++ at.after
 
-  value_at : (interfaces : Interfaces) (v : Thing) (answer : Bool)
-      → holds (at_formula (reader (nodes graph) (closure_maps (nodes graph) (admits interfaces)) v)) (formula_at graph id) answer
-      ↔ are_in (items (nodes graph) (closure_maps (nodes graph) (admits interfaces)) v) (fits is) answer
-  value_at interfaces v answer =
-      subst (λ formula. holds (at_formula (reader (nodes graph) (closure_maps (nodes graph) (admits interfaces)) v)) formula answer
-      ↔ are_in (items (nodes graph) (closure_maps (nodes graph) (admits interfaces)) v) (fits is) answer) (sym at.same)
-      (subst (λ graph. nodes graph (reader (nodes graph) (closure_maps (nodes graph) (admits interfaces)) v) (node (length at.before)) answer
-      ↔ are_in (items (nodes graph) (closure_maps (nodes graph) (admits interfaces)) v) (fits is) answer) (sym at.parts)
-      (at.holds.values at.before at.after interfaces v answer refl))
-
-  pub means_sequences : (expression : types.Regular NodeId) → types.fits expression ≡ fits is
-      → MeansIn graph (formula_at graph id) (Sequences expression)
-  means_sequences expression same = record {
-    elements = λ e answer. through
-        (subst (λ language. holds (at_formula (reader (nodes graph) no_closure e)) (formula_at graph id) answer
-        ↔ are_in (items (nodes graph) no_closure e) language answer) (sym same) (element_at e answer))
-        (at_sequence (nodes graph) no_closure e expression answer);
-    values = λ interfaces v answer. through
-        (subst (λ language. holds (at_formula (reader (nodes graph) (closure_maps (nodes graph) (admits interfaces)) v)) (formula_at graph id) answer
-        ↔ are_in (items (nodes graph) (closure_maps (nodes graph) (admits interfaces)) v) language answer) (sym same) (value_at interfaces v answer))
-        (at_sequence (nodes graph) (closure_maps (nodes graph) (admits interfaces)) v expression answer);
-  }
+    read : (closed : ℕ → Mapping NodeId) (is_read : Thing) (answer : Bool)
+        → are_in (items (nodes whole) closed is_read) (fits is) answer ↔ reader (nodes whole) closed is_read (Sequences expression) answer
+    read closed is_read answer = subst (λ language. are_in (items (nodes whole) closed is_read) language answer
+        ↔ reader (nodes whole) closed is_read (Sequences expression) answer) same
+        (at_sequence (nodes whole) closed is_read expression answer)
 
 -- a number names the node of the place that it names
 named_node : (node_of : Place → NodeId) (places : List Place) (number : ℕ) (id : NodeId) (at : Place)
@@ -110,10 +97,6 @@ module _ (first : ℕ) (names : List (Name × NodeId)) (lists : List Frames) (ta
     pub stand : RowsStand StandsHere rows of
     pub in_turn : types.fits_in_turn rows ≡ fits_in_turn (all_renamed named all)
     pub one : types.fits_one rows ≡ fits_one (all_renamed named all)
-
-  shaped_kind : (is : Tree) (at : Place) → Shaped names lists tables.shapes frames is at
-      → ShapedKind names lists tables.shapes frames (kind_of is) at
-  shaped_kind (tree span kind) at shaped = shaped
 
   repeated_same : (how : Post) (expression : types.Regular NodeId) (part : Regular)
       → types.fits expression ≡ fits (renamed named part)
@@ -162,7 +145,7 @@ module _ (first : ℕ) (names : List (Name × NodeId)) (lists : List Frames) (ta
           expression = types.Item (node_at first (length tables.roots) shaped.1);
           stands = heads.an_item _ _ (placed frames (kind_of part) shaped.1 (record {
             met = met;
-            shaped = shaped_kind part shaped.1 shaped.4;
+            shaped = of_tree names lists tables frames part shaped.1 shaped.4;
             covered = covered_tree Fact scope part within over;
             uses = uses_tree Used (scope_of [] frames) part uses uses_over;
           }));

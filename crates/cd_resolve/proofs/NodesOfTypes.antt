@@ -3,14 +3,14 @@ use Rattle.std.proofs.Common.{ℕ, List, [], length}
 use Rattle.cd_sets.specs.declared.node_id.NodeId.{NodeId}
 use Rattle.cd_syntax.specs.Name.{Name}
 use Rattle.cd_syntax.specs.TypeTree as type
-use Rattle.cd_syntax.specs.TypeTree.{Kind}
+use Rattle.cd_syntax.specs.TypeTree.{Tree, tree, Kind}
 use Rattle.cd_model.specs.Scope.{Scope, Declared}
 use Rattle.cd_model.specs.Written as written
-use Rattle.cd_model.specs.Written.{WrittenType}
+use Rattle.cd_model.specs.Written.{WrittenType, kind_of}
 use Rattle.cd_model.proofs.Covered.{Covered}
 use Rattle.cd_shapes.specs.declared.place.Place.{Place}
 use Rattle.cd_shapes.specs.Frames.{Frames, scope_of}
-use Rattle.cd_shapes.specs.Shaped.{Tables, ShapedKind}
+use Rattle.cd_shapes.specs.Shaped.{Tables, Shaped, ShapedKind}
 use Rattle.cd_shapes.specs.Reading.{AreMet}
 use Rattle.cd_resolve.specs.Closing.{node_at}
 use Rattle.cd_resolve.proofs.FreeNames.{Uses}
@@ -21,6 +21,11 @@ IsAlone (type.Builtin name) = Unit {0}
 IsAlone (type.Chars low high) = Unit {0}
 IsAlone (type.Text text) = Unit {0}
 IsAlone kind = ⊥
+
+-- the shapes of a tree are those of its form
+pub of_tree : (names : List (Name × NodeId)) (lists : List Frames) (tables : Tables) (frames : Frames) (is : Tree) (at : Place)
+    → Shaped names lists tables.shapes frames is at → ShapedKind names lists tables.shapes frames (kind_of is) at
+of_tree names lists tables frames (tree span kind) at shaped = shaped
 
 module _ (first : ℕ) (names : List (Name × NodeId)) (lists : List Frames) (tables : Tables) (base : Scope)
     (Fact : Declared → Type 0) (Used : Name → Type 0) where

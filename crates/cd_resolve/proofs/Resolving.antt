@@ -26,7 +26,7 @@ use Rattle.cd_resolve.specs.Free.{free_names}
 use Rattle.cd_resolve.specs.Named.{numbered, type_named, AreNamed, AreKnown}
 use Rattle.cd_resolve.proofs.FreeNames.{Uses, every_name, one_name, each_name, uses_tree}
 use Rattle.cd_resolve.proofs.Guards.{list_is_guarded}
-use Rattle.cd_resolve.proofs.KnownNames.{given_names}
+use Rattle.cd_resolve.proofs.KnownNames.{IsGiven, given_names}
 use Rattle.cd_resolve.proofs.LinksEnd.{ends}
 use Rattle.cd_resolve.proofs.NamesFound.{IsInside, IsOutside, found}
 use Rattle.cd_resolve.proofs.Numbered.{all_named}
@@ -160,29 +160,28 @@ module _ (declarations : Declarations) (none : (fault : Fault) → IsFaultOfList
   type_ends sound = ends names (declarations ∷ []) (names_seen (declarations ∷ []) is) lists tables (length old) read sound
       (names_are_guarded declarations none is none_inside)
 
-  pub type_stands : (batch : Graph) → size_of tables ≤ length batch
-      → Closes (old ++ batch) (length old) tables
-      → StandsFor (old ++ batch) (node_at (length old) (length tables.roots) root)
-      (record { scope = declarations ∷ []; tree = is })
-  type_stands batch size closes = stands (length old) names lists tables (declarations ∷ []) [] is root read.roots tt shaped
-      (names_are_guarded declarations none is none_inside) IsUsed uses (old ++ batch) begun
-      (among_more (node_is_there (length old) (length old) tables root (omega arith) there) total)
-      closes (given_names old sound declarations (list_is_guarded declarations none) names IsUsed is_known count fits batch)
+  pub type_stands : (more batch : Graph) (first : ℕ) → length (old ++ more) ≡ first → size_of tables ≤ length batch
+      → Closes (old ++ more ++ batch) first tables → (id : NodeId) → id ≡ node_at first (length tables.roots) root
+      → StandsFor (old ++ more ++ batch) id (record { scope = declarations ∷ []; tree = is })
+  type_stands more batch first long size closes id at =
+      subst (λ id. StandsFor (old ++ more ++ batch) id (record { scope = declarations ∷ []; tree = is })) (sym at)
+      (stands first names lists tables (declarations ∷ []) [] is root read.roots tt shaped
+      (names_are_guarded declarations none is none_inside) IsUsed uses (old ++ more ++ batch) begun
+      (among_more (node_is_there (length old) first tables root within there) total) closes given)
     where
-      begun : (rest : Graph) × (old ++ batch ≡ built_ins ++ rest)
-      begun = (begins.0 ++ batch, ap (λ graph. graph ++ batch) begins.1 ∙ append_assoc built_ins begins.0 batch)
+      within : length old ≤ first
+      within = omega (arith, length-append old more)
 
-      total : length old + size_of tables ≤ length (old ++ batch)
-      total = omega (arith, length-append old batch)
+      total : first + size_of tables ≤ length (old ++ more ++ batch)
+      total = omega (arith, length-append (old ++ more) batch)
 
-  -- where the number of nodes and the root are known by equations
-  pub type_stands_at : (first : ℕ) → first ≡ length old → (batch : Graph) → size_of tables ≤ length batch
-      → Closes (old ++ batch) first tables
-      → (id : NodeId) → id ≡ node_at first (length tables.roots) root
-      → StandsFor (old ++ batch) id (record { scope = declarations ∷ []; tree = is })
-  type_stands_at first same batch size closes id at = subst (λ id. StandsFor (old ++ batch) id the_type) (sym at)
-      (subst (λ first. Closes (old ++ batch) first tables
-      → StandsFor (old ++ batch) (node_at first (length tables.roots) root) the_type) (sym same) (type_stands batch size) closes)
-    where
-      the_type : Written
-      the_type = record { scope = declarations ∷ []; tree = is }
+      begun : (rest : Graph) × (old ++ more ++ batch ≡ built_ins ++ rest)
+      begun = (
+        begins.0 ++ more ++ batch,
+        ap (λ graph. graph ++ more ++ batch) begins.1 ∙ simp append_assoc refl,
+      )
+
+      given : (name : Name) → IsUsed name → IsGiven (old ++ more ++ batch) count (declarations ∷ []) name (node_of names name)
+      given = subst (λ graph. (name : Name) → IsUsed name → IsGiven graph count (declarations ∷ []) name (node_of names name))
+          (sym (append_assoc old more batch))
+          (given_names old sound declarations (list_is_guarded declarations none) names IsUsed is_known count fits (more ++ batch))

@@ -9,8 +9,7 @@ use Rattle.cd_model.specs.Guarded.{IsGuarded, NamesAreGuarded}
 use Rattle.cd_model.specs.Scope.{Scope, Declared, names_in, names_over, names_seen}
 use Rattle.cd_model.specs.StandsFor.{StandsFor}
 use Rattle.cd_model.specs.Written.{Written, kind_of, number_of_names}
-use Rattle.cd_model.proofs.Covered.{Covered, each_parts, covered_tree}
-use Rattle.cd_model.proofs.Leading.{IsIn, at_name, of_each}
+use Rattle.cd_model.proofs.NamesAlike.{IsOfType, all_seen}
 use Rattle.cd_shapes.specs.declared.place.Place.{Place}
 use Rattle.cd_shapes.specs.Frames.{Frames, scope_of}
 use Rattle.cd_shapes.specs.Names.{node_of}
@@ -21,21 +20,8 @@ use Rattle.cd_resolve.proofs.BuiltInNodes.{Begins}
 use Rattle.cd_resolve.proofs.FormsOfPlaces.{forms}
 use Rattle.cd_resolve.proofs.FreeNames.{Uses}
 use Rattle.cd_resolve.proofs.KnownNames.{IsGiven}
-use Rattle.cd_resolve.proofs.NodesOfTypes.{Stands, placed}
+use Rattle.cd_resolve.proofs.NodesOfTypes.{of_tree, Stands, placed}
 use Rattle.cd_model.proofs.Resolved.{stands_by_forms}
-
--- a name that a written type sees, which is guarded
-abbrev IsSeen : Written → Declared → Type 0
-IsSeen type is = IsGuarded is × IsIn is (names_seen type.scope type.tree)
-
-all_seen : (type : Written) → NamesAreGuarded type → Covered (IsSeen type) type.scope (kind_of type.tree)
-all_seen type guarded = by_parts (each_parts (IsSeen type) (names_in type.scope type.tree) (names_over type.scope)
-    (of_each (IsSeen type) (names_seen type.scope type.tree)
-    (λ is place. (at_name IsGuarded (names_seen type.scope type.tree) is guarded place, place))))
-  where
-    by_parts : Each (IsSeen type) (names_in type.scope type.tree) × Each (IsSeen type) (names_over type.scope)
-        → Covered (IsSeen type) type.scope (kind_of type.tree)
-    by_parts parts = covered_tree (IsSeen type) type.scope type.tree parts.0 parts.1
 
 module _ (first : ℕ) (names : List (Name × NodeId)) (lists : List Frames) (tables : Tables) (base : Scope) (frames : Frames)
     (is : Tree) (root : Place) (roots : HaveRoots names lists tables 0 lists) (met : AreMet lists frames)
@@ -46,18 +32,15 @@ module _ (first : ℕ) (names : List (Name × NodeId)) (lists : List Frames) (ta
   abbrev pub id : NodeId
   id = node_at first (length tables.roots) root
 
-  shaped_kind : (is : Tree) → Shaped names lists tables.shapes frames is root → ShapedKind names lists tables.shapes frames (kind_of is) root
-  shaped_kind (tree span kind) shaped = shaped
-
   -- its free names are used, and have nodes
   pub stands : NamesAreGuarded type → (Used : Name → Type 0) → Uses Used (scope_of [] frames) (kind_of is)
       → (graph : Graph) → Begins graph → id.0 < length graph → Closes graph first tables
       → ((name : Name) → Used name → IsGiven graph (number_of_names type) base name (node_of names name))
       → StandsFor graph id type
   stands guarded Used uses graph begins is_node closes given = stands_by_forms graph
-      (Stands first names lists tables base (IsSeen type) Used) (number_of_names type)
-      (forms graph first names lists tables base (IsSeen type) Used (λ is seen. seen.0) (names_seen type.scope type.tree)
+      (Stands first names lists tables base (IsOfType type) Used) (number_of_names type)
+      (forms graph first names lists tables base (IsOfType type) Used (λ is seen. seen.0) (names_seen type.scope type.tree)
       (λ is seen. seen.1) (number_of_names type) (omega arith) roots closes begins given)
       id type refl (placed frames (kind_of is) root
-      (record { met = met; shaped = shaped_kind is shaped; covered = all_seen type guarded; uses = uses }))
+      (record { met = met; shaped = of_tree names lists tables frames is root shaped; covered = (all_seen type guarded).covered; uses = uses }))
       is_node begins

@@ -10,4 +10,4 @@ mod sequences;
 mod types;
 
 pub use cd_shapes::names::Names;
-pub use types::{Batch, TypeBatch, resolve, resolve_type};
+pub use types::{Batch, TypeBatch, resolve, resolve_type, resolve_type_from};

@@ -105,10 +105,42 @@ pub fn resolve_type(
     ensures stands { IfOk result (λ batch.
         StandsFor (nodes graph.now ++ plain_list batch.formulas) batch.root (record { scope = declared ∷ []; tree = plain tree.now })) }
 {
-    let (tables, place) = read_tree(alloc, names, tree)?;
     let first = graph.len();
+    resolve_type_from(alloc, graph, first, names, tree)
+}
+
+/// The same for each graph of `first` nodes that begins with this one.
+///
+/// Where the formulas are put after those of such a graph, the root stands for the type: so what is put after this graph first
+/// need not be there yet.
+///
+/// # Errors
+///
+/// Want of memory.
+pub fn resolve_type_from(
+    alloc: Global,
+    graph: &Graph,
+    first: usize,
+    names: &Names,
+    tree: &Tree,
+) -> Result<TypeBatch, AllocError>
+    ghost declared: { PlainDeclarations }
+    requires well_made { IsWellMade (plain tree.now) }
+    requires sound_names { (fault : Fault) → IsFaultOfList [] (declared ∷ []) declared fault → ⊥ }
+    requires sound { (fault : Fault) → IsFault (declared ∷ []) (declared ∷ []) (plain tree.now) fault → ⊥ }
+    requires known { AreKnown (nodes graph.now) declared names.now (free_names [] (plain tree.now)) }
+    requires below { AreBelow (length (nodes graph.now)) names.now }
+    requires first { length (nodes graph.now) ≤ first }
+    ensures formulas { IfOk result (λ batch.
+        Each (IsFormula (first + length (plain_list batch.formulas))) (plain_list batch.formulas)) }
+    ensures stands { IfOk result (λ batch. (more : PlainGraph) → length (nodes graph.now ++ more) ≡ first
+        → StandsFor (nodes graph.now ++ more ++ plain_list batch.formulas) batch.root
+        (record { scope = declared ∷ []; tree = plain tree.now })) }
+{
+    let (tables, place) = read_tree(alloc, names, tree)?;
+    let nodes = graph.len();
     let counts = Counts {
-        nodes: first,
+        nodes,
         before: first,
         names: tables.roots.len(),
         shapes: tables.shapes.len(),

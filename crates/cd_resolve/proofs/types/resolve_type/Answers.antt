@@ -1,50 +1,16 @@
-use Rattle.std.proofs.Common.{◌≡◌, sym, [], ◌∷◌, length, rules, arith}
-use Rattle.std.proofs.lemmas.List.{length-map}
+use Rattle.std.proofs.Common.{◌++◌, [], ◌∷◌, length, ap, subst, ◌∙◌, sym}
+use Rattle.std.proofs.lemmas.List.{append-nil}
+use Rattle.std.proofs.lemmas.Result.{IfOk-weaker}
 use Rattle.cd_syntax.specs.PlainTree.{plain}
 use Rattle.cd_graph.specs.PlainFormula.{plain_list}
 use Rattle.cd_graph.specs.Nodes.{nodes}
-use Rattle.cd_shapes.specs.Shape.{plain_shape}
-use Rattle.cd_shapes.specs.PlainTables.{plain_tables}
-use Rattle.cd_resolve.specs.Closing.{node_at}
-use Rattle.cd_resolve.proofs.Resolving.{place_counted, type_ends, type_stands_at, itself_agrees, begins_with}
+use Rattle.cd_model.specs.StandsFor.{StandsFor}
 use Rattle.cd_resolve.proofs.types.resolve_type.Goals as goal
 
-pub close-requires-clause-sound : goal.close-requires-clause-sound
-close-requires-clause-sound g c = (c.in_ok-tables.ensures.sound (length (nodes c.args.graph.now))
-    (begins_with (nodes c.args.graph.now) c.len-first.ensures.built_in)
-    c.requires.1.1.1.1).0
-
-pub close-requires-clause-ends : goal.close-requires-clause-ends
-close-requires-clause-ends g c =
-    let bounds = c.in_ok-tables.ensures.sound (length (nodes c.args.graph.now))
-    (begins_with (nodes c.args.graph.now) c.len-first.ensures.built_in)
-    c.requires.1.1.1.1 in
-    type_ends g.declared c.requires.1.0 (plain c.args.tree.now) c.requires.1.1.0 (nodes c.args.graph.now)
-    c.len-first.ensures.sound c.len-first.ensures.built_in c.args.names.now c.requires.1.1.1.0
-    c.in_ok-tables.ensures.read.0 (plain_tables c.in_ok-tables.tables) c.in_ok-tables.place
-    (c.in_ok-tables.ensures.read.1 (g.declared ∷ [])) c.in_ok-tables.ensures.read.2 bounds.1 bounds.0
-
-pub node_of-root-requires-clause-place : goal.node_of-root-requires-clause-place
-node_of-root-requires-clause-place g c =
-    let bounds = c.in_ok-tables.ensures.sound (length (nodes c.args.graph.now))
-    (begins_with (nodes c.args.graph.now) c.len-first.ensures.built_in)
-    c.requires.1.1.1.1 in
-    place_counted _ _ _ _ _ _ c.in_ok-tables.place c.len-first.ensures.count (search rules)
-    (omega (arith, length-map c.in_ok-tables.tables.shapes.items plain_shape)) bounds.1
-
+-- the graph itself, with nothing put after it first
 pub returns-clause-stands : goal.returns-clause-stands
-returns-clause-stands g c =
-    let bounds = c.in_ok-tables.ensures.sound (length (nodes c.args.graph.now))
-    (begins_with (nodes c.args.graph.now) c.len-first.ensures.built_in)
-    c.requires.1.1.1.1 in
-    let at : c.node_of-root.result ≡ node_at c.len-first.result (length c.in_ok-tables.tables.roots.items) c.in_ok-tables.place
-    = search rules in
-    type_stands_at g.declared c.requires.1.0 (plain c.args.tree.now) c.requires.1.1.0 (nodes c.args.graph.now)
-    c.len-first.ensures.sound c.len-first.ensures.built_in c.args.names.now c.requires.1.1.1.0
-    c.in_ok-tables.ensures.read.0 (plain_tables c.in_ok-tables.tables) c.in_ok-tables.place
-    (c.in_ok-tables.ensures.read.1 (g.declared ∷ [])) c.in_ok-tables.ensures.read.2 bounds.1
-    c.len-first.result c.len-first.ensures.count
-    (plain_list c.in_ok-formulas.formulas) c.in_ok-formulas.ensures.number
-    (c.in_ok-formulas.ensures.closes (nodes c.args.graph.now) (sym c.len-first.ensures.count)
-    (itself_agrees (nodes c.args.graph.now)))
-    c.node_of-root.result at
+returns-clause-stands g c = IfOk-weaker c.resolve_type_from.result _ _
+    (λ batch stands. subst (λ graph. StandsFor (graph ++ plain_list batch.formulas) batch.root
+    (record { scope = g.declared ∷ []; tree = plain c.args.tree.now })) (append-nil (nodes c.args.graph.now))
+    (stands [] (ap length (append-nil (nodes c.args.graph.now)) ∙ sym c.len-first.ensures.count)))
+    c.resolve_type_from.ensures.stands
