@@ -16,7 +16,7 @@ use Rattle.cd_expand.specs.OfClauses.{ClauseAsks}
 use Rattle.cd_expand.specs.Within.{IsWithin, StandsInGraph}
 use Rattle.cd_expand.proofs.Adding.{adds_for}
 use Rattle.cd_expand.proofs.Expanding.{IsToldOf, AreTold}
-use Rattle.cd_expand.proofs.PartsAsk.{clause_is_within, pair_ways_ask, xml_ways_ask, arrow_ways_ask, rows_ask}
+use Rattle.cd_rules.proofs.PartsAsk.{clause_is_within, pair_ways_ask, xml_ways_ask, arrow_ways_ask, rows_ask}
 use Rattle.cd_expand.proofs.Reducing.{AreReduced, kept_in_graph}
 
 -- parts that are the same are within the same bound

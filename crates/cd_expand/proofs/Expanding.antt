@@ -21,7 +21,7 @@ use Rattle.cd_expand.specs.Expansion.{HasShape, AreOfClauses, CoverClauses}
 use Rattle.cd_expand.specs.Named.{Names}
 use Rattle.cd_expand.specs.OfClauses.{NamesReduced, NamesEach}
 use Rattle.cd_expand.proofs.Basics.{nothing_needed, integer_in, character_in, atom_in}
-use Rattle.cd_expand.proofs.PartsAsk.{clause_names_labels}
+use Rattle.cd_rules.proofs.PartsAsk.{clause_names_labels}
 use Rattle.cd_expand.proofs.Reducing.{reduced_names_labels}
 
 -- a clause of the code stands for one of the question

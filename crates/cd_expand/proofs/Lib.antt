@@ -7,7 +7,6 @@ pub mod Expanding
 pub mod FirstOfList
 pub mod Naming
 pub mod OneClause
-pub mod PartsAsk
 pub mod PlainNeeds
 pub mod Reducing
 pub mod RowParts
