@@ -3,20 +3,20 @@ use Rattle.std.proofs.Common.{◌≡◌, true, false, List, [], ◌∷◌, map, 
 use Rattle.cd_sets.specs.declared.question.Question.{Question}
 use Rattle.cd_syntax.specs.Name.{Name}
 use Rattle.cd_model.specs.Each.{Each, One}
-use Rattle.cd_model.specs.Kinds.{AnXml, APair, ARecord}
 use Rattle.cd_model.specs.BuiltIns.{ATOM, RECORD}
-use Rattle.cd_model.specs.Membership.{Answers, Reader, Labelled, asked, pair_reader, xml_reader, record_reader}
+use Rattle.cd_model.specs.Membership.{Answers, Reader, Labelled, pair_reader, xml_reader, record_reader}
 use Rattle.cd_rules.specs.Choices.{Choice, Meets}
 use Rattle.cd_rules.specs.Clauses.{Clause, Pairs, Xmls, Records, IsClauseOf, parts_in, pair_of, xml_of, record_of}
 use Rattle.cd_rules.specs.Needs.{Way, Need, empty_or_not, pair_way, xml_way, splits, splits_in_three}
 use Rattle.cd_rules.specs.Rows.{Cell, Row, rows_of}
 use Rattle.cd_rules.specs.Members.{IsLiving}
 use Rattle.cd_rules.specs.Family.{IsCovered, BreaksNeed, BreaksRow, Breaks}
-use Rattle.cd_rules.proofs.ClauseOf.{IsOfKind, in_pairs, in_xmls, in_records}
+use Rattle.cd_rules.proofs.ClauseOf.{in_pairs, in_xmls, in_records, kind_of_pair, kind_of_xml, kind_of_record}
 use Rattle.cd_rules.proofs.Ones.{one_alone}
 use Rattle.cd_rules.proofs.PairsForward.{pairs_forward}
 use Rattle.cd_rules.proofs.XmlsForward.{xmls_forward}
 use Rattle.cd_rules.proofs.RecordsForward.{HasAt, records_forward}
+use Rattle.cd_rules.proofs.Things.{IsAskedFact}
 
 -- a thing that is in a question all of whose clauses are broken meets a choice whose clauses are broken
 pub record IsBroken (family : List Question) (reader : Reader) : Type 0 where
@@ -78,13 +78,12 @@ module _ (family : List Question) where
 
   -- what a thing is asked is out
   abbrev pub AskedOut : Answers → Type 0
-  AskedOut answers = (question : Question) → asked answers question true → IsOut question
+  AskedOut = IsAskedFact IsOut
 
   -- pairs, XML elements and records whose parts are out
-  pub pair_out : (first second : Answers) → AskedOut first → AskedOut second → IsOfKind APair (pair_reader first second)
-      → IsBroken family (pair_reader first second) → ⊥
-  pair_out first second is_first is_second of_kind broken =
-      let in_clause = in_pairs (pair_reader first second) of_kind broken.choice broken.meets in
+  pub pair_out : (first second : Answers) → AskedOut first → AskedOut second → IsBroken family (pair_reader first second) → ⊥
+  pair_out first second is_first is_second broken =
+      let in_clause = in_pairs (pair_reader first second) (kind_of_pair first second) broken.choice broken.meets in
       let wanted = parts_in pair_of true broken.choice in
       let refused = parts_in pair_of false broken.choice in
       let needs = broken.breaks (Pairs wanted refused) in_clause.0 in
@@ -92,10 +91,9 @@ module _ (family : List Question) where
       (pairs_forward first second IsOut is_first is_second wanted refused in_clause.1 in_clause.2) needs.2
 
   pub xml_out : (tag attributes content : Answers) → AskedOut tag → AskedOut attributes → AskedOut content
-      → tag ATOM true → attributes RECORD true → IsOfKind AnXml (xml_reader tag attributes content)
-      → IsBroken family (xml_reader tag attributes content) → ⊥
-  xml_out tag attributes content is_tag is_attributes is_content atom fields of_kind broken =
-      let in_clause = in_xmls (xml_reader tag attributes content) of_kind broken.choice broken.meets in
+      → tag ATOM true → attributes RECORD true → IsBroken family (xml_reader tag attributes content) → ⊥
+  xml_out tag attributes content is_tag is_attributes is_content atom fields broken =
+      let in_clause = in_xmls (xml_reader tag attributes content) (kind_of_xml tag attributes content) broken.choice broken.meets in
       let wanted = parts_in xml_of true broken.choice in
       let refused = parts_in xml_of false broken.choice in
       let needs = broken.breaks (Xmls wanted refused) in_clause.0 in
@@ -103,10 +101,10 @@ module _ (family : List Question) where
       (xmls_forward tag attributes content IsOut is_tag is_attributes is_content atom fields wanted refused in_clause.1 in_clause.2)
       needs.2
 
-  pub record_out : (labelled : Labelled) → ((label : Name) → HasAt labelled IsOut label) → IsOfKind ARecord (record_reader labelled)
+  pub record_out : (labelled : Labelled) → ((label : Name) → HasAt labelled IsOut label)
       → IsBroken family (record_reader labelled) → ⊥
-  record_out labelled has of_kind broken =
-      let in_clause = in_records (record_reader labelled) of_kind broken.choice broken.meets in
+  record_out labelled has broken =
+      let in_clause = in_records (record_reader labelled) (kind_of_record labelled) broken.choice broken.meets in
       let wanted = parts_in record_of true broken.choice in
       let refused = parts_in record_of false broken.choice in
       rows_out (rows_of wanted refused) (records_forward labelled IsOut has wanted refused in_clause.1 in_clause.2)

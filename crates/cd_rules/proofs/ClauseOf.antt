@@ -177,11 +177,11 @@ in_clause AFunction reader of_kind choice meets = let is = in_arrows reader of_k
     (Arrows (parts_in arrow_of true choice) (parts_in arrow_of false choice), is.0, (refl, is.1, is.2))
 
 -- readers of things of one kind
-kind_of_integer : (n : ℤ) → IsOfKind AnInteger (integer_reader n)
+pub kind_of_integer : (n : ℤ) → IsOfKind AnInteger (integer_reader n)
 kind_of_integer n (formula.Ints set) is = refl
 kind_of_integer n _ is = absurd (true≢false is)
 
-kind_of_character : (c : ℕ) → IsOfKind ACharacter (character_reader c)
+pub kind_of_character : (c : ℕ) → IsOfKind ACharacter (character_reader c)
 kind_of_character c (formula.Chars set) is = refl
 kind_of_character c _ is = absurd (true≢false is)
 
@@ -193,15 +193,15 @@ pub kind_of_pair : (first second : Answers) → IsOfKind APair (pair_reader firs
 kind_of_pair first second (formula.Pair one other) is = refl
 kind_of_pair first second _ is = absurd (true≢false is)
 
-kind_of_xml : (tag attributes content : Answers) → IsOfKind AnXml (xml_reader tag attributes content)
+pub kind_of_xml : (tag attributes content : Answers) → IsOfKind AnXml (xml_reader tag attributes content)
 kind_of_xml tag attributes content (formula.Xml one other last) is = refl
 kind_of_xml tag attributes content _ is = absurd (true≢false is)
 
-kind_of_record : (labelled : Labelled) → IsOfKind ARecord (record_reader labelled)
+pub kind_of_record : (labelled : Labelled) → IsOfKind ARecord (record_reader labelled)
 kind_of_record labelled (formula.Record named rest) is = refl
 kind_of_record labelled _ is = absurd (true≢false is)
 
-kind_of_function : (mapping : Mapping) → IsOfKind AFunction (function_reader mapping)
+pub kind_of_function : (mapping : Mapping) → IsOfKind AFunction (function_reader mapping)
 kind_of_function mapping (formula.Arrow argument result) is = refl
 kind_of_function mapping _ is = absurd (true≢false is)
 

@@ -1,7 +1,9 @@
--- No thing that is sound is in a question that a closed family covers, where no closure is in an arrow whose need is broken, by
--- recursion on the thing; so no element and no value is.
-use Rattle.std.proofs.Common.{◌≡◌, ℕ, true, false, List, [], ◌∷◌, ◌++◌, map, inl, inr, refl, sym, subst}
+-- No element and no value is in a question that a closed family covers, by recursion on things whose closures are out of it.
+use Rattle.std.proofs.Common.{◌≡◌, ℕ, ℤ, true, false, List, [], ◌∷◌, ◌++◌, map, inl, inr, refl, sym, subst}
+use Rattle.std.specs.Char.{IsScalar}
 use Rattle.cd_sets.specs.declared.question.Question.{Question}
+use Rattle.cd_syntax.specs.Integer.{IsInteger}
+use Rattle.cd_syntax.specs.Name.{Name, IsLabel}
 use Rattle.cd_sets.specs.declared.node_id.NodeId.{NodeId}
 use Rattle.cd_model.specs.Formula.{Graph, at_formula}
 use Rattle.cd_model.specs.Interfaces.{Interfaces}
@@ -10,7 +12,7 @@ use Rattle.cd_model.specs.Thing as thing
 use Rattle.cd_model.specs.Thing.{Thing, IsElement, IsValue, EachClosure, EachOfFields, EachOfPairs}
 use Rattle.cd_model.specs.BuiltIns.{built_ins, ATOM, RECORD}
 use Rattle.cd_model.specs.Each.{Each, One}
-use Rattle.cd_model.specs.Kinds.{AFunction, IsSound, AreSound, ArePairsSound}
+use Rattle.cd_model.specs.Kinds.{IsSound, AreSound, ArePairsSound}
 use Rattle.cd_model.specs.Membership as node
 use Rattle.cd_model.specs.Membership.{Reader, Mapping, asked, answers, value_answers, at_nodes, function_reader}
 use Rattle.cd_model.proofs.BuiltIns.{records_are, elements_are_sound, values_are_sound}
@@ -21,13 +23,13 @@ use Rattle.cd_rules.specs.Clauses.{Clause, Ints, Chars, Atoms, Arrows, Pair, IsC
 use Rattle.cd_rules.specs.Needs.{arrow_way, splits}
 use Rattle.cd_rules.specs.Family.{BreaksNeed, Breaks, IsClosed}
 use Rattle.cd_rules.proofs.ChoicesExact.{question_exact}
-use Rattle.cd_rules.proofs.ClauseOf.{IsOfKind, kind_of_pair, in_integers, in_characters, in_atoms, in_arrows, kind_of_element, kind_of_thing}
+use Rattle.cd_rules.proofs.ClauseOf.{in_integers, in_characters, in_atoms, in_arrows, kind_of_integer, kind_of_character, kind_of_function, kind_of_element}
 use Rattle.cd_rules.proofs.ArrowsForward.{IsInArrow, PartsHave, arrows_forward, closure_forward}
 use Rattle.cd_rules.proofs.RecordsOfThings.{FieldsHave, record_has}
 use Rattle.cd_rules.proofs.Covering.{asked_less, of_covered}
 use Rattle.cd_rules.proofs.Ones.{each_weaker}
 use Rattle.cd_rules.proofs.Broken.{IsBroken, broken_one, IsOut, AskedOut, need_out, member_out, pair_out, xml_out, record_out}
-use Rattle.cd_rules.proofs.Things.{reader_of, answers_of, labelled_of, mapping_of}
+use Rattle.cd_rules.proofs.Things.{answers_of, labelled_of, mapping_of}
 
 -- a function that is in some arrows is not outside another one whose need is broken
 abbrev BreaksNone : List Question → Mapping → Type 0
@@ -35,10 +37,9 @@ BreaksNone family maps = (wanted : List Pair) (refused : Pair) → Each (IsInArr
     → BreaksNeed family (map (arrow_way refused) (splits wanted)) → ⊥
 
 -- so it is in no question that is broken
-arrows_out : (family : List Question) (maps : Mapping) → BreaksNone family maps → IsOfKind AFunction (function_reader maps)
-    → IsBroken family (function_reader maps) → ⊥
-arrows_out family maps none of_kind broken =
-    let in_clause = in_arrows (function_reader maps) of_kind broken.choice broken.meets in
+arrows_out : (family : List Question) (maps : Mapping) → BreaksNone family maps → IsBroken family (function_reader maps) → ⊥
+arrows_out family maps none broken =
+    let in_clause = in_arrows (function_reader maps) (kind_of_function maps) broken.choice broken.meets in
     let wanted = parts_in arrow_of true broken.choice in
     let refused = parts_in arrow_of false broken.choice in
     let needs = broken.breaks (Arrows wanted refused) in_clause.0 in
@@ -77,19 +78,19 @@ module _ (graph : Graph) (begins : (more : Graph) × (graph ≡ built_ins ++ mor
       IsNotAsked question = asked (at_nodes graph reader) question true → ⊥
 
   -- integers, characters, atoms and pairs
-  integer_out : (n : _) → IsElement (thing.Integer n) → IsBroken family (node.integer_reader n) → ⊥
+  integer_out : (n : ℤ) → IsInteger n → IsBroken family (node.integer_reader n) → ⊥
   integer_out n is broken =
-      let in_clause = in_integers (node.integer_reader n) (kind_of_element graph (thing.Integer n)) broken.choice broken.meets in
+      let in_clause = in_integers (node.integer_reader n) (kind_of_integer n) broken.choice broken.meets in
       let needs = broken.breaks (Ints (parts_in integers_of true broken.choice) (parts_in integers_of false broken.choice)) in_clause.0 in
       member_out family _ n (is, in_clause.1, in_clause.2) needs.0 needs.1 needs.2
 
-  character_out : (c : _) → IsElement (thing.Character c) → IsBroken family (node.character_reader c) → ⊥
+  character_out : (c : ℕ) → IsScalar c → IsBroken family (node.character_reader c) → ⊥
   character_out c is broken =
-      let in_clause = in_characters (node.character_reader c) (kind_of_element graph (thing.Character c)) broken.choice broken.meets in
+      let in_clause = in_characters (node.character_reader c) (kind_of_character c) broken.choice broken.meets in
       let needs = broken.breaks (Chars (parts_in characters_of true broken.choice) (parts_in characters_of false broken.choice)) in_clause.0 in
       member_out family _ c (is, in_clause.1, in_clause.2) needs.0 needs.1 needs.2
 
-  atom_out : (name : _) → IsElement (thing.Atom name) → IsBroken family (node.reader graph (thing.Atom name)) → ⊥
+  atom_out : (name : Name) → IsLabel name → IsBroken family (node.reader graph (thing.Atom name)) → ⊥
   atom_out name is broken =
       let in_clause = in_atoms (node.reader graph (thing.Atom name)) (kind_of_element graph (thing.Atom name)) broken.choice broken.meets in
       let needs = broken.breaks (Atoms (parts_in atoms_of true broken.choice) (parts_in atoms_of false broken.choice)) in_clause.0 in
@@ -99,9 +100,9 @@ module _ (graph : Graph) (begins : (more : Graph) × (graph ≡ built_ins ++ mor
       → AskedOut family (at_nodes graph (at_formula (with_sequences all (pair_at first second))))
   of_pair all first second is_first is_second = subst (λ reader. AskedOut family (at_nodes graph reader))
       (sym (no_sequences all (pair_at first second)))
-      (broken_of (node.pair_reader first second) (pair_out family first second is_first is_second (kind_of_pair first second)))
+      (broken_of (node.pair_reader first second) (pair_out family first second is_first is_second))
 
-  -- Things whose closures map so, where those of some functions break no need
+  -- things that are sound, whose closures are of functions that are known to break no need
   module _ (closed : ℕ → Mapping) (Known : ℕ → Type 0)
       (closures : (function : ℕ) → Known function → BreaksNone family (closed function)) where
     mutual
@@ -111,24 +112,19 @@ module _ (graph : Graph) (begins : (more : Graph) × (graph ≡ built_ins ++ mor
       thing_out (thing.Atom name) sound known = broken_of (node.reader graph (thing.Atom name)) (atom_out name sound)
       thing_out (thing.Pair first second) sound known = of_pair _ (answers_of graph closed first) (answers_of graph closed second)
           (thing_out first sound.0 known.0) (thing_out second sound.1 known.1)
-      thing_out (thing.Xml tag attributes content) sound known = broken_of (reader_of graph closed (thing.Xml tag attributes content))
+      thing_out (thing.Xml tag attributes content) sound known = broken_of _
           (xml_out family (answers_of graph closed tag) (answers_of graph closed attributes) (answers_of graph closed content)
           (thing_out tag sound.2 known.0) (thing_out attributes sound.3 known.1) (thing_out content sound.4 known.2)
-          (tag_in graph begins closed tag sound.0) (attributes_in graph begins closed attributes sound.1)
-          (kind_of_thing graph closed (thing.Xml tag attributes content)))
-      thing_out (thing.Record fields) sound known = broken_of (reader_of graph closed (thing.Record fields))
+          (tag_in graph begins closed tag sound.0) (attributes_in graph begins closed attributes sound.1))
+      thing_out (thing.Record fields) sound known = broken_of _
           (record_out family (labelled_of graph closed fields)
-          (record_has graph closed (IsOut family) fields (fields_out fields sound.1 known))
-          (kind_of_thing graph closed (thing.Record fields)))
-      thing_out (thing.Function pairs) sound known = broken_of (reader_of graph closed (thing.Function pairs))
+          (record_has graph closed (IsOut family) fields (fields_out fields sound.1 known)))
+      thing_out (thing.Function pairs) sound known = broken_of _
           (arrows_out family (mapping_of graph closed pairs)
           (λ wanted refused inside outside. need_out family (map (arrow_way refused) (splits wanted))
-          (arrows_forward graph closed (IsOut family) pairs (pairs_out pairs sound known) wanted refused inside outside))
-          (kind_of_thing graph closed (thing.Function pairs)))
+          (arrows_forward graph closed (IsOut family) pairs (pairs_out pairs sound known) wanted refused inside outside)))
       thing_out (thing.Closure function environment) sound known =
-          broken_of (reader_of graph closed (thing.Closure function environment))
-          (arrows_out family (closed function) (closures function known)
-          (kind_of_thing graph closed (thing.Closure function environment)))
+          broken_of (function_reader (closed function)) (arrows_out family (closed function) (closures function known))
 
       fields_out : (fields : thing.Fields) → AreSound fields → EachOfFields Known fields → FieldsHave graph closed (IsOut family) fields
       fields_out thing.NoField sound known = tt

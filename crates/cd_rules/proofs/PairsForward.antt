@@ -11,6 +11,7 @@ use Rattle.cd_rules.specs.Needs.{Way, question, pair_way, splits}
 use Rattle.cd_rules.proofs.Asking.{each_of_map, asked_of_each}
 use Rattle.cd_rules.proofs.Ones.{each_weaker, one_weaker, one_of_map}
 use Rattle.cd_rules.proofs.Sides.{HaveBoth, one_splits}
+use Rattle.cd_rules.proofs.Things.{IsAskedFact}
 
 -- what answers so at one part of each of some pairs of nodes answers the question of these parts
 pub asked_of_parts : {X : Type 0} (answers : Answers) (part : X → NodeId) (wanted refused : List X)
@@ -22,7 +23,7 @@ asked_of_parts answers part wanted refused inside outside = asked_of_each answer
 -- where parts are in the questions of a way, what is so of each question that a part is in is so of all of them
 abbrev pub EachGives : (Question → Type 0) → List Answers → Type 0
 EachGives Fact [] = Unit {0}
-EachGives Fact (answers ∷ parts) = ((question : Question) → asked answers question true → Fact question) × EachGives Fact parts
+EachGives Fact (answers ∷ parts) = IsAskedFact Fact answers × EachGives Fact parts
 
 pub facts_of_way : (Fact : Question → Type 0) (parts : List Answers) → EachGives Fact parts → (way : Way) → AreInWay parts way → Each Fact way
 facts_of_way Fact [] gives [] within = tt
@@ -61,9 +62,7 @@ pair_in_way first second wanted refused inside outside =
     )
 
 -- so what is so of each question that a part of it is in is so of both questions of one way
-pub pairs_forward : (first second : Answers) (Fact : Question → Type 0)
-    → ((question : Question) → asked first question true → Fact question)
-    → ((question : Question) → asked second question true → Fact question)
+pub pairs_forward : (first second : Answers) (Fact : Question → Type 0) → IsAskedFact Fact first → IsAskedFact Fact second
     → (wanted refused : List Pair)
     → Each (λ parts. pair_reader first second (formula.Pair parts.0 parts.1) true) wanted
     → Each (λ parts. pair_reader first second (formula.Pair parts.0 parts.1) false) refused

@@ -97,7 +97,8 @@ module _ (graph : Graph) where
           (xml_outside held.1) refused kept leaving held.2,
     )
 
-  -- Things whose closures map so, of which some are known to be sound: each of these is outside what is apart from the nodes it is in
+  -- Things that pass a test which their parts pass too, as elements and values do: where each of these is outside what is apart
+  -- from the nodes that it is in
   module _ (begins : (more : Graph) × (graph ≡ built_ins ++ more)) (closed : ℕ → Mapping) (Sound : Thing → Type 0)
       (of_pair : (first second : Thing) → Sound (thing.Pair first second) → Sound first × Sound second)
       (of_xml : (tag attributes content : Thing) → Sound (thing.Xml tag attributes content)
@@ -106,7 +107,7 @@ module _ (graph : Graph) where
     abbrev Holds : Thing → Clause → Type 0
     Holds is clause = IsInClause (kind_of is) (reader_of graph closed is) clause
 
-    pub reduced_held : (clause reduced : Clause) (is : Thing) → IsReduced graph clause reduced → Sound is
+    reduced_held : (clause reduced : Clause) (is : Thing) → IsReduced graph clause reduced → Sound is
         → Holds is reduced → Holds is clause
     reduced_held (Pairs wanted refused) (Pairs same kept) (thing.Pair first second) reduces sound held =
         let parts = of_pair first second sound in
@@ -127,12 +128,13 @@ module _ (graph : Graph) where
     reduced_held clause reduced is same sound held = subst (Holds is) same held
 
   module _ (begins : (more : Graph) × (graph ≡ built_ins ++ more)) where
+    -- elements, where what an element is in is not apart
     pub elements_held : (clause reduced : Clause) (e : Thing) → IsReduced graph clause reduced → IsElement e
         → IsInClause (kind_of e) (reader graph e) reduced → IsInClause (kind_of e) (reader graph e) clause
     elements_held = reduced_held begins no_closure IsElement (λ first second is. is) (λ tag attributes content is. is)
         (λ e is id ids apart each. by_answer (in_or_outside graph e id) (λ within. apart e is (within, each)))
 
-    -- values, where each is in a node or outside it: where one is in some nodes, an element is
+    -- values, where each is in a node or outside it, and where one is in some nodes an element is
     pub values_held : IsGraph graph → (interfaces : Interfaces)
         → ((v : Thing) (id : NodeId) → value_answers graph interfaces v id true ⊎ value_answers graph interfaces v id false)
         → (clause reduced : Clause) (v : Thing) → IsReduced graph clause reduced → IsValue v

@@ -13,6 +13,7 @@ use Rattle.cd_rules.proofs.Asking.{each_of_map, asked_of_each}
 use Rattle.cd_rules.proofs.PairsForward.{asked_of_parts, facts_of_way}
 use Rattle.cd_rules.proofs.Ones.{each_weaker, one_weaker, one_of_map}
 use Rattle.cd_rules.proofs.Sides.{HaveThree, one_splits_in_three}
+use Rattle.cd_rules.proofs.Things.{IsAskedFact}
 
 -- the same where one node more is wanted
 asked_of_more : {X : Type 0} (answers : Answers) (more : NodeId) (part : X → NodeId) (wanted refused : List X) → answers more true
@@ -65,10 +66,7 @@ xml_in_way tag attributes content is_atom is_record wanted refused inside outsid
 
 -- so what is so of each question that a part of it is in is so of all questions of one way
 pub xmls_forward : (tag attributes content : Answers) (Fact : Question → Type 0)
-    → ((question : Question) → asked tag question true → Fact question)
-    → ((question : Question) → asked attributes question true → Fact question)
-    → ((question : Question) → asked content question true → Fact question)
-    → tag ATOM true → attributes RECORD true
+    → IsAskedFact Fact tag → IsAskedFact Fact attributes → IsAskedFact Fact content → tag ATOM true → attributes RECORD true
     → (wanted refused : List Triple)
     → Each (λ parts. xml_reader tag attributes content (formula.Xml parts.0 parts.1 parts.2) true) wanted
     → Each (λ parts. xml_reader tag attributes content (formula.Xml parts.0 parts.1 parts.2) false) refused
