@@ -96,7 +96,8 @@ module _ {X Y : Type 0} (sort : Sort) (Stands : Standing X Y) (at : Presentation
     reads_alike (Pair first second) of = sequences_alike Stands
         (with_item (answers at closed first) (items at closed second)) (pair_at (answers at closed first) (answers at closed second))
         (with_item (answers for closing first) (items for closing second)) (pair_at (answers for closing first) (answers for closing second))
-        (alike_with_item _ (items at closed second) (items for closing second) (present first parts.0 (reads_alike first parts.0)) (items_alike second parts.1))
+        (alike_with_item _ (items at closed second) (items for closing second)
+        (present first parts.0 (reads_alike first parts.0)) (items_alike second parts.1))
         (pair_alike Stands (answers at closed first) (answers at closed second) (answers for closing first) (answers for closing second)
         (present first parts.0 (reads_alike first parts.0)) (present second parts.1 (reads_alike second parts.1)))
       where
@@ -126,7 +127,8 @@ module _ {X Y : Type 0} (sort : Sort) (Stands : Standing X Y) (at : Presentation
         parts = sort.pair first second of
     items_alike _ of = tt
 
-    fields_alike : (fields : Fields) → sort.OfFields fields → LabelAlike Stands (labelled at closed fields) (labelled for closing fields)
+    fields_alike : (fields : Fields) → sort.OfFields fields
+        → LabelAlike Stands (labelled at closed fields) (labelled for closing fields)
     fields_alike NoField of = λ label x y field answer. same_as answer field.optional
     fields_alike (Field name is rest) of = λ label x y field answer. chosen_agree (bytes_eq name label)
         (present is parts.0 (reads_alike is parts.0) x.type y.type field.type answer)

@@ -105,7 +105,8 @@ AnswersAsName first second most is scope name = (count : ℕ) → most ≤ count
 
 module _ (Means : Meaning) (Known : Knowing) (Stands : Standing NodeId WrittenType)
     (first : Reader NodeId) (second : Reader WrittenType) (alike : ReadAlike Stands first second)
-    (means : (is : Formula) (head : Head NodeId) → Means is head → (answer : Bool) → holds (at_formula first) is answer ↔ first head answer)
+    (means : (is : Formula) (head : Head NodeId) → Means is head → (answer : Bool)
+    → holds (at_formula first) is answer ↔ first head answer)
     (knows : (most : ℕ) (is : Formula) (scope : Scope) (name : Name) → Known most is scope name
     → AnswersAsName first second most is scope name) where
   mutual
@@ -231,8 +232,8 @@ module _ (graph : Graph) (Stands : Standing NodeId WrittenType) (count : ℕ)
   answers_by_forms id one stands = record {
     elements = λ e element answer. elements_by elements (λ pairs sound. sound) Stands (nodes graph) (written count) element_present
         e element id one stands answer;
-    values = λ interfaces v value answer. values_by elements (λ pairs sound. sound) Stands (nodes graph) (written count) element_present
-        (admits interfaces) (admits interfaces) (λ function pairs sound. itself) values (value_present interfaces)
+    values = λ interfaces v value answer. values_by elements (λ pairs sound. sound) Stands (nodes graph) (written count)
+        element_present (admits interfaces) (admits interfaces) (λ function pairs sound. itself) values (value_present interfaces)
         v value id one stands answer;
   }
 

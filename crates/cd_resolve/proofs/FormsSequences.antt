@@ -60,11 +60,11 @@ means_sequences graph id is at expression same =
     whole : Graph
     whole = at.before ++ at.batch ++ at.after
 
-    read : (closed : ℕ → Mapping NodeId) (is_read : Thing) (answer : Bool)
-        → are_in (items (nodes whole) closed is_read) (fits is) answer ↔ reader (nodes whole) closed is_read (Sequences expression) answer
-    read closed is_read answer = subst (λ language. are_in (items (nodes whole) closed is_read) language answer
-        ↔ reader (nodes whole) closed is_read (Sequences expression) answer) same
-        (at_sequence (nodes whole) closed is_read expression answer)
+    read : (closed : ℕ → Mapping NodeId) (e : Thing) (answer : Bool)
+        → are_in (items (nodes whole) closed e) (fits is) answer ↔ reader (nodes whole) closed e (Sequences expression) answer
+    read closed e answer = subst (λ language. are_in (items (nodes whole) closed e) language answer
+        ↔ reader (nodes whole) closed e (Sequences expression) answer) same
+        (at_sequence (nodes whole) closed e expression answer)
 
 -- a number names the node of the place that it names
 named_node : (node_of : Place → NodeId) (places : List Place) (number : ℕ) (id : NodeId) (at : Place)
@@ -177,6 +177,7 @@ module _ (first : ℕ) (names : List (Name × NodeId)) (lists : List Frames) (ta
     rows_over (type.ARegular first rest) NoRegular shaped within uses = elim shaped [ ]
     rows_over (type.ARegular first rest) (ARegular one others) shaped within uses =
         let facts = each_parts Fact (names_in_regular scope first) (names_in_regulars scope rest) within in
-        let all_used = each_parts Used (free_in_regular (scope_of [] frames) first) (free_in_regulars (scope_of [] frames) rest) uses in
+        let inner = scope_of [] frames in
+        let all_used = each_parts Used (free_in_regular inner first) (free_in_regulars inner rest) uses in
         more_over one others (regular_in scope first) (regulars_in scope rest)
         (regular_over first one shaped.0 facts.0 all_used.0) (rows_over rest others shaped.1 facts.1 all_used.1)

@@ -42,5 +42,10 @@ module _ (first : ℕ) (names : List (Name × NodeId)) (lists : List Frames) (ta
       (forms graph first names lists tables base (IsOfType type) Used (λ is seen. seen.0) (names_seen type.scope type.tree)
       (λ is seen. seen.1) (number_of_names type) (omega arith) roots closes begins given)
       id type refl (placed frames (kind_of is) root
-      (record { met = met; shaped = of_tree names lists tables frames is root shaped; covered = (all_seen type guarded).covered; uses = uses }))
+      (record {
+        met = met;
+        shaped = of_tree names lists tables frames is root shaped;
+        covered = (all_seen type guarded).covered;
+        uses = uses;
+      }))
       is_node begins
