@@ -194,7 +194,7 @@ pub means_its_head : (graph : Graph) (is : Formula) (head : Head NodeId) → for
 means_its_head graph is head found = record {
   elements = λ e answer. of_its_head (reader (nodes graph) no_closure e) is head found answer;
   values = λ interfaces v answer.
-    of_its_head (reader (nodes graph) (closure_maps (nodes graph) (admits interfaces)) v) is head found answer;
+      of_its_head (reader (nodes graph) (closure_maps (nodes graph) (admits interfaces)) v) is head found answer;
 }
 
 -- A formula is known for a name where all elements and all values answer the same at both
@@ -241,7 +241,7 @@ module _ (graph : Graph) (Stands : Standing NodeId WrittenType) (count : ℕ)
       → (more : Graph) × (graph ≡ built_ins ++ more) → StandsFor graph id is
   stands_by_forms id is same stands below begins =
       let answers : AnswersAs graph id (type_of is) (number_of_names is) =
-          subst (AnswersAs graph id (type_of is)) (sym same) (answers_by_forms id (type_of is) stands) in
+      subst (AnswersAs graph id (type_of is)) (sym same) (answers_by_forms id (type_of is) stands) in
       record {
         is_node = below;
         begins = begins;

@@ -1,5 +1,5 @@
 -- The formula at the place of a form is one of this form, where it is no connective and no name.
-use Rattle.std.proofs.Common.{◌≡◌, ℕ, Bool, true, false, List, [], ◌∷◌, Option, Some, None, length, map, refl, sym, ◌∙◌, ap, subst, bytes_eq, ◌⊎◌, inl, inr, unwrap_or}
+use Rattle.std.proofs.Common.{◌≡◌, ℕ, true, false, List, [], ◌∷◌, Some, length, refl, sym, ◌∙◌, ap, subst, bytes_eq, ◌⊎◌, inl, inr, unwrap_or}
 use Rattle.std.specs.Prelude.{int_le, nat_le}
 use Rattle.std.proofs.Math.Bool.{or-false}
 use Rattle.std.proofs.lemmas.Bool.{cases_Bool}
@@ -12,11 +12,11 @@ use Rattle.cd_syntax.specs.TypeTree as type
 use Rattle.cd_syntax.specs.TypeTree.{Tree, tree, Kind, Trees, NoTree, ATree}
 use Rattle.cd_model.specs.Alike as heads
 use Rattle.cd_model.specs.Alike.{FieldsStand, HeadsStand}
-use Rattle.cd_model.specs.BuiltIns.{node_named, EMPTY, NIL}
+use Rattle.cd_model.specs.BuiltIns.{node_named, EMPTY}
 use Rattle.cd_model.specs.Each.{Each}
 use Rattle.cd_model.specs.Formula as formula
 use Rattle.cd_model.specs.Formula.{Graph, Formula, formula_at}
-use Rattle.cd_model.specs.Scope.{Scope, Declared, names_in, names_in_fields, names_over}
+use Rattle.cd_model.specs.Scope.{Scope, Declared, names_in, names_in_fields}
 use Rattle.cd_model.specs.Types.{Head, Integers, Characters, field_of}
 use Rattle.cd_model.specs.Written as written
 use Rattle.cd_model.specs.Written.{WrittenType, kind_of, tuple_rest, arrows_rest, any_or_none, named_in, type_named, within}
@@ -35,7 +35,7 @@ use Rattle.cd_resolve.proofs.BuiltInNodes.{Begins, formula_of_empty, formula_of_
 use Rattle.cd_resolve.proofs.FormsFields.{Named, found, field_found, field_is_found}
 use Rattle.cd_resolve.proofs.FormsSequences.{IsOver, regular_over, means_sequences}
 use Rattle.cd_resolve.proofs.FormsSets.{none_between, none_among, means_no_integer, means_no_character}
-use Rattle.cd_resolve.proofs.FreeNames.{free_over, uses_tree, uses_first, uses_tuple, uses_argument, uses_arrows, uses_xml}
+use Rattle.cd_resolve.proofs.FreeNames.{uses_tree, uses_first, uses_tuple, uses_argument, uses_arrows, uses_xml}
 use Rattle.cd_resolve.proofs.NodesOfTypes.{IsAlone, of_tree, IsOf, Stands, placed, alone}
 use Rattle.cd_model.proofs.Resolved as form
 use Rattle.cd_model.proofs.Resolved.{IsForm, IsFormOf, MeansIn, KnownIn, means_its_head}

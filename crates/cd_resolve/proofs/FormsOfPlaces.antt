@@ -5,11 +5,10 @@ use Rattle.cd_sets.specs.declared.node_id.NodeId.{NodeId}
 use Rattle.cd_syntax.specs.Name.{Name}
 use Rattle.cd_syntax.specs.TypeTree as type
 use Rattle.cd_syntax.specs.TypeTree.{Tree, tree, Kind, Trees, NoTree, ATree, Signs, NoSign, ASign, Declarations}
-use Rattle.cd_model.specs.Formula as formula
 use Rattle.cd_model.specs.Formula.{Graph, Formula, Formulas, AFormula, formula_at, formulas_of}
 use Rattle.cd_model.specs.Guarded.{IsGuarded, IsOneOf, IsSigned}
 use Rattle.cd_model.specs.Guarded as guarded
-use Rattle.cd_model.specs.Scope.{Scope, Declared, declared_as}
+use Rattle.cd_model.specs.Scope.{Scope, Declared}
 use Rattle.cd_model.specs.Written.{WrittenType, kind_of}
 use Rattle.cd_model.proofs.Covered.{led_to}
 use Rattle.cd_model.proofs.Leading.{IsIn, without, shorter, Leads, leads_closed, is_undeclared, leads_on}
@@ -26,7 +25,7 @@ use Rattle.cd_resolve.proofs.FormsOfHeads.{as_nothing, as_shape, alone_form, pla
 use Rattle.cd_resolve.proofs.FreeNames.{Uses, uses_closed, uses_declared, is_used}
 use Rattle.cd_resolve.proofs.KnownNames.{IsGiven, known_here}
 use Rattle.cd_resolve.proofs.NamesFound.{IsInside, IsOutside, found}
-use Rattle.cd_resolve.proofs.NodesOfTypes.{IsOf, Stands, placed, alone}
+use Rattle.cd_resolve.proofs.NodesOfTypes.{Stands, placed, alone}
 use Rattle.cd_model.proofs.Resolved as form
 use Rattle.cd_model.proofs.Resolved.{IsForm, IsFormOf, AreFormsOf, AreSigned, MeansIn, KnownIn}
 

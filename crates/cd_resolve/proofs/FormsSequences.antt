@@ -14,8 +14,8 @@ use Rattle.cd_model.specs.Alike as heads
 use Rattle.cd_model.specs.Alike.{RegularsStand, RowsStand}
 use Rattle.cd_model.specs.BuiltIns.{node}
 use Rattle.cd_model.specs.Each.{Each}
-use Rattle.cd_model.specs.Formula.{Graph, formula_at, nodes, at_formula, holds}
-use Rattle.cd_model.specs.Interfaces.{Interfaces, admits}
+use Rattle.cd_model.specs.Formula.{Graph, formula_at, nodes}
+use Rattle.cd_model.specs.Interfaces.{admits}
 use Rattle.cd_model.specs.Language as language
 use Rattle.cd_model.specs.Scope.{Scope, Declared, names_in_regular, names_in_regular_kind, names_in_regulars, names_over}
 use Rattle.cd_model.specs.Thing as thing
@@ -30,7 +30,7 @@ use Rattle.cd_regex.specs.Regular.{Regular, Nothing, Item, Seq, Alt, Regulars, N
 use Rattle.cd_shapes.specs.declared.place.Place.{Place}
 use Rattle.cd_shapes.specs.Frames.{Frames, scope_of}
 use Rattle.cd_shapes.specs.Repeated.{repeated}
-use Rattle.cd_shapes.specs.Shaped.{Tables, Shaped, ShapedKind, ShapedRegular, ShapedRegularKind, ShapedRegulars}
+use Rattle.cd_shapes.specs.Shaped.{Tables, ShapedRegular, ShapedRegularKind, ShapedRegulars}
 use Rattle.cd_shapes.specs.Reading.{AreMet}
 use Rattle.cd_resolve.specs.Closing.{HoldsAt, node_at}
 use Rattle.cd_resolve.specs.Free.{free_in_regular, free_in_regular_kind, free_in_regulars}

@@ -1,19 +1,18 @@
 -- The node of a place stands for the type whose shapes it has, in a graph that holds what the tables say.
-use Rattle.std.proofs.Common.{◌≡◌, ℕ, ◌<◌, [], List, length, refl, arith}
+use Rattle.std.proofs.Common.{ℕ, ◌<◌, [], List, length, refl, arith}
 use Rattle.cd_sets.specs.declared.node_id.NodeId.{NodeId}
 use Rattle.cd_syntax.specs.Name.{Name}
-use Rattle.cd_syntax.specs.TypeTree.{Tree, tree}
-use Rattle.cd_model.specs.Each.{Each}
+use Rattle.cd_syntax.specs.TypeTree.{Tree}
 use Rattle.cd_model.specs.Formula.{Graph}
-use Rattle.cd_model.specs.Guarded.{IsGuarded, NamesAreGuarded}
-use Rattle.cd_model.specs.Scope.{Scope, Declared, names_in, names_over, names_seen}
+use Rattle.cd_model.specs.Guarded.{NamesAreGuarded}
+use Rattle.cd_model.specs.Scope.{Scope, names_seen}
 use Rattle.cd_model.specs.StandsFor.{StandsFor}
 use Rattle.cd_model.specs.Written.{Written, kind_of, number_of_names}
 use Rattle.cd_model.proofs.NamesAlike.{IsOfType, all_seen}
 use Rattle.cd_shapes.specs.declared.place.Place.{Place}
 use Rattle.cd_shapes.specs.Frames.{Frames, scope_of}
 use Rattle.cd_shapes.specs.Names.{node_of}
-use Rattle.cd_shapes.specs.Shaped.{Tables, Shaped, ShapedKind}
+use Rattle.cd_shapes.specs.Shaped.{Tables, Shaped}
 use Rattle.cd_shapes.specs.Reading.{HaveRoots, AreMet}
 use Rattle.cd_resolve.specs.Closing.{Closes, node_at}
 use Rattle.cd_resolve.proofs.BuiltInNodes.{Begins}
