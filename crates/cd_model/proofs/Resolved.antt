@@ -6,7 +6,7 @@ use Rattle.cd_syntax.specs.Name.{Name}
 use Rattle.cd_syntax.specs.declared.builtin.BuiltinName.{BuiltinName}
 use Rattle.cd_syntax.specs.TypeTree as type
 use Rattle.cd_syntax.specs.TypeTree.{Tree, tree, Kind, Trees, NoTree, ATree, Signs, NoSign, ASign, Declarations}
-use Rattle.cd_model.specs.Alike.{Standing, HeadsStand, ReadAlike}
+use Rattle.cd_model.specs.Alike.{Standing, HeadsStand, ReadAlike, PresentAlike}
 use Rattle.cd_model.specs.BuiltIns.{built_in, built_ins}
 use Rattle.cd_model.specs.Formula as formula
 use Rattle.cd_model.specs.Formula.{Graph, Formula, Formulas, NoFormula, AFormula, at_formula, holds, each_holds, one_holds, formula_at, nodes, in_node}
@@ -19,7 +19,6 @@ use Rattle.cd_model.specs.Written.{WrittenType, Written, Names, kind_of, type_of
 use Rattle.cd_model.specs.Written as written
 use Rattle.cd_model.proofs.BothWays.{itself, turned, through, both_agree, one_agrees}
 use Rattle.cd_model.proofs.FormulasAlike.{FormulasStand, formulas_alike, of_its_head}
-use Rattle.cd_model.proofs.Alike.{PresentAlikeOf}
 use Rattle.cd_model.proofs.Sorts.{elements, values}
 use Rattle.cd_model.proofs.ValuesAlike.{elements_by, values_by}
 
@@ -214,13 +213,13 @@ pub record AnswersAs (graph : Graph) (id : NodeId) (one : WrittenType) (count : 
 module _ (graph : Graph) (Stands : Standing NodeId WrittenType) (count : ℕ)
     (forms : (id : NodeId) (one : WrittenType) → Stands id one
     → IsFormOf (MeansIn graph) (KnownIn graph count) Stands count (formula_at graph id) one.scope one.kind) where
-  element_present : PresentAlikeOf IsElement Stands (nodes graph) (written count) no_closure no_closure
+  element_present : PresentAlike IsElement Stands (nodes graph) (written count) no_closure no_closure
   element_present e element alike id one stands answer = forms_alike (MeansIn graph) (KnownIn graph count) Stands
       (reader (nodes graph) no_closure e) (reader (written count) no_closure e) alike
       (λ is head means. means.elements e) (λ most is scope name known. known.elements e element)
       count (formula_at graph id) one.scope one.kind (forms id one stands) count (omega arith) answer
 
-  value_present : (interfaces : Interfaces) → PresentAlikeOf IsValue Stands (nodes graph) (written count)
+  value_present : (interfaces : Interfaces) → PresentAlike IsValue Stands (nodes graph) (written count)
       (closure_maps (nodes graph) (admits interfaces)) (closure_maps (written count) (admits interfaces))
   value_present interfaces v value alike id one stands answer = forms_alike (MeansIn graph) (KnownIn graph count) Stands
       (reader (nodes graph) (closure_maps (nodes graph) (admits interfaces)) v)

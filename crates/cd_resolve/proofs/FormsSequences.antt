@@ -35,7 +35,7 @@ use Rattle.cd_shapes.specs.Reading.{AreMet}
 use Rattle.cd_resolve.specs.Closing.{HoldsAt, node_at}
 use Rattle.cd_resolve.specs.Free.{free_in_regular, free_in_regular_kind, free_in_regulars}
 use Rattle.cd_resolve.proofs.FreeNames.{free_over, uses_tree}
-use Rattle.cd_resolve.proofs.NodesOfTypes.{of_tree, Stands, placed}
+use Rattle.cd_resolve.proofs.NodesOfTypes.{Stands, part_stands}
 use Rattle.cd_model.proofs.Resolved.{MeansIn}
 
 -- what a thing answers at a sequence
@@ -143,12 +143,8 @@ module _ (first : ℕ) (names : List (Name × NodeId)) (lists : List Frames) (ta
     kind_over (type.Item part) is shaped within uses =
         subst (λ is. IsOver is (regular_kind_in scope (type.Item part))) (sym shaped.2) (record {
           expression = types.Item (node_at first (length tables.roots) shaped.1);
-          stands = heads.an_item _ _ (placed frames (kind_of part) shaped.1 (record {
-            met = met;
-            shaped = of_tree names lists tables frames part shaped.1 shaped.4;
-            covered = covered_tree Fact scope part within over;
-            uses = uses_tree Used (scope_of [] frames) part uses uses_over;
-          }));
+          stands = heads.an_item _ _ (part_stands first names lists tables base Fact Used frames part shaped.1 met shaped.4
+              (covered_tree Fact scope part within over) (uses_tree Used (scope_of [] frames) part uses uses_over));
           same = ap (λ (id : NodeId). language.item (λ (answers : Answers NodeId). answers id))
               (sym (named_node (node_at first (length tables.roots)) places shaped.0.0 shaped.0 shaped.1 shaped.3));
         })
