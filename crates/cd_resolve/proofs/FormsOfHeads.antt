@@ -72,7 +72,7 @@ module _ (graph : Graph) (first : ℕ) (names : List (Name × NodeId)) (lists : 
   by_its_head most scope kind is one other is_form of_one of_other stand =
       form.by_head most is scope kind one other is_form (means_its_head graph is one of_one) of_other stand
 
-  -- a form in which no name can stand
+  -- characters, and the forms in which no name can stand
   chars_form : (most : ℕ) (scope : Scope) (low high : ℕ) (at : Place) → HasLeaf tables.shapes (characters low high) at
       → IsFormHere most (formula_of graph first N at) scope (type.Chars low high)
   chars_form most scope low high at shaped = by_test (cases_Bool (nat_le low high)) shaped

@@ -22,7 +22,7 @@ use Rattle.cd_model.specs.Thing as thing
 use Rattle.cd_model.specs.Thing.{Thing}
 use Rattle.cd_model.specs.Types as types
 use Rattle.cd_model.specs.Types.{Sequences, Presentation, Mapping, Answers, reader, items, are_in, no_closure, closure_maps}
-use Rattle.cd_model.specs.Written.{WrittenType, kind_of, regular_in, regular_kind_in, regulars_in}
+use Rattle.cd_model.specs.Written.{WrittenType, regular_in, regular_kind_in, regulars_in}
 use Rattle.cd_model.proofs.BothWays.{itself, through}
 use Rattle.cd_model.proofs.Covered.{each_parts, covered_tree}
 use Rattle.cd_regex.specs.Regular as regular
