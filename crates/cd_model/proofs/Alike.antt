@@ -2,7 +2,7 @@
 use Rattle.std.proofs.Common.{ℤ, ℕ, Bool, true, false, Option, ◌↔◌, bytes_eq}
 use Rattle.cd_syntax.specs.Name.{Name}
 use Rattle.cd_model.specs.Alike as heads
-use Rattle.cd_model.specs.Alike.{Standing, FieldsStand, HeadsIfAny, ReadAlike, AnswerAlike, MapAlike}
+use Rattle.cd_model.specs.Alike.{Standing, FieldsStand, HeadsIfAny, ReadAlike, AnswerAlike, MapAlike, PresentAlike}
 use Rattle.cd_model.specs.Thing.{Thing, Integer, Character, Atom, Pair, Xml, Record, Function, Closure, Fields, NoField, Field, Pairs, NoPair, Maps, Fails}
 use Rattle.cd_model.specs.Types.{FieldOf, field_of, Head, Items, Answers, Reader, Presentation, Labelled, Mapping, at_head, items_of_atom, with_item, fits, integer_at, character_at, atom_at, pair_at, with_sequences, xml_at, record_at, function_at, reader, items, labelled, mapping, answers}
 use Rattle.cd_model.proofs.BothWays.{itself, same_as, both_agree, three_agree, one_agrees, each_agrees, some_agrees, chosen_agree}
@@ -78,14 +78,8 @@ module _ {X Y : Type 0} (Stands : Standing X Y) where
   function_alike one other alike _ _ (heads.arrows a b c d is_a is_b) answer = alike a b c d is_a is_b answer
   function_alike one other alike _ _ _ answer = itself
 
--- what reads heads alike, of this sort, answers types alike
-abbrev pub PresentAlikeOf : {X Y : Type 0} → (Thing → Type 0) → Standing X Y → Presentation X → Presentation Y
-    → (ℕ → Mapping X) → (ℕ → Mapping Y) → Type 0
-PresentAlikeOf Of Stands at for closed closing = (is : Thing) → Of is → ReadAlike Stands (reader at closed is) (reader for closing is)
-    → AnswerAlike Stands (answers at closed is) (answers for closing is)
-
 module _ {X Y : Type 0} (sort : Sort) (Stands : Standing X Y) (at : Presentation X) (for : Presentation Y)
-    (closed : ℕ → Mapping X) (closing : ℕ → Mapping Y) (present : PresentAlikeOf sort.Of Stands at for closed closing)
+    (closed : ℕ → Mapping X) (closing : ℕ → Mapping Y) (present : PresentAlike sort.Of Stands at for closed closing)
     (closures : (function : ℕ) → MapAlike Stands (closed function) (closing function)) where
   mutual
     pub reads_alike : (is : Thing) → sort.Of is → ReadAlike Stands (reader at closed is) (reader for closing is)
@@ -96,7 +90,8 @@ module _ {X Y : Type 0} (sort : Sort) (Stands : Standing X Y) (at : Presentation
     reads_alike (Pair first second) of = sequences_alike Stands
         (with_item (answers at closed first) (items at closed second)) (pair_at (answers at closed first) (answers at closed second))
         (with_item (answers for closing first) (items for closing second)) (pair_at (answers for closing first) (answers for closing second))
-        (alike_with_item _ (items at closed second) (items for closing second) (present first parts.0 (reads_alike first parts.0)) (items_alike second parts.1))
+        (alike_with_item _ (items at closed second) (items for closing second)
+        (present first parts.0 (reads_alike first parts.0)) (items_alike second parts.1))
         (pair_alike Stands (answers at closed first) (answers at closed second) (answers for closing first) (answers for closing second)
         (present first parts.0 (reads_alike first parts.0)) (present second parts.1 (reads_alike second parts.1)))
       where
@@ -126,7 +121,8 @@ module _ {X Y : Type 0} (sort : Sort) (Stands : Standing X Y) (at : Presentation
         parts = sort.pair first second of
     items_alike _ of = tt
 
-    fields_alike : (fields : Fields) → sort.OfFields fields → LabelAlike Stands (labelled at closed fields) (labelled for closing fields)
+    fields_alike : (fields : Fields) → sort.OfFields fields
+        → LabelAlike Stands (labelled at closed fields) (labelled for closing fields)
     fields_alike NoField of = λ label x y field answer. same_as answer field.optional
     fields_alike (Field name is rest) of = λ label x y field answer. chosen_agree (bytes_eq name label)
         (present is parts.0 (reads_alike is parts.0) x.type y.type field.type answer)

@@ -41,7 +41,7 @@ formula_is more builtin.AnyXml = refl
 formula_is more builtin.Data = refl
 
 pub built_ins_alike : (more : Graph) (count : ℕ) → AlwaysAlike IsNodeOf (nodes (built_ins ++ more)) (written count)
-built_ins_alike more count closed closing is alike id other stands answer =
+built_ins_alike more count closed closing is of alike id other stands answer =
     let first = reader (nodes (built_ins ++ more)) closed is in
     let second = reader (written count) closing is in
     subst (λ id. holds (at_formula first) (formula_at (built_ins ++ more) id) answer ↔ written count second other answer) stands.node

@@ -75,7 +75,7 @@ sound_at count (is ∷ graph) (suc id) each below = sound_at count graph id each
 
 module _ (graph more : Graph) (sound : IsGraph graph) where
   pub nodes_alike : AlwaysAlike (IsOld (length graph)) (nodes graph) (nodes (graph ++ more))
-  nodes_alike closed closing is alike one other old answer =
+  nodes_alike closed closing is of alike one other old answer =
       let first = reader (nodes graph) closed is in
       let second = reader (nodes (graph ++ more)) closing is in
       subst (λ id. holds (at_formula first) (formula_at graph one) answer ↔ holds (at_formula second) (formula_at (graph ++ more) id) answer) old.same

@@ -74,7 +74,7 @@ module _ (Fact : Declared → Type 0) (guards : (is : Declared) → Fact is → 
   module _ (names : List Declared) (among : (is : Declared) → Fact is → IsIn is names)
       (count count' : ℕ) (fits : length names ≤ count) (fits' : length names ≤ count') where
     pub written_alike : AlwaysAlike (IsSeen Fact) (written count) (written count')
-    written_alike closed closing is alike x y seen answer =
+    written_alike closed closing is of alike x y seen answer =
         let one = reader (written count) closed is in
         let other = reader (written count') closing is in
         subst (λ (y : WrittenType). written count one x answer ↔ written count' other y answer) seen.same

@@ -6,7 +6,7 @@ use Rattle.cd_syntax.specs.Name.{Name}
 use Rattle.cd_syntax.specs.declared.builtin.BuiltinName.{BuiltinName}
 use Rattle.cd_syntax.specs.TypeTree as type
 use Rattle.cd_syntax.specs.TypeTree.{Tree, tree, Kind, Trees, NoTree, ATree, Signs, NoSign, ASign, Declarations}
-use Rattle.cd_model.specs.Alike.{Standing, HeadsStand, ReadAlike}
+use Rattle.cd_model.specs.Alike.{Standing, HeadsStand, ReadAlike, PresentAlike}
 use Rattle.cd_model.specs.BuiltIns.{built_in, built_ins}
 use Rattle.cd_model.specs.Formula as formula
 use Rattle.cd_model.specs.Formula.{Graph, Formula, Formulas, NoFormula, AFormula, at_formula, holds, each_holds, one_holds, formula_at, nodes, in_node}
@@ -19,7 +19,6 @@ use Rattle.cd_model.specs.Written.{WrittenType, Written, Names, kind_of, type_of
 use Rattle.cd_model.specs.Written as written
 use Rattle.cd_model.proofs.BothWays.{itself, turned, through, both_agree, one_agrees}
 use Rattle.cd_model.proofs.FormulasAlike.{FormulasStand, formulas_alike, of_its_head}
-use Rattle.cd_model.proofs.Alike.{PresentAlikeOf}
 use Rattle.cd_model.proofs.Sorts.{elements, values}
 use Rattle.cd_model.proofs.ValuesAlike.{elements_by, values_by}
 
@@ -105,7 +104,8 @@ AnswersAsName first second most is scope name = (count : ℕ) → most ≤ count
 
 module _ (Means : Meaning) (Known : Knowing) (Stands : Standing NodeId WrittenType)
     (first : Reader NodeId) (second : Reader WrittenType) (alike : ReadAlike Stands first second)
-    (means : (is : Formula) (head : Head NodeId) → Means is head → (answer : Bool) → holds (at_formula first) is answer ↔ first head answer)
+    (means : (is : Formula) (head : Head NodeId) → Means is head → (answer : Bool)
+    → holds (at_formula first) is answer ↔ first head answer)
     (knows : (most : ℕ) (is : Formula) (scope : Scope) (name : Name) → Known most is scope name
     → AnswersAsName first second most is scope name) where
   mutual
@@ -193,7 +193,7 @@ pub means_its_head : (graph : Graph) (is : Formula) (head : Head NodeId) → for
 means_its_head graph is head found = record {
   elements = λ e answer. of_its_head (reader (nodes graph) no_closure e) is head found answer;
   values = λ interfaces v answer.
-    of_its_head (reader (nodes graph) (closure_maps (nodes graph) (admits interfaces)) v) is head found answer;
+      of_its_head (reader (nodes graph) (closure_maps (nodes graph) (admits interfaces)) v) is head found answer;
 }
 
 -- A formula is known for a name where all elements and all values answer the same at both
@@ -213,13 +213,13 @@ pub record AnswersAs (graph : Graph) (id : NodeId) (one : WrittenType) (count : 
 module _ (graph : Graph) (Stands : Standing NodeId WrittenType) (count : ℕ)
     (forms : (id : NodeId) (one : WrittenType) → Stands id one
     → IsFormOf (MeansIn graph) (KnownIn graph count) Stands count (formula_at graph id) one.scope one.kind) where
-  element_present : PresentAlikeOf IsElement Stands (nodes graph) (written count) no_closure no_closure
+  element_present : PresentAlike IsElement Stands (nodes graph) (written count) no_closure no_closure
   element_present e element alike id one stands answer = forms_alike (MeansIn graph) (KnownIn graph count) Stands
       (reader (nodes graph) no_closure e) (reader (written count) no_closure e) alike
       (λ is head means. means.elements e) (λ most is scope name known. known.elements e element)
       count (formula_at graph id) one.scope one.kind (forms id one stands) count (omega arith) answer
 
-  value_present : (interfaces : Interfaces) → PresentAlikeOf IsValue Stands (nodes graph) (written count)
+  value_present : (interfaces : Interfaces) → PresentAlike IsValue Stands (nodes graph) (written count)
       (closure_maps (nodes graph) (admits interfaces)) (closure_maps (written count) (admits interfaces))
   value_present interfaces v value alike id one stands answer = forms_alike (MeansIn graph) (KnownIn graph count) Stands
       (reader (nodes graph) (closure_maps (nodes graph) (admits interfaces)) v)
@@ -231,8 +231,8 @@ module _ (graph : Graph) (Stands : Standing NodeId WrittenType) (count : ℕ)
   answers_by_forms id one stands = record {
     elements = λ e element answer. elements_by elements (λ pairs sound. sound) Stands (nodes graph) (written count) element_present
         e element id one stands answer;
-    values = λ interfaces v value answer. values_by elements (λ pairs sound. sound) Stands (nodes graph) (written count) element_present
-        (admits interfaces) (admits interfaces) (λ function pairs sound. itself) values (value_present interfaces)
+    values = λ interfaces v value answer. values_by elements (λ pairs sound. sound) Stands (nodes graph) (written count)
+        element_present (admits interfaces) (admits interfaces) (λ function pairs sound. itself) values (value_present interfaces)
         v value id one stands answer;
   }
 
@@ -240,7 +240,7 @@ module _ (graph : Graph) (Stands : Standing NodeId WrittenType) (count : ℕ)
       → (more : Graph) × (graph ≡ built_ins ++ more) → StandsFor graph id is
   stands_by_forms id is same stands below begins =
       let answers : AnswersAs graph id (type_of is) (number_of_names is) =
-          subst (AnswersAs graph id (type_of is)) (sym same) (answers_by_forms id (type_of is) stands) in
+      subst (AnswersAs graph id (type_of is)) (sym same) (answers_by_forms id (type_of is) stands) in
       record {
         is_node = below;
         begins = begins;

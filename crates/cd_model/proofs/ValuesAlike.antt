@@ -3,7 +3,7 @@ use Rattle.std.proofs.Common.{ℕ, true, false, ◌↔◌}
 use Rattle.cd_model.specs.Alike.{Standing, ReadAlike, AnswerAlike, MapAlike, PresentAlike}
 use Rattle.cd_model.specs.Thing.{Thing, Function, Pairs, IsElement}
 use Rattle.cd_model.specs.Types.{Mapping, Presentation, Admits, AllMap, reader, answers, no_closure, element_maps, closure_maps}
-use Rattle.cd_model.proofs.Alike.{PresentAlikeOf, reads_alike, answers_alike, pairs_alike}
+use Rattle.cd_model.proofs.Alike.{reads_alike, answers_alike, pairs_alike}
 use Rattle.cd_model.proofs.BothWays.{itself, none_agrees}
 use Rattle.cd_model.proofs.Sorts.{Sort, all_things}
 
@@ -14,7 +14,7 @@ AdmitSame one other = (function : ℕ) (pairs : Pairs) → IsElement (Function p
 -- by what is known of things of a sort to which all elements belong, and of those of a sort under these interfaces
 module _ {X Y : Type 0} (sort : Sort) (elements : (pairs : Pairs) → IsElement (Function pairs) → sort.OfPairs pairs)
     (Stands : Standing X Y) (at : Presentation X) (for : Presentation Y)
-    (present : PresentAlikeOf sort.Of Stands at for no_closure no_closure) where
+    (present : PresentAlike sort.Of Stands at for no_closure no_closure) where
   no_closures : (function : ℕ) → MapAlike Stands (no_closure function) (no_closure function)
   no_closures function a b c d is_a is_b answer = itself
 
@@ -28,7 +28,7 @@ module _ {X Y : Type 0} (sort : Sort) (elements : (pairs : Pairs) → IsElement 
   maps_by pairs sound = pairs_alike sort Stands at for no_closure no_closure present no_closures pairs (elements pairs sound)
 
   module _ (admits admits' : Admits) (same : AdmitSame admits admits') (values : Sort)
-      (present_values : PresentAlikeOf values.Of Stands at for (closure_maps at admits) (closure_maps for admits')) where
+      (present_values : PresentAlike values.Of Stands at for (closure_maps at admits) (closure_maps for admits')) where
     all_map_alike : (function : ℕ) (a b : X) (c d : Y) → Stands a c → Stands b d
         → AllMap at admits function a b ↔ AllMap for admits' function c d
     all_map_alike function a b c d is_a is_b = (
@@ -52,31 +52,29 @@ module _ {X Y : Type 0} (sort : Sort) (elements : (pairs : Pairs) → IsElement 
 
 -- the same where all things that read heads alike answer types alike
 abbrev pub AlwaysAlike : {X Y : Type 0} → Standing X Y → Presentation X → Presentation Y → Type 1
-AlwaysAlike {X} {Y} Stands at for = (closed : ℕ → Mapping X) (closing : ℕ → Mapping Y) → PresentAlike Stands at for closed closing
+AlwaysAlike {X} {Y} Stands at for = (closed : ℕ → Mapping X) (closing : ℕ → Mapping Y)
+    → PresentAlike all_things.Of Stands at for closed closing
 
 module _ {X Y : Type 0} (Stands : Standing X Y) (at : Presentation X) (for : Presentation Y) (present : AlwaysAlike Stands at for) where
-  every : (closed : ℕ → Mapping X) (closing : ℕ → Mapping Y) → PresentAlikeOf all_things.Of Stands at for closed closing
-  every closed closing is of = present closed closing is
-
-  all_elements : (pairs : Pairs) → IsElement (Function pairs) → all_things.OfPairs pairs
-  all_elements pairs sound = tt
+  every : (pairs : Pairs) → IsElement (Function pairs) → all_things.OfPairs pairs
+  every pairs sound = tt
 
   pub element_reads_alike : (is : Thing) → ReadAlike Stands (reader at no_closure is) (reader for no_closure is)
-  element_reads_alike is = element_reads_by all_things all_elements Stands at for (every no_closure no_closure) is tt
+  element_reads_alike is = element_reads_by all_things every Stands at for (present no_closure no_closure) is tt
 
   pub elements_alike : (is : Thing) → AnswerAlike Stands (answers at no_closure is) (answers for no_closure is)
-  elements_alike is = elements_by all_things all_elements Stands at for (every no_closure no_closure) is tt
+  elements_alike is = elements_by all_things every Stands at for (present no_closure no_closure) is tt
 
   pub maps_alike : (pairs : Pairs) → IsElement (Function pairs) → MapAlike Stands (element_maps at pairs) (element_maps for pairs)
-  maps_alike = maps_by all_things all_elements Stands at for (every no_closure no_closure)
+  maps_alike = maps_by all_things every Stands at for (present no_closure no_closure)
 
   module _ (admits admits' : Admits) (same : AdmitSame admits admits') where
     pub value_reads_alike : (is : Thing)
         → ReadAlike Stands (reader at (closure_maps at admits) is) (reader for (closure_maps for admits') is)
-    value_reads_alike is = value_reads_by all_things all_elements Stands at for (every no_closure no_closure) admits admits' same
-        all_things (every (closure_maps at admits) (closure_maps for admits')) is tt
+    value_reads_alike is = value_reads_by all_things every Stands at for (present no_closure no_closure) admits admits' same
+        all_things (present (closure_maps at admits) (closure_maps for admits')) is tt
 
     pub values_alike : (is : Thing)
         → AnswerAlike Stands (answers at (closure_maps at admits) is) (answers for (closure_maps for admits') is)
-    values_alike is = values_by all_things all_elements Stands at for (every no_closure no_closure) admits admits' same
-        all_things (every (closure_maps at admits) (closure_maps for admits')) is tt
+    values_alike is = values_by all_things every Stands at for (present no_closure no_closure) admits admits' same
+        all_things (present (closure_maps at admits) (closure_maps for admits')) is tt

@@ -58,9 +58,10 @@ AnswerAlike {X} {Y} Stands one other = (x : X) (y : Y) → Stands x y → (answe
 abbrev pub MapAlike : {X Y : Type 0} → Standing X Y → Mapping X → Mapping Y → Type 0
 MapAlike {X} {Y} Stands one other = (a b : X) (c d : Y) → Stands a c → Stands b d → (answer : Bool) → one a b answer ↔ other c d answer
 
--- A thing that reads heads alike answers types alike. It is asked of readers of the same thing alone, for a presentation may
--- have a head of the one stand for a connective of the other
-abbrev pub PresentAlike : {X Y : Type 0} → Standing X Y → (at : Presentation X) (for : Presentation Y)
-    → (ℕ → Mapping X) → (ℕ → Mapping Y) → Type 0
-PresentAlike Stands at for closed closing = (is : Thing) → ReadAlike Stands (reader at closed is) (reader for closing is)
+-- A thing of this sort that reads heads alike answers types alike. It is asked of readers of the same thing alone, for a
+-- presentation may have a head of the one stand for a connective of the other
+abbrev pub PresentAlike : {X Y : Type 0} → (Thing → Type 0) → Standing X Y
+    → (at : Presentation X) (for : Presentation Y) → (ℕ → Mapping X) → (ℕ → Mapping Y) → Type 0
+PresentAlike Of Stands at for closed closing = (is : Thing) → Of is
+    → ReadAlike Stands (reader at closed is) (reader for closing is)
     → AnswerAlike Stands (answers at closed is) (answers for closing is)

@@ -1,5 +1,5 @@
 -- The formula at the place of a form is one of this form, where it is no connective and no name.
-use Rattle.std.proofs.Common.{◌≡◌, ℕ, Bool, true, false, List, [], ◌∷◌, Option, Some, None, length, map, refl, sym, ◌∙◌, ap, subst, bytes_eq, ◌⊎◌, inl, inr, unwrap_or}
+use Rattle.std.proofs.Common.{◌≡◌, ℕ, true, false, List, [], ◌∷◌, Some, length, refl, sym, ◌∙◌, ap, subst, bytes_eq, ◌⊎◌, inl, inr, unwrap_or}
 use Rattle.std.specs.Prelude.{int_le, nat_le}
 use Rattle.std.proofs.Math.Bool.{or-false}
 use Rattle.std.proofs.lemmas.Bool.{cases_Bool}
@@ -12,7 +12,7 @@ use Rattle.cd_syntax.specs.TypeTree as type
 use Rattle.cd_syntax.specs.TypeTree.{Tree, tree, Kind, Trees, NoTree, ATree}
 use Rattle.cd_model.specs.Alike as heads
 use Rattle.cd_model.specs.Alike.{FieldsStand, HeadsStand}
-use Rattle.cd_model.specs.BuiltIns.{node_named, EMPTY, NIL}
+use Rattle.cd_model.specs.BuiltIns.{node_named, EMPTY}
 use Rattle.cd_model.specs.Each.{Each}
 use Rattle.cd_model.specs.Formula as formula
 use Rattle.cd_model.specs.Formula.{Graph, Formula, formula_at}
@@ -20,7 +20,7 @@ use Rattle.cd_model.specs.Scope.{Scope, Declared, names_in, names_in_fields, nam
 use Rattle.cd_model.specs.Types.{Head, Integers, Characters, field_of}
 use Rattle.cd_model.specs.Written as written
 use Rattle.cd_model.specs.Written.{WrittenType, kind_of, tuple_rest, arrows_rest, any_or_none, named_in, type_named, within}
-use Rattle.cd_model.proofs.Covered.{each_parts, covered_tree}
+use Rattle.cd_model.proofs.Covered.{Covered, each_parts, covered_tree}
 use Rattle.cd_model.proofs.CoveredParts.{covered_first, covered_tuple, covered_argument, covered_arrows, covered_xml}
 use Rattle.cd_model.proofs.FormulasAlike.{built_ins_stand}
 use Rattle.cd_shapes.specs.declared.place.Place.{Place}
@@ -28,6 +28,7 @@ use Rattle.cd_shapes.specs.declared.place.Place.TheVariants as place
 use Rattle.cd_shapes.specs.Frames.{Frames, scope_of}
 use Rattle.cd_shapes.specs.Leaves.{Pairs, Arrows, characters}
 use Rattle.cd_shapes.specs.Shape.{Shape}
+use Rattle.cd_shapes.specs.Reading.{AreMet}
 use Rattle.cd_shapes.specs.Shaped.{Tables, IsAt, HasLeaf, Shaped, ShapedKind, ShapedChain, ShapedFields}
 use Rattle.cd_resolve.specs.Closing.{Closes, IsNoSequence, formula_of, made, node_at, over_nodes}
 use Rattle.cd_resolve.specs.Free.{free_names, free_in_fields}
@@ -35,8 +36,8 @@ use Rattle.cd_resolve.proofs.BuiltInNodes.{Begins, formula_of_empty, formula_of_
 use Rattle.cd_resolve.proofs.FormsFields.{Named, found, field_found, field_is_found}
 use Rattle.cd_resolve.proofs.FormsSequences.{IsOver, regular_over, means_sequences}
 use Rattle.cd_resolve.proofs.FormsSets.{none_between, none_among, means_no_integer, means_no_character}
-use Rattle.cd_resolve.proofs.FreeNames.{free_over, uses_tree, uses_first, uses_tuple, uses_argument, uses_arrows, uses_xml}
-use Rattle.cd_resolve.proofs.NodesOfTypes.{IsAlone, of_tree, IsOf, Stands, placed, alone}
+use Rattle.cd_resolve.proofs.FreeNames.{Uses, free_over, uses_tree, uses_first, uses_tuple, uses_argument, uses_arrows, uses_xml}
+use Rattle.cd_resolve.proofs.NodesOfTypes.{IsAlone, of_tree, IsOf, Stands, placed, alone, part_stands}
 use Rattle.cd_model.proofs.Resolved as form
 use Rattle.cd_model.proofs.Resolved.{IsForm, IsFormOf, MeansIn, KnownIn, means_its_head}
 
@@ -71,7 +72,7 @@ module _ (graph : Graph) (first : ℕ) (names : List (Name × NodeId)) (lists : 
   by_its_head most scope kind is one other is_form of_one of_other stand =
       form.by_head most is scope kind one other is_form (means_its_head graph is one of_one) of_other stand
 
-  -- a form in which no name can stand
+  -- characters, and the forms in which no name can stand
   chars_form : (most : ℕ) (scope : Scope) (low high : ℕ) (at : Place) → HasLeaf tables.shapes (characters low high) at
       → IsFormHere most (formula_of graph first N at) scope (type.Chars low high)
   chars_form most scope low high at shaped = by_test (cases_Bool (nat_le low high)) shaped
@@ -115,26 +116,31 @@ module _ (graph : Graph) (first : ℕ) (names : List (Name × NodeId)) (lists : 
   abbrev IsHere : Frames → Kind → Place → Type 0
   IsHere = IsOf first names lists tables base Fact Used
 
+  part_at : (frames : Frames) (is : Tree) (at : Place) → AreMet lists frames → Shaped names lists tables.shapes frames is at
+      → Covered Fact (scope_of base frames) (kind_of is) → Uses Used (scope_of [] frames) (kind_of is)
+      → StandsHere (node_at first N at) (within (scope_of base frames) is)
+  part_at = part_stands first names lists tables base Fact Used
+
   -- what is found of a label among fields stands for what is written first of it
   fields_stand : (frames : Frames) (all : type.Fields) (named : Named) (rest : NodeId) (of_rest : WrittenType) (label : Name)
-      → StandsHere rest of_rest → ((is : Tree) (at : Place) → Shaped names lists tables.shapes frames is at
-      → Each Fact (names_in (scope_of base frames) is) → Each Used (free_names (scope_of [] frames) is)
-      → IsHere frames (kind_of is) at)
-      → ShapedFields names lists tables.shapes frames all named
-      → Each Fact (names_in_fields (scope_of base frames) all) → Each Used (free_in_fields (scope_of [] frames) all)
+      → StandsHere rest of_rest → AreMet lists frames → ShapedFields names lists tables.shapes frames all named
+      → Each Fact (names_in_fields (scope_of base frames) all) → Each Fact (names_over (scope_of base frames))
+      → Each Used (free_in_fields (scope_of [] frames) all) → Each Used (free_over (scope_of [] frames))
       → FieldsStand StandsHere (field_found (node_at first N) rest (found named label))
       (field_of (named_in (scope_of base frames) all) of_rest label)
-  fields_stand frames type.NoField [] rest of_rest label stands part shaped within uses = record { optional = refl; type = stands }
-  fields_stand frames type.NoField (field ∷ named) rest of_rest label stands part shaped within uses = elim shaped [ ]
-  fields_stand frames (type.AField name at optional is fields) [] rest of_rest label stands part shaped within uses = elim shaped [ ]
-  fields_stand frames (type.AField name at optional is fields) (field ∷ named) rest of_rest label stands part shaped within uses =
-      by_name (cases_Bool (bytes_eq name label))
-      (each_parts Fact (names_in (scope_of base frames) is) (names_in_fields (scope_of base frames) fields) within)
+  fields_stand frames type.NoField [] rest of_rest label stands met shaped facts over uses uses_over =
+      record { optional = refl; type = stands }
+  fields_stand frames type.NoField (field ∷ named) rest of_rest label stands met shaped facts over uses uses_over = elim shaped [ ]
+  fields_stand frames (type.AField name at optional is fields) [] rest of_rest label stands met shaped facts over uses uses_over =
+      elim shaped [ ]
+  fields_stand frames (type.AField name at optional is fields) (field ∷ named) rest of_rest label stands met shaped facts over uses
+      uses_over = by_name (cases_Bool (bytes_eq name label))
+      (each_parts Fact (names_in (scope_of base frames) is) (names_in_fields (scope_of base frames) fields) facts)
       (each_parts Used (free_names (scope_of [] frames) is) (free_in_fields (scope_of [] frames) fields) uses)
-      (fields_stand frames fields named rest of_rest label stands part shaped.3)
+      (λ facts uses. fields_stand frames fields named rest of_rest label stands met shaped.3 facts over uses uses_over)
     where
-      Result : Type 0
-      Result = FieldsStand StandsHere (field_found (node_at first N) rest (found (field ∷ named) label))
+      FieldIs : Type 0
+      FieldIs = FieldsStand StandsHere (field_found (node_at first N) rest (found (field ∷ named) label))
           (field_of (named_in (scope_of base frames) (type.AField name at optional is fields)) of_rest label)
 
       by_name : (bytes_eq name label ≡ true) ⊎ (bytes_eq name label ≡ false)
@@ -143,12 +149,13 @@ module _ (graph : Graph) (first : ℕ) (names : List (Name × NodeId)) (lists : 
           → (Each Fact (names_in_fields (scope_of base frames) fields) → Each Used (free_in_fields (scope_of [] frames) fields)
           → FieldsStand StandsHere (field_found (node_at first N) rest (found named label))
           (field_of (named_in (scope_of base frames) fields) of_rest label))
-          → Result
-      by_name (inl same) facts all_used later = rw shaped.0 (rw same (record {
+          → FieldIs
+      by_name (inl same) facts uses later = rw shaped.0 (rw same (record {
         optional = shaped.1;
-        type = placed frames (kind_of is) field.1.place (part is field.1.place shaped.2 facts.0 all_used.0);
+        type = part_at frames is field.1.place met shaped.2 (covered_tree Fact (scope_of base frames) is facts.0 over)
+            (uses_tree Used (scope_of [] frames) is uses.0 uses_over);
       }))
-      by_name (inr differs) facts all_used later = rw shaped.0 (rw differs (later facts.1 all_used.1))
+      by_name (inr differs) facts uses later = rw shaped.0 (rw differs (later facts.1 uses.1))
 
   -- the forms of places
   pub place_form : (most : ℕ) (frames : Frames) (kind : Kind) (at : Place) → IsForm kind → IsHere frames kind at
@@ -173,12 +180,9 @@ module _ (graph : Graph) (first : ℕ) (names : List (Name × NodeId)) (lists : 
   place_form most frames (type.Tuple (ATree one (ATree next rest))) at is_form is =
       as_shape most _ (type.Tuple (ATree one (ATree next rest))) at _ is.shaped.2 tt
       (by_its_head most _ (type.Tuple (ATree one (ATree next rest))) _ _ _ tt refl refl (heads.products _ _ _ _
-      (placed frames (kind_of one) is.shaped.0 (record {
-        met = is.met;
-        shaped = of_tree names lists tables frames one is.shaped.0 is.shaped.3;
-        covered = covered_first Fact (scope_of base frames) one (ATree next rest) is.covered;
-        uses = uses_first Used (scope_of [] frames) one (ATree next rest) is.uses;
-      }))
+      (part_at frames one is.shaped.0 is.met is.shaped.3
+      (covered_first Fact (scope_of base frames) one (ATree next rest) is.covered)
+      (uses_first Used (scope_of [] frames) one (ATree next rest) is.uses))
       (placed frames (tuple_rest (ATree next rest)) is.shaped.1 (record {
         met = is.met;
         shaped = tuple_shaped frames next rest is.shaped.1 is.shaped.4;
@@ -190,12 +194,9 @@ module _ (graph : Graph) (first : ℕ) (names : List (Name × NodeId)) (lists : 
   place_form most frames (type.Arrows (ATree one (ATree next rest))) at is_form is =
       as_shape most _ (type.Arrows (ATree one (ATree next rest))) at _ is.shaped.2 tt
       (by_its_head most _ (type.Arrows (ATree one (ATree next rest))) _ _ _ tt refl refl (heads.arrows _ _ _ _
-      (placed frames (kind_of one) is.shaped.0 (record {
-        met = is.met;
-        shaped = of_tree names lists tables frames one is.shaped.0 is.shaped.3;
-        covered = covered_argument Fact (scope_of base frames) one (ATree next rest) is.covered;
-        uses = uses_argument Used (scope_of [] frames) one (ATree next rest) is.uses;
-      }))
+      (part_at frames one is.shaped.0 is.met is.shaped.3
+      (covered_argument Fact (scope_of base frames) one (ATree next rest) is.covered)
+      (uses_argument Used (scope_of [] frames) one (ATree next rest) is.uses))
       (placed frames (arrows_rest (ATree next rest)) is.shaped.1 (record {
         met = is.met;
         shaped = arrows_shaped frames next rest is.shaped.1 is.shaped.4;
@@ -223,34 +224,19 @@ module _ (graph : Graph) (first : ℕ) (names : List (Name × NodeId)) (lists : 
       (sym (field_is_found (node_at first N) (node_named (any_or_none more)) is.shaped.0 label))
       (fields_stand frames all is.shaped.0 (node_named (any_or_none more)) (type_named (any_or_none more)) label
       (alone (type.Builtin (any_or_none more)) (place.Node (node_named (any_or_none more))) tt refl)
-      (λ one at shaped within uses. record {
-        met = is.met;
-        shaped = of_tree names lists tables frames one at shaped;
-        covered = covered_tree Fact (scope_of base frames) one within is.covered.over;
-        uses = uses_tree Used (scope_of [] frames) one uses is.uses.over;
-      })
-      is.shaped.2 is.covered.within is.uses.within))))
+      is.met is.shaped.2 is.covered.within is.covered.over is.uses.within is.uses.over))))
   place_form most frames (type.Xml tag attributes content) at is_form is =
       as_shape most _ (type.Xml tag attributes content) at _ is.shaped.3 tt
       (by_its_head most _ (type.Xml tag attributes content) _ _ _ tt refl refl (heads.xmls _ _ _ _ _ _
-      (placed frames (kind_of tag) is.shaped.0 (record {
-        met = is.met;
-        shaped = of_tree names lists tables frames tag is.shaped.0 is.shaped.4;
-        covered = (covered_xml Fact (scope_of base frames) tag attributes content is.covered).tag_is;
-        uses = (uses_xml Used (scope_of [] frames) tag attributes content is.uses).tag_is;
-      }))
-      (placed frames (kind_of attributes) is.shaped.1 (record {
-        met = is.met;
-        shaped = of_tree names lists tables frames attributes is.shaped.1 is.shaped.5;
-        covered = (covered_xml Fact (scope_of base frames) tag attributes content is.covered).attributes_are;
-        uses = (uses_xml Used (scope_of [] frames) tag attributes content is.uses).attributes_are;
-      }))
-      (placed frames (kind_of content) is.shaped.2 (record {
-        met = is.met;
-        shaped = of_tree names lists tables frames content is.shaped.2 is.shaped.6;
-        covered = (covered_xml Fact (scope_of base frames) tag attributes content is.covered).content_is;
-        uses = (uses_xml Used (scope_of [] frames) tag attributes content is.uses).content_is;
-      }))))
+      (part_at frames tag is.shaped.0 is.met is.shaped.4
+      (covered_xml Fact (scope_of base frames) tag attributes content is.covered).tag_is
+      (uses_xml Used (scope_of [] frames) tag attributes content is.uses).tag_is)
+      (part_at frames attributes is.shaped.1 is.met is.shaped.5
+      (covered_xml Fact (scope_of base frames) tag attributes content is.covered).attributes_are
+      (uses_xml Used (scope_of [] frames) tag attributes content is.uses).attributes_are)
+      (part_at frames content is.shaped.2 is.met is.shaped.6
+      (covered_xml Fact (scope_of base frames) tag attributes content is.covered).content_is
+      (uses_xml Used (scope_of [] frames) tag attributes content is.uses).content_is)))
   place_form most frames (type.Variable name) at is_form is = as_nothing most _ (type.Variable name) at is.shaped
       (form.no_head most _ (type.Variable name) tt refl)
   place_form most frames (type.Default name constant) at is_form is = as_nothing most _ (type.Default name constant) at is.shaped

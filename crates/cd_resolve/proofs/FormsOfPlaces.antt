@@ -5,28 +5,27 @@ use Rattle.cd_sets.specs.declared.node_id.NodeId.{NodeId}
 use Rattle.cd_syntax.specs.Name.{Name}
 use Rattle.cd_syntax.specs.TypeTree as type
 use Rattle.cd_syntax.specs.TypeTree.{Tree, tree, Kind, Trees, NoTree, ATree, Signs, NoSign, ASign, Declarations}
-use Rattle.cd_model.specs.Formula as formula
 use Rattle.cd_model.specs.Formula.{Graph, Formula, Formulas, AFormula, formula_at, formulas_of}
 use Rattle.cd_model.specs.Guarded.{IsGuarded, IsOneOf, IsSigned}
 use Rattle.cd_model.specs.Guarded as guarded
-use Rattle.cd_model.specs.Scope.{Scope, Declared, declared_as}
+use Rattle.cd_model.specs.Scope.{Scope, Declared}
 use Rattle.cd_model.specs.Written.{WrittenType, kind_of}
 use Rattle.cd_model.proofs.Covered.{led_to}
 use Rattle.cd_model.proofs.Leading.{IsIn, without, shorter, Leads, leads_closed, is_undeclared, leads_on}
 use Rattle.cd_model.proofs.Places as places
 use Rattle.cd_shapes.specs.declared.place.Place.{Place}
 use Rattle.cd_shapes.specs.Names.{node_of}
-use Rattle.cd_shapes.specs.Shape.{And, Or}
+use Rattle.cd_shapes.specs.Shape.{Shape, And, Or}
 use Rattle.cd_shapes.specs.Frames.{Frames, scope_of, given, place_of}
-use Rattle.cd_shapes.specs.Shaped.{Tables, Shaped, ShapedKind, ShapedEach, ShapedSigns}
+use Rattle.cd_shapes.specs.Shaped.{Tables, IsAt, Shaped, ShapedKind, ShapedEach, ShapedSigns}
 use Rattle.cd_shapes.specs.Reading.{HaveRoots, AreMet}
-use Rattle.cd_resolve.specs.Closing.{Closes, formula_of, node_at, signed}
+use Rattle.cd_resolve.specs.Closing.{Closes, IsNoSequence, formula_of, made, node_at, signed}
 use Rattle.cd_resolve.proofs.BuiltInNodes.{Begins}
-use Rattle.cd_resolve.proofs.FormsOfHeads.{IsFormHere, as_nothing, as_shape, alone_form, place_form}
+use Rattle.cd_resolve.proofs.FormsOfHeads.{as_nothing, as_shape, alone_form, place_form}
 use Rattle.cd_resolve.proofs.FreeNames.{Uses, uses_closed, uses_declared, is_used}
 use Rattle.cd_resolve.proofs.KnownNames.{IsGiven, known_here}
 use Rattle.cd_resolve.proofs.NamesFound.{IsInside, IsOutside, found}
-use Rattle.cd_resolve.proofs.NodesOfTypes.{IsOf, Stands, placed, alone}
+use Rattle.cd_resolve.proofs.NodesOfTypes.{Stands, placed, alone}
 use Rattle.cd_model.proofs.Resolved as form
 use Rattle.cd_model.proofs.Resolved.{IsForm, IsFormOf, AreFormsOf, AreSigned, MeansIn, KnownIn}
 
@@ -52,7 +51,13 @@ module _ (graph : Graph) (first : ℕ) (names : List (Name × NodeId)) (lists : 
 
   abbrev IsFormAt : ℕ → Place → Frames → Kind → Type 0
   IsFormAt most at frames kind =
-      IsFormHere graph first names lists tables base Fact Used closes begins count most (at_place at) (scope_of base frames) kind
+      IsFormOf (MeansIn graph) (KnownIn graph count) StandsHere most (at_place at) (scope_of base frames) kind
+
+  abbrev AreFormsHere : ℕ → Formulas → Frames → Trees → Type 0
+  AreFormsHere most all frames trees = AreFormsOf (MeansIn graph) (KnownIn graph count) StandsHere most all (scope_of base frames) trees
+
+  abbrev AreSignedHere : ℕ → Formulas → Frames → Signs → Type 0
+  AreSignedHere most all frames signs = AreSigned (MeansIn graph) (KnownIn graph count) StandsHere most all (scope_of base frames) signs
 
   -- names that lead to some names alone have their forms, with so many names to use up
   abbrev FormsAtNames : List Declared → ℕ → Type 0
@@ -103,13 +108,19 @@ module _ (graph : Graph) (first : ℕ) (names : List (Name × NodeId)) (lists : 
         place_form graph first names lists tables base Fact Used closes begins count most frames kind at is_form
         (record { met = met; shaped = shaped; covered = chosen.leads.covered; uses = chosen.uses })
 
+    -- a connective, whose formula is made of those at its places
+    of_shape : (frames : Frames) (kind : Kind) (at : Place) (shape : Shape) → IsAt tables.shapes at shape → IsNoSequence shape
+        → IsFormOf (MeansIn graph) (KnownIn graph count) StandsHere most (made (node_at first (length tables.roots)) at_place shape)
+        (scope_of base frames) kind
+        → IsFormAt most at frames kind
+    of_shape frames kind = as_shape graph first names lists tables base Fact Used closes begins count most (scope_of base frames) kind
+
     -- what is after a sign
-    of_sign : (kept : Bool) (is : Formula) (all : Formulas) (scope : Scope) (one : Tree) (signs : Signs)
-        → IsFormOf (MeansIn graph) (KnownIn graph count) StandsHere most is scope (kind_of one)
-        → AreSigned (MeansIn graph) (KnownIn graph count) StandsHere most all scope signs
-        → AreSigned (MeansIn graph) (KnownIn graph count) StandsHere most (AFormula (signed kept is) all) scope (ASign kept one signs)
-    of_sign true is all scope one signs formed are = form.kept most is all scope one signs formed are
-    of_sign false is all scope one signs formed are = form.taken_out most is all scope one signs formed are
+    of_sign : (kept : Bool) (at : Place) (all : Formulas) (frames : Frames) (one : Tree) (signs : Signs)
+        → IsFormAt most at frames (kind_of one) → AreSignedHere most all frames signs
+        → AreSignedHere most (AFormula (signed kept (at_place at)) all) frames (ASign kept one signs)
+    of_sign true at all frames one signs formed are = form.kept most _ all (scope_of base frames) one signs formed are
+    of_sign false at all frames one signs formed are = form.taken_out most _ all (scope_of base frames) one signs formed are
 
     mutual
       pub tree_form : (frames : Frames) (is : Tree) (at : Place) → AreMet lists frames
@@ -122,12 +133,11 @@ module _ (graph : Graph) (first : ℕ) (names : List (Name × NodeId)) (lists : 
           alone_form graph first names lists tables base Fact Used closes begins count most (scope_of base frames)
           (type.Builtin name) at tt shaped
       kind_form frames (type.Union trees) at met shaped chosen =
-          as_shape graph first names lists tables base Fact Used closes begins count most (scope_of base frames) (type.Union trees) at
-          (Or shaped.0) shaped.1 tt (form.union most _ (scope_of base frames) trees
+          of_shape frames (type.Union trees) at (Or shaped.0) shaped.1 tt (form.union most _ (scope_of base frames) trees
           (each_form frames trees shaped.0 met shaped.2 (λ is one. in_union frames trees is one chosen)))
       kind_form frames (type.Meet one signs) at met shaped chosen =
-          as_shape graph first names lists tables base Fact Used closes begins count most (scope_of base frames) (type.Meet one signs) at
-          (And ((true, shaped.0) ∷ shaped.1)) shaped.2 tt (form.meet most _ _ (scope_of base frames) one signs
+          of_shape frames (type.Meet one signs) at (And ((true, shaped.0) ∷ shaped.1)) shaped.2 tt
+          (form.meet most _ _ (scope_of base frames) one signs
           (tree_form frames one shaped.0 met shaped.3 (in_first frames one signs chosen))
           (signed_form frames signs shaped.1 met shaped.4 (λ is among. in_signed frames one is signs among chosen)))
       kind_form frames (type.Named name) at met shaped chosen = named frames name at met shaped chosen
@@ -140,7 +150,7 @@ module _ (graph : Graph) (first : ℕ) (names : List (Name × NodeId)) (lists : 
       each_form : (frames : Frames) (trees : Trees) (at : List Place) → AreMet lists frames
           → ShapedEach names lists tables.shapes frames trees at
           → ((is : Tree) → IsOneOf is trees → Chosen some frames (kind_of is))
-          → AreFormsOf (MeansIn graph) (KnownIn graph count) StandsHere most (formulas_of (map at_place at)) (scope_of base frames) trees
+          → AreFormsHere most (formulas_of (map at_place at)) frames trees
       each_form frames NoTree [] met shaped chosen = form.no_more most (scope_of base frames)
       each_form frames NoTree (one ∷ at) met shaped chosen = elim shaped [ ]
       each_form frames (ATree is rest) [] met shaped chosen = elim shaped [ ]
@@ -151,16 +161,15 @@ module _ (graph : Graph) (first : ℕ) (names : List (Name × NodeId)) (lists : 
       signed_form : (frames : Frames) (signs : Signs) (at : List (Bool × Place)) → AreMet lists frames
           → ShapedSigns names lists tables.shapes frames signs at
           → ((is : Tree) → IsSigned is signs → Chosen some frames (kind_of is))
-          → AreSigned (MeansIn graph) (KnownIn graph count) StandsHere most
-          (formulas_of (map (λ sign. signed sign.0 (at_place sign.1)) at)) (scope_of base frames) signs
+          → AreSignedHere most (formulas_of (map (λ sign. signed sign.0 (at_place sign.1)) at)) frames signs
       signed_form frames NoSign [] met shaped chosen = form.no_sign most (scope_of base frames)
       signed_form frames NoSign (sign ∷ at) met shaped chosen = elim shaped [ ]
       signed_form frames (ASign kept is rest) [] met shaped chosen = elim shaped [ ]
       signed_form frames (ASign kept is rest) (sign ∷ at) met shaped chosen =
-          subst (λ (kept' : Bool). AreSigned (MeansIn graph) (KnownIn graph count) StandsHere most
-          (AFormula (signed kept' (at_place sign.1)) (formulas_of (map (λ sign. signed sign.0 (at_place sign.1)) at)))
-          (scope_of base frames) (ASign kept is rest)) (sym shaped.0)
-          (of_sign kept (at_place sign.1) _ (scope_of base frames) is rest
+          subst (λ (so : Bool). AreSignedHere most
+          (AFormula (signed so (at_place sign.1)) (formulas_of (map (λ sign. signed sign.0 (at_place sign.1)) at)))
+          frames (ASign kept is rest)) (sym shaped.0)
+          (of_sign kept sign.1 _ frames is rest
           (tree_form frames is sign.1 met shaped.1 (chosen is (guarded.IsSigned.first kept is rest)))
           (signed_form frames rest at met shaped.2 (λ other among. chosen other (guarded.IsSigned.later kept other is rest among))))
 
@@ -188,8 +197,8 @@ module _ (graph : Graph) (first : ℕ) (names : List (Name × NodeId)) (lists : 
       → ((fewer : List Declared) → length fewer ≤ most → length fewer ≤ count → FormsAtNames fewer most)
       → IsFormAt (suc most) at frames (type.Named name)
   inside_form some most fits_most fits_count frames name at at_is chosen inside next =
-      subst (λ formula. IsFormHere graph first names lists tables base Fact Used closes begins count (suc most) formula scope
-      (type.Named name)) (sym at_root)
+      subst (λ formula. IsFormOf (MeansIn graph) (KnownIn graph count) StandsHere (suc most) formula scope (type.Named name))
+      (sym at_root)
       (form.named most (at_place inside.root.root) scope name is inside.declared
       (tree_form fewer most (next fewer (shorter is some place most fits_most) (shorter is some place count (omega arith)))
       inside.inner inside.is inside.root.root inside.met inside.root.shaped

@@ -14,15 +14,15 @@ use Rattle.cd_model.specs.Alike as heads
 use Rattle.cd_model.specs.Alike.{RegularsStand, RowsStand}
 use Rattle.cd_model.specs.BuiltIns.{node}
 use Rattle.cd_model.specs.Each.{Each}
-use Rattle.cd_model.specs.Formula.{Graph, formula_at, nodes, at_formula, holds}
-use Rattle.cd_model.specs.Interfaces.{Interfaces, admits}
+use Rattle.cd_model.specs.Formula.{Graph, formula_at, nodes}
+use Rattle.cd_model.specs.Interfaces.{admits}
 use Rattle.cd_model.specs.Language as language
 use Rattle.cd_model.specs.Scope.{Scope, Declared, names_in_regular, names_in_regular_kind, names_in_regulars, names_over}
 use Rattle.cd_model.specs.Thing as thing
 use Rattle.cd_model.specs.Thing.{Thing}
 use Rattle.cd_model.specs.Types as types
 use Rattle.cd_model.specs.Types.{Sequences, Presentation, Mapping, Answers, reader, items, are_in, no_closure, closure_maps}
-use Rattle.cd_model.specs.Written.{WrittenType, kind_of, regular_in, regular_kind_in, regulars_in}
+use Rattle.cd_model.specs.Written.{WrittenType, regular_in, regular_kind_in, regulars_in}
 use Rattle.cd_model.proofs.BothWays.{itself, through}
 use Rattle.cd_model.proofs.Covered.{each_parts, covered_tree}
 use Rattle.cd_regex.specs.Regular as regular
@@ -30,12 +30,12 @@ use Rattle.cd_regex.specs.Regular.{Regular, Nothing, Item, Seq, Alt, Regulars, N
 use Rattle.cd_shapes.specs.declared.place.Place.{Place}
 use Rattle.cd_shapes.specs.Frames.{Frames, scope_of}
 use Rattle.cd_shapes.specs.Repeated.{repeated}
-use Rattle.cd_shapes.specs.Shaped.{Tables, Shaped, ShapedKind, ShapedRegular, ShapedRegularKind, ShapedRegulars}
+use Rattle.cd_shapes.specs.Shaped.{Tables, ShapedRegular, ShapedRegularKind, ShapedRegulars}
 use Rattle.cd_shapes.specs.Reading.{AreMet}
 use Rattle.cd_resolve.specs.Closing.{HoldsAt, node_at}
 use Rattle.cd_resolve.specs.Free.{free_in_regular, free_in_regular_kind, free_in_regulars}
 use Rattle.cd_resolve.proofs.FreeNames.{free_over, uses_tree}
-use Rattle.cd_resolve.proofs.NodesOfTypes.{of_tree, Stands, placed}
+use Rattle.cd_resolve.proofs.NodesOfTypes.{Stands, part_stands}
 use Rattle.cd_model.proofs.Resolved.{MeansIn}
 
 -- what a thing answers at a sequence
@@ -60,11 +60,11 @@ means_sequences graph id is at expression same =
     whole : Graph
     whole = at.before ++ at.batch ++ at.after
 
-    read : (closed : ℕ → Mapping NodeId) (is_read : Thing) (answer : Bool)
-        → are_in (items (nodes whole) closed is_read) (fits is) answer ↔ reader (nodes whole) closed is_read (Sequences expression) answer
-    read closed is_read answer = subst (λ language. are_in (items (nodes whole) closed is_read) language answer
-        ↔ reader (nodes whole) closed is_read (Sequences expression) answer) same
-        (at_sequence (nodes whole) closed is_read expression answer)
+    read : (closed : ℕ → Mapping NodeId) (e : Thing) (answer : Bool)
+        → are_in (items (nodes whole) closed e) (fits is) answer ↔ reader (nodes whole) closed e (Sequences expression) answer
+    read closed e answer = subst (λ language. are_in (items (nodes whole) closed e) language answer
+        ↔ reader (nodes whole) closed e (Sequences expression) answer) same
+        (at_sequence (nodes whole) closed e expression answer)
 
 -- a number names the node of the place that it names
 named_node : (node_of : Place → NodeId) (places : List Place) (number : ℕ) (id : NodeId) (at : Place)
@@ -143,12 +143,8 @@ module _ (first : ℕ) (names : List (Name × NodeId)) (lists : List Frames) (ta
     kind_over (type.Item part) is shaped within uses =
         subst (λ is. IsOver is (regular_kind_in scope (type.Item part))) (sym shaped.2) (record {
           expression = types.Item (node_at first (length tables.roots) shaped.1);
-          stands = heads.an_item _ _ (placed frames (kind_of part) shaped.1 (record {
-            met = met;
-            shaped = of_tree names lists tables frames part shaped.1 shaped.4;
-            covered = covered_tree Fact scope part within over;
-            uses = uses_tree Used (scope_of [] frames) part uses uses_over;
-          }));
+          stands = heads.an_item _ _ (part_stands first names lists tables base Fact Used frames part shaped.1 met shaped.4
+              (covered_tree Fact scope part within over) (uses_tree Used (scope_of [] frames) part uses uses_over));
           same = ap (λ (id : NodeId). language.item (λ (answers : Answers NodeId). answers id))
               (sym (named_node (node_at first (length tables.roots)) places shaped.0.0 shaped.0 shaped.1 shaped.3));
         })
@@ -177,6 +173,7 @@ module _ (first : ℕ) (names : List (Name × NodeId)) (lists : List Frames) (ta
     rows_over (type.ARegular first rest) NoRegular shaped within uses = elim shaped [ ]
     rows_over (type.ARegular first rest) (ARegular one others) shaped within uses =
         let facts = each_parts Fact (names_in_regular scope first) (names_in_regulars scope rest) within in
-        let all_used = each_parts Used (free_in_regular (scope_of [] frames) first) (free_in_regulars (scope_of [] frames) rest) uses in
+        let inner = scope_of [] frames in
+        let all_used = each_parts Used (free_in_regular inner first) (free_in_regulars inner rest) uses in
         more_over one others (regular_in scope first) (regulars_in scope rest)
         (regular_over first one shaped.0 facts.0 all_used.0) (rows_over rest others shaped.1 facts.1 all_used.1)

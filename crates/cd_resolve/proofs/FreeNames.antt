@@ -12,7 +12,7 @@ use Rattle.cd_model.specs.Scope.{Scope, Declared, tree_in, declared_or, declared
 use Rattle.cd_model.specs.Written.{kind_of, tuple_rest, arrows_rest}
 use Rattle.cd_model.proofs.Covered.{each_parts, each_both}
 use Rattle.cd_model.proofs.Places.{AreClosed}
-use Rattle.cd_resolve.specs.Free.{free_or, free_names, free_in_kind, free_in_trees, free_in_signs, free_in_fields, free_in_declared}
+use Rattle.cd_resolve.specs.Free.{free_or, free_names, free_in_kind, free_in_trees, free_in_signs, free_in_declared}
 
 -- the free names of the trees that the lists of a scope declare
 abbrev pub free_over : Scope → List Name

@@ -6,7 +6,7 @@ use Rattle.cd_syntax.specs.TypeTree as type
 use Rattle.cd_syntax.specs.TypeTree.{Tree, tree, Kind}
 use Rattle.cd_model.specs.Scope.{Scope, Declared}
 use Rattle.cd_model.specs.Written as written
-use Rattle.cd_model.specs.Written.{WrittenType, kind_of}
+use Rattle.cd_model.specs.Written.{WrittenType, kind_of, within}
 use Rattle.cd_model.proofs.Covered.{Covered}
 use Rattle.cd_shapes.specs.declared.place.Place.{Place}
 use Rattle.cd_shapes.specs.Frames.{Frames, scope_of}
@@ -42,3 +42,14 @@ module _ (first : ℕ) (names : List (Name × NodeId)) (lists : List Frames) (ta
         → Stands (node_at first (length tables.roots) at) (record { scope = scope_of base frames; kind = kind })
     alone : (kind : Kind) (at : Place) → IsAlone kind → ShapedKind names lists tables.shapes [] kind at
         → Stands (node_at first (length tables.roots) at) (written.alone kind)
+
+  -- the place of a part
+  pub part_stands : (frames : Frames) (is : Tree) (at : Place) → AreMet lists frames → Shaped names lists tables.shapes frames is at
+      → Covered Fact (scope_of base frames) (kind_of is) → Uses Used (scope_of [] frames) (kind_of is)
+      → Stands (node_at first (length tables.roots) at) (within (scope_of base frames) is)
+  part_stands frames is at met shaped covered uses = placed frames (kind_of is) at (record {
+    met = met;
+    shaped = of_tree names lists tables frames is at shaped;
+    covered = covered;
+    uses = uses;
+  })

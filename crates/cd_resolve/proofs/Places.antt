@@ -103,14 +103,6 @@ sound_shapes counts tables sound counted =
     subst (λ (names : ℕ). Each (IsShape counts.nodes names counts.shapes) tables.shapes) (sym counted.names)
     (shapes_among_all counts.nodes (length tables.roots) 0 counts.shapes tables.shapes (omega arith) sound.shapes)
 
--- the roots of sound tables are places among all
-pub sound_roots : (counts : Counts) (tables : Tables) → AreSound counts.nodes tables → Counted counts tables
-    → Each (IsPlace counts.nodes counts.names counts.shapes) tables.roots
-sound_roots counts tables sound counted =
-    subst (λ (names : ℕ). Each (IsPlace counts.nodes names counts.shapes) tables.roots) (sym counted.names)
-    (subst (λ (shapes : ℕ). Each (IsPlace counts.nodes (length tables.roots) shapes) tables.roots) (sym counted.shapes)
-    sound.roots)
-
 -- shapes are placed
 pub placed : (nodes names shapes : ℕ) (shape : Shape) → IsShape nodes names shapes shape → IsPlaced nodes names shapes shape
 placed nodes names shapes (Leaf formula) is = tt

@@ -8,9 +8,9 @@ use Rattle.cd_syntax.specs.TypeTree.{Tree, tree, Kind, Named, Declarations}
 use Rattle.cd_model.specs.BuiltIns.{built_ins, node}
 use Rattle.cd_model.specs.Each.{One}
 use Rattle.cd_model.specs.Formula.{Graph, IsGraph, formula_at}
-use Rattle.cd_model.specs.Scope.{Declared, names_in, names_over, names_seen}
+use Rattle.cd_model.specs.Scope.{names_in, names_over, names_seen}
 use Rattle.cd_model.specs.StandsFor.{StandsFor}
-use Rattle.cd_model.specs.Written.{Written, kind_of}
+use Rattle.cd_model.specs.Written.{kind_of}
 use Rattle.cd_names.specs.Faults.{Fault, IsFault, IsFaultOfList}
 use Rattle.cd_names.proofs.GuardedNames.{names_are_guarded}
 use Rattle.cd_shapes.specs.declared.place.Place.{Place}
@@ -63,9 +63,6 @@ begins_agree old graph rest begins id below = rw begins (kept old rest id.0 belo
 -- and has as many nodes at least
 pub begins_with : (graph : Graph) → (rest : Graph) × (graph ≡ built_ins ++ rest) → 14 ≤ length graph
 begins_with graph begins = rw begins.1 (omega arith)
-
-pub itself_agrees : (graph : Graph) → AgreesWith graph graph
-itself_agrees graph id below = refl
 
 -- declarations that see no others
 module _ (declarations : Declarations) (none : (fault : Fault) → IsFaultOfList [] (declarations ∷ []) declarations fault → ⊥)

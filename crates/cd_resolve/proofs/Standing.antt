@@ -1,19 +1,18 @@
 -- The node of a place stands for the type whose shapes it has, in a graph that holds what the tables say.
-use Rattle.std.proofs.Common.{◌≡◌, ℕ, ◌<◌, [], List, length, refl, arith}
+use Rattle.std.proofs.Common.{ℕ, ◌<◌, [], List, length, refl, arith}
 use Rattle.cd_sets.specs.declared.node_id.NodeId.{NodeId}
 use Rattle.cd_syntax.specs.Name.{Name}
-use Rattle.cd_syntax.specs.TypeTree.{Tree, tree}
-use Rattle.cd_model.specs.Each.{Each}
+use Rattle.cd_syntax.specs.TypeTree.{Tree}
 use Rattle.cd_model.specs.Formula.{Graph}
-use Rattle.cd_model.specs.Guarded.{IsGuarded, NamesAreGuarded}
-use Rattle.cd_model.specs.Scope.{Scope, Declared, names_in, names_over, names_seen}
+use Rattle.cd_model.specs.Guarded.{NamesAreGuarded}
+use Rattle.cd_model.specs.Scope.{Scope, names_seen}
 use Rattle.cd_model.specs.StandsFor.{StandsFor}
 use Rattle.cd_model.specs.Written.{Written, kind_of, number_of_names}
 use Rattle.cd_model.proofs.NamesAlike.{IsOfType, all_seen}
 use Rattle.cd_shapes.specs.declared.place.Place.{Place}
 use Rattle.cd_shapes.specs.Frames.{Frames, scope_of}
 use Rattle.cd_shapes.specs.Names.{node_of}
-use Rattle.cd_shapes.specs.Shaped.{Tables, Shaped, ShapedKind}
+use Rattle.cd_shapes.specs.Shaped.{Tables, Shaped}
 use Rattle.cd_shapes.specs.Reading.{HaveRoots, AreMet}
 use Rattle.cd_resolve.specs.Closing.{Closes, node_at}
 use Rattle.cd_resolve.proofs.BuiltInNodes.{Begins}
@@ -42,5 +41,10 @@ module _ (first : ℕ) (names : List (Name × NodeId)) (lists : List Frames) (ta
       (forms graph first names lists tables base (IsOfType type) Used (λ is seen. seen.0) (names_seen type.scope type.tree)
       (λ is seen. seen.1) (number_of_names type) (omega arith) roots closes begins given)
       id type refl (placed frames (kind_of is) root
-      (record { met = met; shaped = of_tree names lists tables frames is root shaped; covered = (all_seen type guarded).covered; uses = uses }))
+      (record {
+        met = met;
+        shaped = of_tree names lists tables frames is root shaped;
+        covered = (all_seen type guarded).covered;
+        uses = uses;
+      }))
       is_node begins

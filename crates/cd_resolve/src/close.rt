@@ -69,7 +69,8 @@ pub(crate) fn close(
     ensures number { IfOk result (λ batch. size_of (plain_tables tables) ≤ length (plain_list batch)) }
     ensures formulas { IfOk result (λ batch. Each (IsFormula (first + length (plain_list batch))) (plain_list batch)) }
     ensures closes { IfOk result (λ batch. (graph : PlainGraph) → length graph ≡ first
-        → AgreesWith (nodes old.now) graph → Closes (graph ++ plain_list batch) first (plain_tables tables)) }
+        → AgreesWith (nodes old.now) graph
+        → Closes (graph ++ plain_list batch) first (plain_tables tables)) }
 {
     let names = tables.roots.len();
     let shapes = tables.shapes.len();

@@ -111,8 +111,8 @@ pub fn resolve_type(
 
 /// The same for each graph of `first` nodes that begins with this one.
 ///
-/// Where the formulas are put after those of such a graph, the root stands for the type: so what is put after this graph first
-/// need not be there yet.
+/// Where the formulas are put after those of such a graph, the root stands for the type: so what comes between need not be there
+/// yet. This graph is asked for the formulas of its own nodes alone, which connectives over names copy.
 ///
 /// # Errors
 ///
@@ -127,13 +127,15 @@ pub fn resolve_type_from(
     ghost declared: { PlainDeclarations }
     requires well_made { IsWellMade (plain tree.now) }
     requires sound_names { (fault : Fault) → IsFaultOfList [] (declared ∷ []) declared fault → ⊥ }
-    requires sound { (fault : Fault) → IsFault (declared ∷ []) (declared ∷ []) (plain tree.now) fault → ⊥ }
+    requires sound { (fault : Fault)
+        → IsFault (declared ∷ []) (declared ∷ []) (plain tree.now) fault → ⊥ }
     requires known { AreKnown (nodes graph.now) declared names.now (free_names [] (plain tree.now)) }
     requires below { AreBelow (length (nodes graph.now)) names.now }
     requires first { length (nodes graph.now) ≤ first }
     ensures formulas { IfOk result (λ batch.
         Each (IsFormula (first + length (plain_list batch.formulas))) (plain_list batch.formulas)) }
-    ensures stands { IfOk result (λ batch. (more : PlainGraph) → length (nodes graph.now ++ more) ≡ first
+    ensures stands { IfOk result (λ batch.
+        (more : PlainGraph) → length (nodes graph.now ++ more) ≡ first
         → StandsFor (nodes graph.now ++ more ++ plain_list batch.formulas) batch.root
         (record { scope = declared ∷ []; tree = plain tree.now })) }
 {

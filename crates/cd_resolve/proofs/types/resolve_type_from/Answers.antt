@@ -1,4 +1,4 @@
-use Rattle.std.proofs.Common.{◌≡◌, ◌++◌, sym, [], ◌∷◌, length, refl, rules, arith}
+use Rattle.std.proofs.Common.{◌≡◌, ◌++◌, [], ◌∷◌, length, refl, rules, arith}
 use Rattle.std.proofs.lemmas.List.{length-map}
 use Rattle.cd_syntax.specs.PlainTree.{plain}
 use Rattle.cd_graph.specs.PlainFormula.{plain_list}
