@@ -1,5 +1,5 @@
 -- What is told of the clauses of the code is told of the question.
-use Rattle.std.proofs.Common.{List, [], ◌∷◌, ◌⊎◌, inl, inr, length}
+use Rattle.std.proofs.Common.{List, [], ◌∷◌, ◌⊎◌, inl, inr}
 use Rattle.cd_sets.specs.declared.question.Question.{Question}
 use Rattle.cd_model.specs.Each.{Each, One}
 use Rattle.cd_model.specs.Formula.{Graph, IsGraph}
@@ -7,7 +7,6 @@ use Rattle.cd_elements.specs.declared.shape.Shape.{Shape}
 use Rattle.cd_elements.specs.declared.shape.Shape.TheVariants.{Int, Char, Atom}
 use Rattle.cd_rules.specs.Clauses as rules
 use Rattle.cd_rules.specs.Clauses.{IsClauseOfQuestion}
-use Rattle.cd_rules.specs.Family.{AsksNodes}
 use Rattle.cd_rules.specs.Members.{NamesLabels}
 use Rattle.cd_rules.specs.Needs.{AreNeeds}
 use Rattle.cd_rules.specs.Reduced.{IsReduced}

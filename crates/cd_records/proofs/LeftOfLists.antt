@@ -1,12 +1,8 @@
 -- What is left of a list, where its next item is known.
-use Rattle.std.proofs.Common.{◌≡◌, ◌∙◌, refl, ap, sym, ℕ, ◌+◌, ◌<◌, true, Some, Bor, bytes_eq}
+use Rattle.std.proofs.Common.{◌≡◌, ◌∙◌, ap, sym, ℕ, ◌+◌, ◌<◌, Some, Bor}
 use Rattle.std.proofs.Common.{List, ◌∷◌, ◌++◌, map, drop, length, get_or}
 use Rattle.std.proofs.lemmas.List.{at_drop_more}
-use Rattle.cd_sets.specs.declared.node_id.NodeId.{NodeId}
 use Rattle.cd_syntax.specs.Name.{Name}
-use Rattle.cd_graph.specs.PlainFormula.{plain_field, plain_named}
-use Rattle.cd_graph.specs.declared.fields.Field.{Field}
-use Rattle.cd_model.specs.Formula.{field_of}
 use Rattle.cd_rules.specs.Clauses.{RecordType}
 use Rattle.cd_rules.specs.Rows.{Reasons, each_with}
 use Rattle.cd_records.specs.PlainReasons.{plain_labels}

@@ -1,4 +1,4 @@
-use Rattle.std.proofs.Common.{sym, ◌∙◌}
+use Rattle.std.proofs.Common.{sym}
 use Rattle.cd_empty.proofs.KeptOnes.{stands_at, no_verdict, none_asked}
 use Rattle.cd_empty.specs.Kept.{settled_questions, settled_marks}
 use Rattle.cd_empty.proofs.decider.Decider.kept_at.Goals as goal

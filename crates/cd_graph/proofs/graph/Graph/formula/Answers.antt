@@ -1,4 +1,4 @@
-use Rattle.std.proofs.Common.{◌≡◌, sym, ap, arith, subst, length}
+use Rattle.std.proofs.Common.{sym, ap, arith, subst, length}
 use Rattle.std.proofs.lemmas.List.{length-map}
 use Rattle.cd_model.specs.Each.{Each}
 use Rattle.cd_model.specs.Formula.{IsFormula}
