@@ -12,7 +12,7 @@ use Rattle.cd_rules.specs.Needs.{question}
 use Rattle.cd_rules.proofs.ValuesDecided as value
 use Rattle.cd_empty.specs.declared.verdict.Verdict.{Verdict}
 use Rattle.cd_empty.specs.declared.verdict.Verdict.TheVariants.{Empty}
-use Rattle.cd_empty.specs.Verdicts.{HasNoElement, HasNoValue, IsExact}
+use Rattle.cd_empty.specs.Verdicts.{HasNoElement, HasNoValue, AreWithin, IsExact}
 use Rattle.cd_empty.proofs.Growing.{grows_then}
 
 module _ (graph : Graph) (first second : NodeId) where
@@ -34,9 +34,7 @@ module _ (graph : Graph) (first second : NodeId) where
     pub each_element_within : (is : Thing) → IsElement is → answers graph is first true → answers graph is second true
     each_element_within is element = within (answers graph is) (in_or_outside graph is second) (nothing.0 is element)
 
-    pub each_value_within : (begins : (more : Graph) × (graph ≡ built_ins ++ more)) (more : Graph) (arrows : ℕ → List (ArrowOf NodeId))
-        (v : Thing) → IsGraph (graph ++ more) → IsValue v → value_answers (graph ++ more) (OfNodes (graph ++ more) arrows) v first true
-        → value_answers (graph ++ more) (OfNodes (graph ++ more) arrows) v second true
+    pub each_value_within : (more : Graph) × (graph ≡ built_ins ++ more) → AreWithin graph first second
     each_value_within begins more arrows v sound is =
         let longer = grows_then built_ins graph (graph ++ more) begins (more, refl) in
         within (value_answers (graph ++ more) (OfNodes (graph ++ more) arrows) v)

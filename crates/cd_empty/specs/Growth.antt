@@ -7,7 +7,7 @@ use Rattle.cd_empty.specs.declared.world.World.{World}
 use Rattle.cd_empty.specs.declared.verdict.Verdict.{Verdict}
 use Rattle.cd_empty.specs.Seen.{graph_of, table_of, kept}
 
--- the graph, the table of elements and the verdicts of the old world each begin those of the new one
+-- the graph, the elements and the verdicts of the old world each begin those of the new one
 pub record Grows (old new : World) : Type 0 where
   pub graph : (more : Graph) × (graph_of new ≡ graph_of old ++ more)
   pub table : (more : List Thing) × (table_of new ≡ table_of old ++ more)

@@ -1,11 +1,12 @@
 -- Questions with their verdicts.
-use Rattle.std.specs.Prelude.{◌≡◌, ◌++◌, true, List, [], ◌∷◌}
+use Rattle.std.specs.Prelude.{ℕ, ◌≡◌, ◌++◌, true, List, [], ◌∷◌}
+use Rattle.cd_sets.specs.declared.node_id.NodeId.{NodeId}
 use Rattle.cd_sets.specs.declared.question.Question.{Question}
 use Rattle.cd_model.specs.Thing.{Thing, IsElement, IsValue}
 use Rattle.cd_model.specs.Each.{One}
-use Rattle.cd_model.specs.Formula.{Graph}
+use Rattle.cd_model.specs.Formula.{Graph, IsGraph}
 use Rattle.cd_model.specs.Membership.{asked, answers, value_answers}
-use Rattle.cd_model.specs.Interfaces.{Interfaces}
+use Rattle.cd_model.specs.Interfaces.{Interfaces, ArrowOf, OfNodes}
 use Rattle.cd_elements.specs.Table.{Names, element_at}
 use Rattle.cd_empty.specs.declared.verdict.Verdict.{Verdict}
 use Rattle.cd_empty.specs.declared.verdict.Verdict.TheVariants.{Empty, Inhabited}
@@ -14,10 +15,18 @@ use Rattle.cd_empty.specs.declared.verdict.Verdict.TheVariants.{Empty, Inhabited
 abbrev pub HasNoElement : Graph → Question → Type 0
 HasNoElement graph question = (is : Thing) → IsElement is → asked (answers graph is) question true → ⊥
 
--- no value is in a question, in any graph that begins with this one, whatever the interfaces of functions are
+-- no value is in a question, in any graph that begins with this one, under any interfaces
 abbrev pub HasNoValue : Graph → Question → Type 0
 HasNoValue graph question = (more : Graph) (interfaces : Interfaces) (v : Thing) → IsValue v
     → asked (value_answers (graph ++ more) interfaces v) question true → ⊥
+
+-- Each value of the one node is in the other, in each sound graph that begins with this one, where the
+-- arrows of functions are nodes of that graph
+abbrev pub AreWithin : Graph → (one other : NodeId) → Type 0
+AreWithin graph one other = (more : Graph) (arrows : ℕ → List (ArrowOf NodeId)) (v : Thing)
+    → IsGraph (graph ++ more) → IsValue v
+    → value_answers (graph ++ more) (OfNodes (graph ++ more) arrows) v one true
+    → value_answers (graph ++ more) (OfNodes (graph ++ more) arrows) v other true
 
 -- a verdict is exact: the question has no element, or it has this one of the table
 abbrev pub IsExact : Graph → List Thing → Question → Verdict → Type 0

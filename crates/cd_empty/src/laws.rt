@@ -2,8 +2,9 @@
 ghost use Rattle.cd_empty.specs.declared.world.World.{World};
 ghost use Rattle.cd_empty.specs.Growth.{Grows};
 
-/// A world grows to itself, and from one to another and on to a third is from the first to the third.
+/// A world grows to itself, and what grows to another that grows to a third grows to the third.
 pub fn growth_is_an_order()
     ensures itself { (world : World) → Grows world world }
-    ensures further { (first second third : World) → Grows first second → Grows second third → Grows first third }
+    ensures further { (first second third : World) → Grows first second → Grows second third
+        → Grows first third }
 {}

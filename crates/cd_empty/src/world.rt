@@ -22,21 +22,21 @@ pub struct World {
 }
 
 impl World {
-    ghost use Rattle.std.specs.Prelude.{◌≡◌, ℕ, ◌+◌, ◌<◌, ◌++◌, [], ◌∷◌, true, List, Some, None, length, slice_get, IfOk, OnOk, OnErr, MatchOption};
+    ghost use Rattle.std.specs.Prelude.{◌≡◌, ◌+◌, ◌<◌, ◌++◌, [], ◌∷◌, true, Some, None, length};
+    ghost use Rattle.std.specs.Prelude.{slice_get, IfOk, OnOk, OnErr, MatchOption};
     ghost use Rattle.cd_sets.specs.declared.node_id.NodeId.{NodeId as AnId};
     ghost use Rattle.cd_sets.specs.declared.question.Question.{Question as AQuestion};
-    ghost use Rattle.cd_model.specs.Thing.{Thing, IsElement, IsValue};
+    ghost use Rattle.cd_model.specs.Thing.{Thing, IsElement};
     ghost use Rattle.cd_model.specs.BuiltIns.{built_ins};
     ghost use Rattle.cd_model.specs.Each.{Each};
     ghost use Rattle.cd_model.specs.Formula.{Graph as PlainGraph, IsFormula, IsGraph};
-    ghost use Rattle.cd_model.specs.Membership.{answers, value_answers};
-    ghost use Rattle.cd_model.specs.Interfaces.{ArrowOf, OfNodes};
+    ghost use Rattle.cd_model.specs.Membership.{answers};
     ghost use Rattle.cd_graph.specs.PlainFormula.{plain_list};
     ghost use Rattle.cd_rules.specs.Family.{AsksNodes, IsClosed};
     ghost use Rattle.cd_rules.specs.Needs.{question};
     ghost use Rattle.cd_empty.specs.declared.verdict.Verdict.{Verdict as AVerdict};
     ghost use Rattle.cd_empty.specs.declared.verdict.Verdict.TheVariants.{Empty};
-    ghost use Rattle.cd_empty.specs.Verdicts.{IsExact, IsKept, family};
+    ghost use Rattle.cd_empty.specs.Verdicts.{IsExact, IsKept, AreWithin, family};
     ghost use Rattle.cd_empty.specs.Seen.{graph_of, table_of, kept};
     ghost use Rattle.cd_empty.specs.Growth.{Grows};
 
@@ -53,8 +53,8 @@ impl World {
         })
     }
 
-    /// Puts formulas after those of the graph, which stays sound, and gives the number of the first. What is settled stays so. Where memory
-    /// runs out the graph stays as it was.
+    /// Puts formulas after those of the graph, which stays sound, and gives the number of the first.
+    /// What is settled stays so. Where memory runs out the graph stays as it was.
     pub fn extend(&mut self, batch: Formulas) -> Result<NodeId, AllocError>
         requires { Each (IsFormula (length (graph_of self.old) + length (plain_list batch))) (plain_list batch) }
         ensures first { IfOk result (λ first. first.0 ≡ length (graph_of self.old)) }
@@ -99,10 +99,8 @@ impl World {
         requires second { second.0 < length (graph_of self.old) }
         ensures elements { IfOk result (λ verdict. verdict ≡ Empty → (is : Thing) → IsElement is
             → answers (graph_of self.old) is first true → answers (graph_of self.old) is second true) }
-        ensures values { IfOk result (λ verdict. verdict ≡ Empty → (more : PlainGraph) (arrows : ℕ → List (ArrowOf AnId)) (v : Thing)
-            → IsGraph (graph_of self.old ++ more) → IsValue v
-            → value_answers (graph_of self.old ++ more) (OfNodes (graph_of self.old ++ more) arrows) v first true
-            → value_answers (graph_of self.old ++ more) (OfNodes (graph_of self.old ++ more) arrows) v second true) }
+        ensures values { IfOk result (λ verdict. verdict ≡ Empty
+            → AreWithin (graph_of self.old) first second) }
         ensures exact { IfOk result (λ verdict. IsExact (graph_of self.old) (table_of self.new) (question (first ∷ []) (second ∷ [])) verdict) }
         ensures settled { IfOk result (λ verdict. IsKept (kept self.new) (question (first ∷ []) (second ∷ [])) verdict) }
         ensures graph { graph_of self.new ≡ graph_of self.old }
@@ -114,8 +112,8 @@ impl World {
         self.decide(&question)
     }
 
-    /// The verdict that is kept for a question. All that are kept are of questions of the graph and exact, one for each question, and the
-    /// questions without elements are a closed family.
+    /// The verdict that is kept for a question. All that are kept are of questions of the graph and
+    /// exact, one for each question, and the questions without elements are a closed family.
     pub fn settled(&self, question: &Question) -> Option<Verdict>
         ensures found { MatchOption result ((verdict : AVerdict) → IsKept (kept self.now) question.now verdict → ⊥)
             (λ verdict. IsKept (kept self.now) question.now verdict) }
@@ -128,7 +126,8 @@ impl World {
         self.decider.settled(question)
     }
 
-    /// The question at a place among those whose verdicts are kept, and its verdict. So the questions without elements can be gone over.
+    /// The question at a place among those whose verdicts are kept, and its verdict. So the questions
+    /// without elements can be gone over.
     pub fn kept_at(&self, place: usize) -> Option<(&Question, Verdict)>
         ensures { MatchOption result (slice_get (kept self.now) place ≡ None)
             (λ one. slice_get (kept self.now) place ≡ Some (one.0.now, one.1)) }
@@ -136,8 +135,8 @@ impl World {
         self.decider.kept_at(place)
     }
 
-    // All verdicts that are kept are of questions of the graph and exact, and the questions without elements are a closed family. It does
-    // nothing.
+    // All verdicts that are kept are of questions of the graph and exact, and the questions without
+    // elements are a closed family. It does nothing.
     fn know(&self)
         ensures asks { Each (λ one. AsksNodes (length (graph_of self.now)) one.0) (kept self.now) }
         ensures exact { Each (λ one. IsExact (graph_of self.now) (table_of self.now) one.0 one.1) (kept self.now) }
@@ -154,7 +153,7 @@ impl World {
         ensures sound { IsGraph (graph_of self.now) }
         ensures built_in { (more : PlainGraph) × (graph_of self.now ≡ built_ins ++ more) }
     {
-        // The contract of this call says that the graph is sound and begins with the built-in nodes.
+        // The contract of this call says that the graph is sound and begins with the built-ins.
         let _nodes = self.graph.len();
         &self.graph
     }

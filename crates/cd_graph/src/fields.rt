@@ -77,9 +77,11 @@ pub struct Fields {
 }
 
 impl Fields {
-    /// What it says of a label: its field of this label, or else that nothing may stand there or what is in the rest.
+    /// What it says of a label: its field of this label, or else that nothing may stand there or what
+    /// is in the rest.
     pub fn at(&self, label: &Name) -> Field
-        ensures { plain_field result ≡ field_of (plain_named self.now.named) self.now.rest label.now }
+        ensures { plain_field result
+            ≡ field_of (plain_named self.now.named) self.now.rest label.now }
     {
         for field in self.named.items() {
             if is_same(&field.0, label) {

@@ -35,8 +35,8 @@ impl Graph {
         })
     }
 
-    /// Puts formulas after those of the graph, which stays sound, and gives the number of the first. Each old node holds what it
-    /// held. Where memory runs out the graph stays as it was.
+    /// Puts formulas after those of the graph, which stays sound, and gives the number of the first.
+    /// Each old node holds what it held. Where memory runs out the graph stays as it was.
     pub fn extend(&mut self, batch: Formulas) -> Result<NodeId, AllocError>
         requires { Each (IsFormula (length (nodes self.old) + length (plain_list batch))) (plain_list batch) }
         ensures first { IfOk result (λ first. first.0 ≡ length (nodes self.old)) }

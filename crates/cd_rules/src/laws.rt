@@ -77,7 +77,8 @@ pub fn families_cover()
     ensures { (family : List Question) (question : Question) → IsOfFamily question family → IsCovered question family }
 {}
 
-/// A clause holds the elements and the values that its reduced form holds, and is broken where that is.
+/// A clause holds the elements and the values that its reduced form holds, and is broken where that
+/// is.
 pub fn reduced_clauses()
     ensures holds { (graph more : Graph) (clause reduced : Clause) (e : Thing) → graph ≡ built_ins ++ more → IsReduced graph clause reduced
         → IsElement e → IsInClause (kind_of e) (reader graph e) reduced → IsInClause (kind_of e) (reader graph e) clause }
@@ -85,8 +86,9 @@ pub fn reduced_clauses()
         → graph ≡ built_ins ++ more → IsGraph graph → IsReduced graph clause reduced → IsValue v
         → IsInClause (kind_of v) (value_reader graph (OfNodes graph arrows) v) reduced
         → IsInClause (kind_of v) (value_reader graph (OfNodes graph arrows) v) clause }
-    ensures holds_values_by_written { (graph more : Graph) (count : ℕ) (arrows : ℕ → List (ArrowOf NodeId))
-        (others : ℕ → List (ArrowOf WrittenType)) (clause reduced : Clause) (v : Thing)
+    ensures holds_values_by_written { (graph more : Graph) (count : ℕ)
+        (arrows : ℕ → List (ArrowOf NodeId)) (others : ℕ → List (ArrowOf WrittenType))
+        (clause reduced : Clause) (v : Thing)
         → graph ≡ built_ins ++ more → IsGraph graph
         → ((function : ℕ) → ArrowsAgree graph count (arrows function) (others function))
         → IsReduced graph clause reduced → IsValue v
@@ -103,54 +105,64 @@ pub fn clauses_are_settled()
         → IsSupplied (HasElement graph) clause ⊎ Breaks family clause }
 {}
 
-/// In a sound graph each question has an element or has none. Where it has none it has no value either, whatever the interfaces
-/// of functions are: so where a value is in some nodes and outside others, an element is too.
+/// In a sound graph each question has an element or has none. Where it has none it has no value
+/// either, under any interfaces: so where a value is in some nodes and outside others, an element is
+/// too.
 pub fn questions_are_decided()
     ensures decided { (graph more : Graph) (question : Question) → graph ≡ built_ins ++ more
         → IsGraph graph → HasElement graph question ⊎ (HasElement graph question → ⊥) }
-    ensures values { (graph more : Graph) (question : Question) (interfaces : Interfaces) (v : Thing)
+    ensures values { (graph more : Graph) (question : Question) (interfaces : Interfaces)
+        (v : Thing)
         → graph ≡ built_ins ++ more → IsGraph graph → (HasElement graph question → ⊥) → IsValue v
         → asked (value_answers graph interfaces v) question true → ⊥ }
-    ensures realised { (graph more : Graph) (question : Question) (interfaces : Interfaces) (v : Thing)
+    ensures realised { (graph more : Graph) (question : Question) (interfaces : Interfaces)
+        (v : Thing)
         → graph ≡ built_ins ++ more → IsGraph graph → IsValue v
         → asked (value_answers graph interfaces v) question true → HasElement graph question }
 {}
 
-/// In a sound graph each value is in a node or outside it, where the arrows of functions are nodes of this graph, or written types
-/// that hold the same elements.
+/// In a sound graph each value is in a node or outside it, where the arrows of functions are nodes of
+/// this graph, or written types that hold the same elements.
 pub fn values_are_decided()
-    ensures by_nodes { (graph more : Graph) (arrows : ℕ → List (ArrowOf NodeId)) (v : Thing) (id : NodeId)
+    ensures by_nodes { (graph more : Graph) (arrows : ℕ → List (ArrowOf NodeId)) (v : Thing)
+        (id : NodeId)
         → graph ≡ built_ins ++ more → IsGraph graph
-        → value_answers graph (OfNodes graph arrows) v id true ⊎ value_answers graph (OfNodes graph arrows) v id false }
+        → value_answers graph (OfNodes graph arrows) v id true
+        ⊎ value_answers graph (OfNodes graph arrows) v id false }
     ensures by_written { (graph more : Graph) (count : ℕ) (arrows : ℕ → List (ArrowOf NodeId))
         (others : ℕ → List (ArrowOf WrittenType)) (v : Thing) (id : NodeId)
         → graph ≡ built_ins ++ more → IsGraph graph
         → ((function : ℕ) → ArrowsAgree graph count (arrows function) (others function))
-        → value_answers graph (OfWritten count others) v id true ⊎ value_answers graph (OfWritten count others) v id false }
+        → value_answers graph (OfWritten count others) v id true
+        ⊎ value_answers graph (OfWritten count others) v id false }
 {}
 
-/// A pair is in a clause exactly when its parts are in the questions of one way, and so is an XML thing, whose tag is an atom and
-/// whose attributes are a record.
+/// A pair is in a clause exactly when its parts are in the questions of one way, and so is an XML
+/// thing, whose tag is an atom and whose attributes are a record.
 pub fn ways_are_exact()
     ensures pairs { (graph : Graph) (wanted refused : List Pair) (first second : Thing)
         → IsInClause APair (reader graph (thing.Pair first second)) (Pairs wanted refused)
-        ↔ One (AreInWay (answers graph first ∷ answers graph second ∷ []))
+        ↔ One (AreInWay (map (answers graph) (first ∷ second ∷ [])))
         (map (pair_way wanted) (splits refused)) }
-    ensures pair_values { (graph : Graph) (interfaces : Interfaces) (wanted refused : List Pair) (first second : Thing)
-        → IsInClause APair (value_reader graph interfaces (thing.Pair first second)) (Pairs wanted refused)
-        ↔ One (AreInWay (value_answers graph interfaces first ∷ value_answers graph interfaces second ∷ []))
+    ensures pair_values { (graph : Graph) (interfaces : Interfaces) (wanted refused : List Pair)
+        (first second : Thing)
+        → IsInClause APair (value_reader graph interfaces (thing.Pair first second))
+        (Pairs wanted refused)
+        ↔ One (AreInWay (map (value_answers graph interfaces) (first ∷ second ∷ [])))
         (map (pair_way wanted) (splits refused)) }
-    ensures xmls { (graph more : Graph) (wanted refused : List Triple) (tag attributes content : Thing)
-        → graph ≡ built_ins ++ more → thing.IsAtom tag → thing.IsRecord attributes
-        → IsInClause AnXml (reader graph (thing.Xml tag attributes content)) (Xmls wanted refused)
-        ↔ One (AreInWay (answers graph tag ∷ answers graph attributes ∷ answers graph content ∷ []))
-        (map (xml_way wanted) (splits_in_three refused)) }
-    ensures xml_values { (graph more : Graph) (interfaces : Interfaces) (wanted refused : List Triple)
+    ensures xmls { (graph more : Graph) (wanted refused : List Triple)
         (tag attributes content : Thing)
         → graph ≡ built_ins ++ more → thing.IsAtom tag → thing.IsRecord attributes
-        → IsInClause AnXml (value_reader graph interfaces (thing.Xml tag attributes content)) (Xmls wanted refused)
-        ↔ One (AreInWay (value_answers graph interfaces tag ∷ value_answers graph interfaces attributes
-        ∷ value_answers graph interfaces content ∷ [])) (map (xml_way wanted) (splits_in_three refused)) }
+        → IsInClause AnXml (reader graph (thing.Xml tag attributes content)) (Xmls wanted refused)
+        ↔ One (AreInWay (map (answers graph) (tag ∷ attributes ∷ content ∷ [])))
+        (map (xml_way wanted) (splits_in_three refused)) }
+    ensures xml_values { (graph more : Graph) (interfaces : Interfaces)
+        (wanted refused : List Triple) (tag attributes content : Thing)
+        → graph ≡ built_ins ++ more → thing.IsAtom tag → thing.IsRecord attributes
+        → IsInClause AnXml (value_reader graph interfaces (thing.Xml tag attributes content))
+        (Xmls wanted refused)
+        ↔ One (AreInWay (map (value_answers graph interfaces) (tag ∷ attributes ∷ content ∷ [])))
+        (map (xml_way wanted) (splits_in_three refused)) }
 {}
 
 /// Choices, ways and rows of small cases.
