@@ -9,7 +9,7 @@ use Rattle.cd_intervals.specs.Atoms.{Atoms as AtomSet}
 use Rattle.cd_model.specs.Thing as thing
 use Rattle.cd_model.specs.Thing.{Thing, IsElement}
 use Rattle.cd_model.specs.BuiltIns.{built_ins}
-use Rattle.cd_model.specs.Each.{Each}
+use Rattle.cd_model.specs.AllOf.{AllOf}
 use Rattle.cd_model.specs.Formula.{Graph}
 use Rattle.cd_model.specs.Kinds.{kind_of}
 use Rattle.cd_model.specs.Membership.{answers, reader}
@@ -22,7 +22,7 @@ use Rattle.cd_rules.proofs.Ones.{each_weaker}
 use Rattle.cd_normal.specs.declared.clause.Clause.{Clause as CodeClause}
 use Rattle.cd_normal.specs.declared.clause.Clause.TheVariants as code
 use Rattle.cd_normal.specs.Standing.{Stands, HoldsNothing}
-use Rattle.cd_apart.specs.Emptiness.{IsEmpty, ArePairsApart, AreXmlsApart}
+use Rattle.cd_apart.specs.Inner.Emptiness.{IsEmpty, ArePairsApart, AreXmlsApart}
 
 module _ (graph : Graph) where
   -- no element is in a clause for which this one stands
@@ -56,11 +56,11 @@ module _ (graph : Graph) where
 
   -- where nodes are one part of each thing of a list and are apart, no element is in that part of each
   part_out : {X : Type 0} (part : X → NodeId) (xs : List X) → AreApart graph (map part xs) → (e : Thing) → IsElement e
-      → Each (λ x. answers graph e (part x) true) xs → ⊥
+      → AllOf (λ x. answers graph e (part x) true) xs → ⊥
   part_out part xs apart e is inside = apart e is (each_of_map part (λ id. answers graph e id true) xs inside)
 
   no_pair : (pairs : List Pair) → ArePairsApart graph pairs → (first second : Thing) → IsElement (thing.Pair first second)
-      → Each (λ parts. answers graph first parts.0 true × answers graph second parts.1 true) pairs → ⊥
+      → AllOf (λ parts. answers graph first parts.0 true × answers graph second parts.1 true) pairs → ⊥
   no_pair pairs (inl apart) first second is inside = part_out (λ parts. parts.0) pairs apart first is.0
       (each_weaker (λ parts. answers graph first parts.0 true × answers graph second parts.1 true)
       (λ parts. answers graph first parts.0 true) (λ parts both. both.0) pairs inside)
@@ -82,7 +82,7 @@ module _ (graph : Graph) where
     -- an element is in the three parts of each of these
     abbrev InParts : (tag attributes content : Thing) → List Triple → Type 0
     InParts tag attributes content xmls =
-        Each (λ parts. answers graph tag parts.0 true × answers graph attributes parts.1 true × answers graph content parts.2 true) xmls
+        AllOf (λ parts. answers graph tag parts.0 true × answers graph attributes parts.1 true × answers graph content parts.2 true) xmls
 
     no_xml : (xmls : List Triple) → AreXmlsApart graph xmls → (tag attributes content : Thing)
         → IsElement (thing.Xml tag attributes content) → InParts tag attributes content xmls → ⊥

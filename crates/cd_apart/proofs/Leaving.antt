@@ -5,7 +5,7 @@ use Rattle.std.proofs.Math.Seq.{drop-cons}
 use Rattle.std.proofs.lemmas.List.{drop_all}
 use Rattle.std.specs.Bool.{OnTrue}
 use Rattle.std.proofs.lemmas.Bool.{OnTrue_at}
-use Rattle.cd_model.specs.Each.{Each}
+use Rattle.cd_model.specs.AllOf.{AllOf}
 use Rattle.cd_rules.specs.Reduced.{LeavesOut, none, keeps, leaves}
 
 -- what is kept so far, joined with what is kept of the items from the index on, is kept of all
@@ -13,7 +13,7 @@ pub record KeptSoFar {X : Type 0} (Apart : X → Type 0) (all : List X) (index :
   pub goes_on : (more : List X) → LeavesOut Apart (drop index all) more → LeavesOut Apart all (kept ++ more)
 
 -- what each item has, the item at an index has
-pub at_index : {X : Type 0} (has : X → Type 0) (all : List X) (index : ℕ) (default : X) → Each has all → index < length all
+pub at_index : {X : Type 0} (has : X → Type 0) (all : List X) (index : ℕ) (default : X) → AllOf has all → index < length all
     → has (get_or all index default)
 at_index has [] index default each within = absurd (omega arith)
 at_index has (x ∷ all) zero default each within = each.0

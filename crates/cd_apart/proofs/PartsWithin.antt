@@ -1,7 +1,7 @@
 -- The parts of a question's clauses are nodes of the graph.
 use Rattle.std.proofs.Common.{◌≡◌, ℕ, List, length, sym, subst}
 use Rattle.cd_sets.specs.declared.question.Question.{Question}
-use Rattle.cd_model.specs.Each.{Each}
+use Rattle.cd_model.specs.AllOf.{AllOf}
 use Rattle.cd_model.specs.Formula.{Graph, IsGraph}
 use Rattle.cd_rules.specs.Clauses.{Clause, Pairs, Xmls, IsClauseOfQuestion}
 use Rattle.cd_rules.specs.Within.{IsPairWithin, IsXmlWithin}
@@ -14,8 +14,8 @@ use Rattle.cd_apart.specs.Within.{IsWithin}
 
 -- lists that are the same have what those have
 have_both : {X : Type 0} (has : X → Type 0) {pos neg wanted refused : List X} → (pos ≡ wanted) × (neg ≡ refused)
-    → Each has wanted × Each has refused → Each has pos × Each has neg
-have_both has same both = (subst (Each has) (sym same.0) both.0, subst (Each has) (sym same.1) both.1)
+    → AllOf has wanted × AllOf has refused → AllOf has pos × AllOf has neg
+have_both has same both = (subst (AllOf has) (sym same.0) both.0, subst (AllOf has) (sym same.1) both.1)
 
 -- a clause that stands for one of these parts has them
 stands_within : (nodes : ℕ) (clause : CodeClause) (is : Clause) → Stands clause is → whole.IsWithin nodes is → IsWithin nodes clause

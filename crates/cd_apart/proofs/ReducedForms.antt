@@ -6,7 +6,7 @@ use Rattle.cd_model.specs.Formula.{Graph}
 use Rattle.cd_rules.specs.Clauses.{Pair, Triple, Pairs, Xmls}
 use Rattle.cd_rules.specs.Reduced.{LeavesOut, IsPairApart, IsXmlApart}
 use Rattle.cd_normal.specs.declared.clause.Clause.TheVariants as code
-use Rattle.cd_apart.specs.Reducing.{Reduces}
+use Rattle.cd_apart.specs.Inner.Reducing.{Reduces}
 
 module _ (graph : Graph) where
   -- what is left out of lists is left out of such as are the same

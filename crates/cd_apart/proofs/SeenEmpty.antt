@@ -5,7 +5,7 @@ use Rattle.std.proofs.lemmas.Result.{IfOk-weaker}
 use Rattle.cd_model.specs.Formula.{Graph}
 use Rattle.cd_normal.specs.declared.clause.Clause.{Clause}
 use Rattle.cd_normal.specs.Standing.{HoldsNothing}
-use Rattle.cd_apart.specs.Emptiness.{IsEmpty}
+use Rattle.cd_apart.specs.Inner.Emptiness.{IsEmpty}
 use Rattle.cd_apart.proofs.Emptying.{empty_by_set}
 
 -- what follows where a test says true

@@ -1,3 +1,2 @@
 pub mod Within
-pub mod Emptiness
-pub mod Reducing
+pub mod Inner

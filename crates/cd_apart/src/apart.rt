@@ -1,10 +1,10 @@
 //! Nodes that no element is in all of, as far as it is seen at once.
 ghost use Rattle.std.specs.Prelude.{◌<◌, length, IfOk};
 ghost use Rattle.std.specs.Bool.{OnTrue};
-ghost use Rattle.cd_model.specs.Each.{Each};
+ghost use Rattle.cd_model.specs.AllOf.{AllOf};
 ghost use Rattle.cd_graph.specs.Nodes.{nodes};
 ghost use Rattle.cd_rules.specs.Reduced.{AreApart};
-ghost use Rattle.cd_apart.specs.Emptiness.{IsEmpty, ArePairsApart, AreXmlsApart};
+ghost use Rattle.cd_apart.specs.Inner.Emptiness.{IsEmpty, ArePairsApart, AreXmlsApart};
 ghost use Rattle.cd_rules.specs.Within.{IsPairWithin, IsXmlWithin};
 ghost use Rattle.cd_apart.specs.Within.{IsWithin};
 
@@ -15,8 +15,9 @@ use cd_normal::clause::Clause;
 use cd_sets::node_id::NodeId;
 use std::alloc::{AllocError, Global};
 
-/// Whether it is seen at once that no element is in all of these nodes: by sets of integers, of characters and of atoms, by kinds,
-/// and of pairs and XML elements by their parts, so many steps deep. False says nothing.
+/// Whether it is seen at once that no element is in all of these nodes: by sets of integers, of
+/// characters and of atoms, by kinds, and of pairs and XML elements by their parts, so many steps
+/// deep. False says nothing.
 ///
 /// # Errors
 ///
@@ -28,7 +29,7 @@ pub fn are_apart(
     ids: &[NodeId],
     depth: usize,
 ) -> Result<bool, AllocError>
-    requires { Each (λ id. id.0 < length (nodes graph.now)) ids.now }
+    requires { AllOf (λ id. id.0 < length (nodes graph.now)) ids.now }
     ensures { IfOk result (λ apart. OnTrue apart (AreApart (nodes graph.now) ids.now)) }
 {
     let clauses = clauses_of_all(alloc, graph, ids)?;
@@ -43,8 +44,8 @@ fn are_all_empty(
     clauses: &[Clause],
     depth: usize,
 ) -> Result<bool, AllocError>
-    requires { Each (IsWithin (length (nodes graph.now))) clauses.now }
-    ensures { IfOk result (λ empty. OnTrue empty (Each (IsEmpty (nodes graph.now)) clauses.now)) }
+    requires { AllOf (IsWithin (length (nodes graph.now))) clauses.now }
+    ensures { IfOk result (λ empty. OnTrue empty (AllOf (IsEmpty (nodes graph.now)) clauses.now)) }
 {
     for clause in clauses {
         if !is_empty(alloc, graph, clause, depth)? {
@@ -80,7 +81,7 @@ pub(crate) fn are_pairs_apart(
     pairs: &[(NodeId, NodeId)],
     depth: usize,
 ) -> Result<bool, AllocError>
-    requires { Each (IsPairWithin (length (nodes graph.now))) pairs.now }
+    requires { AllOf (IsPairWithin (length (nodes graph.now))) pairs.now }
     ensures { IfOk result (λ apart. OnTrue apart (ArePairsApart (nodes graph.now) pairs.now)) }
 {
     if depth == 0 {
@@ -92,7 +93,8 @@ pub(crate) fn are_pairs_apart(
     are_apart(alloc, graph, seconds(alloc, pairs)?.as_slice(), depth - 1)
 }
 
-/// Whether it is seen that no XML element is in all of these: by the tags, or else by the contents or the attributes.
+/// Whether it is seen that no XML element is in all of these: by the tags, or else by the contents
+/// or the attributes.
 #[cycle(apart)]
 pub(crate) fn are_xmls_apart(
     alloc: Global,
@@ -100,7 +102,7 @@ pub(crate) fn are_xmls_apart(
     xmls: &[(NodeId, NodeId, NodeId)],
     depth: usize,
 ) -> Result<bool, AllocError>
-    requires { Each (IsXmlWithin (length (nodes graph.now))) xmls.now }
+    requires { AllOf (IsXmlWithin (length (nodes graph.now))) xmls.now }
     ensures { IfOk result (λ apart. OnTrue apart (AreXmlsApart (nodes graph.now) xmls.now)) }
 {
     if depth == 0 {

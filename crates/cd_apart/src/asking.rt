@@ -1,10 +1,10 @@
 //! The clauses of what is in all of some nodes.
 ghost use Rattle.std.specs.Prelude.{◌<◌, true, length, IfOk};
 ghost use Rattle.cd_model.specs.Thing.{Thing, IsElement};
-ghost use Rattle.cd_model.specs.Each.{Each, One};
+ghost use Rattle.cd_model.specs.AllOf.{AllOf, AnyOf};
 ghost use Rattle.cd_model.specs.Membership.{answers};
 ghost use Rattle.cd_graph.specs.Nodes.{nodes};
-ghost use Rattle.cd_apart.specs.Emptiness.{IsHeld};
+ghost use Rattle.cd_apart.specs.Inner.Emptiness.{IsHeld};
 ghost use Rattle.cd_apart.specs.Within.{IsWithin};
 
 use cd_graph::Graph;
@@ -20,10 +20,13 @@ pub(crate) fn clauses_of_all(
     graph: &Graph,
     ids: &[NodeId],
 ) -> Result<Vec<Clause>, AllocError>
-    requires { Each (λ id. id.0 < length (nodes graph.now)) ids.now }
-    ensures within { IfOk result (λ clauses. Each (IsWithin (length (nodes graph.now))) clauses.items) }
-    ensures held { IfOk result (λ clauses. (is : Thing) → IsElement is → Each (λ id. answers (nodes graph.now) is id true) ids.now
-        → One (IsHeld (nodes graph.now) is) clauses.items) }
+    requires { AllOf (λ id. id.0 < length (nodes graph.now)) ids.now }
+    ensures within { IfOk result
+        (λ clauses. AllOf (IsWithin (length (nodes graph.now))) clauses.items) }
+    ensures held { IfOk result
+        (λ clauses. (is : Thing) → IsElement is
+        → AllOf (λ id. answers (nodes graph.now) is id true) ids.now
+        → AnyOf (IsHeld (nodes graph.now) is) clauses.items) }
 {
     // The contract of this call says that the graph is sound.
     let _sound = graph.len();

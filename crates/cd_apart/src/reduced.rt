@@ -1,12 +1,12 @@
 //! Refused members that are apart from the wanted ones are left out.
 ghost use Rattle.std.specs.Prelude.{◌≡◌, length, IfOk};
 ghost use Rattle.std.specs.Bool.{OnTrue};
-ghost use Rattle.cd_model.specs.Each.{Each};
+ghost use Rattle.cd_model.specs.AllOf.{AllOf};
 ghost use Rattle.cd_graph.specs.Nodes.{nodes};
 ghost use Rattle.cd_rules.specs.Clauses.{Clause as PlainClause};
 ghost use Rattle.cd_rules.specs.Reduced.{IsPairApart, IsXmlApart, LeavesOut, IsReduced};
 ghost use Rattle.cd_normal.specs.Standing.{Stands};
-ghost use Rattle.cd_apart.specs.Reducing.{Reduces};
+ghost use Rattle.cd_apart.specs.Inner.Reducing.{Reduces};
 ghost use Rattle.cd_rules.specs.Within.{IsPairWithin, IsXmlWithin};
 ghost use Rattle.cd_apart.specs.Within.{IsWithin};
 
@@ -19,7 +19,8 @@ use std::alloc::{AllocError, Global};
 // How many steps deep it is looked whether a refused member is apart from the wanted ones.
 const DEPTH: usize = 3;
 
-/// The clause without the refused pairs, or XML types, that are seen to be apart from the wanted ones.
+/// The clause without the refused pairs, or XML types, that are seen to be apart from the wanted
+/// ones.
 ///
 /// # Errors
 ///
@@ -36,7 +37,8 @@ pub fn reduced_clause(alloc: Global, graph: &Graph, clause: Clause) -> Result<Cl
     }
 }
 
-// The clause of these pairs without the refused ones that are seen to be apart from the wanted ones.
+// The clause of these pairs without the refused ones that are seen to be apart from the wanted
+// ones.
 fn reduced_pairs(
     alloc: Global,
     graph: &Graph,
@@ -71,9 +73,10 @@ fn kept_pairs(
     wanted: &[(NodeId, NodeId)],
     refused: &[(NodeId, NodeId)],
 ) -> Result<Vec<(NodeId, NodeId)>, AllocError>
-    requires wanted { Each (IsPairWithin (length (nodes graph.now))) wanted.now }
-    requires refused { Each (IsPairWithin (length (nodes graph.now))) refused.now }
-    ensures { IfOk result (λ kept. LeavesOut (IsPairApart (nodes graph.now) wanted.now) refused.now kept.items) }
+    requires wanted { AllOf (IsPairWithin (length (nodes graph.now))) wanted.now }
+    requires refused { AllOf (IsPairWithin (length (nodes graph.now))) refused.now }
+    ensures { IfOk result (λ kept.
+        LeavesOut (IsPairApart (nodes graph.now) wanted.now) refused.now kept.items) }
 {
     let mut kept = Vec::new(alloc);
     for pair in refused {
@@ -91,7 +94,7 @@ fn is_pair_apart(
     wanted: &[(NodeId, NodeId)],
     pair: (NodeId, NodeId),
 ) -> Result<bool, AllocError>
-    requires wanted { Each (IsPairWithin (length (nodes graph.now))) wanted.now }
+    requires wanted { AllOf (IsPairWithin (length (nodes graph.now))) wanted.now }
     requires pair { IsPairWithin (length (nodes graph.now)) pair }
     ensures { IfOk result (λ apart. OnTrue apart (IsPairApart (nodes graph.now) wanted.now pair)) }
 {
@@ -107,9 +110,10 @@ fn kept_xmls(
     wanted: &[(NodeId, NodeId, NodeId)],
     refused: &[(NodeId, NodeId, NodeId)],
 ) -> Result<Vec<(NodeId, NodeId, NodeId)>, AllocError>
-    requires wanted { Each (IsXmlWithin (length (nodes graph.now))) wanted.now }
-    requires refused { Each (IsXmlWithin (length (nodes graph.now))) refused.now }
-    ensures { IfOk result (λ kept. LeavesOut (IsXmlApart (nodes graph.now) wanted.now) refused.now kept.items) }
+    requires wanted { AllOf (IsXmlWithin (length (nodes graph.now))) wanted.now }
+    requires refused { AllOf (IsXmlWithin (length (nodes graph.now))) refused.now }
+    ensures { IfOk result (λ kept.
+        LeavesOut (IsXmlApart (nodes graph.now) wanted.now) refused.now kept.items) }
 {
     let mut kept = Vec::new(alloc);
     for xml in refused {
@@ -127,7 +131,7 @@ fn is_xml_apart(
     wanted: &[(NodeId, NodeId, NodeId)],
     xml: (NodeId, NodeId, NodeId),
 ) -> Result<bool, AllocError>
-    requires wanted { Each (IsXmlWithin (length (nodes graph.now))) wanted.now }
+    requires wanted { AllOf (IsXmlWithin (length (nodes graph.now))) wanted.now }
     requires xml { IsXmlWithin (length (nodes graph.now)) xml }
     ensures { IfOk result (λ apart. OnTrue apart (IsXmlApart (nodes graph.now) wanted.now xml)) }
 {

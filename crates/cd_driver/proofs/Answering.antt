@@ -8,7 +8,7 @@ use Rattle.cd_model.specs.Written.{Written}
 use Rattle.cd_driver.specs.Command.{Bytes, Sub, SubTypes, Give}
 use Rattle.cd_driver.specs.Reply.{Reply, not_built, cannot_read, too_large, not_utf8}
 use Rattle.cd_driver.specs.Texts.{ReadsAs, Declares}
-use Rattle.cd_driver.specs.Comparing.{ComparesTypes, within, outside}
+use Rattle.cd_driver.specs.Inner.Comparing.{ComparesTypes, within, outside}
 use Rattle.cd_driver.specs.Answer.{SubAnswer, SubTypesAnswer, yes, no, Disk, Has, HasText, FileRefusal, unread, large, encoding, file_refused, on_texts, Answer, sub, sub_types, command_not_built}
 use Rattle.cd_driver.specs.Ending.{Met, unmarked, marked}
 use Rattle.cd_driver.specs.Answering.{IsAnswer}
@@ -16,7 +16,7 @@ use Rattle.cd_driver.specs.File.{Tells, IsFileRead, said_of}
 use Rattle.cd_driver.specs.declared.file.FileFault.{FileFault}
 use Rattle.cd_driver.specs.declared.file.FileFault.TheVariants.{Unread, TooLarge, NotUtf8}
 use Rattle.cd_base.specs.FilesState.{FilesState}
-use Rattle.cd_driver.specs.Request.{GiveNotBuilt}
+use Rattle.cd_driver.specs.Inner.Request.{GiveNotBuilt}
 use Rattle.cd_driver.specs.declared.message.Message.{Message}
 use Rattle.cd_driver.specs.Message.{reply_of}
 

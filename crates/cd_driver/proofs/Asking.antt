@@ -8,7 +8,7 @@ use Rattle.std.specs.Str.Parse.{ParsesUnsigned}
 use Rattle.std.proofs.lemmas.Str.Parse.{IsNumeralModel, numerals_by_fold, digits_value_short, parse_gives}
 use Rattle.cd_syntax.specs.Digits.{AreDigits, decimal_value}
 use Rattle.cd_driver.specs.Command.{Bytes, texts, Give, Check, Work, Run, RunSteps, Member, SubTypes}
-use Rattle.cd_driver.specs.Request.{GiveNotBuilt, WritesUnits, WritesSize}
+use Rattle.cd_driver.specs.Inner.Request.{GiveNotBuilt, WritesUnits, WritesSize}
 
 digits_model : IsNumeralModel (λ digits. list_all is_ascii_digit digits ≡ true) decimal_value
 digits_model = numerals_by_fold _ (search rules) (λ n digits. fold (λ m c. m * 10 + (c - 48)) n digits) (search rules)

@@ -8,7 +8,7 @@ use Rattle.cd_base.specs.declared.status.Status.TheVariants.{No}
 use Rattle.cd_sets.specs.declared.node_id.NodeId.{NodeId}
 use Rattle.cd_model.specs.Thing.{Thing}
 use Rattle.cd_model.specs.Canonical.{canonical}
-use Rattle.cd_model.specs.Each.{Each}
+use Rattle.cd_model.specs.AllOf.{AllOf}
 use Rattle.cd_model.specs.Formula.{Graph, IsFormula, IsGraph}
 use Rattle.cd_model.specs.StandsFor.{StandsFor}
 use Rattle.cd_model.specs.Written.{Written}
@@ -21,14 +21,14 @@ use Rattle.cd_resolve.proofs.SoundParts.{each_append, each_among_more}
 use Rattle.cd_driver.specs.Message.{reply_of}
 use Rattle.cd_driver.specs.Reply.{Reply, says}
 use Rattle.cd_driver.specs.declared.message.Message.{Message}
-use Rattle.cd_driver.specs.Comparing.{within, outside, ComparesNodes, ComparesTypes}
+use Rattle.cd_driver.specs.Inner.Comparing.{within, outside, ComparesNodes, ComparesTypes}
 
 -- the bytes of a text are those that encode its characters
 pub encoded : (bytes name : List ℕ) → IsUtf8 bytes → chars bytes ≡ name → bytes ≡ encode_utf8_all name
 encoded bytes name is same = sym (encodes-chars bytes is) ∙ ap encode_utf8_all same
 
 -- a graph with more formulas
-pub longer_graph : (graph batch : Graph) → IsGraph graph → Each (IsFormula (length graph + length batch)) batch → IsGraph (graph ++ batch)
+pub longer_graph : (graph batch : Graph) → IsGraph graph → AllOf (IsFormula (length graph + length batch)) batch → IsGraph (graph ++ batch)
 longer_graph graph batch sound more =
     let first = each_among_more (length graph) (length graph + length batch) (omega arith) graph sound in
     rw (length-append graph batch) (each_append (IsFormula (length graph + length batch)) graph batch first more)

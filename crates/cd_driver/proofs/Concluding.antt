@@ -15,7 +15,7 @@ use Rattle.cd_driver.specs.Texts.{Against, Lexical, Syntax, TooDeep, Naming}
 use Rattle.cd_driver.specs.Answer.{Disk, Answer, SubAnswer, SubTypesAnswer, FileRefusal, no_form, sub, sub_types, command_not_built, yes, no, first_refused, second_refused, file_refused, on_texts, unread, large, encoding, refused}
 use Rattle.cd_driver.specs.Ending.{Met, unmarked, marked, Delivered, whole, out_refused, err_refused, out_cut, err_cut, Ending, answered, no_memory, Completes}
 use Rattle.cd_driver.specs.Headline.{NothingFailed, IsAnswered, Headline, told_files}
-use Rattle.cd_driver.specs.Telling.{Put, whole as put_whole, refused as put_refused, cut as put_cut}
+use Rattle.cd_driver.specs.Inner.Telling.{Put, whole as put_whole, refused as put_refused, cut as put_cut}
 use Rattle.cd_driver.specs.declared.message.Message.{Message}
 use Rattle.cd_driver.specs.Message.{reply_of}
 

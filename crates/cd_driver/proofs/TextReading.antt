@@ -14,10 +14,10 @@ use Rattle.cd_parse_types.specs.declared.error.ParseError.{ParseError}
 use Rattle.cd_parse_types.specs.declared.error.ParseError.TheVariants as fault
 use Rattle.cd_parse_types.proofs.MadeWell.{text_makes_type, text_makes_declarations}
 use Rattle.cd_driver.specs.Command.{Bytes}
-use Rattle.cd_driver.specs.Comparing.{AreSound, IsSound}
+use Rattle.cd_driver.specs.Inner.Comparing.{AreSound, IsSound}
 use Rattle.cd_driver.specs.Texts.{Refuses, syntax, too_deep, naming}
 use Rattle.cd_driver.specs.Texts.{HasTokens, ReadsAs, Declares, type_of}
-use Rattle.cd_driver.specs.Refusal.{against, IsOfFault, IsOfNames}
+use Rattle.cd_driver.specs.Inner.Refusal.{against, IsOfFault, IsOfNames}
 use Rattle.cd_driver.specs.declared.refusal.Refusal.{Refusal}
 use Rattle.cd_driver.specs.declared.refusal.Refusal.TheVariants as refusal
 

@@ -1,5 +1,6 @@
 -- The answers of the program.
-use Rattle.std.specs.Prelude.{◌≡◌, ℕ, ◌<◌, ◌≤◌, List, Option, Some, IfSome, ◌⊎◌, ◌++◌, length, codes, encode_utf8_all}
+use Rattle.std.specs.Prelude.{◌≡◌, ℕ, ◌<◌, ◌≤◌, List, Option, Some, IfSome, ◌⊎◌, ◌++◌, length}
+use Rattle.std.specs.Prelude.{codes, encode_utf8_all}
 use Rattle.std.specs.Str.{IsUtf8}
 use Rattle.std.specs.Str.Lossy.{utf8_valid_len}
 use Rattle.cd_base.specs.declared.status.Status.TheVariants.{Done, No}
@@ -7,12 +8,15 @@ use Rattle.cd_model.specs.Thing.{Thing, IsElement}
 use Rattle.cd_syntax.specs.TypeTree.{Declarations, NoDeclaration}
 use Rattle.cd_model.specs.Canonical.{canonical}
 use Rattle.cd_model.specs.Written.{Written}
-use Rattle.cd_driver.specs.Command.{Bytes, Command, Sub, SubTypes, Member, Check, Run, RunSteps, Work, Give, HaveNoForm, name_of}
-use Rattle.cd_driver.specs.Reply.{Reply, says, usage, not_built, cannot_read, too_large, not_utf8, refusal}
+use Rattle.cd_driver.specs.Command.{Bytes, Command, Sub, SubTypes, Member, Check, Run, RunSteps}
+use Rattle.cd_driver.specs.Command.{Work, Give, HaveNoForm, name_of}
+use Rattle.cd_driver.specs.Reply.{Reply, says, usage, not_built, cannot_read, too_large, not_utf8}
+use Rattle.cd_driver.specs.Reply.{refusal}
 use Rattle.cd_driver.specs.Texts.{Against, ReadsAs, Declares, RefusesType, RefusesDeclarations}
 use Rattle.cd_driver.specs.Within.{IsIn, IsOutside, IsWithin}
 
--- the files that a call meets: the bytes of each name that are told, and the one name, if there is one, that can't be read
+-- the files that a call meets: the bytes of each name that are told, and the one name, if there is
+-- one, that can't be read
 pub record Disk : Type 0 where
   pub told : Bytes → Option Bytes
   pub marked : Option Bytes
@@ -35,18 +39,21 @@ pub record HasText (disk : Disk) (name text : Bytes) : Type 0 where
 -- the replies that refuse a file of declarations
 pub data FileRefusal (disk : Disk) (name : Bytes) : Reply → Type 0 where
   unread : disk.marked ≡ Some name → FileRefusal disk name (cannot_read name)
-  large : (bytes : Bytes) → Has disk name bytes → LARGEST < length bytes → FileRefusal disk name (too_large name)
+  large : (bytes : Bytes) → Has disk name bytes → LARGEST < length bytes
+      → FileRefusal disk name (too_large name)
   -- the byte that is told is the length of the longest front that is UTF-8
   encoding : (bytes : Bytes) → Has disk name bytes → length bytes ≤ LARGEST → (IsUtf8 bytes → ⊥)
       → FileRefusal disk name (not_utf8 name (utf8_valid_len bytes))
-  refused : (text : Bytes) → HasText disk name text → (against : Against) → RefusesDeclarations text against
+  refused : (text : Bytes) → HasText disk name text → (against : Against)
+      → RefusesDeclarations text against
       → FileRefusal disk name (refusal name text against)
 
 -- the answers of `sub` on two texts, which see these declarations; the first text is taken first
 pub data SubAnswer (declared : Declarations) (text1 text2 : Bytes) : Reply → Type 0 where
   first_refused : (against : Against) → RefusesType declared text1 against
       → SubAnswer declared text1 text2 (refusal (codes "T1") text1 against)
-  second_refused : (first : Written) → ReadsAs declared text1 first → (against : Against) → RefusesType declared text2 against
+  second_refused : (first : Written) → ReadsAs declared text1 first → (against : Against)
+      → RefusesType declared text2 against
       → SubAnswer declared text1 text2 (refusal (codes "T2") text2 against)
   -- yes: each element of the first type is in the second
   yes : (first second : Written) → ReadsAs declared text1 first → ReadsAs declared text2 second
@@ -55,13 +62,17 @@ pub data SubAnswer (declared : Declarations) (text1 text2 : Bytes) : Reply → T
   -- no, with the canonical text of an element that is in the first type and outside the second
   no : (first second : Written) → ReadsAs declared text1 first → ReadsAs declared text2 second
       → (element : Thing) → IsElement element → IsIn element first → IsOutside element second
-      → SubAnswer declared text1 text2 (says No (codes "no: " ++ encode_utf8_all (canonical element)))
+      → SubAnswer declared text1 text2
+      (says No (codes "no: " ++ encode_utf8_all (canonical element)))
 
 -- the answers of `sub` with a file of declarations, which is taken first
 pub data SubTypesAnswer (disk : Disk) (file text1 text2 : Bytes) : Reply → Type 0 where
-  file_refused : (reply : Reply) → FileRefusal disk file reply → SubTypesAnswer disk file text1 text2 reply
-  on_texts : (text : Bytes) → HasText disk file text → (declared : Declarations) → Declares text declared
-      → (reply : Reply) → SubAnswer declared text1 text2 reply → SubTypesAnswer disk file text1 text2 reply
+  file_refused : (reply : Reply) → FileRefusal disk file reply
+      → SubTypesAnswer disk file text1 text2 reply
+  on_texts : (text : Bytes) → HasText disk file text → (declared : Declarations)
+      → Declares text declared
+      → (reply : Reply) → SubAnswer declared text1 text2 reply
+      → SubTypesAnswer disk file text1 text2 reply
 
 -- the commands that aren't built
 abbrev pub CommandIsNotBuilt : Command → Type 0

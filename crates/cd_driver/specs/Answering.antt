@@ -10,8 +10,10 @@ use Rattle.cd_driver.specs.declared.message.Message.{Message}
 use Rattle.cd_driver.specs.Message.{reply_of}
 
 -- the message is such an answer for files that were met
-abbrev pub IsAnswer : (Disk → Reply → Type 0) → (old new : FilesState) → Result Message AllocError → Type 0
-IsAnswer answers old new result = (disk : Disk) × Met old new disk × IfOk result (λ message. answers disk (reply_of message))
+abbrev pub IsAnswer : (Disk → Reply → Type 0) → (old new : FilesState) → Result Message AllocError
+    → Type 0
+IsAnswer answers old new result = (disk : Disk) × Met old new disk
+    × IfOk result (λ message. answers disk (reply_of message))
 
 -- the words name no file that is read
 abbrev pub NamesNoFile : List Bytes → Type 0

@@ -10,7 +10,8 @@ use Rattle.cd_syntax.specs.TypeTree.{Declarations, NoDeclaration}
 use Rattle.cd_model.specs.Written.{Written}
 use Rattle.cd_names.specs.Faults.{Fault}
 use Rattle.cd_driver.specs.Command.{Bytes, Command, Sub, SubTypes, Give, HaveNoForm}
-use Rattle.cd_driver.specs.Texts.{Against, Lexical, Syntax, TooDeep, Naming, ReadsAs, Declares, RefusesType, RefusesDeclarations}
+use Rattle.cd_driver.specs.Texts.{Against, Lexical, Syntax, TooDeep, Naming, ReadsAs, Declares}
+use Rattle.cd_driver.specs.Texts.{RefusesType, RefusesDeclarations}
 use Rattle.cd_driver.specs.Within.{IsIn, IsOutside, IsWithin}
 use Rattle.cd_driver.specs.Reply.{Reply}
 use Rattle.cd_driver.specs.World.{World}
@@ -18,10 +19,14 @@ use Rattle.cd_driver.specs.Answer.{Disk, Has, HasText, LARGEST, Answer, CommandI
 use Rattle.cd_driver.specs.Ending.{Met}
 
 -- the words ask about two type texts, which see these declarations: none, or those of a file
-pub data GiveTexts (words : List Bytes) (disk : Disk) : Declarations → (text1 text2 : Bytes) → Type 0 where
-  alone : (text1 text2 : Bytes) → Give words (Sub text1 text2) → GiveTexts words disk NoDeclaration text1 text2
-  with_file : (file text1 text2 : Bytes) → Give words (SubTypes file text1 text2) → (text : Bytes) → HasText disk file text
-      → (declared : Declarations) → Declares text declared → GiveTexts words disk declared text1 text2
+pub data GiveTexts (words : List Bytes) (disk : Disk) : Declarations → (text1 text2 : Bytes)
+    → Type 0 where
+  alone : (text1 text2 : Bytes) → Give words (Sub text1 text2)
+      → GiveTexts words disk NoDeclaration text1 text2
+  with_file : (file text1 text2 : Bytes) → Give words (SubTypes file text1 text2) → (text : Bytes)
+      → HasText disk file text
+      → (declared : Declarations) → Declares text declared
+      → GiveTexts words disk declared text1 text2
 
 -- the words ask whether the first type is within the second, for the files that were met
 pub record Ask (words : List Bytes) (before after : World) (first second : Written) : Type 0 where
@@ -53,15 +58,20 @@ pub record IsNo (words : List Bytes) (before after : World) : Type 0 where
 
 -- this stands against a text that the words give
 pub data StandsAgainst (words : List Bytes) (disk : Disk) (against : Against) : Type 0 where
-  in_file : (file text1 text2 : Bytes) → Give words (SubTypes file text1 text2) → (text : Bytes) → HasText disk file text
+  in_file : (file text1 text2 : Bytes) → Give words (SubTypes file text1 text2) → (text : Bytes)
+      → HasText disk file text
       → RefusesDeclarations text against → StandsAgainst words disk against
-  in_first : (declared : Declarations) (text1 text2 : Bytes) → GiveTexts words disk declared text1 text2
+  in_first : (declared : Declarations) (text1 text2 : Bytes)
+      → GiveTexts words disk declared text1 text2
       → RefusesType declared text1 against → StandsAgainst words disk against
-  in_second : (declared : Declarations) (text1 text2 : Bytes) → GiveTexts words disk declared text1 text2
-      → (first : Written) → ReadsAs declared text1 first → RefusesType declared text2 against → StandsAgainst words disk against
+  in_second : (declared : Declarations) (text1 text2 : Bytes)
+      → GiveTexts words disk declared text1 text2
+      → (first : Written) → ReadsAs declared text1 first → RefusesType declared text2 against
+      → StandsAgainst words disk against
 
 -- and it is of this kind
-pub record IsRefused (words : List Bytes) (before after : World) (is : Against → Type 0) : Type 0 where
+pub record IsRefused (words : List Bytes) (before after : World)
+    (is : Against → Type 0) : Type 0 where
   pub disk : Disk
   pub met : Met before.files after.files disk
   pub against : Against

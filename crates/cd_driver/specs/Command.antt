@@ -41,12 +41,14 @@ pub record IsSize (word : Bytes) (size : ℕ) : Type 0 where
 -- the words give the command
 abbrev pub Give : List Bytes → Command → Type 0
 Give words (Sub first second) = words ≡ codes "sub" ∷ first ∷ second ∷ []
-Give words (SubTypes file first second) = words ≡ codes "sub" ∷ codes "--types" ∷ file ∷ first ∷ second ∷ []
+Give words (SubTypes file first second) =
+    words ≡ codes "sub" ∷ codes "--types" ∷ file ∷ first ∷ second ∷ []
 Give words (Member file document type) = words ≡ codes "member" ∷ file ∷ document ∷ type ∷ []
 Give words (Check file) = words ≡ codes "check" ∷ file ∷ []
 Give words (Run file document) = words ≡ codes "run" ∷ file ∷ document ∷ []
 Give words (RunSteps units file document) =
-    (word : Bytes) × (words ≡ codes "run" ∷ codes "--steps" ∷ word ∷ file ∷ document ∷ []) × IsNumeral 18 word units
+    (word : Bytes) × (words ≡ codes "run" ∷ codes "--steps" ∷ word ∷ file ∷ document ∷ [])
+    × IsNumeral 18 word units
 Give words (Work size) =
     (word : Bytes) × (words ≡ codes "work" ∷ word ∷ []) × IsSize word size
 

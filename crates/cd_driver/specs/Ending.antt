@@ -24,7 +24,8 @@ pub data Delivered (before after : World) (reply : Reply) : Status → Type 0 wh
   -- both texts were written whole
   whole : Puts before.out after.out reply.out → Puts before.err after.err reply.err
       → Delivered before after reply reply.status
-  -- a sink refused its text and has a prefix of it, and its count of faults rose; the other sink is as it was
+  -- a sink refused its text and has a prefix of it, and its count of faults rose; the other sink is
+  -- as it was
   out_refused : reply.out ≢ [] → FailsToPut before.out after.out reply.out → after.err ≡ before.err
       → Delivered before after reply WriteFault
   err_refused : reply.err ≢ [] → FailsToPut before.err after.err reply.err → after.out ≡ before.out
@@ -38,7 +39,8 @@ pub data Delivered (before after : World) (reply : Reply) : Status → Type 0 wh
 -- the ways that a call on these words ends
 pub data Ending (words : List Bytes) (disk : Disk) (before after : World) : Status → Type 0 where
   -- an answer to the words was delivered, or a prefix of it
-  answered : (reply : Reply) → Answer words disk reply → (status : Status) → Delivered before after reply status
+  answered : (reply : Reply) → Answer words disk reply → (status : Status)
+      → Delivered before after reply status
       → Ending words disk before after status
   -- memory ran out before anything was written
   no_memory : after.out ≡ before.out → after.err ≡ before.err

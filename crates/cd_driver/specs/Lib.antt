@@ -6,12 +6,9 @@ pub mod Ending
 pub mod Headline
 pub mod Causes
 pub mod Message
-pub mod Request
-pub mod Telling
 pub mod Position
 pub mod Texts
 pub mod Within
-pub mod Comparing
-pub mod Refusal
 pub mod File
 pub mod Answering
+pub mod Inner

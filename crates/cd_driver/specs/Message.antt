@@ -5,5 +5,9 @@ use Rattle.cd_driver.specs.Reply.{Reply}
 
 abbrev pub reply_of : Message → Reply
 reply_of message =
-    if message.on_output then record { status = message.status; out = string_bytes message.text; err = [] }
+    if message.on_output then record {
+      status = message.status;
+      out = string_bytes message.text;
+      err = [];
+    }
     else record { status = message.status; out = []; err = string_bytes message.text }

@@ -1,5 +1,6 @@
 -- Places of a text, as its readers count them.
-use Rattle.std.specs.Prelude.{ℕ, ◌+◌, ◌-◌, ◌==◌, not, if◌then◌else◌, List, [], ◌∷◌, ◌++◌, length, reverse, codes}
+use Rattle.std.specs.Prelude.{ℕ, ◌+◌, ◌-◌, ◌==◌, not, if◌then◌else◌, List, [], ◌∷◌, ◌++◌, length}
+use Rattle.std.specs.Prelude.{reverse, codes}
 use Rattle.std.specs.List.{filter, take_while}
 use Rattle.std.specs.Str.{chars}
 use Rattle.std.specs.Fmt.{decimal}
@@ -9,7 +10,8 @@ use Rattle.cd_driver.specs.Command.{Bytes}
 -- the characters of a text that begin before this byte
 abbrev pub characters_before : (at : ℕ) → List ℕ → List ℕ
 characters_before at [] = []
-characters_before at (c ∷ cs) = if at == 0 then [] else c ∷ characters_before (at - bytes (c ∷ [])) cs
+characters_before at (c ∷ cs) = if at ==
+    0 then [] else c ∷ characters_before (at - bytes (c ∷ [])) cs
 
 -- one more than the line feeds before a place
 abbrev pub line_after : List ℕ → ℕ
@@ -21,4 +23,5 @@ column_after before = 1 + length (take_while (λ c. not (c == 10)) (reverse befo
 
 -- line and column, as a text
 abbrev pub position : Bytes → (at : ℕ) → Bytes
-position text at = decimal (line_after (characters_before at (chars text))) ++ codes ":" ++ decimal (column_after (characters_before at (chars text)))
+position text at = decimal (line_after (characters_before at (chars text))) ++ codes ":"
+    ++ decimal (column_after (characters_before at (chars text)))

@@ -43,30 +43,38 @@ pub record Declares (text : Bytes) (declared : Declarations) : Type 0 where
   pub written : AreDeclared 1000 tokens declared
   pub sound : (fault : Fault) → IsFaultOfDeclarations declared fault → ⊥
 
--- what stands against a text, whose tokens are to be of a form: its first lexical fault, the place of its fault of syntax, or that of
--- a form too deep, or the naming fault that is told of it
+-- what stands against a text, whose tokens are to be of a form: its first lexical fault, the place
+-- of its fault of syntax, or that of a form too deep, or the naming fault that is told of it
 pub data Against : Type 0 where
   Lexical : LexError → Against
   Syntax : (place : ℕ) → Against
   TooDeep : (place : ℕ) → Against
   Naming : Fault → Against
 
--- it stands against the text; `told` says of tokens that are of the form which naming fault is told of what they write
-pub data Refuses (form : Form) (told : List Token → Fault → Type 0) (text : Bytes) : Against → Type 0 where
-  lexical : (fault : LexError) → Fails false 0 (chars text) fault → Refuses form told text (Lexical fault)
-  syntax : (tokens : List Token) → HasTokens text tokens → (place : ℕ) → IsSyntaxFault form 1000 tokens (length text) place
+-- it stands against the text; `told` says of tokens that are of the form which naming fault is told
+-- of what they write
+pub data Refuses (form : Form) (told : List Token → Fault → Type 0) (text : Bytes) : Against
+    → Type 0 where
+  lexical : (fault : LexError) → Fails false 0 (chars text) fault
+      → Refuses form told text (Lexical fault)
+  syntax : (tokens : List Token) → HasTokens text tokens → (place : ℕ)
+      → IsSyntaxFault form 1000 tokens (length text) place
       → Refuses form told text (Syntax place)
-  too_deep : (tokens : List Token) → HasTokens text tokens → (place : ℕ) → IsDepthFault form 1000 tokens (length text) place
+  too_deep : (tokens : List Token) → HasTokens text tokens → (place : ℕ)
+      → IsDepthFault form 1000 tokens (length text) place
       → Refuses form told text (TooDeep place)
-  naming : (tokens : List Token) → HasTokens text tokens → (fault : Fault) → told tokens fault → Refuses form told text (Naming fault)
+  naming : (tokens : List Token) → HasTokens text tokens → (fault : Fault) → told tokens fault
+      → Refuses form told text (Naming fault)
 
 -- the fault is told of the type that the tokens write, and of the declarations
 abbrev pub IsToldOfType : Declarations → List Token → Fault → Type 0
-IsToldOfType declared tokens fault = (is : Tree) × IsTree 1000 tokens is × IsTold (IsFaultOfType declared is) fault
+IsToldOfType declared tokens fault = (is : Tree) × IsTree 1000 tokens is
+    × IsTold (IsFaultOfType declared is) fault
 
 abbrev pub IsToldOfDeclarations : List Token → Fault → Type 0
 IsToldOfDeclarations tokens fault =
-    (declared : Declarations) × AreDeclared 1000 tokens declared × IsTold (IsFaultOfDeclarations declared) fault
+    (declared : Declarations) × AreDeclared 1000 tokens declared
+    × IsTold (IsFaultOfDeclarations declared) fault
 
 -- what stands against a type text that sees these declarations, and against a file of declarations
 abbrev pub RefusesType : Declarations → Bytes → Against → Type 0

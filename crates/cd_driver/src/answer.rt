@@ -2,7 +2,7 @@ ghost use Rattle.std.specs.Prelude.{◌≡◌, IfOk};
 ghost use Rattle.cd_syntax.specs.PlainTree.{plain_declarations};
 ghost use Rattle.cd_syntax.specs.TypeTree.{NoDeclaration};
 ghost use Rattle.cd_driver.specs.Answer.{Disk, HasText, Answer, SubAnswer, SubTypesAnswer};
-ghost use Rattle.cd_driver.specs.Comparing.{AreSound};
+ghost use Rattle.cd_driver.specs.Inner.Comparing.{AreSound};
 ghost use Rattle.cd_driver.specs.Answering.{IsAnswer, NamesNoFile};
 ghost use Rattle.cd_driver.specs.Message.{reply_of};
 ghost use Rattle.cd_driver.specs.Command.{Bytes, SubTypes, Give, texts};
@@ -23,9 +23,11 @@ pub(crate) fn answer<F: Files>(
     words: &[String],
     files: &mut F,
 ) -> Result<Message, AllocError>
-    ensures answer { IsAnswer (λ disk. Answer (texts words.now) disk) (F.state files.old) (F.state files.new) result }
+    ensures answer { IsAnswer (λ disk. Answer (texts words.now) disk) (F.state files.old)
+        (F.state files.new) result }
     ensures told { (F.state files.new).told ≡ (F.state files.old).told }
-    ensures read { (file text1 text2 : Bytes) → Give (texts words.now) (SubTypes file text1 text2) → ReadsThere (F.state files.old) (F.state files.new) file }
+    ensures read { (file text1 text2 : Bytes) → Give (texts words.now) (SubTypes file text1 text2)
+        → ReadsThere (F.state files.old) (F.state files.new) file }
     ensures unread { NamesNoFile (texts words.now) → F.state files.new ≡ F.state files.old }
 {
     match request_of(words) {
@@ -46,7 +48,8 @@ fn sub_types<F: Files>(
     first: &str,
     second: &str,
 ) -> Result<Message, AllocError>
-    ensures answer { IsAnswer (λ disk. SubTypesAnswer disk file.now first.now second.now) (F.state files.old) (F.state files.new) result }
+    ensures answer { IsAnswer (λ disk. SubTypesAnswer disk file.now first.now second.now)
+        (F.state files.old) (F.state files.new) result }
     ensures told { (F.state files.new).told ≡ (F.state files.old).told }
     ensures read { ReadsThere (F.state files.old) (F.state files.new) file.now }
 {
@@ -76,7 +79,8 @@ fn with_file(
     first: &str,
     second: &str,
 ) -> Result<Message, AllocError>
-    ensures { IfOk result (λ message. (disk : Disk) → HasText disk file.now text.now → SubTypesAnswer disk file.now first.now second.now (reply_of message)) }
+    ensures { IfOk result (λ message. (disk : Disk) → HasText disk file.now text.now
+        → SubTypesAnswer disk file.now first.now second.now (reply_of message)) }
 {
     match read_declarations(alloc, text)? {
         Ok(declared) => sub(alloc, &declared, first, second),
@@ -86,7 +90,8 @@ fn with_file(
 
 // Whether the first type text is within the second, where they see no declarations.
 fn sub_alone(alloc: Global, first: &str, second: &str) -> Result<Message, AllocError>
-    ensures { IfOk result (λ message. SubAnswer NoDeclaration first.now second.now (reply_of message)) }
+    ensures { IfOk result (λ message.
+        SubAnswer NoDeclaration first.now second.now (reply_of message)) }
 {
     let none = Declarations::of(Vec::new(alloc));
     sub(alloc, &none, first, second)
@@ -100,7 +105,8 @@ fn sub(
     second: &str,
 ) -> Result<Message, AllocError>
     requires { AreSound (plain_declarations declared.now) }
-    ensures { IfOk result (λ message. SubAnswer (plain_declarations declared.now) first.now second.now (reply_of message)) }
+    ensures { IfOk result (λ message.
+        SubAnswer (plain_declarations declared.now) first.now second.now (reply_of message)) }
 {
     let left = match read_type(alloc, declared, first)? {
         Ok(left) => left,

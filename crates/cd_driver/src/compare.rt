@@ -8,7 +8,7 @@ ghost use Rattle.cd_resolve.specs.Named.{AreNamed};
 ghost use Rattle.cd_empty.specs.Seen.{graph_of};
 ghost use Rattle.cd_driver.specs.Message.{reply_of};
 ghost use Rattle.cd_driver.specs.Texts.{type_of};
-ghost use Rattle.cd_driver.specs.Comparing.{AreSound, IsSound, ComparesNodes, ComparesTypes};
+ghost use Rattle.cd_driver.specs.Inner.Comparing.{AreSound, IsSound, ComparesNodes, ComparesTypes};
 
 use crate::message::{Message, no, yes};
 use cd_empty::{Verdict, World};
@@ -29,7 +29,9 @@ pub(crate) fn compare(
     requires declared { AreSound list }
     requires first { IsSound list (plain first.now) }
     requires second { IsSound list (plain second.now) }
-    ensures { IfOk result (λ message. ComparesTypes (type_of list (plain first.now)) (type_of list (plain second.now)) (reply_of message)) }
+    ensures { IfOk result (λ message.
+        ComparesTypes (type_of list (plain first.now)) (type_of list (plain second.now))
+        (reply_of message)) }
 {
     let (mut world, names) = world_of(alloc, declared)?;
     let first = node(alloc, &mut world, &names, first)?;
@@ -41,7 +43,8 @@ pub(crate) fn compare(
 fn world_of(alloc: Global, declared: &Declarations) -> Result<(World, Names), AllocError>
     requires { AreSound (plain_declarations declared.now) }
     ensures graph { IfOk result (λ made. IsGraph (graph_of made.0)) }
-    ensures named { IfOk result (λ made. AreNamed (graph_of made.0) (plain_declarations declared.now) made.1) }
+    ensures named { IfOk result
+        (λ made. AreNamed (graph_of made.0) (plain_declarations declared.now) made.1) }
 {
     let mut world = World::new(alloc)?;
     let batch = resolve(alloc, world.graph().len(), declared)?;
@@ -57,8 +60,10 @@ fn node(alloc: Global, world: &mut World, names: &Names, tree: &Tree) -> Result<
     requires named { AreNamed (graph_of world.old) list names.now }
     requires tree { IsSound list (plain tree.now) }
     ensures graph { IfOk result (λ _. IsGraph (graph_of world.new)) }
-    ensures grows { IfOk result (λ _. (more : PlainGraph) × (graph_of world.new ≡ graph_of world.old ++ more)) }
-    ensures stands { IfOk result (λ id. StandsFor (graph_of world.new) id (type_of list (plain tree.now))) }
+    ensures grows { IfOk result
+        (λ _. (more : PlainGraph) × (graph_of world.new ≡ graph_of world.old ++ more)) }
+    ensures stands { IfOk result
+        (λ id. StandsFor (graph_of world.new) id (type_of list (plain tree.now))) }
 {
     let batch = resolve_type(alloc, world.graph(), names, tree)?;
     world.extend(batch.formulas)?;
@@ -74,7 +79,8 @@ fn compare_nodes(
 ) -> Result<Message, AllocError>
     requires first { first.0 < length (graph_of world.old) }
     requires second { second.0 < length (graph_of world.old) }
-    ensures { IfOk result (λ message. ComparesNodes (graph_of world.old) first second (reply_of message)) }
+    ensures { IfOk result (λ message.
+        ComparesNodes (graph_of world.old) first second (reply_of message)) }
 {
     match world.subtype(first, second)? {
         Verdict::Empty => yes(alloc),

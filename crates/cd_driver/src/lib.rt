@@ -8,7 +8,7 @@ ghost use Rattle.cd_driver.specs.Command.{Bytes, SubTypes, Give, texts};
 ghost use Rattle.cd_driver.specs.File.{ReadsThere};
 ghost use Rattle.cd_driver.specs.Ending.{Completes};
 ghost use Rattle.cd_driver.specs.Headline.{Headline};
-ghost use Rattle.cd_driver.specs.Telling.{Put};
+ghost use Rattle.cd_driver.specs.Inner.Telling.{Put};
 ghost use Rattle.cd_driver.specs.World.{world};
 
 use answer::answer;
@@ -29,10 +29,10 @@ mod reader;
 mod refusal;
 mod request;
 
-/// Does what the words ask, which are the program's arguments without its name, and answers the status
-/// that the program ends with. An answer has a text for `out` or for `err`, which is made whole before
-/// it is put. A put that the sink refuses makes the status [`Status::WriteFault`], and want of memory
-/// makes it [`Status::NoMemory`].
+/// Does what the words ask, which are the program's arguments without its name, and answers the
+/// status that the program ends with. An answer has a text for `out` or for `err`, which is made
+/// whole before it is put. A put that the sink refuses makes the status [`Status::WriteFault`], and
+/// want of memory makes it [`Status::NoMemory`].
 pub fn cduce<F: Files, S: Sink>(
     alloc: Global,
     words: &[String],
@@ -45,8 +45,8 @@ pub fn cduce<F: Files, S: Sink>(
         (world (F.state files.old) (S.state out.old) (S.state err.old))
         (world (F.state files.new) (S.state out.new) (S.state err.new)) result }
 
-    // Whatever failed: an answer was written whole, or a prefix of one where a sink refused it or memory
-    // ran out, or nothing was written for want of memory.
+    // Whatever failed: an answer was written whole, or a prefix of one where a sink refused it or
+    // memory ran out, or nothing was written for want of memory.
     ensures complete { Completes (texts words.now)
         (world (F.state files.old) (S.state out.old) (S.state err.old))
         (world (F.state files.new) (S.state out.new) (S.state err.new)) result }
@@ -56,10 +56,12 @@ pub fn cduce<F: Files, S: Sink>(
         (world (F.state files.old) (S.state out.old) (S.state err.old))
         (world (F.state files.new) (S.state out.new) (S.state err.new)) result }
 
-    // What is told of files stays. Where the words name a file, what is known of files stays as it was, or the count of
-    // faults rose and this file is the last at which one came; where they name none, it stays as it was.
+    // What is told of files stays. Where the words name a file, what is known of files stays as it
+    // was, or the count of faults rose and this file is the last at which one came; where they name
+    // none, it stays as it was.
     ensures told { (F.state files.new).told ≡ (F.state files.old).told }
-    ensures read { (file text1 text2 : Bytes) → Give (texts words.now) (SubTypes file text1 text2) → ReadsThere (F.state files.old) (F.state files.new) file }
+    ensures read { (file text1 text2 : Bytes) → Give (texts words.now) (SubTypes file text1 text2)
+        → ReadsThere (F.state files.old) (F.state files.new) file }
     ensures unread { NamesNoFile (texts words.now) → F.state files.new ≡ F.state files.old }
 {
     match answer(alloc, words, files) {
@@ -70,8 +72,12 @@ pub fn cduce<F: Files, S: Sink>(
 
 // Puts the text of a message to its sink.
 fn tell<S: Sink>(message: &Message, out: &mut S, err: &mut S) -> Status
-    ensures output { IsTrue message.now.on_output → Put (string_bytes message.now.text) message.now.status (S.state out.old) (S.state out.new) result × (S.state err.new ≡ S.state err.old) }
-    ensures errors { message.now.on_output ≡ false → Put (string_bytes message.now.text) message.now.status (S.state err.old) (S.state err.new) result × (S.state out.new ≡ S.state out.old) }
+    ensures output { IsTrue message.now.on_output
+        → Put (string_bytes message.now.text) message.now.status (S.state out.old)
+        (S.state out.new) result × (S.state err.new ≡ S.state err.old) }
+    ensures errors { message.now.on_output ≡ false
+        → Put (string_bytes message.now.text) message.now.status (S.state err.old)
+        (S.state err.new) result × (S.state out.new ≡ S.state out.old) }
 {
     if message.on_output {
         put(out, message)
@@ -81,7 +87,8 @@ fn tell<S: Sink>(message: &Message, out: &mut S, err: &mut S) -> Status
 }
 
 fn put<S: Sink>(sink: &mut S, message: &Message) -> Status
-    ensures { Put (string_bytes message.now.text) message.now.status (S.state sink.old) (S.state sink.new) result }
+    ensures { Put (string_bytes message.now.text) message.now.status (S.state sink.old)
+        (S.state sink.new) result }
 {
     match sink.put(message.text.as_bytes()) {
         Ok(()) => message.status,

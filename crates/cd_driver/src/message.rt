@@ -3,7 +3,7 @@ ghost use Rattle.cd_base.specs.declared.status.Status.TheVariants.{Done as IsDon
 ghost use Rattle.cd_driver.specs.Reply as reply;
 ghost use Rattle.cd_driver.specs.Reply.{says};
 ghost use Rattle.cd_driver.specs.Message.{reply_of};
-ghost use Rattle.cd_driver.specs.Refusal.{against};
+ghost use Rattle.cd_driver.specs.Inner.Refusal.{against};
 
 use crate::position::place;
 use crate::refusal::Refusal;
@@ -69,14 +69,16 @@ pub(crate) fn not_utf8(alloc: Global, name: &str, byte: usize) -> Result<Message
     Ok(complaint(Status::NotUtf8, text))
 }
 
-/// What is said of a text where this stands against it; its origin is the name of its file, or `T1` or `T2`.
+/// What is said of a text where this stands against it; its origin is the name of its file, or `T1`
+/// or `T2`.
 pub(crate) fn refused(
     alloc: Global,
     origin: &str,
     text: &str,
     refusal: Refusal,
 ) -> Result<Message, AllocError>
-    ensures { IfOk result (λ message. reply_of message ≡ reply.refusal origin.now text.now (against refusal)) }
+    ensures { IfOk result (λ message.
+        reply_of message ≡ reply.refusal origin.now text.now (against refusal)) }
 {
     match refusal {
         Refusal::Lexical(fault) => lexical(alloc, origin, text, fault),
@@ -95,7 +97,9 @@ fn naming(
     name: &Name,
     at: usize,
 ) -> Result<Message, AllocError>
-    ensures { IfOk result (λ message. reply_of message ≡ reply.naming origin.now text.now (record { fault = fault; name = name.now; at = at })) }
+    ensures { IfOk result (λ message.
+        reply_of message ≡ reply.naming origin.now text.now
+        (record { fault = fault; name = name.now; at = at })) }
 {
     let message = naming_message(alloc, fault, name.as_str())?;
     at_place(alloc, Status::Naming, origin, text, at, message.as_str())
@@ -133,7 +137,8 @@ fn at_place(
     at: usize,
     message: &str,
 ) -> Result<Message, AllocError>
-    ensures { IfOk result (λ told. reply_of told ≡ reply.at_place status origin.now text.now at message.now) }
+    ensures { IfOk result (λ told.
+        reply_of told ≡ reply.at_place status origin.now text.now at message.now) }
 {
     let (line, column) = place(text, at);
     let told = format!(in alloc; "{origin}:{line}:{column}: {message}\n")?;

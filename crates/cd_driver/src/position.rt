@@ -1,9 +1,11 @@
 ghost use Rattle.std.specs.Prelude.{◌≡◌};
 ghost use Rattle.std.specs.Str.{chars};
-ghost use Rattle.cd_driver.specs.Position.{characters_before as before_of, line_after, column_after};
+ghost use Rattle.cd_driver.specs.Position.{characters_before as before_of, line_after};
+ghost use Rattle.cd_driver.specs.Position.{column_after};
 
-/// The line and the column, both from 1, at which a byte of a text stands: one more than the line feeds before
-/// it, and one more than the characters between the last of these, or the start, and it.
+/// The line and the column, both from 1, at which a byte of a text stands: one more than the line
+/// feeds before it, and one more than the characters between the last of these, or the start, and
+/// it.
 pub fn place(text: &str, at: usize) -> (usize, usize)
     ensures line { result.0 ≡ line_after (before_of at (chars text.now)) }
     ensures column { result.1 ≡ column_after (before_of at (chars text.now)) }

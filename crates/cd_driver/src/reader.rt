@@ -2,8 +2,9 @@ ghost use Rattle.std.specs.Prelude.{◌≡◌, false, IfOk, MatchResult};
 ghost use Rattle.std.specs.Str.{chars};
 ghost use Rattle.cd_syntax.specs.Faults.{Fails};
 ghost use Rattle.cd_syntax.specs.PlainTree.{plain, plain_declarations};
-ghost use Rattle.cd_driver.specs.Refusal.{against, IsOfFault, IsOfNames};
-ghost use Rattle.cd_driver.specs.Texts.{ReadsAs, Declares, HasTokens, RefusesType, RefusesDeclarations, type_of};
+ghost use Rattle.cd_driver.specs.Inner.Refusal.{against, IsOfFault, IsOfNames};
+ghost use Rattle.cd_driver.specs.Texts.{ReadsAs, Declares, HasTokens, RefusesType};
+ghost use Rattle.cd_driver.specs.Texts.{RefusesDeclarations, type_of};
 
 use crate::refusal::Refusal;
 use cd_lex::lex;
@@ -21,7 +22,8 @@ pub(crate) fn read_type(
     text: &str,
 ) -> Result<Result<Box<Tree>, Refusal>, AllocError>
     ensures { IfOk result (λ read. MatchResult read
-        (λ is. ReadsAs (plain_declarations declared.now) text.now (type_of (plain_declarations declared.now) (plain is.value)))
+        (λ is. ReadsAs (plain_declarations declared.now) text.now
+        (type_of (plain_declarations declared.now) (plain is.value)))
         (λ refusal. RefusesType (plain_declarations declared.now) text.now (against refusal))) }
 {
     let tokens = match tokens(alloc, text)? {
@@ -84,7 +86,9 @@ fn refusal_of_names(error: NameError) -> Result<Refusal, AllocError>
 
 // The tokens of a text, or its first lexical fault.
 fn tokens(alloc: Global, text: &str) -> Result<Result<Vec<Token>, LexError>, AllocError>
-    ensures { IfOk result (λ read. MatchResult read (λ tokens. HasTokens text.now tokens.items) (λ fault. Fails false 0 (chars text.now) fault)) }
+    ensures { IfOk result (λ read.
+        MatchResult read (λ tokens. HasTokens text.now tokens.items)
+        (λ fault. Fails false 0 (chars text.now) fault)) }
 {
     match lex(alloc, text) {
         Ok(tokens) => Ok(Ok(tokens)),

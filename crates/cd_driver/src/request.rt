@@ -3,7 +3,7 @@ ghost use Rattle.std.specs.Char.{is_ascii_digit};
 ghost use Rattle.std.specs.List.{list_all};
 ghost use Rattle.cd_syntax.specs.Digits.{AreDigits, decimal_value};
 ghost use Rattle.cd_driver.specs.Command.{texts, HaveNoForm};
-ghost use Rattle.cd_driver.specs.Request.{StandsFor, WritesUnits, WritesSize};
+ghost use Rattle.cd_driver.specs.Inner.Request.{StandsFor, WritesUnits, WritesSize};
 
 /// What words ask for.
 #[derive(Clone, Copy)]
@@ -18,7 +18,8 @@ pub(crate) enum Request<'a> {
 
 /// What the words ask for, where they have a listed form.
 pub(crate) fn request_of(words: &[String]) -> Option<Request<'_>>
-    ensures { MatchOption result (HaveNoForm (texts words.now)) (λ request. StandsFor (texts words.now) request) }
+    ensures { MatchOption result (HaveNoForm (texts words.now))
+        (λ request. StandsFor (texts words.now) request) }
 {
     match words {
         [name, a] => of_two(name.as_str(), a.as_str()),
@@ -36,7 +37,8 @@ pub(crate) fn request_of(words: &[String]) -> Option<Request<'_>>
 }
 
 fn of_two(name: &str, word: &str) -> Option<Request<'static>>
-    ensures { MatchOption result (HaveNoForm (name.now ∷ word.now ∷ [])) (λ request. StandsFor (name.now ∷ word.now ∷ []) request) }
+    ensures { MatchOption result (HaveNoForm (name.now ∷ word.now ∷ []))
+        (λ request. StandsFor (name.now ∷ word.now ∷ []) request) }
 {
     match name {
         "check" => Some(Request::NotBuilt("check")),
@@ -46,7 +48,8 @@ fn of_two(name: &str, word: &str) -> Option<Request<'static>>
 }
 
 fn of_three<'a>(name: &str, first: &'a str, second: &'a str) -> Option<Request<'a>>
-    ensures { MatchOption result (HaveNoForm (name.now ∷ first.now ∷ second.now ∷ [])) (λ request. StandsFor (name.now ∷ first.now ∷ second.now ∷ []) request) }
+    ensures { MatchOption result (HaveNoForm (name.now ∷ first.now ∷ second.now ∷ []))
+        (λ request. StandsFor (name.now ∷ first.now ∷ second.now ∷ []) request) }
 {
     match name {
         "sub" => Some(Request::Sub(first, second)),
@@ -56,7 +59,8 @@ fn of_three<'a>(name: &str, first: &'a str, second: &'a str) -> Option<Request<'
 }
 
 fn of_four(name: &str, first: &str, second: &str, third: &str) -> Option<Request<'static>>
-    ensures { MatchOption result (HaveNoForm (name.now ∷ first.now ∷ second.now ∷ third.now ∷ [])) (λ request. StandsFor (name.now ∷ first.now ∷ second.now ∷ third.now ∷ []) request) }
+    ensures { MatchOption result (HaveNoForm (name.now ∷ first.now ∷ second.now ∷ third.now ∷ []))
+        (λ request. StandsFor (name.now ∷ first.now ∷ second.now ∷ third.now ∷ []) request) }
 {
     match name {
         "member" => Some(Request::NotBuilt("member")),
@@ -71,7 +75,10 @@ fn of_five<'a>(
     second: &'a str,
     third: &'a str,
 ) -> Option<Request<'a>>
-    ensures { MatchOption result (HaveNoForm (name.now ∷ option.now ∷ first.now ∷ second.now ∷ third.now ∷ [])) (λ request. StandsFor (name.now ∷ option.now ∷ first.now ∷ second.now ∷ third.now ∷ []) request) }
+    ensures { MatchOption result
+        (HaveNoForm (name.now ∷ option.now ∷ first.now ∷ second.now ∷ third.now ∷ []))
+        (λ request. StandsFor (name.now ∷ option.now ∷ first.now ∷ second.now ∷ third.now
+        ∷ []) request) }
 {
     match name {
         "sub" if option == "--types" => Some(Request::SubTypes(first, second, third)),

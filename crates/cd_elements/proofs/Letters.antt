@@ -4,8 +4,8 @@ use Rattle.std.specs.Prelude.{codes}
 use Rattle.std.specs.Option.{option_map}
 use Rattle.cd_model.specs.Canonical.{Part, Letter, Other, Piece, Run, Alone, pieces_of, pieces_with, sequence_text}
 use Rattle.cd_model.specs.Canonical.{double_quoted}
-use Rattle.cd_elements.specs.Looks.{letters_of}
-use Rattle.cd_elements.specs.Sequences.{pieces_text}
+use Rattle.cd_elements.specs.Inner.Looks.{letters_of}
+use Rattle.cd_elements.specs.Inner.Sequences.{pieces_text}
 
 -- a character before a run
 run_more : (c : ℕ) (characters : List ℕ) (found : Option (List ℕ)) (pieces : List Piece)

@@ -11,8 +11,8 @@ use Rattle.cd_model.specs.Thing as thing
 use Rattle.cd_model.specs.Thing.{Thing, Pairs}
 use Rattle.cd_elements.specs.declared.shape.ElementId.{ElementId}
 use Rattle.cd_elements.specs.Table.{element_at, fields_of, pair_before, result_at, pairs_of}
-use Rattle.cd_elements.specs.Tasks.{text_in, part_in}
-use Rattle.cd_elements.specs.Rows.{part_text_in, result_text_in, pair_text_in}
+use Rattle.cd_elements.specs.Inner.Tasks.{text_in, part_in}
+use Rattle.cd_elements.specs.Inner.Rows.{part_text_in, result_text_in, pair_text_in}
 
 pub no_characters : chars [] ≡ []
 no_characters = chars-nil

@@ -5,7 +5,7 @@ use Rattle.std.specs.Str.{chars}
 use Rattle.cd_elements.specs.declared.task.Mark.{Mark}
 use Rattle.cd_elements.specs.declared.task.Mark.TheVariants.{Comma, Semicolon, Space, Quote, Maps, Fails, Parenthesis}
 use Rattle.cd_elements.specs.declared.task.Mark.TheVariants.{Bracket, Brace, Greater}
-use Rattle.cd_elements.specs.Marks.{mark_text}
+use Rattle.cd_elements.specs.Inner.Marks.{mark_text}
 
 pub mark_characters : (mark : Mark) → chars (mark_text mark) ≡ mark_text mark
 unfolding chars

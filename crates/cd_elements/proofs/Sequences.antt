@@ -5,7 +5,7 @@ use Rattle.std.specs.List.{join_by, flat_map}
 use Rattle.cd_model.specs.Canonical.{Text, Part, Letter, Other, Piece, Run, Alone, escaped, piece_text, pieces_with}
 use Rattle.cd_model.specs.Canonical.{pieces_of}
 use Rattle.cd_elements.specs.declared.sequence.Edge.{Edge}
-use Rattle.cd_elements.specs.Sequences.{opening, before_rest, edge_after, edge_of, pieces_text}
+use Rattle.cd_elements.specs.Inner.Sequences.{opening, before_rest, edge_after, edge_of, pieces_text}
 use Rattle.cd_elements.proofs.Joining.{join_first}
 
 pub edge_with : (part : Part) (pieces : List Piece) → edge_of (pieces_with part pieces) ≡ edge_after part

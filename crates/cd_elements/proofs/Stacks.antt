@@ -2,7 +2,7 @@
 use Rattle.std.proofs.Common.{◌≡◌, List, [], ◌∷◌, ◌++◌, append-nil, append_assoc, sym, ap, ◌∙◌}
 use Rattle.cd_model.specs.Thing.{Thing}
 use Rattle.cd_elements.specs.declared.task.Task.{Task}
-use Rattle.cd_elements.specs.Tasks.{task_text, stack_text}
+use Rattle.cd_elements.specs.Inner.Tasks.{task_text, stack_text}
 
 pub stack_push : (table : List Thing) (tasks : List Task) (task : Task)
     → stack_text table (tasks ++ task ∷ []) ≡ task_text table task ++ stack_text table tasks

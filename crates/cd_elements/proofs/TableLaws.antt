@@ -3,7 +3,7 @@ use Rattle.std.proofs.Common.{◌≡◌, ℕ, zero, suc, ◌+◌, ◌<◌, List,
 use Rattle.std.proofs.Common.{sym, ◌∙◌, subst, append_assoc, append-nil, length-append, arith}
 use Rattle.std.specs.Prelude.{IfSome, Result, Ok, Err, is_ok, if◌then◌else◌}
 use Rattle.std.proofs.lemmas.List.{get_or_append_left, get_or_at, length_push}
-use Rattle.cd_model.specs.Each.{Each}
+use Rattle.cd_model.specs.AllOf.{AllOf}
 use Rattle.cd_syntax.specs.Name.{Name}
 use Rattle.cd_model.specs.Thing as thing
 use Rattle.cd_model.specs.Thing.{Thing, Fields, Pairs, NoField, IsAtom, IsRecord, IsElement, AreFields, ArePairs}
@@ -36,7 +36,7 @@ at_grown table more id is = get_or_append_left table more (thing.Atom []) id.0 i
 in_grown : (table more : List Thing) (id : ElementId) → Names table id → Names (table ++ more) id
 in_grown table more id is = omega (arith, length-append table more)
 
-fields_grown : (table more : List Thing) (parts : List (Name × ElementId)) → Each (λ part. Names table part.1) parts
+fields_grown : (table more : List Thing) (parts : List (Name × ElementId)) → AllOf (λ part. Names table part.1) parts
     → fields_of (table ++ more) parts ≡ fields_of table parts
 fields_grown table more [] are = refl
 fields_grown table more (part ∷ parts) are =
@@ -48,7 +48,7 @@ result_grown table more None is = refl
 result_grown table more (Some id) is = ap Some (at_grown table more id is)
 
 pairs_grown : (table more : List Thing) (pairs : List (ElementId × Option ElementId))
-    → Each (λ pair. Names table pair.0 × IsResult table pair.1) pairs
+    → AllOf (λ pair. Names table pair.0 × IsResult table pair.1) pairs
     → pairs_of (table ++ more) pairs ≡ pairs_of table pairs
 pairs_grown table more [] are = refl
 pairs_grown table more (pair ∷ pairs) are =
@@ -65,8 +65,8 @@ element_grown table more (Xml tag attributes content) is =
 element_grown table more (Record parts) is = ap thing.Record (fields_grown table more parts is.1)
 element_grown table more (Fun pairs) is = ap thing.Function (pairs_grown table more pairs is)
 
-parts_grown : (table more : List Thing) (parts : List (Name × ElementId)) → Each (λ part. Names table part.1) parts
-    → Each (λ part. Names (table ++ more) part.1) parts
+parts_grown : (table more : List Thing) (parts : List (Name × ElementId)) → AllOf (λ part. Names table part.1) parts
+    → AllOf (λ part. Names (table ++ more) part.1) parts
 parts_grown table more [] are = tt
 parts_grown table more (part ∷ parts) are = (in_grown table more part.1 are.0, parts_grown table more parts are.1)
 
@@ -75,8 +75,8 @@ is_result_grown table more None is = tt
 is_result_grown table more (Some id) is = in_grown table more id is
 
 are_pairs_grown : (table more : List Thing) (pairs : List (ElementId × Option ElementId))
-    → Each (λ pair. Names table pair.0 × IsResult table pair.1) pairs
-    → Each (λ pair. Names (table ++ more) pair.0 × IsResult (table ++ more) pair.1) pairs
+    → AllOf (λ pair. Names table pair.0 × IsResult table pair.1) pairs
+    → AllOf (λ pair. Names (table ++ more) pair.0 × IsResult (table ++ more) pair.1) pairs
 are_pairs_grown table more [] are = tt
 are_pairs_grown table more (pair ∷ pairs) are =
     ((in_grown table more pair.0 are.0.0, is_result_grown table more pair.1 are.0.1), are_pairs_grown table more pairs are.1)
@@ -140,10 +140,10 @@ shapes_push table (first ∷ shapes) shape are is ranged =
     (are.0, are.1, shapes_push (table ++ element_by table first ∷ []) shapes shape are.2 is ranged)
 
 -- the shapes of a table are elements of the model
-element_is : (table : List Thing) (id : ElementId) → Each IsElement table → Names table id → IsElement (element_at table id)
+element_is : (table : List Thing) (id : ElementId) → AllOf IsElement table → Names table id → IsElement (element_at table id)
 element_is table id are names = at table id.0 are names
   where
-    at : (all : List Thing) (index : ℕ) → Each IsElement all → index < length all → IsElement (get_or all index (thing.Atom []))
+    at : (all : List Thing) (index : ℕ) → AllOf IsElement all → index < length all → IsElement (get_or all index (thing.Atom []))
     at [] index are lt = absurd (omega arith)
     at (first ∷ rest) zero are lt = are.0
     at (first ∷ rest) (suc index) are lt = at rest index are.1 (omega arith)
@@ -153,8 +153,8 @@ labels_rise : (table : List Thing) (before : Option Name) (parts : List (Name ×
 labels_rise table before [] rise = tt
 labels_rise table before (part ∷ parts) rise = (rise.1, labels_rise table (Some part.0) parts rise.2)
 
-fields_are : (table : List Thing) (before : Option Name) (parts : List (Name × ElementId)) → Each IsElement table
-    → AreRisingLabels before parts → Each (λ part. Names table part.1) parts → AreFields (fields_of table parts)
+fields_are : (table : List Thing) (before : Option Name) (parts : List (Name × ElementId)) → AllOf IsElement table
+    → AreRisingLabels before parts → AllOf (λ part. Names table part.1) parts → AreFields (fields_of table parts)
 fields_are table before [] are rise names = tt
 fields_are table before (part ∷ parts) are rise names =
     (rise.0, element_is table part.1 are names.0, fields_are table (Some part.0) parts are rise.2 names.1)
@@ -165,19 +165,19 @@ pair_is : (argument : Thing) (result : Option Thing) (rest : Pairs) → IsElemen
 pair_is argument None rest is found are = (is, are)
 pair_is argument (Some result) rest is found are = (is, found, are)
 
-result_is : (table : List Thing) (id : Option ElementId) → Each IsElement table → IsResult table id
+result_is : (table : List Thing) (id : Option ElementId) → AllOf IsElement table → IsResult table id
     → IfSome (result_at table id) IsElement
 result_is table None are names = tt
 result_is table (Some id) are names = element_is table id are names
 
-pairs_are : (table : List Thing) (pairs : List (ElementId × Option ElementId)) → Each IsElement table
-    → Each (λ pair. Names table pair.0 × IsResult table pair.1) pairs → ArePairs (pairs_of table pairs)
+pairs_are : (table : List Thing) (pairs : List (ElementId × Option ElementId)) → AllOf IsElement table
+    → AllOf (λ pair. Names table pair.0 × IsResult table pair.1) pairs → ArePairs (pairs_of table pairs)
 pairs_are table [] are names = tt
 pairs_are table (pair ∷ pairs) are names =
     pair_is (element_at table pair.0) (result_at table pair.1) (pairs_of table pairs)
     (element_is table pair.0 are names.0.0) (result_is table pair.1 are names.0.1) (pairs_are table pairs are names.1)
 
-shape_is : (table : List Thing) (shape : Shape) → Each IsElement table → IsShape table shape → IsRanged shape
+shape_is : (table : List Thing) (shape : Shape) → AllOf IsElement table → IsShape table shape → IsRanged shape
     → IsElement (element_by table shape)
 shape_is table (Int n) are is ranged = ranged
 shape_is table (Char c) are is ranged = ranged
@@ -188,12 +188,12 @@ shape_is table (Xml tag attributes content) are is ranged =
 shape_is table (Record parts) are is ranged = (labels_rise table None parts is.0, fields_are table None parts are is.0 is.1)
 shape_is table (Fun pairs) are is ranged = pairs_are table pairs are is
 
-each_push : (all : List Thing) (one : Thing) → Each IsElement all → IsElement one → Each IsElement (all ++ one ∷ [])
+each_push : (all : List Thing) (one : Thing) → AllOf IsElement all → IsElement one → AllOf IsElement (all ++ one ∷ [])
 each_push [] one are is = (is, tt)
 each_push (first ∷ rest) one are is = (are.0, each_push rest one are.1 is)
 
-pub elements_are : (table : List Thing) (shapes : List Shape) → Each IsElement table → AreShapes table shapes
-    → Each IsElement (elements_from table shapes)
+pub elements_are : (table : List Thing) (shapes : List Shape) → AllOf IsElement table → AreShapes table shapes
+    → AllOf IsElement (elements_from table shapes)
 elements_are table [] are sound = are
 elements_are table (shape ∷ shapes) are sound =
     elements_are (table ++ element_by table shape ∷ []) shapes

@@ -4,8 +4,8 @@ use Rattle.std.proofs.Common.{append_assoc, arith}
 use Rattle.std.proofs.lemmas.List.{take_rest}
 use Rattle.cd_model.specs.Canonical.{Text, joined}
 use Rattle.cd_elements.specs.declared.task.Mark.{Mark}
-use Rattle.cd_elements.specs.Marks.{mark_text}
-use Rattle.cd_elements.specs.Rows.{each_after}
+use Rattle.cd_elements.specs.Inner.Marks.{mark_text}
+use Rattle.cd_elements.specs.Inner.Rows.{each_after}
 use Rattle.cd_elements.proofs.Joining.{drop_before}
 
 -- one more, and the mark that it stands after; it is what is left that grows

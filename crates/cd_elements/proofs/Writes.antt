@@ -4,8 +4,8 @@ use Rattle.std.proofs.Common.{arith}
 use Rattle.cd_model.specs.Canonical.{Text}
 use Rattle.cd_model.specs.Thing.{Thing}
 use Rattle.cd_elements.specs.declared.task.Tasks.{Tasks}
-use Rattle.cd_elements.specs.Tasks.{tasks_text, PutsIn}
-use Rattle.cd_elements.specs.Writing.{Writes}
+use Rattle.cd_elements.specs.Inner.Tasks.{tasks_text, PutsIn}
+use Rattle.cd_elements.specs.Inner.Writing.{Writes}
 
 module _ (table : List Thing) (text output : Text) (tasks : Tasks) (new_output : Text) where
   pub begun : (opening rest : Text) (new_tasks : Tasks) → text ≡ opening ++ rest → 0 < length opening

@@ -3,9 +3,4 @@ pub mod Table
 pub mod Sound
 pub mod OneProof
 pub mod Elements
-pub mod Marks
-pub mod Tasks
-pub mod Rows
-pub mod Looks
-pub mod Sequences
-pub mod Writing
+pub mod Inner

@@ -7,7 +7,8 @@ use Rattle.cd_elements.specs.declared.shape.ElementId.{ElementId}
 -- the labels are such, and rise strictly
 abbrev pub AreRisingLabels : Option Name → List (Name × ElementId) → Type 0
 AreRisingLabels before [] = Unit {0}
-AreRisingLabels before (part ∷ parts) = IsLabel part.0 × IsAbove before part.0 × AreRisingLabels (Some part.0) parts
+AreRisingLabels before (part ∷ parts) = IsLabel part.0 × IsAbove before part.0
+    × AreRisingLabels (Some part.0) parts
 
 abbrev pub HasLabels : List (Name × ElementId) → Type 0
 HasLabels = AreRisingLabels None

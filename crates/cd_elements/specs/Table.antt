@@ -1,15 +1,18 @@
 -- What a shape stands for in a table of elements.
 use Rattle.std.specs.Prelude.{◌<◌, List, [], ◌∷◌, ◌++◌, Option, Some, None, length, slice_index_or}
-use Rattle.cd_model.specs.Each.{Each}
+use Rattle.cd_model.specs.AllOf.{AllOf}
 use Rattle.cd_syntax.specs.Name.{Name, IsLabel}
 use Rattle.cd_model.specs.Thing as thing
-use Rattle.cd_model.specs.Thing.{Thing, Fields, NoField, Field, Pairs, NoPair, Maps, Fails, IsAtom, IsRecord}
+use Rattle.cd_model.specs.Thing.{Thing, Fields, NoField, Field, Pairs, NoPair, Maps, Fails, IsAtom}
+use Rattle.cd_model.specs.Thing.{IsRecord}
 use Rattle.cd_elements.specs.declared.shape.ElementId.{ElementId}
 use Rattle.cd_elements.specs.declared.shape.Shape.{Shape}
-use Rattle.cd_elements.specs.declared.shape.Shape.TheVariants.{Int, Char, Atom, Pair, Xml, Record, Fun}
+use Rattle.cd_elements.specs.declared.shape.Shape.TheVariants.{Int, Char, Atom, Pair, Xml, Record}
+use Rattle.cd_elements.specs.declared.shape.Shape.TheVariants.{Fun}
 use Rattle.cd_elements.specs.Parts.{HasLabels}
 
--- the element of a number; a number that names none stands for an atom without a name, which is no element
+-- the element of a number; a number that names none stands for an atom without a name, which is no
+-- element
 abbrev pub element_at : List Thing → ElementId → Thing
 element_at table id = slice_index_or table id.0 (thing.Atom [])
 
@@ -28,7 +31,8 @@ result_at table (Some id) = Some (element_at table id)
 
 abbrev pub pairs_of : List Thing → List (ElementId × Option ElementId) → Pairs
 pairs_of table [] = NoPair
-pairs_of table (pair ∷ pairs) = pair_before (element_at table pair.0) (result_at table pair.1) (pairs_of table pairs)
+pairs_of table (pair ∷ pairs) =
+    pair_before (element_at table pair.0) (result_at table pair.1) (pairs_of table pairs)
 
 -- a shape as an element, its parts taken from the table
 abbrev pub element_by : List Thing → Shape → Thing
@@ -49,8 +53,8 @@ abbrev pub IsResult : List Thing → Option ElementId → Type 0
 IsResult table None = Unit {0}
 IsResult table (Some id) = Names table id
 
--- A shape is one of the table where its parts are in the table, its names are atoms or rising labels, a tag is an atom and
--- attributes are a record
+-- A shape is one of the table where its parts are in the table, its names are atoms or rising
+-- labels, a tag is an atom and attributes are a record
 abbrev pub IsShape : List Thing → Shape → Type 0
 IsShape table (Int n) = Unit {0}
 IsShape table (Char c) = Unit {0}
@@ -59,8 +63,8 @@ IsShape table (Pair first second) = Names table first × Names table second
 IsShape table (Xml tag attributes content) =
     Names table tag × Names table attributes × Names table content × IsAtom (element_at table tag)
     × IsRecord (element_at table attributes)
-IsShape table (Record parts) = HasLabels parts × Each (λ part. Names table part.1) parts
-IsShape table (Fun pairs) = Each (λ pair. Names table pair.0 × IsResult table pair.1) pairs
+IsShape table (Record parts) = HasLabels parts × AllOf (λ part. Names table part.1) parts
+IsShape table (Fun pairs) = AllOf (λ pair. Names table pair.0 × IsResult table pair.1) pairs
 
 -- the table after more shapes, each over the elements before it
 abbrev pub elements_from : List Thing → List Shape → List Thing

@@ -16,9 +16,10 @@ pub struct Elements {
 }
 
 impl Elements {
-    ghost use Rattle.std.specs.Prelude.{◌≡◌, ◌<◌, List, [], ◌∷◌, ◌++◌, length, OnOk, OnErr, IfOk, MatchOption};
+    ghost use Rattle.std.specs.Prelude.{◌≡◌, ◌<◌, List, [], ◌∷◌, ◌++◌, length, OnOk, OnErr, IfOk};
+    ghost use Rattle.std.specs.Prelude.{MatchOption};
     ghost use Rattle.cd_model.specs.Canonical.{canonical};
-    ghost use Rattle.cd_model.specs.Each.{Each};
+    ghost use Rattle.cd_model.specs.AllOf.{AllOf};
     ghost use Rattle.cd_model.specs.Thing.{Atom, IsElement};
     ghost use Rattle.cd_elements.specs.Table.{IsShape, element_at, element_by};
     ghost use Rattle.cd_elements.specs.Elements.{table};
@@ -36,7 +37,8 @@ impl Elements {
     pub fn make(&mut self, shape: Shape) -> Result<ElementId, AllocError>
         requires { IsShape (table self.old) shape }
         ensures number { IfOk result (λ id. id.0 ≡ length (table self.old)) }
-        ensures added { OnOk result (table self.new ≡ table self.old ++ element_by (table self.old) shape ∷ []) }
+        ensures added { OnOk result
+            (table self.new ≡ table self.old ++ element_by (table self.old) shape ∷ []) }
         ensures kept { OnErr result (table self.new ≡ table self.old) }
     {
         know_ranges(&shape);
@@ -48,7 +50,7 @@ impl Elements {
     /// The number of elements.
     pub fn len(&self) -> usize
         ensures count { result ≡ length (table self.now) }
-        ensures sound { Each IsElement (table self.now) }
+        ensures sound { AllOf IsElement (table self.now) }
     {
         self.shapes.len()
     }
@@ -78,7 +80,8 @@ impl Elements {
     /// The shape of a number, if it names an element.
     pub(crate) fn at(&self, id: ElementId) -> Option<&Shape>
         ensures { let all = table self.now in
-            MatchOption result (element_at all id ≡ Atom []) (λ shape. element_by all shape.now ≡ element_at all id) }
+            MatchOption result (element_at all id ≡ Atom [])
+            (λ shape. element_by all shape.now ≡ element_at all id) }
     {
         if id.0 < self.len() {
             return Some(self.shape(id));

@@ -4,9 +4,9 @@ ghost use Rattle.std.specs.Str.{chars};
 ghost use Rattle.cd_model.specs.Canonical.{written, tag_name};
 ghost use Rattle.cd_elements.specs.Table.{element_at};
 ghost use Rattle.cd_elements.specs.Elements.{table};
-ghost use Rattle.cd_elements.specs.Tasks.{text_in, part_in};
-ghost use Rattle.cd_elements.specs.Rows.{part_text_in};
-ghost use Rattle.cd_elements.specs.Looks.{part_by, GoesOn};
+ghost use Rattle.cd_elements.specs.Inner.Tasks.{text_in, part_in};
+ghost use Rattle.cd_elements.specs.Inner.Rows.{part_text_in};
+ghost use Rattle.cd_elements.specs.Inner.Looks.{part_by, GoesOn};
 
 use crate::elements::Elements;
 use crate::shape::{ElementId, Shape};
@@ -64,7 +64,8 @@ pub(crate) fn tag_at<'a>(elements: &'a Elements, id: ElementId) -> &'a str
 /// The fields of a record. What is no record has none.
 #[tactic(auto, using(crate::proofs::Looks::fields_written))]
 pub(crate) fn fields_at<'a>(elements: &'a Elements, id: ElementId) -> &'a [(Name, ElementId)]
-    ensures { (written (element_at (table elements.now) id)).fields ≡ map (part_text_in (table elements.now)) result.now }
+    ensures { (written (element_at (table elements.now) id)).fields
+        ≡ map (part_text_in (table elements.now)) result.now }
 {
     match elements.at(id) {
         Some(Shape::Record(parts)) => parts.items(),

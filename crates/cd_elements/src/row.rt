@@ -4,8 +4,8 @@ ghost use Rattle.std.specs.Option.{option_map};
 ghost use Rattle.cd_model.specs.Canonical.{written};
 ghost use Rattle.cd_elements.specs.Table.{element_at};
 ghost use Rattle.cd_elements.specs.Elements.{table};
-ghost use Rattle.cd_elements.specs.Tasks.{part_in};
-ghost use Rattle.cd_elements.specs.Looks.{row_in, letters_of};
+ghost use Rattle.cd_elements.specs.Inner.Tasks.{part_in};
+ghost use Rattle.cd_elements.specs.Inner.Looks.{row_in, letters_of};
 
 use crate::elements::Elements;
 use crate::look::{Along, goes_on, letter_at};
@@ -21,7 +21,8 @@ pub(crate) struct Row {
 
 /// What stands along the right of an element.
 pub(crate) fn row_of(elements: &Elements, id: ElementId) -> Result<Row, AllocError>
-    ensures { IfOk result (λ row. row_in (table elements.now) row ≡ (written (element_at (table elements.now) id)).row) }
+    ensures { IfOk result (λ row.
+        row_in (table elements.now) row ≡ (written (element_at (table elements.now) id)).row) }
 {
     let mut firsts = Vec::new(elements.allocator());
     let mut next = id;
@@ -48,7 +49,8 @@ pub(crate) fn letters(
     firsts: &[ElementId],
 ) -> Result<Option<Vec<char>>, AllocError>
     ensures { let parts = map (part_in (table elements.now)) firsts.now in
-        IfOk result (λ found. option_map (λ characters. characters.items) found ≡ letters_of parts) }
+        IfOk result (λ found. option_map (λ characters. characters.items) found
+        ≡ letters_of parts) }
 {
     let mut characters = Vec::new(elements.allocator());
     for id in firsts {

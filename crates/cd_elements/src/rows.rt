@@ -1,9 +1,11 @@
-//! Rows of elements, fields and pairs as tasks. They are put before what is left to be written, from the last to the first.
+//! Rows of elements, fields and pairs as tasks. They are put before what is left to be written,
+//! from the last to the first.
 ghost use Rattle.std.specs.Prelude.{map, OnOk};
 ghost use Rattle.cd_elements.specs.declared.task.Mark.TheVariants.{Comma, Semicolon};
-ghost use Rattle.cd_elements.specs.Tasks.{text_in, Puts};
-ghost use Rattle.cd_elements.specs.Rows.{each_after, part_text_in, pair_text_in, result_text_in};
-ghost use Rattle.cd_elements.specs.Rows.{tuple_rest, record_rest, function_rest};
+ghost use Rattle.cd_elements.specs.Inner.Tasks.{text_in, Puts};
+ghost use Rattle.cd_elements.specs.Inner.Rows.{each_after, part_text_in, pair_text_in};
+ghost use Rattle.cd_elements.specs.Inner.Rows.{result_text_in};
+ghost use Rattle.cd_elements.specs.Inner.Rows.{tuple_rest, record_rest, function_rest};
 
 use crate::shape::ElementId;
 use crate::task::{Mark, Task, Tasks};
@@ -66,7 +68,8 @@ pub(crate) fn push_function(
 
 // Puts elements before what is left, each after a comma.
 fn push_elements(ids: &[ElementId], tasks: &mut Tasks<'_>) -> Result<(), AllocError>
-    ensures { OnOk result (Puts (λ all. each_after Comma (map (text_in all) ids.now)) tasks.old tasks.new) }
+    ensures { OnOk result (Puts
+        (λ all. each_after Comma (map (text_in all) ids.now)) tasks.old tasks.new) }
 {
     let mut index = ids.len();
     while index > 0 {
@@ -83,7 +86,8 @@ pub(crate) fn push_fields<'a>(
     mark: Mark,
     tasks: &mut Tasks<'a>,
 ) -> Result<(), AllocError>
-    ensures { OnOk result (Puts (λ all. each_after mark (map (part_text_in all) parts.now)) tasks.old tasks.new) }
+    ensures { OnOk result (Puts
+        (λ all. each_after mark (map (part_text_in all) parts.now)) tasks.old tasks.new) }
 {
     let mut index = parts.len();
     while index > 0 {
@@ -100,7 +104,8 @@ fn push_pairs(
     pairs: &[(ElementId, Option<ElementId>)],
     tasks: &mut Tasks<'_>,
 ) -> Result<(), AllocError>
-    ensures { OnOk result (Puts (λ all. each_after Semicolon (map (pair_text_in all) pairs.now)) tasks.old tasks.new) }
+    ensures { OnOk result (Puts
+        (λ all. each_after Semicolon (map (pair_text_in all) pairs.now)) tasks.old tasks.new) }
 {
     let mut index = pairs.len();
     while index > 0 {

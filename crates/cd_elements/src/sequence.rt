@@ -1,9 +1,11 @@
-//! A sequence as tasks. Its parts are put before what is left to be written, from the last to the first.
+//! A sequence as tasks. Its parts are put before what is left to be written, from the last to the
+//! first.
 ghost use Rattle.std.specs.Prelude.{◌≡◌, OnOk, IfOk};
 ghost use Rattle.cd_elements.specs.Elements.{table};
-ghost use Rattle.cd_elements.specs.Tasks.{part_in, PutsIn, Puts};
-ghost use Rattle.cd_elements.specs.Sequences.{separator, opening, closing, before_rest, edge_after};
-ghost use Rattle.cd_elements.specs.Rows.{sequence_rest};
+ghost use Rattle.cd_elements.specs.Inner.Tasks.{part_in, PutsIn, Puts};
+ghost use Rattle.cd_elements.specs.Inner.Sequences.{separator, opening, closing, before_rest};
+ghost use Rattle.cd_elements.specs.Inner.Sequences.{edge_after};
+ghost use Rattle.cd_elements.specs.Inner.Rows.{sequence_rest};
 
 use crate::elements::Elements;
 use crate::look::letter_at;
@@ -11,7 +13,8 @@ use crate::shape::ElementId;
 use crate::task::{Mark, Task, Tasks};
 use std::alloc::AllocError;
 
-// What the parts of a sequence that are put begin with. The quote before a run of characters is not put yet.
+// What the parts of a sequence that are put begin with. The quote before a run of characters is not
+// put yet.
 #[derive(Clone, Copy)]
 enum Edge {
     Nothing,
@@ -25,7 +28,8 @@ pub(crate) fn push_sequence(
     firsts: &[ElementId],
     tasks: &mut Tasks<'_>,
 ) -> Result<(), AllocError>
-    ensures { let all = table elements.now in OnOk result (PutsIn all (sequence_rest all firsts.now) tasks.old tasks.new) }
+    ensures { let all = table elements.now in OnOk result
+        (PutsIn all (sequence_rest all firsts.now) tasks.old tasks.new) }
 {
     tasks.push_mark(Mark::Bracket)?;
     let mut edge = Edge::Nothing;

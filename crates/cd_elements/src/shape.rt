@@ -77,8 +77,8 @@ impl Parts {
     }
 }
 
-/// The pairs of a function: an argument and its result, or none where the function fails at it. A contract
-/// sees them in a list.
+/// The pairs of a function: an argument and its result, or none where the function fails at it. A
+/// contract sees them in a list.
 #[derive(Drop)]
 pub struct Pairs {
     items: Vec<(ElementId, Option<ElementId>)>,

@@ -2,8 +2,8 @@
 ghost use Rattle.std.specs.Prelude.{◌≡◌, List, [], OnOk, MatchOption};
 ghost use Rattle.std.specs.Str.{chars};
 ghost use Rattle.cd_model.specs.Thing.{Thing};
-ghost use Rattle.cd_elements.specs.Marks.{mark_text};
-ghost use Rattle.cd_elements.specs.Tasks.{task_text, tasks_text, text_in, Puts};
+ghost use Rattle.cd_elements.specs.Inner.Marks.{mark_text};
+ghost use Rattle.cd_elements.specs.Inner.Tasks.{task_text, tasks_text, text_in, Puts};
 
 use crate::shape::ElementId;
 use cd_syntax::name::Name;

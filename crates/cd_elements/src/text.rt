@@ -1,11 +1,12 @@
 //! The canonical text of an element. A stack of tasks has what is left to be written.
 ghost use Rattle.std.specs.Prelude.{◌≡◌, ◌<◌, ◌++◌, length, map, OnOk, IfOk};
-ghost use Rattle.cd_model.specs.Canonical.{canonical, written, atom_written, row_text, sequence_text, pieces_of};
+ghost use Rattle.cd_model.specs.Canonical.{canonical, written, atom_written, row_text};
+ghost use Rattle.cd_model.specs.Canonical.{sequence_text, pieces_of};
 ghost use Rattle.cd_model.specs.Thing.{Xml as AnXml, Record as ARecord, Function as AFunction};
 ghost use Rattle.cd_elements.specs.Table.{element_at, fields_of, pairs_of};
 ghost use Rattle.cd_elements.specs.Elements.{table};
-ghost use Rattle.cd_elements.specs.Tasks.{task_text, text_in, part_in};
-ghost use Rattle.cd_elements.specs.Writing.{Writes};
+ghost use Rattle.cd_elements.specs.Inner.Tasks.{task_text, text_in, part_in};
+ghost use Rattle.cd_elements.specs.Inner.Writing.{Writes};
 
 use crate::elements::Elements;
 use crate::look::{fields_at, is_nil, tag_at};
@@ -40,7 +41,8 @@ fn write_task<'a>(
     output: &mut Output,
 ) -> Result<(), AllocError>
     ensures { let all = table elements.now in
-        OnOk result (Writes all (task_text all task.entry) output.old tasks.old output.new tasks.new) }
+        OnOk result
+        (Writes all (task_text all task.entry) output.old tasks.old output.new tasks.new) }
 {
     match task {
         Task::Mark(mark) => output.push_str(mark.text()),
@@ -101,7 +103,8 @@ fn write_row(
     requires { 0 < length (written (element_at (table elements.now) id)).row.parts }
     ensures { let all = table elements.now in
         let row = (written (element_at all id)).row in
-        OnOk result (Writes all (row_text row.parts row.end) output.old tasks.old output.new tasks.new) }
+        OnOk result
+        (Writes all (row_text row.parts row.end) output.old tasks.old output.new tasks.new) }
 {
     let row = row_of(elements, id)?;
     match row.end {
@@ -162,7 +165,10 @@ fn write_record<'a>(
     output: &mut Output,
 ) -> Result<(), AllocError>
     ensures { let all = table elements.now in
-        OnOk result (Writes all (canonical (ARecord (fields_of all parts.now))) output.old tasks.old output.new tasks.new) }
+        OnOk result
+        (Writes all
+        (canonical
+        (ARecord (fields_of all parts.now))) output.old tasks.old output.new tasks.new) }
 {
     push_record(parts, tasks)?;
     output.push('{')
@@ -176,7 +182,10 @@ fn write_function(
     output: &mut Output,
 ) -> Result<(), AllocError>
     ensures { let all = table elements.now in
-        OnOk result (Writes all (canonical (AFunction (pairs_of all pairs.now))) output.old tasks.old output.new tasks.new) }
+        OnOk result
+        (Writes all
+        (canonical
+        (AFunction (pairs_of all pairs.now))) output.old tasks.old output.new tasks.new) }
 {
     push_function(pairs, tasks)?;
     output.push_str("fun{")

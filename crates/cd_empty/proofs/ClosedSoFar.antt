@@ -1,7 +1,7 @@
 -- Where nothing more can be made, the questions without a mark are a closed family.
 use Rattle.std.proofs.Common.{◌≡◌, ℕ, zero, suc, List, [], ◌∷◌, ◌⊎◌, inl, inr, refl, take, drop, Option, Some, None}
 use Rattle.cd_sets.specs.declared.question.Question.{Question}
-use Rattle.cd_model.specs.Each.{Each, One}
+use Rattle.cd_model.specs.AllOf.{AllOf, AnyOf}
 use Rattle.cd_model.specs.Formula.{Graph}
 use Rattle.cd_elements.specs.declared.shape.ElementId.{ElementId}
 use Rattle.cd_rules.specs.Clauses.{Clause, Ints, Chars, Atoms, Pairs, Xmls, Records, Arrows, IsClauseOfQuestion}
@@ -12,11 +12,11 @@ use Rattle.cd_rules.proofs.Covering.{breaks_more}
 use Rattle.cd_rules.proofs.Ones.{each_weaker, one_leads, one_with_each}
 use Rattle.cd_rules.proofs.ReducedBroken.{reduced_broken}
 use Rattle.cd_expand.specs.declared.needs.Needs.{Needs}
-use Rattle.cd_expand.specs.Named.{Along, Names}
+use Rattle.cd_expand.specs.Named.{Pairwise, Names}
 use Rattle.cd_expand.specs.Expansion.{CoverClauses}
 use Rattle.cd_members.specs.Marks.{unmarked}
 use Rattle.cd_members.specs.Making.{IsStuck}
-use Rattle.cd_empty.specs.Deciding.{AreExpanded, AreStuck}
+use Rattle.cd_empty.specs.Inner.Deciding.{AreExpanded, AreStuck}
 use Rattle.cd_members.proofs.Stuck.{stuck_is_broken}
 
 -- a clause that has a need without ways is broken by any family
@@ -35,7 +35,7 @@ IsBrokenBy graph family question = (clause : Clause) → IsClauseOfQuestion grap
 
 module _ (graph : Graph) (asked : List Question) (marks : List (Option ElementId)) where
   -- where there is nothing to make for any clause of a question, each of its clauses is broken
-  stuck_breaks : (question : Question) (all : List Needs) → CoverClauses graph asked question all → Each (IsStuck marks) all
+  stuck_breaks : (question : Question) (all : List Needs) → CoverClauses graph asked question all → AllOf (IsStuck marks) all
       → IsBrokenBy graph (unmarked asked marks) question
   stuck_breaks question all cover stuck clause is = by_cover (cover clause is)
     where
@@ -47,14 +47,14 @@ module _ (graph : Graph) (asked : List Question) (marks : List (Option ElementId
       by_needs needs both = reduced_broken (unmarked asked marks) graph clause both.0.0 both.0.1
           (stuck_is_broken asked marks needs both.0.0 both.0.2 both.1)
 
-      by_cover : One HasNeeds all ⊎ AreNeeds clause ([] ∷ []) → Breaks (unmarked asked marks) clause
+      by_cover : AnyOf HasNeeds all ⊎ AreNeeds clause ([] ∷ []) → Breaks (unmarked asked marks) clause
       by_cover (inl one) = one_leads (λ needs. HasNeeds needs × IsStuck marks needs) by_needs all
           (one_with_each HasNeeds (IsStuck marks) all one stuck)
       by_cover (inr none) = without_ways (unmarked asked marks) clause none
 
   stuck_closed : (questions : List Question) (some : List (Option ElementId)) (cases : List (List Needs))
-      → AreExpanded graph asked questions some cases → Along (λ mark all. mark ≡ None → Each (IsStuck marks) all) some cases
-      → Each (IsBrokenBy graph (unmarked asked marks)) (unmarked questions some)
+      → AreExpanded graph asked questions some cases → Pairwise (λ mark all. mark ≡ None → AllOf (IsStuck marks) all) some cases
+      → AllOf (IsBrokenBy graph (unmarked asked marks)) (unmarked questions some)
   stuck_closed [] [] [] expanded stuck = tt
   stuck_closed (question ∷ questions) (None ∷ some) (all ∷ cases) expanded stuck = (
     stuck_breaks question all expanded.0.1 (stuck.0 refl),
@@ -66,18 +66,18 @@ module _ (graph : Graph) (asked : List Question) (marks : List (Option ElementId
 
 -- what is so of the first questions without a mark, and of the others, is so of all
 each_unmarked : (fact : Question → Type 0) (first : ℕ) (asked : List Question) (marks : List (Option ElementId))
-    → Each fact (unmarked (take first asked) (take first marks)) → Each fact (unmarked (drop first asked) (drop first marks))
-    → Each fact (unmarked asked marks)
+    → AllOf fact (unmarked (take first asked) (take first marks)) → AllOf fact (unmarked (drop first asked) (drop first marks))
+    → AllOf fact (unmarked asked marks)
 each_unmarked fact zero asked marks each others = others
 each_unmarked fact (suc first) [] marks each others = tt
 each_unmarked fact (suc first) (question ∷ asked) [] each others =
     (each.0, each_unmarked fact first asked [] (no_marks first each.1) (others_without first others))
   where
-    no_marks : (first : ℕ) → Each fact (unmarked (take first asked) []) → Each fact (unmarked (take first asked) (take first []))
+    no_marks : (first : ℕ) → AllOf fact (unmarked (take first asked) []) → AllOf fact (unmarked (take first asked) (take first []))
     no_marks zero each = each
     no_marks (suc first) each = each
 
-    others_without : (first : ℕ) → Each fact (unmarked (drop first asked) []) → Each fact (unmarked (drop first asked) (drop first []))
+    others_without : (first : ℕ) → AllOf fact (unmarked (drop first asked) []) → AllOf fact (unmarked (drop first asked) (drop first []))
     others_without zero each = each
     others_without (suc first) each = each
 each_unmarked fact (suc first) (question ∷ asked) (None ∷ marks) each others =

@@ -8,7 +8,7 @@ use Rattle.cd_sets.specs.declared.question.Question.{Question}
 use Rattle.cd_model.specs.Thing as thing
 use Rattle.cd_model.specs.Thing.{Thing, IsElement}
 use Rattle.cd_model.specs.BuiltIns.{built_ins}
-use Rattle.cd_model.specs.Each.{Each}
+use Rattle.cd_model.specs.AllOf.{AllOf}
 use Rattle.cd_model.specs.Formula.{Graph}
 use Rattle.cd_model.specs.Membership.{asked, answers}
 use Rattle.cd_model.specs.Formula.{nodes}
@@ -34,8 +34,8 @@ never_in_two_ways : IsProp ⊥
 never_in_two_ways one other = absurd one
 
 -- a fact that can be had of each where it is known to hold can be had of all
-pub each_had : {X : Type 0} (fact : X → Type 0) → ((one : X) → ∥ fact one ∥₁ → fact one) → (list : List X) → ∥ Each fact list ∥₁
-    → Each fact list
+pub each_had : {X : Type 0} (fact : X → Type 0) → ((one : X) → ∥ fact one ∥₁ → fact one) → (list : List X) → ∥ AllOf fact list ∥₁
+    → AllOf fact list
 each_had fact had [] known = tt
 each_had fact had (one ∷ rest) known =
     (had one (∥∥₁_map known (λ each. each.0)), each_had fact had rest (∥∥₁_map known (λ each. each.1)))
@@ -75,9 +75,9 @@ mark_had graph table question (Some id) known = (
   asked_had graph (element_at table id) question (∥∥₁_map known (λ both. both.1)),
 )
 
-module _ (graph : Graph) (begins : (more : Graph) × (graph ≡ built_ins ++ more)) (table : List Thing) (sound : Each IsElement table) where
+module _ (graph : Graph) (begins : (more : Graph) × (graph ≡ built_ins ++ more)) (table : List Thing) (sound : AllOf IsElement table) where
   -- no element and no value is in a question of a family that is known to be closed, since it stays closed in longer graphs
-  none_in : (family : List Question) → Each (AsksNodes (length graph)) family → ∥ IsClosed graph family ∥₁
+  none_in : (family : List Question) → AllOf (AsksNodes (length graph)) family → ∥ IsClosed graph family ∥₁
       → (question : Question) → IsOfFamily question family → HasNoElement graph question × HasNoValue graph question
   none_in family asks closed question there = (
     λ is element asking. ∥∥₁_elim closed never_in_two_ways
@@ -89,7 +89,7 @@ module _ (graph : Graph) (begins : (more : Graph) × (graph ≡ built_ins ++ mor
 
   marked_exact : (questions : List Question) (marks : List (Option ElementId)) → ∥ AreMarked graph table questions marks ∥₁
       → ((question : Question) → IsOfFamily question (unmarked questions marks) → HasNoElement graph question × HasNoValue graph question)
-      → Each (λ one. IsExact graph table one.0 one.1) (with_verdicts questions marks)
+      → AllOf (λ one. IsExact graph table one.0 one.1) (with_verdicts questions marks)
   marked_exact [] marks known none = tt
   marked_exact (question ∷ questions) [] known none = tt
   marked_exact (question ∷ questions) (None ∷ marks) known none = (
@@ -103,22 +103,22 @@ module _ (graph : Graph) (begins : (more : Graph) × (graph ≡ built_ins ++ mor
       )
 
   -- all verdicts are exact
-  pub all_exact : (questions : List Question) (marks : List (Option ElementId)) → Each (AsksNodes (length graph)) questions
+  pub all_exact : (questions : List Question) (marks : List (Option ElementId)) → AllOf (AsksNodes (length graph)) questions
       → ∥ AreMarked graph table questions marks ∥₁ → ∥ IsClosed graph (unmarked questions marks) ∥₁
-      → Each (λ one. IsExact graph table one.0 one.1) (with_verdicts questions marks)
+      → AllOf (λ one. IsExact graph table one.0 one.1) (with_verdicts questions marks)
   all_exact questions marks asks known closed = marked_exact questions marks known
       (none_in (unmarked questions marks) (each_of_unmarked (AsksNodes (length graph)) questions marks asks) closed)
 
 -- a fact of each question is one of each that has a verdict
-pub all_ask : (fact : Question → Type 0) (questions : List Question) (marks : List (Option ElementId)) → Each fact questions
-    → Each (λ one. fact one.0) (with_verdicts questions marks)
+pub all_ask : (fact : Question → Type 0) (questions : List Question) (marks : List (Option ElementId)) → AllOf fact questions
+    → AllOf (λ one. fact one.0) (with_verdicts questions marks)
 all_ask fact [] marks each = tt
 all_ask fact (question ∷ questions) [] each = tt
 all_ask fact (question ∷ questions) (mark ∷ marks) each = (each.0, all_ask fact questions marks each.1)
 
 -- a verdict that is kept among exact ones is exact
 pub kept_exact : (graph : Graph) (table : List Thing) (kept : List (Question × Verdict)) (question : Question) (verdict : Verdict)
-    → Each (λ one. IsExact graph table one.0 one.1) kept → IsKept kept question verdict → IsExact graph table question verdict
+    → AllOf (λ one. IsExact graph table one.0 one.1) kept → IsKept kept question verdict → IsExact graph table question verdict
 kept_exact graph table [] question verdict exact is = elim is [ ]
 kept_exact graph table (one ∷ kept) question verdict exact (inl same) =
     subst (λ (one : Question × Verdict). IsExact graph table one.0 one.1) same exact.0

@@ -5,7 +5,7 @@ use Rattle.std.specs.Coded.{×_prop, Unit-prop}
 use Rattle.cd_syntax.specs.Name.{IsLabel}
 use Rattle.cd_model.specs.Thing as thing
 use Rattle.cd_model.specs.Thing.{Thing, IsAtom, IsRecord}
-use Rattle.cd_model.specs.Each.{Each, One}
+use Rattle.cd_model.specs.AllOf.{AllOf, AnyOf}
 use Rattle.cd_asked.specs.declared.asked.QuestionId.{QuestionId}
 use Rattle.cd_elements.specs.declared.shape.ElementId.{ElementId}
 use Rattle.cd_elements.specs.Table.{Names}
@@ -15,7 +15,7 @@ use Rattle.cd_expand.specs.declared.needs.Needs.TheVariants.{Pair, Xml, Function
 use Rattle.cd_members.specs.Marks.{AreNumbers}
 use Rattle.cd_members.specs.Making.{AreOfWay, LabelsDiffer, IsFit}
 
-pub each_once : {X : Type 0} (fact : X → Type 0) → ((one : X) → IsProp (fact one)) → (all : List X) → IsProp (Each fact all)
+pub each_once : {X : Type 0} (fact : X → Type 0) → ((one : X) → IsProp (fact one)) → (all : List X) → IsProp (AllOf fact all)
 each_once fact once [] = Unit-prop
 each_once fact once (one ∷ rest) = ×_prop (once one) (each_once fact once rest)
 
@@ -47,7 +47,7 @@ label_once name = hlevel props
 differ_once : (cells : List Cell) → IsProp (LabelsDiffer cells)
 differ_once [] = Unit-prop
 differ_once (cell ∷ cells) =
-    let other : IsProp (One (λ other. other.label ≡ cell.label) cells → ⊥) = hlevel in
+    let other : IsProp (AnyOf (λ other. other.label ≡ cell.label) cells → ⊥) = hlevel in
     ×_prop other (differ_once cells)
 
 two_once : (way : List QuestionId) → IsProp (length way ≡ 2)
@@ -69,11 +69,11 @@ module _ (table : List Thing) (marks : List (Option ElementId)) where
   pub fit_once : (needs : Needs) → IsProp (IsFit table marks needs)
   fit_once (Pair ways) = each_once (λ way. length way ≡ 2) two_once ways.items
   fit_once (Xml ways) = each_once IsFitXml xml_once ways.items
-  fit_once (Function needs) = each_once (λ need. Each (λ way. (length way ≡ 1) ⊎ (length way ≡ 2)) need.items)
+  fit_once (Function needs) = each_once (λ need. AllOf (λ way. (length way ≡ 1) ⊎ (length way ≡ 2)) need.items)
       (λ need. each_once (λ way. (length way ≡ 1) ⊎ (length way ≡ 2)) one_or_two_once need.items) needs.items
-  fit_once (Record rows) = each_once (λ row. Each (λ cell. IsLabel cell.label) row.cells.items × LabelsDiffer row.cells.items)
+  fit_once (Record rows) = each_once (λ row. AllOf (λ cell. IsLabel cell.label) row.cells.items × LabelsDiffer row.cells.items)
       (λ row. ×_prop (each_once (λ cell. IsLabel cell.label) (λ cell. label_once cell.label) row.cells.items)
       (differ_once row.cells.items)) rows.items
 
-  pub all_fit_once : (all : List Needs) → IsProp (Each (IsFit table marks) all)
+  pub all_fit_once : (all : List Needs) → IsProp (AllOf (IsFit table marks) all)
   all_fit_once all = each_once (IsFit table marks) fit_once all

@@ -3,13 +3,13 @@ use Rattle.std.proofs.Common.{◌≡◌, ℕ, zero, suc, ◌+◌, ◌<◌, ◌�
 use Rattle.std.proofs.Common.{Option, Some, None, Vec, Global, length, get_or, set, map, drop, refl, sym, ap, ◌∙◌, subst, arith}
 use Rattle.std.proofs.lemmas.List.{length-drop, length-map, get_or-drop, get_or-map, drop_more, drop_all}
 use Rattle.cd_model.specs.Thing.{Thing}
-use Rattle.cd_model.specs.Each.{Each}
+use Rattle.cd_model.specs.AllOf.{AllOf}
 use Rattle.cd_elements.specs.declared.shape.ElementId.{ElementId}
 use Rattle.cd_expand.specs.declared.needs.Needs.{Needs}
 use Rattle.cd_members.specs.Marks.{AreNumbers}
 use Rattle.cd_members.specs.Making.{IsFit, IsStuck}
-use Rattle.cd_empty.specs.Deciding.{AreStuck, CanBeSettled}
-use Rattle.cd_empty.specs.Rounds.{IsFurther, IsMadeFor, IsRound, IsSoFar, IsStep, IsUnmarked, count_unmarked}
+use Rattle.cd_empty.specs.Inner.Deciding.{AreStuck, CanBeSettled}
+use Rattle.cd_empty.specs.Inner.Rounds.{IsFurther, IsMadeFor, IsRound, IsSoFar, IsStep, IsUnmarked, count_unmarked}
 use Rattle.cd_empty.proofs.Growing.{Grows}
 use Rattle.cd_empty.proofs.Marking.{further_by_growth, further_by_step, further_again, can_still, are_numbers, are_fit, are_as_many}
 
@@ -42,7 +42,7 @@ case_at cases place one all within is are =
 module _ (marks : List (Option ElementId)) (first : ℕ) (cases : List (List Needs)) where
   -- nothing to make at a place, nor for those after it
   stuck_here : (place : ℕ) → place < length cases → place < length (drop first marks)
-      → (IsUnmarked marks (first + place) → Each (IsStuck marks) (get_or cases place []))
+      → (IsUnmarked marks (first + place) → AllOf (IsStuck marks) (get_or cases place []))
       → AreStuck marks (drop (place + 1) (drop first marks)) (drop (place + 1) cases)
       → AreStuck marks (drop place (drop first marks)) (drop place cases)
   stuck_here place within enough stuck rest =
@@ -78,8 +78,8 @@ module _ {table now : List Thing} {marks here : List (Option ElementId)} {first 
   within_here place within = omega (arith, as_many, length-drop first here)
 
   pub fit_here : (place : ℕ) (all : List Needs) → place < length cases → all ≡ get_or cases place []
-      → IsUnmarked here (first + place) → Each (IsFit now here) all
-  fit_here place all within is none = subst (Each (IsFit now here)) (sym is) (are_fit now here first cases can_here place [] within none)
+      → IsUnmarked here (first + place) → AllOf (IsFit now here) all
+  fit_here place all within is none = subst (AllOf (IsFit now here)) (sym is) (are_fit now here first cases can_here place [] within none)
 
   -- at the end of a round
   pub round_at_end : (left : ℕ) (made : Bool) → left ≡ 0 → IsSoFar marks first cases left made here
@@ -117,7 +117,7 @@ module _ {table now : List Thing} {marks here : List (Option ElementId)} {first 
       so_far_on false true so_far did =
           subst (λ (last : List (Option ElementId)). count_unmarked there < count_unmarked last) so_far.0 (step_is_less did)
       so_far_on false false so_far did =
-          let stuck : IsUnmarked here (first + place) → Each (IsStuck here) (get_or cases place []) =
-          λ none. subst (Each (IsStuck here)) is (did.1 none) in
+          let stuck : IsUnmarked here (first + place) → AllOf (IsStuck here) (get_or cases place []) =
+          λ none. subst (AllOf (IsStuck here)) is (did.1 none) in
           subst (IsSoFar marks first cases place false) (sym did.0)
           (so_far.0, stuck_here here first cases place within (omega (arith, as_many)) stuck so_far.1)

@@ -6,7 +6,7 @@ use Rattle.std.proofs.lemmas.List.{length-append, length-take-le, take-append-dr
 use Rattle.std.proofs.Math.ListN.{drop_of_length-le}
 use Rattle.cd_sets.specs.declared.question.Question.{Question}
 use Rattle.cd_model.specs.Thing.{Thing}
-use Rattle.cd_model.specs.Each.{Each}
+use Rattle.cd_model.specs.AllOf.{AllOf}
 use Rattle.cd_model.specs.Formula.{Graph}
 use Rattle.cd_rules.specs.Family.{AsksNodes}
 use Rattle.cd_rules.proofs.Ones.{each_of_lists}
@@ -15,14 +15,14 @@ use Rattle.cd_expand.specs.declared.needs.Needs.{Needs}
 use Rattle.cd_expand.specs.declared.expansion.Expansion.{Expansion}
 use Rattle.cd_expand.specs.Expansion.{IsExpansion}
 use Rattle.cd_members.specs.Marks.{AreMarked}
-use Rattle.cd_empty.specs.Deciding.{AreExpanded}
-use Rattle.cd_empty.specs.Placing.{IsPlaced}
+use Rattle.cd_empty.specs.Inner.Deciding.{AreExpanded}
+use Rattle.cd_empty.specs.Inner.Placing.{IsPlaced}
 use Rattle.cd_empty.proofs.Growing.{Grows, grows_not, grows_then, joined}
 use Rattle.cd_empty.proofs.Staying.{are_expanded_stay, are_expanded_push, expanded_count, are_marked_push}
 
 -- questions are others and more, and those that are added ask nodes of the graph
 abbrev pub AsksMore : Graph → List Question → List Question → Type 0
-AsksMore graph old new = (more : List Question) × (new ≡ old ++ more) × Each (AsksNodes (length graph)) more
+AsksMore graph old new = (more : List Question) × (new ≡ old ++ more) × AllOf (AsksNodes (length graph)) more
 
 -- no question is added
 pub asks_no_more : (graph : Graph) (asked : List Question) → AsksMore graph asked asked
@@ -51,14 +51,14 @@ none_is [] (y ∷ ys) is = absurd cc
 none_is (x ∷ xs) ys is = none_is xs ys is
 
 -- a fact of each of a list is one of what stands at a place
-each_at : {X : Type 0} (fact : X → Type 0) (xs : List X) (place : ℕ) (x : X) → Each fact xs → slice_get xs place ≡ Some x
+each_at : {X : Type 0} (fact : X → Type 0) (xs : List X) (place : ℕ) (x : X) → AllOf fact xs → slice_get xs place ≡ Some x
     → fact x
 each_at fact [] place x each is = absurd cc
 each_at fact (first ∷ xs) zero x each is = let same : first ≡ x = cc in subst fact same each.0
 each_at fact (first ∷ xs) (suc place) x each is = each_at fact xs place x each.1 is
 
 -- each question asks nodes of the graph when more are asked
-pub each_asked : (graph : Graph) (old new : List Question) → Each (AsksNodes (length graph)) old → AsksMore graph old new
+pub each_asked : (graph : Graph) (old new : List Question) → AllOf (AsksNodes (length graph)) old → AsksMore graph old new
     → (place : ℕ) (question : Question) → slice_get new place ≡ Some question → AsksNodes (length graph) question
 each_asked graph old new asks more place question is =
     each_at (AsksNodes (length graph)) (old ++ more.0) place question

@@ -6,7 +6,7 @@ use Rattle.std.proofs.Math.Logic.{∥∥₁_map}
 use Rattle.cd_sets.specs.declared.node_id.NodeId.{NodeId}
 use Rattle.cd_sets.specs.declared.question.Question.{Question}
 use Rattle.cd_model.specs.Thing.{Thing}
-use Rattle.cd_model.specs.Each.{Each}
+use Rattle.cd_model.specs.AllOf.{AllOf}
 use Rattle.cd_model.specs.Formula.{Graph}
 use Rattle.cd_model.specs.Membership.{asked, answers}
 use Rattle.cd_elements.specs.Table.{element_at}
@@ -20,13 +20,13 @@ use Rattle.cd_empty.specs.Kept.{settled_questions, settled_marks, Fits}
 use Rattle.cd_empty.proofs.Growing.{Grows, grows_not}
 
 -- a fact of each is one of each of the first ones, and of each without a mark
-pub each_of_first : {X : Type 0} (fact : X → Type 0) (first : ℕ) (list : List X) → Each fact list → Each fact (take first list)
+pub each_of_first : {X : Type 0} (fact : X → Type 0) (first : ℕ) (list : List X) → AllOf fact list → AllOf fact (take first list)
 each_of_first fact zero list each = tt
 each_of_first fact (suc first) [] each = tt
 each_of_first fact (suc first) (one ∷ list) each = (each.0, each_of_first fact first list each.1)
 
-pub each_of_unmarked : (fact : Question → Type 0) (questions : List Question) (marks : List (Option ElementId)) → Each fact questions
-    → Each fact (unmarked questions marks)
+pub each_of_unmarked : (fact : Question → Type 0) (questions : List Question) (marks : List (Option ElementId)) → AllOf fact questions
+    → AllOf fact (unmarked questions marks)
 each_of_unmarked fact [] marks each = tt
 each_of_unmarked fact (question ∷ questions) [] each = (each.0, each_of_unmarked fact questions [] each.1)
 each_of_unmarked fact (question ∷ questions) (None ∷ marks) each = (each.0, each_of_unmarked fact questions marks each.1)
@@ -47,7 +47,7 @@ module _ (graph other : Graph) (alike : AnswersAlike (length graph) graph other)
         (λ id below outside. (alike is id false below).0 outside) question.neg asks.1 asking.1,
   )
 
-  still_marked : (questions : List Question) (marks : List (Option ElementId)) → Each (AsksNodes (length graph)) questions
+  still_marked : (questions : List Question) (marks : List (Option ElementId)) → AllOf (AsksNodes (length graph)) questions
       → AreMarked graph table questions marks → AreMarked other table questions marks
   still_marked [] [] asks marked = tt
   still_marked (question ∷ questions) (None ∷ marks) asks marked = (tt, still_marked questions marks asks.1 marked.1)
@@ -76,7 +76,7 @@ still_fits graph more table decider alike fits = record {
       (each_of_unmarked (AsksNodes (length graph)) (settled_questions decider) (settled_marks decider) settled_ask) fits.closed;
 }
   where
-    settled_ask : Each (AsksNodes (length graph)) (settled_questions decider)
+    settled_ask : AllOf (AsksNodes (length graph)) (settled_questions decider)
     settled_ask = each_of_first (AsksNodes (length graph)) decider.settled decider.asked fits.asks
 
 -- what a call left of a graph, which put formulas after it or left it as it was, is the graph and more

@@ -9,7 +9,7 @@ use mathlib.Core.Logic.{∥∥₁_elim}
 use Rattle.cd_sets.specs.declared.question.Question.{Question}
 use Rattle.cd_model.specs.Thing.{Thing, IsElement}
 use Rattle.cd_model.specs.BuiltIns.{built_ins}
-use Rattle.cd_model.specs.Each.{Each, One}
+use Rattle.cd_model.specs.AllOf.{AllOf, AnyOf}
 use Rattle.cd_model.specs.Formula.{Graph}
 use Rattle.cd_model.specs.Kinds.{kind_of}
 use Rattle.cd_model.specs.Membership.{reader, asked, answers}
@@ -32,8 +32,8 @@ use Rattle.cd_members.specs.Making.{IsMade, IsFit}
 use Rattle.cd_members.proofs.Fit.{named_is_fit}
 use Rattle.cd_members.proofs.Kept.{marked_in_longer, marked_set}
 use Rattle.cd_members.proofs.Made.{made_is_in}
-use Rattle.cd_empty.specs.Deciding.{AreExpanded, CanBeSettled}
-use Rattle.cd_empty.specs.Rounds.{IsFurther, IsMadeFor, IsUnmarked}
+use Rattle.cd_empty.specs.Inner.Deciding.{AreExpanded, CanBeSettled}
+use Rattle.cd_empty.specs.Inner.Rounds.{IsFurther, IsMadeFor, IsUnmarked}
 use Rattle.cd_empty.proofs.FitOnce.{numbers_once, all_fit_once}
 use Rattle.cd_empty.proofs.Growing.{Grows, grows_then}
 
@@ -90,7 +90,7 @@ made_is_marked : (graph : Graph) (begins : (more : Graph) × (graph ≡ built_in
 made_is_marked graph begins table asked_all marks are question all of after id made =
     let larger : List Thing = table ++ made.made.0 in
     let is : Thing = element_at after id in
-    let one : One (λ needs. IsMade larger marks needs is × IsOfClause graph asked_all question needs) all =
+    let one : AnyOf (λ needs. IsMade larger marks needs is × IsOfClause graph asked_all question needs) all =
     one_with_each (λ needs. IsMade larger marks needs is) (IsOfClause graph asked_all question) all made.made.1 of in (
       made.named,
       one_leads (λ needs. IsMade larger marks needs is × IsOfClause graph asked_all question needs)
@@ -185,7 +185,7 @@ module _ (table : List Thing) (marks : List (Option ElementId)) (first : ℕ) (c
 
     -- and needs of questions without a mark are fit
     pub are_fit : (place : ℕ) (d : List Needs) → place < length cases → IsUnmarked marks (first + place)
-        → Each (IsFit table marks) (get_or cases place d)
+        → AllOf (IsFit table marks) (get_or cases place d)
     are_fit place d within none = ∥∥₁_elim can (all_fit_once table marks (get_or cases place d)) (λ is.
         let here = expanded_at is.0 is.2.0 (drop first is.2.0) (drop first marks) cases place d is.2.2 within
         (get_or-drop first marks place None ∙ none) in

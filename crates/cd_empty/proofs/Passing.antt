@@ -6,7 +6,7 @@ use Rattle.std.proofs.lemmas.List.{append-nil, length-take, take-append-le, take
 use Rattle.cd_sets.specs.declared.question.Question.{Question}
 use Rattle.cd_model.specs.Thing.{Thing}
 use Rattle.cd_model.specs.BuiltIns.{built_ins}
-use Rattle.cd_model.specs.Each.{Each}
+use Rattle.cd_model.specs.AllOf.{AllOf}
 use Rattle.cd_model.specs.Formula.{Graph}
 use Rattle.cd_elements.specs.declared.shape.ElementId.{ElementId}
 use Rattle.cd_rules.specs.Family.{AsksNodes, IsClosed}
@@ -15,9 +15,9 @@ use Rattle.cd_expand.specs.declared.needs.Needs.{Needs}
 use Rattle.cd_members.specs.Marks.{AreMarked, unmarked}
 use Rattle.cd_empty.specs.declared.decider.Decider.{Decider}
 use Rattle.cd_empty.specs.declared.verdict.Verdict.{Verdict}
-use Rattle.cd_empty.specs.Deciding.{AreExpanded, AreStuck, CanBeSettled}
+use Rattle.cd_empty.specs.Inner.Deciding.{AreExpanded, AreStuck, CanBeSettled}
 use Rattle.cd_empty.specs.Kept.{with_verdicts, settled_questions, settled_marks, kept, Fits}
-use Rattle.cd_empty.specs.Steps.{KeepsSettled}
+use Rattle.cd_empty.specs.Inner.Steps.{KeepsSettled}
 use Rattle.cd_members.proofs.Kept.{marked_in_longer}
 use Rattle.cd_empty.proofs.ClosedSoFar.{closed_when_stuck}
 use Rattle.cd_empty.proofs.ExactOnes.{each_had}
@@ -27,7 +27,7 @@ use Rattle.cd_empty.proofs.KeptOnes.{with_split}
 below_had : (count number : ℕ) → ∥ number < count ∥₁ → number < count
 below_had count number known = ∥∥₁_elim known (hlevel props) (λ below. below)
 
-pub asks_had : (count : ℕ) (questions : List Question) → ∥ Each (AsksNodes count) questions ∥₁ → Each (AsksNodes count) questions
+pub asks_had : (count : ℕ) (questions : List Question) → ∥ AllOf (AsksNodes count) questions ∥₁ → AllOf (AsksNodes count) questions
 asks_had count questions known = each_had (AsksNodes count) (λ question asks. (
   each_had (λ id. id.0 < count) (λ id. below_had count id.0) question.pos (∥∥₁_map asks (λ both. both.0)),
   each_had (λ id. id.0 < count) (λ id. below_had count id.0) question.neg (∥∥₁_map asks (λ both. both.1)),
@@ -45,7 +45,7 @@ counted graph table decider known = record {
 }
 
 pub asking : (graph : Graph) (table : List Thing) (decider : Decider) → ∥ Fits graph table decider ∥₁
-    → Each (AsksNodes (length graph)) decider.asked
+    → AllOf (AsksNodes (length graph)) decider.asked
 asking graph table decider known = asks_had (length graph) decider.asked (∥∥₁_map known (λ fits. fits.asks))
 
 -- where more is asked and marked after all, what is settled is kept
@@ -79,7 +79,7 @@ full_front : {X : Type 0} (list : List X) (number : ℕ) → number ≤ length l
 full_front list number within = omega (arith, within, length-take number list)
 
 pub fits_after : (graph : Graph) (table : List Thing) (before after : Decider) → KeepsSettled before after
-    → Each (AsksNodes (length graph)) after.asked → Fits graph table before → Fits graph table after
+    → AllOf (AsksNodes (length graph)) after.asked → Fits graph table before → Fits graph table after
 fits_after graph table before after keeps asks fits = record {
   asks = asks;
   all_asked = as_long after.asked after.settled
@@ -104,15 +104,15 @@ fits_longer graph table longer decider more fits = record {
 }
 
 -- more questions ask nodes
-pub all_ask : (count : ℕ) (before after : List Question) → Each (AsksNodes count) before
-    → (more : List Question) × (after ≡ before ++ more) × Each (AsksNodes count) more → Each (AsksNodes count) after
+pub all_ask : (count : ℕ) (before after : List Question) → AllOf (AsksNodes count) before
+    → (more : List Question) × (after ≡ before ++ more) × AllOf (AsksNodes count) more → AllOf (AsksNodes count) after
 all_ask count before after asks more =
-    subst (Each (AsksNodes count)) (sym more.1) (each_of_lists (AsksNodes count) before more.0 asks more.2)
+    subst (AllOf (AsksNodes count)) (sym more.1) (each_of_lists (AsksNodes count) before more.0 asks more.2)
 
 -- Where a call only asks and marks more, what is settled is kept, and the decider fits
 module _ (graph : Graph) (table : List Thing) (before after : Decider) (known : ∥ Fits graph table before ∥₁)
     (count : after.settled ≡ before.settled)
-    (more : (more : List Question) × (after.asked ≡ before.asked ++ more) × Each (AsksNodes (length graph)) more)
+    (more : (more : List Question) × (after.asked ≡ before.asked ++ more) × AllOf (AsksNodes (length graph)) more)
     (marks : take before.settled after.marks.items ≡ take before.settled before.marks.items) where
   grown_keeps : KeepsSettled before after
   grown_keeps = more_keeps before after (counted graph table before known) count (more.0, more.1) marks
@@ -173,7 +173,7 @@ more_verdicts before after settles = (
 
 -- Where there is nothing more to make, a decider that settles all fits
 pub fits_all : (graph : Graph) (table longest : List Thing) (before after : Decider) (cases : List (List Needs)) → SettlesAll before after
-    → Each (AsksNodes (length graph)) after.asked
+    → AllOf (AsksNodes (length graph)) after.asked
     → AreMarked graph longest after.asked after.marks.items
     × AreExpanded graph after.asked (drop before.settled after.asked) (drop before.settled after.marks.items) cases
     → AreStuck after.marks.items (drop before.settled after.marks.items) cases → Fits graph table before → Fits graph longest after

@@ -21,23 +21,23 @@ use Rattle.cd_expand.specs.declared.needs.Cell.{Cell}
 use Rattle.cd_expand.specs.declared.needs.Row.{Row}
 use Rattle.cd_expand.specs.declared.needs.Needs.{Needs}
 use Rattle.cd_expand.specs.declared.needs.Needs.TheVariants as code
-use Rattle.cd_expand.specs.Named.{Along, IsNumber, NamesWay, NamesNeed, NamesCell, NamesRow, Names}
+use Rattle.cd_expand.specs.Named.{Pairwise, IsNumber, NamesWay, NamesNeed, NamesCell, NamesRow, Names}
 use Rattle.cd_expand.specs.Expansion.{AreOfClauses, CoverClauses}
 use Rattle.cd_members.specs.Marks.{IsMarked, AreMarked}
 use Rattle.cd_members.proofs.Kept.{marked_in_longer}
-use Rattle.cd_empty.specs.Deciding.{IsExpanded, AreExpanded}
+use Rattle.cd_empty.specs.Inner.Deciding.{IsExpanded, AreExpanded}
 use Rattle.cd_empty.proofs.Growing.{in_longer}
 
 -- a fact along two lists leads to another one along them
 along_leads : {X Y : Type 0} (one other : X → Y → Type 0) → ((x : X) (y : Y) → one x y → other x y)
-    → (xs : List X) (ys : List Y) → Along one xs ys → Along other xs ys
+    → (xs : List X) (ys : List Y) → Pairwise one xs ys → Pairwise other xs ys
 along_leads one other leads [] [] along = tt
 along_leads one other leads (x ∷ xs) (y ∷ ys) along = (leads x y along.0, along_leads one other leads xs ys along.1)
 along_leads one other leads _ _ along = absurd along
 
 -- one more of each list
-along_push : {X Y : Type 0} (fact : X → Y → Type 0) (xs : List X) (ys : List Y) (x : X) (y : Y) → Along fact xs ys → fact x y
-    → Along fact (xs ++ x ∷ []) (ys ++ y ∷ [])
+along_push : {X Y : Type 0} (fact : X → Y → Type 0) (xs : List X) (ys : List Y) (x : X) (y : Y) → Pairwise fact xs ys → fact x y
+    → Pairwise fact (xs ++ x ∷ []) (ys ++ y ∷ [])
 along_push fact [] [] x y along is = (is, tt)
 along_push fact (one ∷ xs) (other ∷ ys) x y along is = (along.0, along_push fact xs ys x y along.1 is)
 along_push fact _ _ x y along is = absurd along

@@ -2,7 +2,7 @@
 use Rattle.std.specs.Prelude.{◌≤◌, List, [], ◌∷◌, Option, Some, None, length, take}
 use Rattle.cd_sets.specs.declared.question.Question.{Question}
 use Rattle.cd_model.specs.Thing.{Thing}
-use Rattle.cd_model.specs.Each.{Each}
+use Rattle.cd_model.specs.AllOf.{AllOf}
 use Rattle.cd_model.specs.Formula.{Graph}
 use Rattle.cd_elements.specs.declared.shape.ElementId.{ElementId}
 use Rattle.cd_rules.specs.Family.{AsksNodes, IsClosed}
@@ -17,7 +17,8 @@ verdict_of None = Empty
 verdict_of (Some id) = Inhabited id
 
 abbrev pub with_verdicts : List Question → List (Option ElementId) → List (Question × Verdict)
-with_verdicts (question ∷ questions) (mark ∷ marks) = (question, verdict_of mark) ∷ with_verdicts questions marks
+with_verdicts (question ∷ questions) (mark ∷ marks) = (question, verdict_of mark)
+    ∷ with_verdicts questions marks
 with_verdicts _ _ = []
 
 -- the questions that are settled, and their marks
@@ -30,10 +31,11 @@ settled_marks decider = take decider.settled decider.marks.items
 abbrev pub kept : Decider → List (Question × Verdict)
 kept decider = with_verdicts (settled_questions decider) (settled_marks decider)
 
--- A decider fits a graph and a table of elements where all that is asked asks nodes of the graph, where what is settled has its marks, and
--- these are elements of the questions, and where the settled questions without a mark are a closed family
+-- A decider fits a graph and a table of elements where all that is asked asks nodes of the graph,
+-- where what is settled has its marks, and these are elements of the questions, and where the
+-- settled questions without a mark are a closed family
 pub record Fits (graph : Graph) (table : List Thing) (decider : Decider) : Type 0 where
-  pub asks : Each (AsksNodes (length graph)) decider.asked
+  pub asks : AllOf (AsksNodes (length graph)) decider.asked
   pub all_asked : decider.settled ≤ length decider.asked
   pub all_marked : decider.settled ≤ length decider.marks.items
   pub marked : AreMarked graph table (settled_questions decider) (settled_marks decider)

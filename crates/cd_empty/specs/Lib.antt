@@ -1,8 +1,5 @@
 pub mod Verdicts
-pub mod Deciding
-pub mod Placing
-pub mod Rounds
 pub mod Kept
-pub mod Steps
 pub mod Seen
 pub mod Growth
+pub mod Inner

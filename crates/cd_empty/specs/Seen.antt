@@ -9,7 +9,8 @@ use Rattle.cd_empty.specs.declared.world.World.{World}
 use Rattle.cd_empty.specs.declared.verdict.Verdict.{Verdict}
 use Rattle.cd_empty.specs.Kept as decider
 
--- the nodes of its graph, the elements of its table, and the questions that are settled, with their verdicts
+-- the nodes of its graph, the elements of its table, and the questions that are settled, with their
+-- verdicts
 abbrev pub graph_of : World → Graph
 graph_of world = nodes world.graph
 

@@ -3,7 +3,7 @@ use Rattle.std.specs.Prelude.{ℕ, ◌≡◌, ◌++◌, true, List, [], ◌∷�
 use Rattle.cd_sets.specs.declared.node_id.NodeId.{NodeId}
 use Rattle.cd_sets.specs.declared.question.Question.{Question}
 use Rattle.cd_model.specs.Thing.{Thing, IsElement, IsValue}
-use Rattle.cd_model.specs.Each.{One}
+use Rattle.cd_model.specs.AllOf.{AnyOf}
 use Rattle.cd_model.specs.Formula.{Graph, IsGraph}
 use Rattle.cd_model.specs.Membership.{asked, answers, value_answers}
 use Rattle.cd_model.specs.Interfaces.{Interfaces, ArrowOf, OfNodes}
@@ -13,15 +13,16 @@ use Rattle.cd_empty.specs.declared.verdict.Verdict.TheVariants.{Empty, Inhabited
 
 -- no element is in a question
 abbrev pub HasNoElement : Graph → Question → Type 0
-HasNoElement graph question = (is : Thing) → IsElement is → asked (answers graph is) question true → ⊥
+HasNoElement graph question = (is : Thing) → IsElement is → asked (answers graph is) question true
+    → ⊥
 
 -- no value is in a question, in any graph that begins with this one, under any interfaces
 abbrev pub HasNoValue : Graph → Question → Type 0
 HasNoValue graph question = (more : Graph) (interfaces : Interfaces) (v : Thing) → IsValue v
     → asked (value_answers (graph ++ more) interfaces v) question true → ⊥
 
--- Each value of the one node is in the other, in each sound graph that begins with this one, where the
--- arrows of functions are nodes of that graph
+-- Each value of the one node is in the other, in each sound graph that begins with this one, where
+-- the arrows of functions are nodes of that graph
 abbrev pub AreWithin : Graph → (one other : NodeId) → Type 0
 AreWithin graph one other = (more : Graph) (arrows : ℕ → List (ArrowOf NodeId)) (v : Thing)
     → IsGraph (graph ++ more) → IsValue v
@@ -32,11 +33,12 @@ AreWithin graph one other = (more : Graph) (arrows : ℕ → List (ArrowOf NodeI
 abbrev pub IsExact : Graph → List Thing → Question → Verdict → Type 0
 IsExact graph table question Empty = HasNoElement graph question × HasNoValue graph question
 IsExact graph table question (Inhabited id) =
-    Names table id × IsElement (element_at table id) × asked (answers graph (element_at table id)) question true
+    Names table id × IsElement (element_at table id)
+    × asked (answers graph (element_at table id)) question true
 
 -- a verdict is kept for a question
 abbrev pub IsKept : List (Question × Verdict) → Question → Verdict → Type 0
-IsKept kept question verdict = One (λ one. one ≡ (question, verdict)) kept
+IsKept kept question verdict = AnyOf (λ one. one ≡ (question, verdict)) kept
 
 -- the questions that have no element
 abbrev pub family : List (Question × Verdict) → List Question

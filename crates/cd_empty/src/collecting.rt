@@ -1,8 +1,9 @@
 //! The questions that a question leads to.
-ghost use Rattle.std.specs.Prelude.{◌≡◌, ◌++◌, ◌≤◌, List, Option, drop, length, map, take, OnOk, IfOk};
+ghost use Rattle.std.specs.Prelude.{◌≡◌, ◌++◌, ◌≤◌, List, Option, drop, length, map, take, OnOk};
+ghost use Rattle.std.specs.Prelude.{IfOk};
 ghost use Rattle.cd_sets.specs.declared.question.Question.{Question as AQuestion};
 ghost use Rattle.cd_model.specs.Thing.{Thing};
-ghost use Rattle.cd_model.specs.Each.{Each};
+ghost use Rattle.cd_model.specs.AllOf.{AllOf};
 ghost use Rattle.cd_model.specs.Formula.{Graph as PlainGraph};
 ghost use Rattle.cd_graph.specs.Nodes.{nodes};
 ghost use Rattle.cd_rules.specs.Family.{AsksNodes};
@@ -10,8 +11,8 @@ ghost use Rattle.cd_elements.specs.declared.shape.ElementId.{ElementId as AnId};
 ghost use Rattle.cd_elements.specs.Elements.{table};
 ghost use Rattle.cd_expand.specs.Expansion.{IsExpansion};
 ghost use Rattle.cd_members.specs.Marks.{AreMarked, IsMarked};
-ghost use Rattle.cd_empty.specs.Deciding.{AreExpanded, IsExpanded};
-ghost use Rattle.cd_empty.specs.Placing.{IsMakeable, IsPlaced};
+ghost use Rattle.cd_empty.specs.Inner.Deciding.{AreExpanded, IsExpanded};
+ghost use Rattle.cd_empty.specs.Inner.Placing.{IsMakeable, IsPlaced};
 
 use cd_asked::{Asked, QuestionId};
 use cd_elements::{ElementId, Elements};
@@ -19,16 +20,19 @@ use cd_expand::{Expansion, Needs, expand};
 use cd_graph::Graph;
 use std::alloc::{AllocError, Global};
 
-// The mark of a question that was expanded, and what its clauses need. An element by one of its sets is made.
+// The mark of a question that was expanded, and what its clauses need. An element by one of its
+// sets is made.
 fn found(
     alloc: Global,
     expansion: Expansion,
     elements: &mut Elements,
 ) -> Result<(Option<ElementId>, Vec<Needs>), AllocError>
     requires { IsMakeable (table elements.old) expansion }
-    ensures found { IfOk result (λ found. (graph : PlainGraph) (asked : List AQuestion) (question : AQuestion)
+    ensures found { IfOk result
+        (λ found. (graph : PlainGraph) (asked : List AQuestion) (question : AQuestion)
         → IsExpansion graph asked question expansion
-        → IsMarked graph (table elements.new) question found.0 × IsExpanded graph asked question found.0 found.1.items) }
+        → IsMarked graph (table elements.new) question found.0
+        × IsExpanded graph asked question found.0 found.1.items) }
     ensures grows { (more : List Thing) × (table elements.new ≡ table elements.old ++ more) }
 {
     match expansion {
@@ -37,7 +41,8 @@ fn found(
     }
 }
 
-// Puts the mark of a question that was expanded after the marks, and what its clauses need after what others do.
+// Puts the mark of a question that was expanded after the marks, and what its clauses need after
+// what others do.
 fn place(
     alloc: Global,
     expansion: Expansion,
@@ -46,7 +51,8 @@ fn place(
     cases: &mut Vec<Vec<Needs>>,
 ) -> Result<(), AllocError>
     requires { IsMakeable (table elements.old) expansion }
-    ensures placed { OnOk result (IsPlaced (table elements.new) expansion marks.old.items marks.new.items
+    ensures placed { OnOk result
+        (IsPlaced (table elements.new) expansion marks.old.items marks.new.items
         (map (λ all. all.items) cases.old.items) (map (λ all. all.items) cases.new.items)) }
     ensures marks_grow { (more : List (Option AnId)) × (marks.new.items ≡ marks.old.items ++ more) }
     ensures grows { (more : List Thing) × (table elements.new ≡ table elements.old ++ more) }
@@ -57,8 +63,9 @@ fn place(
     Ok(())
 }
 
-/// Expands each question that has no place among the marks, and the questions that these lead to, and gives for each what its
-/// clauses need. A question that has an element by one of its sets is marked with it, the others are left without a mark.
+/// Expands each question that has no place among the marks, and the questions that these lead to,
+/// and gives for each what its clauses need. A question that has an element by one of its sets is
+/// marked with it, the others are left without a mark.
 pub(crate) fn collect(
     alloc: Global,
     graph: &Graph,
@@ -66,14 +73,18 @@ pub(crate) fn collect(
     asked: &mut Asked,
     marks: &mut Vec<Option<ElementId>>,
 ) -> Result<Vec<Vec<Needs>>, AllocError>
-    requires asks { Each (AsksNodes (length (nodes graph.now))) asked.old }
+    requires asks { AllOf (AsksNodes (length (nodes graph.now))) asked.old }
     requires before { length marks.old.items ≤ length asked.old }
     ensures all { OnOk result (length marks.new.items ≡ length asked.new) }
-    ensures marked { OnOk result (AreMarked (nodes graph.now) (table elements.old) (take (length marks.old.items) asked.old) marks.old.items
+    ensures marked { OnOk result
+        (AreMarked (nodes graph.now) (table elements.old)
+        (take (length marks.old.items) asked.old) marks.old.items
         → AreMarked (nodes graph.now) (table elements.new) asked.new marks.new.items) }
-    ensures expanded { IfOk result (λ cases. AreExpanded (nodes graph.now) asked.new (drop (length marks.old.items) asked.new)
+    ensures expanded { IfOk result
+        (λ cases. AreExpanded (nodes graph.now) asked.new (drop (length marks.old.items) asked.new)
         (drop (length marks.old.items) marks.new.items) (map (λ all. all.items) cases.items)) }
-    ensures asks_nodes { (more : List AQuestion) × (asked.new ≡ asked.old ++ more) × Each (AsksNodes (length (nodes graph.now))) more }
+    ensures asks_nodes { (more : List AQuestion) × (asked.new ≡ asked.old ++ more)
+        × AllOf (AsksNodes (length (nodes graph.now))) more }
     ensures marks_grow { (more : List (Option AnId)) × (marks.new.items ≡ marks.old.items ++ more) }
     ensures grows { (more : List Thing) × (table elements.new ≡ table elements.old ++ more) }
 {

@@ -1,8 +1,9 @@
-ghost use Rattle.std.specs.Prelude.{◌≡◌, ◌++◌, ◌<◌, ◌≤◌, ℕ, [], List, Some, None, length, slice_get, IfOk, IfSome, OnOk, MatchOption};
+ghost use Rattle.std.specs.Prelude.{◌≡◌, ◌++◌, ◌<◌, ◌≤◌, ℕ, [], List, Some, None, length};
+ghost use Rattle.std.specs.Prelude.{slice_get, IfOk, IfSome, OnOk, MatchOption};
 ghost use Rattle.std.specs.Option.{option_map};
 ghost use Rattle.cd_sets.specs.declared.question.Question.{Question as AQuestion};
 ghost use Rattle.cd_model.specs.Thing.{Thing};
-ghost use Rattle.cd_model.specs.Each.{Each};
+ghost use Rattle.cd_model.specs.AllOf.{AllOf};
 ghost use Rattle.cd_model.specs.Formula.{Graph as PlainGraph};
 ghost use Rattle.cd_graph.specs.Nodes.{nodes};
 ghost use Rattle.cd_rules.specs.Family.{AsksNodes};
@@ -29,7 +30,7 @@ impl Decider {
     ghost use Rattle.cd_empty.specs.Verdicts.{IsKept};
     ghost use Rattle.cd_empty.specs.declared.verdict.Verdict.{Verdict as AVerdict};
     ghost use Rattle.cd_empty.specs.Kept.{kept, settled_marks, verdict_of, Fits};
-    ghost use Rattle.cd_empty.specs.Steps.{KeepsSettled};
+    ghost use Rattle.cd_empty.specs.Inner.Steps.{KeepsSettled};
 
     /// No questions.
     pub(crate) fn new(alloc: Global) -> Decider
@@ -54,7 +55,8 @@ impl Decider {
         requires fits { ∥ Fits (nodes graph.now) (table elements.old) self.old ∥₁ }
         ensures fits { ∥ Fits (nodes graph.now) (table elements.new) self.new ∥₁ }
         ensures settled { IfOk result (λ verdict. IsKept (kept self.new) question.now verdict) }
-        ensures stays { (more : List (AQuestion × AVerdict)) × (kept self.new ≡ kept self.old ++ more) }
+        ensures stays { (more : List (AQuestion × AVerdict))
+            × (kept self.new ≡ kept self.old ++ more) }
         ensures grows { (more : List Thing) × (table elements.new ≡ table elements.old ++ more) }
     {
         let id = self.place(question)?;
@@ -64,9 +66,11 @@ impl Decider {
 
     /// The verdict that is kept for a question.
     pub(crate) fn settled(&self, question: &Question) -> Option<Verdict>
-        ensures found { MatchOption result ((verdict : AVerdict) → IsKept (kept self.now) question.now verdict → ⊥)
+        ensures found { MatchOption result
+            ((verdict : AVerdict) → IsKept (kept self.now) question.now verdict → ⊥)
             (λ verdict. IsKept (kept self.now) question.now verdict) }
-        ensures once { (asked : AQuestion) (one other : AVerdict) → IsKept (kept self.now) asked one → IsKept (kept self.now) asked other → one ≡ other }
+        ensures once { (asked : AQuestion) (one other : AVerdict) → IsKept (kept self.now) asked one
+            → IsKept (kept self.now) asked other → one ≡ other }
     {
         // The contract of this call says that each question is asked once.
         let _count = self.asked.len();
@@ -103,8 +107,9 @@ impl Decider {
     // Forgets what is not settled, and gives the question a number.
     fn place(&mut self, question: &Question) -> Result<QuestionId, AllocError>
         ensures number { IfOk result (λ id. slice_get self.new.asked id.0 ≡ Some question.now) }
-        ensures asks { (count : ℕ) → AsksNodes count question.now → Each (AsksNodes count) self.old.asked
-            → Each (AsksNodes count) self.new.asked }
+        ensures asks { (count : ℕ) → AsksNodes count question.now
+            → AllOf (AsksNodes count) self.old.asked
+            → AllOf (AsksNodes count) self.new.asked }
         ensures keeps { self.old.settled ≤ length self.old.asked → KeepsSettled self.old self.new }
         ensures marks { length self.new.marks.items ≤ self.new.settled }
     {
@@ -126,7 +131,8 @@ impl Decider {
         ensures fits { ∥ Fits (nodes graph.now) (table elements.new) self.new ∥₁ }
         ensures settled { OnOk result (id.0 < self.new.settled) }
         ensures asked { (more : List AQuestion) × (self.new.asked ≡ self.old.asked ++ more) }
-        ensures stays { (more : List (AQuestion × AVerdict)) × (kept self.new ≡ kept self.old ++ more) }
+        ensures stays { (more : List (AQuestion × AVerdict))
+            × (kept self.new ≡ kept self.old ++ more) }
         ensures grows { (more : List Thing) × (table elements.new ≡ table elements.old ++ more) }
     {
         if id.0 < self.settled {
@@ -142,7 +148,8 @@ impl Decider {
         ensures fits { ∥ Fits (nodes graph.now) (table elements.new) self.new ∥₁ }
         ensures settled { OnOk result (length self.old.asked ≤ self.new.settled) }
         ensures asked { (more : List AQuestion) × (self.new.asked ≡ self.old.asked ++ more) }
-        ensures stays { (more : List (AQuestion × AVerdict)) × (kept self.new ≡ kept self.old ++ more) }
+        ensures stays { (more : List (AQuestion × AVerdict))
+            × (kept self.new ≡ kept self.old ++ more) }
         ensures grows { (more : List Thing) × (table elements.new ≡ table elements.old ++ more) }
     {
         // The contract of this call says that the graph begins with the built-in nodes.

@@ -11,8 +11,8 @@ use cd_sets::node_id::NodeId;
 use cd_sets::question::Question;
 use std::alloc::{AllocError, Global};
 
-/// A graph of types, a table of elements, and what is settled of questions: whether there is an element in some nodes and outside some
-/// others. What is settled stays so.
+/// A graph of types, a table of elements, and what is settled of questions: whether there is an
+/// element in some nodes and outside some others. What is settled stays so.
 #[derive(Drop)]
 pub struct World {
     graph: Graph,
@@ -28,7 +28,7 @@ impl World {
     ghost use Rattle.cd_sets.specs.declared.question.Question.{Question as AQuestion};
     ghost use Rattle.cd_model.specs.Thing.{Thing, IsElement};
     ghost use Rattle.cd_model.specs.BuiltIns.{built_ins};
-    ghost use Rattle.cd_model.specs.Each.{Each};
+    ghost use Rattle.cd_model.specs.AllOf.{AllOf};
     ghost use Rattle.cd_model.specs.Formula.{Graph as PlainGraph, IsFormula, IsGraph};
     ghost use Rattle.cd_model.specs.Membership.{answers};
     ghost use Rattle.cd_graph.specs.PlainFormula.{plain_list};
@@ -53,10 +53,11 @@ impl World {
         })
     }
 
-    /// Puts formulas after those of the graph, which stays sound, and gives the number of the first.
-    /// What is settled stays so. Where memory runs out the graph stays as it was.
+    /// Puts formulas after those of the graph, which stays sound, and gives the number of the
+    /// first. What is settled stays so. Where memory runs out the graph stays as it was.
     pub fn extend(&mut self, batch: Formulas) -> Result<NodeId, AllocError>
-        requires { Each (IsFormula (length (graph_of self.old) + length (plain_list batch))) (plain_list batch) }
+        requires { AllOf (IsFormula (length (graph_of self.old) + length (plain_list batch)))
+            (plain_list batch) }
         ensures first { IfOk result (λ first. first.0 ≡ length (graph_of self.old)) }
         ensures added { OnOk result (graph_of self.new ≡ graph_of self.old ++ plain_list batch) }
         ensures unchanged { OnErr result (graph_of self.new ≡ graph_of self.old) }
@@ -68,15 +69,17 @@ impl World {
         self.graph.extend(batch)
     }
 
-    /// Settles whether there is an element in each node of `pos` and in none of `neg`: Empty where there is none, nor a value, and else one.
-    /// The closures of values may have arrows of this graph, or of any that it grows to.
+    /// Settles whether there is an element in each node of `pos` and in none of `neg`: Empty where
+    /// there is none, nor a value, and else one. The closures of values may have arrows of this
+    /// graph, or of any that it grows to.
     ///
     /// # Errors
     ///
     /// Want of memory. What was settled before stays so.
     pub fn decide(&mut self, question: &Question) -> Result<Verdict, AllocError>
         requires { AsksNodes (length (graph_of self.old)) question.now }
-        ensures exact { IfOk result (λ verdict. IsExact (graph_of self.old) (table_of self.new) question.now verdict) }
+        ensures exact { IfOk result
+            (λ verdict. IsExact (graph_of self.old) (table_of self.new) question.now verdict) }
         ensures settled { IfOk result (λ verdict. IsKept (kept self.new) question.now verdict) }
         ensures graph { graph_of self.new ≡ graph_of self.old }
         ensures grows { Grows self.old self.new }
@@ -88,8 +91,9 @@ impl World {
         Ok(verdict)
     }
 
-    /// Settles whether what is in the first node is in the second: Empty where it is, and else an element that is in the first alone. The
-    /// closures of values may have arrows of this graph, or of any that it grows to.
+    /// Settles whether what is in the first node is in the second: Empty where it is, and else an
+    /// element that is in the first alone. The closures of values may have arrows of this graph, or
+    /// of any that it grows to.
     ///
     /// # Errors
     ///
@@ -98,11 +102,15 @@ impl World {
         requires first { first.0 < length (graph_of self.old) }
         requires second { second.0 < length (graph_of self.old) }
         ensures elements { IfOk result (λ verdict. verdict ≡ Empty → (is : Thing) → IsElement is
-            → answers (graph_of self.old) is first true → answers (graph_of self.old) is second true) }
+            → answers (graph_of self.old) is first true
+            → answers (graph_of self.old) is second true) }
         ensures values { IfOk result (λ verdict. verdict ≡ Empty
             → AreWithin (graph_of self.old) first second) }
-        ensures exact { IfOk result (λ verdict. IsExact (graph_of self.old) (table_of self.new) (question (first ∷ []) (second ∷ [])) verdict) }
-        ensures settled { IfOk result (λ verdict. IsKept (kept self.new) (question (first ∷ []) (second ∷ [])) verdict) }
+        ensures exact { IfOk result
+            (λ verdict. IsExact (graph_of self.old) (table_of self.new)
+            (question (first ∷ []) (second ∷ [])) verdict) }
+        ensures settled { IfOk result
+            (λ verdict. IsKept (kept self.new) (question (first ∷ []) (second ∷ [])) verdict) }
         ensures graph { graph_of self.new ≡ graph_of self.old }
         ensures grows { Grows self.old self.new }
     {
@@ -115,19 +123,22 @@ impl World {
     /// The verdict that is kept for a question. All that are kept are of questions of the graph and
     /// exact, one for each question, and the questions without elements are a closed family.
     pub fn settled(&self, question: &Question) -> Option<Verdict>
-        ensures found { MatchOption result ((verdict : AVerdict) → IsKept (kept self.now) question.now verdict → ⊥)
+        ensures found { MatchOption result
+            ((verdict : AVerdict) → IsKept (kept self.now) question.now verdict → ⊥)
             (λ verdict. IsKept (kept self.now) question.now verdict) }
-        ensures asks { Each (λ one. AsksNodes (length (graph_of self.now)) one.0) (kept self.now) }
-        ensures exact { Each (λ one. IsExact (graph_of self.now) (table_of self.now) one.0 one.1) (kept self.now) }
-        ensures once { (asked : AQuestion) (one other : AVerdict) → IsKept (kept self.now) asked one → IsKept (kept self.now) asked other → one ≡ other }
+        ensures asks { AllOf (λ one. AsksNodes (length (graph_of self.now)) one.0) (kept self.now) }
+        ensures exact { AllOf (λ one. IsExact (graph_of self.now) (table_of self.now) one.0 one.1)
+            (kept self.now) }
+        ensures once { (asked : AQuestion) (one other : AVerdict) → IsKept (kept self.now) asked one
+            → IsKept (kept self.now) asked other → one ≡ other }
         ensures closed { ∥ IsClosed (graph_of self.now) (family (kept self.now)) ∥₁ }
     {
         self.know();
         self.decider.settled(question)
     }
 
-    /// The question at a place among those whose verdicts are kept, and its verdict. So the questions
-    /// without elements can be gone over.
+    /// The question at a place among those whose verdicts are kept, and its verdict. So the
+    /// questions without elements can be gone over.
     pub fn kept_at(&self, place: usize) -> Option<(&Question, Verdict)>
         ensures { MatchOption result (slice_get (kept self.now) place ≡ None)
             (λ one. slice_get (kept self.now) place ≡ Some (one.0.now, one.1)) }
@@ -138,11 +149,13 @@ impl World {
     // All verdicts that are kept are of questions of the graph and exact, and the questions without
     // elements are a closed family. It does nothing.
     fn know(&self)
-        ensures asks { Each (λ one. AsksNodes (length (graph_of self.now)) one.0) (kept self.now) }
-        ensures exact { Each (λ one. IsExact (graph_of self.now) (table_of self.now) one.0 one.1) (kept self.now) }
+        ensures asks { AllOf (λ one. AsksNodes (length (graph_of self.now)) one.0) (kept self.now) }
+        ensures exact { AllOf (λ one. IsExact (graph_of self.now) (table_of self.now) one.0 one.1)
+            (kept self.now) }
         ensures closed { ∥ IsClosed (graph_of self.now) (family (kept self.now)) ∥₁ }
     {
-        // The contract of this call says that the graph begins with the built-in nodes, and that of the next that the table is sound.
+        // The contract of this call says that the graph begins with the built-in nodes, and that of
+        // the next that the table is sound.
         let _nodes = self.graph.len();
         let _elements = self.elements.len();
     }
@@ -161,7 +174,7 @@ impl World {
     /// The table of elements.
     pub fn elements(&self) -> &Elements
         ensures table { table result.now ≡ table_of self.now }
-        ensures sound { Each IsElement (table_of self.now) }
+        ensures sound { AllOf IsElement (table_of self.now) }
     {
         // The contract of this call says that the table is sound.
         let _count = self.elements.len();

@@ -2,19 +2,19 @@
 use Rattle.std.proofs.Common.{◌≡◌, ℕ, ◌<◌, List, [], ◌∷◌, ◌++◌, ◌⊎◌, inl, inr, length, get_or, zero, suc}
 use Rattle.std.proofs.Common.{sym, ap, ◌∙◌, subst, arith, append_assoc, append-nil}
 use Rattle.cd_sets.specs.declared.question.Question.{Question}
-use Rattle.cd_model.specs.Each.{Each}
+use Rattle.cd_model.specs.AllOf.{AllOf}
 use Rattle.cd_rules.specs.Family.{AsksNodes}
-use Rattle.cd_expand.specs.Added.{Adds}
+use Rattle.cd_expand.specs.Inner.Added.{Adds}
 
 -- what is so of each of a list is so of the one at a place
 each_at : {X : Type 0} (fact : X → Type 0) (xs : List X) (index : ℕ) (x : X) → x ≡ get_or xs index x → index < length xs
-    → Each fact xs → fact x
+    → AllOf fact xs → fact x
 each_at fact [] index x is within each = absurd (omega arith)
 each_at fact (first ∷ rest) zero x is within each = subst fact (sym is) each.0
 each_at fact (first ∷ rest) (suc index) x is within each = each_at fact rest index x is (omega arith) each.1
 
 -- what is so of each of two lists is so of each of both
-pub each_both : {X : Type 0} (fact : X → Type 0) (xs ys : List X) → Each fact xs → Each fact ys → Each fact (xs ++ ys)
+pub each_both : {X : Type 0} (fact : X → Type 0) (xs ys : List X) → AllOf fact xs → AllOf fact ys → AllOf fact (xs ++ ys)
 each_both fact [] ys each others = others
 each_both fact (x ∷ xs) ys each others = (each.0, each_both fact xs ys each.1 others)
 
@@ -44,9 +44,9 @@ adds_then Asks old mid new first then = record {
 
 -- what is added for one more of a list
 pub adds_at : {X : Type 0} (Asks : ℕ → X → Type 0) (xs : List X) (index : ℕ) (x : X) → x ≡ get_or xs index x → index < length xs
-    → (old mid new : List Question) → Adds (λ nodes. Each (Asks nodes) xs) old mid → Adds (λ nodes. Asks nodes x) mid new
-    → Adds (λ nodes. Each (Asks nodes) xs) old new
+    → (old mid new : List Question) → Adds (λ nodes. AllOf (Asks nodes) xs) old mid → Adds (λ nodes. Asks nodes x) mid new
+    → Adds (λ nodes. AllOf (Asks nodes) xs) old new
 adds_at Asks xs index x is within old mid new first then =
-    adds_then (λ nodes. Each (Asks nodes) xs) old mid new first
-    (adds_for (λ nodes. Each (Asks nodes) xs) (λ nodes. Asks nodes x)
+    adds_then (λ nodes. AllOf (Asks nodes) xs) old mid new first
+    (adds_for (λ nodes. AllOf (Asks nodes) xs) (λ nodes. Asks nodes x)
     (λ nodes each. each_at (Asks nodes) xs index x is within each) mid new then)

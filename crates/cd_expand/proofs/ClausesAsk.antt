@@ -2,7 +2,7 @@
 use Rattle.std.proofs.Common.{◌≡◌, ℕ, ◌≤◌, List, ◌++◌, length, sym, ap, ◌∙◌, subst, arith, length-append}
 use Rattle.cd_sets.specs.declared.question.Question.{Question}
 use Rattle.cd_model.specs.BuiltIns.{built_ins}
-use Rattle.cd_model.specs.Each.{Each}
+use Rattle.cd_model.specs.AllOf.{AllOf}
 use Rattle.cd_model.specs.Formula.{Graph, IsGraph}
 use Rattle.cd_rules.specs.Clauses as rules
 use Rattle.cd_rules.specs.Family.{AsksNodes}
@@ -11,9 +11,9 @@ use Rattle.cd_normal.specs.declared.clause.Clause.{Clause}
 use Rattle.cd_normal.specs.declared.clause.Clause.TheVariants as code
 use Rattle.cd_normal.specs.Standing.{Stands}
 use Rattle.cd_records.specs.RecordTypes.{record_types}
-use Rattle.cd_expand.specs.Added.{Adds}
-use Rattle.cd_expand.specs.OfClauses.{ClauseAsks}
-use Rattle.cd_expand.specs.Within.{StandsInGraph}
+use Rattle.cd_expand.specs.Inner.Added.{Adds}
+use Rattle.cd_expand.specs.Inner.OfClauses.{ClauseAsks}
+use Rattle.cd_expand.specs.Inner.Within.{StandsInGraph}
 use Rattle.cd_rules.specs.Within.{IsWithin}
 use Rattle.cd_expand.proofs.Adding.{adds_for}
 use Rattle.cd_expand.proofs.Expanding.{IsToldOf, AreTold}
@@ -53,7 +53,7 @@ reduced_adds graph clause kept told = adds_for (λ nodes. StandsInGraph nodes cl
 -- the clauses of a question stand for those of the graph
 pub all_in_graph : (graph : Graph) → IsGraph graph → (more : Graph) × (graph ≡ built_ins ++ more) → (question : Question)
     → (clauses : List Clause) → AreTold graph question clauses
-    → Each (StandsInGraph (length graph)) clauses
+    → AllOf (StandsInGraph (length graph)) clauses
 all_in_graph graph sound begins question clauses told = each_weaker (IsToldOf graph question) (StandsInGraph (length graph))
     (λ clause of. (least, of.0, of.2, clause_is_within graph sound question of.0 of.1)) clauses told.sound
   where
@@ -63,7 +63,7 @@ all_in_graph graph sound begins question clauses told = each_weaker (IsToldOf gr
 -- and so each question that is added asks nodes of the graph
 pub added_asks : (graph : Graph) → IsGraph graph → (more : Graph) × (graph ≡ built_ins ++ more) → (question : Question)
     → (clauses : List Clause) → AreTold graph question clauses → (old new : List Question)
-    → Adds (λ nodes. Each (StandsInGraph nodes) clauses) old new
-    → (more : List Question) × (new ≡ old ++ more) × Each (AsksNodes (length graph)) more
+    → Adds (λ nodes. AllOf (StandsInGraph nodes) clauses) old new
+    → (more : List Question) × (new ≡ old ++ more) × AllOf (AsksNodes (length graph)) more
 added_asks graph sound begins question clauses told old new adds =
     (adds.more, adds.grown, adds.asking (length graph) (all_in_graph graph sound begins question clauses told))

@@ -5,7 +5,7 @@ use Rattle.std.specs.Option.{option_to_list}
 use Rattle.std.specs.declared.alloc.Global.{Global}
 use Rattle.std.specs.declared.vec.Vec.{Vec}
 use Rattle.cd_sets.specs.declared.question.Question.{Question}
-use Rattle.cd_model.specs.Each.{Each, One}
+use Rattle.cd_model.specs.AllOf.{AllOf, AnyOf}
 use Rattle.cd_model.specs.Formula.{Graph}
 use Rattle.cd_rules.specs.Clauses as rules
 use Rattle.cd_rules.specs.Needs.{arrow_way, pair_way, xml_way, splits, splits_in_three, Need}
@@ -15,11 +15,11 @@ use Rattle.cd_normal.specs.declared.clause.Clause.{Clause}
 use Rattle.cd_expand.specs.declared.needs.Way.{Way}
 use Rattle.cd_expand.specs.declared.needs.Needs.{Needs}
 use Rattle.cd_expand.specs.declared.needs.Needs.TheVariants as needs
-use Rattle.cd_expand.specs.Added.{Adds}
-use Rattle.cd_expand.specs.Basic.{IsBasic}
+use Rattle.cd_expand.specs.Inner.Added.{Adds}
+use Rattle.cd_expand.specs.Inner.Basic.{IsBasic}
 use Rattle.cd_expand.specs.Named.{Names, NamesNeed, NamesRow}
-use Rattle.cd_expand.specs.OfClauses.{NamesReduced, NamesOne, NamesEach}
-use Rattle.cd_expand.specs.Within.{StandsInGraph}
+use Rattle.cd_expand.specs.Inner.OfClauses.{NamesReduced, NamesOne, NamesEach}
+use Rattle.cd_expand.specs.Inner.Within.{StandsInGraph}
 use Rattle.cd_expand.proofs.Adding.{each_both, adds_none, adds_for, adds_then}
 use Rattle.cd_expand.proofs.Naming.{along_stays, need_stays, row_stays}
 
@@ -46,10 +46,10 @@ module _ (graph : Graph) where
 
   -- the needs are of one of the clauses, and the clause is basic or needs one of these
   abbrev Of : (asked : List Question) → List Clause → Needs → Type 0
-  Of asked clauses named = One (λ clause. NamesReduced graph asked clause named) clauses
+  Of asked clauses named = AnyOf (λ clause. NamesReduced graph asked clause named) clauses
 
   abbrev Has : (asked : List Question) → List Needs → Clause → Type 0
-  Has asked all clause = IsBasic clause ⊎ One (NamesReduced graph asked clause) all
+  Has asked all clause = IsBasic clause ⊎ AnyOf (NamesReduced graph asked clause) all
 
   each_stays : (asked more : List Question) (clauses : List Clause) (all : List Needs) → NamesEach graph asked clauses all
       → NamesEach graph (asked ++ more) clauses all
@@ -69,7 +69,7 @@ module _ (graph : Graph) where
 
   -- with what one more clause needs
   of_next : (asked : List Question) (clauses : List Clause) (clause : Clause) (found : Option Needs) → NamesOne graph asked clause found
-      → Each (Of asked (clauses ++ clause ∷ [])) (option_to_list found)
+      → AllOf (Of asked (clauses ++ clause ∷ [])) (option_to_list found)
   of_next asked clauses clause None basic = tt
   of_next asked clauses clause (Some named) here =
       (one_on_right (λ one. NamesReduced graph asked one named) clauses (clause ∷ []) (inl here), tt)
@@ -100,32 +100,32 @@ module _ (graph : Graph) where
   pub record ClausesSoFar (clauses done left : List Clause) (old new : List Question) (made : List Needs) : Type 0 where
     pub both : done ++ left ≡ clauses
     pub named : NamesEach graph new done made
-    pub added : Adds (λ nodes. Each (StandsInGraph nodes) clauses) old new
+    pub added : Adds (λ nodes. AllOf (StandsInGraph nodes) clauses) old new
 
   pub no_clauses : (clauses left : List Clause) (old : List Question) (made : List Needs) → left ≡ clauses → made ≡ []
       → ClausesSoFar clauses [] left old old made
   no_clauses clauses left old made all none = record {
     both = all;
     named = subst (NamesEach graph old []) (sym none) (tt, tt);
-    added = adds_none (λ nodes. Each (StandsInGraph nodes) clauses) old;
+    added = adds_none (λ nodes. AllOf (StandsInGraph nodes) clauses) old;
   }
 
   -- all clauses that are left are of the graph, if all are
-  in_rest : (nodes : ℕ) (done left : List Clause) → Each (StandsInGraph nodes) (done ++ left) → Each (StandsInGraph nodes) left
+  in_rest : (nodes : ℕ) (done left : List Clause) → AllOf (StandsInGraph nodes) (done ++ left) → AllOf (StandsInGraph nodes) left
   in_rest nodes [] left each = each
   in_rest nodes (one ∷ done) left each = in_rest nodes done left each.1
 
   -- so it is of the next one, and what is added for it is added for all
   module _ {clauses done left rest : List Clause} {old mid : List Question} {made : List Needs} {clause : Clause}
       (far : ClausesSoFar clauses done left old mid made) (is : left ≡ clause ∷ rest) where
-    pub next_in_graph : (nodes : ℕ) → Each (StandsInGraph nodes) clauses → StandsInGraph nodes clause
-    next_in_graph nodes each = (subst (Each (StandsInGraph nodes)) is
-        (in_rest nodes done left (subst (Each (StandsInGraph nodes)) (sym far.both) each))).0
+    pub next_in_graph : (nodes : ℕ) → AllOf (StandsInGraph nodes) clauses → StandsInGraph nodes clause
+    next_in_graph nodes each = (subst (AllOf (StandsInGraph nodes)) is
+        (in_rest nodes done left (subst (AllOf (StandsInGraph nodes)) (sym far.both) each))).0
 
     module _ {new : List Question} (adds : Adds (λ nodes. StandsInGraph nodes clause) mid new) where
-      pub clause_adds : Adds (λ nodes. Each (StandsInGraph nodes) clauses) old new
-      clause_adds = adds_then (λ nodes. Each (StandsInGraph nodes) clauses) old mid new far.added
-          (adds_for (λ nodes. Each (StandsInGraph nodes) clauses) (λ nodes. StandsInGraph nodes clause) next_in_graph mid new adds)
+      pub clause_adds : Adds (λ nodes. AllOf (StandsInGraph nodes) clauses) old new
+      clause_adds = adds_then (λ nodes. AllOf (StandsInGraph nodes) clauses) old mid new far.added
+          (adds_for (λ nodes. AllOf (StandsInGraph nodes) clauses) (λ nodes. StandsInGraph nodes clause) next_in_graph mid new adds)
 
       pub next_clause : {longer : List Needs} (found : Option Needs) → NamesOne graph new clause found
           → longer ≡ made ++ option_to_list found → ClausesSoFar clauses (done ++ clause ∷ []) rest old new longer

@@ -1,7 +1,7 @@
 -- What is told of the clauses of the code is told of the question.
 use Rattle.std.proofs.Common.{List, [], ◌∷◌, ◌⊎◌, inl, inr}
 use Rattle.cd_sets.specs.declared.question.Question.{Question}
-use Rattle.cd_model.specs.Each.{Each, One}
+use Rattle.cd_model.specs.AllOf.{AllOf, AnyOf}
 use Rattle.cd_model.specs.Formula.{Graph, IsGraph}
 use Rattle.cd_elements.specs.declared.shape.Shape.{Shape}
 use Rattle.cd_elements.specs.declared.shape.Shape.TheVariants.{Int, Char, Atom}
@@ -15,10 +15,10 @@ use Rattle.cd_normal.specs.declared.clause.Clause.{Clause}
 use Rattle.cd_normal.specs.declared.clause.Clause.TheVariants as code
 use Rattle.cd_normal.specs.Standing.{Stands, HoldsNothing}
 use Rattle.cd_expand.specs.declared.needs.Needs.{Needs}
-use Rattle.cd_expand.specs.Basic.{IsBasic, IsNoSet, IsIn}
+use Rattle.cd_expand.specs.Inner.Basic.{IsBasic, IsNoSet, IsIn}
 use Rattle.cd_expand.specs.Expansion.{HasShape, AreOfClauses, CoverClauses}
 use Rattle.cd_expand.specs.Named.{Names}
-use Rattle.cd_expand.specs.OfClauses.{NamesReduced, NamesEach}
+use Rattle.cd_expand.specs.Inner.OfClauses.{NamesReduced, NamesEach}
 use Rattle.cd_expand.proofs.Basics.{nothing_needed, integer_in, character_in, atom_in}
 use Rattle.cd_rules.proofs.PartsAsk.{clause_names_labels}
 use Rattle.cd_expand.proofs.Reducing.{reduced_names_labels}
@@ -29,19 +29,19 @@ IsToldOf graph question clause = (is : rules.Clause) × IsClauseOfQuestion graph
 
 -- what the clauses of the code are to those of the question
 pub record AreTold (graph : Graph) (question : Question) (clauses : List Clause) : Type 0 where
-  pub sound : Each (IsToldOf graph question) clauses
+  pub sound : AllOf (IsToldOf graph question) clauses
   pub complete : (is : rules.Clause) → IsClauseOfQuestion graph question is
-      → One (λ clause. Stands clause is) clauses ⊎ ((clause : Clause) × Stands clause is × HoldsNothing clause)
+      → AnyOf (λ clause. Stands clause is) clauses ⊎ ((clause : Clause) × Stands clause is × HoldsNothing clause)
 
-pub are_told : (graph : Graph) (question : Question) (clauses : List Clause) → Each (IsToldOf graph question) clauses
+pub are_told : (graph : Graph) (question : Question) (clauses : List Clause) → AllOf (IsToldOf graph question) clauses
     → ((is : rules.Clause) → IsClauseOfQuestion graph question is
-    → One (λ clause. Stands clause is) clauses ⊎ ((clause : Clause) × Stands clause is × HoldsNothing clause))
+    → AnyOf (λ clause. Stands clause is) clauses ⊎ ((clause : Clause) × Stands clause is × HoldsNothing clause))
     → AreTold graph question clauses
 are_told graph question clauses sound complete = record { sound = sound; complete = complete }
 
 -- of two facts, one of each of a list and one of one of it, something follows
-with_one : {X : Type 0} (one other : X → Type 0) (So : Type 0) → ((x : X) → one x → other x → So) → (xs : List X) → Each one xs
-    → One other xs → So
+with_one : {X : Type 0} (one other : X → Type 0) (So : Type 0) → ((x : X) → one x → other x → So) → (xs : List X) → AllOf one xs
+    → AnyOf other xs → So
 with_one one other So lead [] each is = elim is [ ]
 with_one one other So lead (x ∷ xs) each (inl is) = lead x each.0 is
 with_one one other So lead (x ∷ xs) each (inr later) = with_one one other So lead xs each.1 later
@@ -58,7 +58,7 @@ shape_in graph question (code.Atoms set) is (Atom name) of stands here =
 shape_in graph question _ is _ of stands here = absurd here
 
 pub element_told : (graph : Graph) (question : Question) (clauses : List Clause) → AreTold graph question clauses → (shape : Shape)
-    → One (λ clause. IsIn clause shape) clauses → HasShape graph question shape
+    → AnyOf (λ clause. IsIn clause shape) clauses → HasShape graph question shape
 element_told graph question clauses told shape one =
     with_one (IsToldOf graph question) (λ clause. IsIn clause shape) (HasShape graph question shape)
     (λ clause of here. shape_in graph question clause of.0 shape of.1 of.2 here) clauses told.sound one
@@ -68,7 +68,7 @@ pub needs_told : (graph : Graph) → IsGraph graph → (question : Question)
     → (clauses : List Clause) → AreTold graph question clauses → (asked : List Question) (all : List Needs)
     → NamesEach graph asked clauses all → AreOfClauses graph asked question all
 needs_told graph sound question clauses told asked all names =
-    each_weaker (λ named. One (λ clause. NamesReduced graph asked clause named) clauses) Fact
+    each_weaker (λ named. AnyOf (λ clause. NamesReduced graph asked clause named) clauses) Fact
     (λ named one. with_one (IsToldOf graph question) (λ clause. NamesReduced graph asked clause named) (Fact named) (of_one named)
     clauses told.sound one) all names.0
   where
@@ -85,10 +85,10 @@ needs_told graph sound question clauses told asked all names =
 -- the needs of a reduced form of a clause of the question are there, or it needs what has no way
 abbrev Covers : Graph → (asked : List Question) → List Needs → rules.Clause → Type 0
 Covers graph asked all is =
-    One (λ named. (reduced : rules.Clause) × IsReduced graph is reduced × Names asked named reduced) all ⊎ AreNeeds is ([] ∷ [])
+    AnyOf (λ named. (reduced : rules.Clause) × IsReduced graph is reduced × Names asked named reduced) all ⊎ AreNeeds is ([] ∷ [])
 
 abbrev Known : Graph → (asked : List Question) → List Needs → Clause → Type 0
-Known graph asked all clause = IsNoSet clause × (IsBasic clause ⊎ One (NamesReduced graph asked clause) all)
+Known graph asked all clause = IsNoSet clause × (IsBasic clause ⊎ AnyOf (NamesReduced graph asked clause) all)
 
 known_covers : (graph : Graph) (asked : List Question) (all : List Needs) (is : rules.Clause) (clause : Clause)
     → Known graph asked all clause → Stands clause is → Covers graph asked all is
@@ -97,15 +97,15 @@ known_covers graph asked all is clause (no_set, inr one) stands = inl (one_weake
     (λ named. (reduced : rules.Clause) × IsReduced graph is reduced × Names asked named reduced) (λ named names. names is stands) all one)
 
 pub needs_cover : (graph : Graph) (question : Question) (clauses : List Clause) → AreTold graph question clauses
-    → Each IsNoSet clauses → (asked : List Question) (all : List Needs) → NamesEach graph asked clauses all
+    → AllOf IsNoSet clauses → (asked : List Question) (all : List Needs) → NamesEach graph asked clauses all
     → CoverClauses graph asked question all
 needs_cover graph question clauses told none asked all names is of = of_told (told.complete is of)
   where
-    known : Each (Known graph asked all) clauses
-    known = each_of_two IsNoSet (λ clause. IsBasic clause ⊎ One (NamesReduced graph asked clause) all) (Known graph asked all)
+    known : AllOf (Known graph asked all) clauses
+    known = each_of_two IsNoSet (λ clause. IsBasic clause ⊎ AnyOf (NamesReduced graph asked clause) all) (Known graph asked all)
         (λ clause no_set has. (no_set, has)) clauses none names.1
 
-    of_told : One (λ clause. Stands clause is) clauses ⊎ ((clause : Clause) × Stands clause is × HoldsNothing clause)
+    of_told : AnyOf (λ clause. Stands clause is) clauses ⊎ ((clause : Clause) × Stands clause is × HoldsNothing clause)
         → Covers graph asked all is
     of_told (inl one) = with_one (Known graph asked all) (λ clause. Stands clause is) (Covers graph asked all is)
         (known_covers graph asked all is) clauses known one

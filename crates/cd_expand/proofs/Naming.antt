@@ -3,9 +3,9 @@ use Rattle.std.proofs.Common.{◌≡◌, ℕ, List, [], ◌∷◌, ◌++◌, Som
 use Rattle.std.proofs.lemmas.Option.{none-some}
 use Rattle.cd_sets.specs.declared.question.Question.{Question}
 use Rattle.cd_records.specs.RecordTypes.{plain_cell, plain_row}
-use Rattle.cd_expand.specs.Added.{Adds}
-use Rattle.cd_expand.specs.Named.{Along, IsNumber, NamesWay, NamesNeed, NamesCell, NamesRow}
-use Rattle.cd_expand.specs.Numbered.{NamesField, NamesRowOf, NamesWays}
+use Rattle.cd_expand.specs.Inner.Added.{Adds}
+use Rattle.cd_expand.specs.Named.{Pairwise, IsNumber, NamesWay, NamesNeed, NamesCell, NamesRow}
+use Rattle.cd_expand.specs.Inner.Numbered.{NamesField, NamesRowOf, NamesWays}
 
 -- a fact that stays when questions are added
 abbrev pub Stays : {X Y : Type 0} → (List Question → X → Y → Type 0) → Type 0
@@ -13,13 +13,13 @@ Stays {X} {Y} Fact = (asked more : List Question) (x : X) (y : Y) → Fact asked
 
 -- what follows from a fact along two lists
 along_so : {X Y : Type 0} (one other : X → Y → Type 0) → ((x : X) (y : Y) → one x y → other x y) → (xs : List X) (ys : List Y)
-    → Along one xs ys → Along other xs ys
+    → Pairwise one xs ys → Pairwise other xs ys
 along_so one other so [] [] along = tt
 along_so one other so [] (y ∷ ys) along = along
 along_so one other so (x ∷ xs) [] along = along
 along_so one other so (x ∷ xs) (y ∷ ys) along = (so x y along.0, along_so one other so xs ys along.1)
 
-pub along_stays : {X Y : Type 0} (Fact : List Question → X → Y → Type 0) → Stays Fact → Stays (λ asked. Along (Fact asked))
+pub along_stays : {X Y : Type 0} (Fact : List Question → X → Y → Type 0) → Stays Fact → Stays (λ asked. Pairwise (Fact asked))
 along_stays Fact stays asked more = along_so (Fact asked) (Fact (asked ++ more)) (stays asked more)
 
 -- the fact is kept by what is added
@@ -61,16 +61,16 @@ pub ways_stay : Stays NamesWays
 ways_stay asked more ways need = need_stays asked more ways.items need.items
 
 -- one more at the end
-pub along_push : {X Y : Type 0} (fact : X → Y → Type 0) (xs : List X) (ys : List Y) (x : X) (y : Y) → Along fact xs ys → fact x y
-    → Along fact (xs ++ x ∷ []) (ys ++ y ∷ [])
+pub along_push : {X Y : Type 0} (fact : X → Y → Type 0) (xs : List X) (ys : List Y) (x : X) (y : Y) → Pairwise fact xs ys → fact x y
+    → Pairwise fact (xs ++ x ∷ []) (ys ++ y ∷ [])
 along_push fact [] [] x y along is = (is, tt)
 along_push fact [] (other ∷ ys) x y along is = elim along [ ]
 along_push fact (other ∷ xs) [] x y along is = elim along [ ]
 along_push fact (one ∷ xs) (other ∷ ys) x y along is = (along.0, along_push fact xs ys x y along.1 is)
 
 -- along a list that is made of another one
-pub along_map : {X Y Z : Type 0} (f : Z → Y) (fact : X → Y → Type 0) (xs : List X) (zs : List Z) → Along (λ x z. fact x (f z)) xs zs
-    → Along fact xs (map f zs)
+pub along_map : {X Y Z : Type 0} (f : Z → Y) (fact : X → Y → Type 0) (xs : List X) (zs : List Z) → Pairwise (λ x z. fact x (f z)) xs zs
+    → Pairwise fact xs (map f zs)
 along_map f fact [] [] along = tt
 along_map f fact [] (z ∷ zs) along = along
 along_map f fact (x ∷ xs) [] along = along

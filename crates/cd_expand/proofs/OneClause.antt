@@ -2,8 +2,8 @@
 use Rattle.std.proofs.Common.{◌≡◌, ℕ, List, sym, subst}
 use Rattle.cd_sets.specs.declared.question.Question.{Question}
 use Rattle.cd_normal.specs.declared.clause.Clause.{Clause}
-use Rattle.cd_expand.specs.Added.{Adds}
-use Rattle.cd_expand.specs.OfClauses.{ClauseAsks}
+use Rattle.cd_expand.specs.Inner.Added.{Adds}
+use Rattle.cd_expand.specs.Inner.OfClauses.{ClauseAsks}
 use Rattle.cd_expand.proofs.Adding.{adds_for}
 
 pub clause_added : {X : Type 0} (Part : ℕ → List X → List X → Type 0) (wanted refused : List X) (clause is : Clause)

@@ -1,7 +1,7 @@
 -- What the reduced form of a clause needs, and what its parts are.
 use Rattle.std.proofs.Common.{ℕ, List, Option, Some, None, sym, subst}
 use Rattle.cd_sets.specs.declared.question.Question.{Question}
-use Rattle.cd_model.specs.Each.{Each}
+use Rattle.cd_model.specs.AllOf.{AllOf}
 use Rattle.cd_model.specs.Formula.{Graph}
 use Rattle.cd_rules.specs.Clauses as rules
 use Rattle.cd_rules.specs.Clauses.{Pair, Triple, RecordType, Ints, Chars, Atoms, Pairs, Xmls, Records, Arrows}
@@ -13,13 +13,13 @@ use Rattle.cd_normal.specs.Standing.{Stands}
 use Rattle.cd_rules.specs.Within.{IsPairWithin, IsXmlWithin, IsWithin}
 use Rattle.cd_apart.specs.Within.{IsWithin as CodeIsWithin}
 use Rattle.cd_expand.specs.declared.needs.Needs.{Needs}
-use Rattle.cd_expand.specs.Basic.{IsBasic}
+use Rattle.cd_expand.specs.Inner.Basic.{IsBasic}
 use Rattle.cd_expand.specs.Named.{Names}
-use Rattle.cd_expand.specs.OfClauses.{NamesNeeded, NamesClause, NamesOne}
-use Rattle.cd_expand.specs.Within.{StandsInGraph}
+use Rattle.cd_expand.specs.Inner.OfClauses.{NamesNeeded, NamesClause, NamesOne}
+use Rattle.cd_expand.specs.Inner.Within.{StandsInGraph}
 
 -- what is so of each of a list is so of each that is kept of it
-each_kept : {X : Type 0} (Apart fact : X → Type 0) (all kept : List X) → LeavesOut Apart all kept → Each fact all → Each fact kept
+each_kept : {X : Type 0} (Apart fact : X → Type 0) (all kept : List X) → LeavesOut Apart all kept → AllOf fact all → AllOf fact kept
 each_kept Apart fact _ _ none each = each
 each_kept Apart fact _ _ (keeps x all kept rest) each = (each.0, each_kept Apart fact all kept rest each.1)
 each_kept Apart fact _ _ (leaves x all kept apart rest) each = each_kept Apart fact all kept rest each.1
@@ -29,11 +29,11 @@ module _ (graph : Graph) where
   pub reduced_within : (nodes : ℕ) (clause reduced : rules.Clause) → IsReduced graph clause reduced → IsWithin nodes clause
       → IsWithin nodes reduced
   reduced_within nodes (Pairs wanted refused) (Pairs same kept) is within = (
-    subst (Each (IsPairWithin nodes)) (sym is.0) within.0,
+    subst (AllOf (IsPairWithin nodes)) (sym is.0) within.0,
     each_kept (IsPairApart graph wanted) (IsPairWithin nodes) refused kept is.1 within.1,
   )
   reduced_within nodes (Xmls wanted refused) (Xmls same kept) is within = (
-    subst (Each (IsXmlWithin nodes)) (sym is.0) within.0,
+    subst (AllOf (IsXmlWithin nodes)) (sym is.0) within.0,
     each_kept (IsXmlApart graph wanted) (IsXmlWithin nodes) refused kept is.1 within.1,
   )
   reduced_within nodes (Pairs wanted refused) _ is within = absurd cc
@@ -135,9 +135,9 @@ stands_within nodes clause stands = by_kind clause stands.1 stands.2 stands.3
   where
     by_kind : (clause : Clause) (is : rules.Clause) → Stands clause is → IsWithin nodes is → CodeIsWithin nodes clause
     by_kind (code.Pairs pos neg) (Pairs wanted refused) stands within =
-        (subst (Each (IsPairWithin nodes)) (sym stands.0) within.0, subst (Each (IsPairWithin nodes)) (sym stands.1) within.1)
+        (subst (AllOf (IsPairWithin nodes)) (sym stands.0) within.0, subst (AllOf (IsPairWithin nodes)) (sym stands.1) within.1)
     by_kind (code.Xmls pos neg) (Xmls wanted refused) stands within =
-        (subst (Each (IsXmlWithin nodes)) (sym stands.0) within.0, subst (Each (IsXmlWithin nodes)) (sym stands.1) within.1)
+        (subst (AllOf (IsXmlWithin nodes)) (sym stands.0) within.0, subst (AllOf (IsXmlWithin nodes)) (sym stands.1) within.1)
     by_kind (code.Pairs pos neg) _ stands within = absurd stands
     by_kind (code.Xmls pos neg) _ stands within = absurd stands
     by_kind (code.Ints set) is stands within = tt

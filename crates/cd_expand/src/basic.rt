@@ -1,7 +1,7 @@
 //! Elements of the clauses of integers, characters and atoms.
 ghost use Rattle.std.specs.Prelude.{IfOk, MatchOption};
 ghost use Rattle.cd_normal.specs.Standing.{HoldsNothing};
-ghost use Rattle.cd_expand.specs.Basic.{IsNoSet, IsIn};
+ghost use Rattle.cd_expand.specs.Inner.Basic.{IsNoSet, IsIn};
 
 use cd_elements::Shape;
 use cd_intervals::atom_set::AtomSet;
@@ -13,7 +13,8 @@ use std::alloc::{AllocError, Global};
 
 /// An element of a clause of integers, characters or atoms, unless there is nothing in its set.
 pub(crate) fn some_element(alloc: Global, clause: &Clause) -> Result<Option<Shape>, AllocError>
-    ensures { IfOk result (λ found. MatchOption found (IsNoSet clause.now) (λ shape. IsIn clause.now shape)) }
+    ensures { IfOk result (λ found.
+        MatchOption found (IsNoSet clause.now) (λ shape. IsIn clause.now shape)) }
 {
     match clause {
         Clause::Ints(set) => Ok(some_integer(set)),
@@ -26,7 +27,8 @@ pub(crate) fn some_element(alloc: Global, clause: &Clause) -> Result<Option<Shap
 
 // An integer of the set, if it has one.
 fn some_integer(set: &IntSet) -> Option<Shape>
-    ensures { MatchOption result (HoldsNothing (Clause.Ints set.now)) (λ shape. IsIn (Clause.Ints set.now) shape) }
+    ensures { MatchOption result (HoldsNothing (Clause.Ints set.now))
+        (λ shape. IsIn (Clause.Ints set.now) shape) }
 {
     match set.some_member() {
         Some(n) => Some(Shape::Int(n)),
@@ -36,7 +38,8 @@ fn some_integer(set: &IntSet) -> Option<Shape>
 
 // A character of the set, if it has one.
 fn some_character(set: &CharSet) -> Option<Shape>
-    ensures { MatchOption result (HoldsNothing (Clause.Chars set.now)) (λ shape. IsIn (Clause.Chars set.now) shape) }
+    ensures { MatchOption result (HoldsNothing (Clause.Chars set.now))
+        (λ shape. IsIn (Clause.Chars set.now) shape) }
 {
     match set.some_member() {
         Some(c) => Some(Shape::Char(c)),
@@ -47,7 +50,8 @@ fn some_character(set: &CharSet) -> Option<Shape>
 // An atom of the set, if it has one.
 fn some_atom(alloc: Global, set: &AtomSet) -> Result<Option<Shape>, AllocError>
     ensures { IfOk result (λ found.
-        MatchOption found (HoldsNothing (Clause.Atoms set.now)) (λ shape. IsIn (Clause.Atoms set.now) shape)) }
+        MatchOption found (HoldsNothing (Clause.Atoms set.now))
+        (λ shape. IsIn (Clause.Atoms set.now) shape)) }
 {
     match set.some_member()? {
         Some(text) => {

@@ -1,13 +1,13 @@
 ghost use Rattle.std.specs.Prelude.{◌≡◌, ◌++◌, List, length, IfOk, OnOk, MatchOption};
 ghost use Rattle.std.specs.Option.{option_to_list};
 ghost use Rattle.cd_sets.specs.declared.question.Question.{Question as AQuestion};
-ghost use Rattle.cd_model.specs.Each.{Each, One};
+ghost use Rattle.cd_model.specs.AllOf.{AllOf, AnyOf};
 ghost use Rattle.cd_graph.specs.Nodes.{nodes};
 ghost use Rattle.cd_rules.specs.Family.{AsksNodes};
-ghost use Rattle.cd_expand.specs.Added.{Adds};
-ghost use Rattle.cd_expand.specs.Basic.{IsNoSet, IsIn};
-ghost use Rattle.cd_expand.specs.OfClauses.{NamesOne, NamesEach};
-ghost use Rattle.cd_expand.specs.Within.{StandsInGraph};
+ghost use Rattle.cd_expand.specs.Inner.Added.{Adds};
+ghost use Rattle.cd_expand.specs.Inner.Basic.{IsNoSet, IsIn};
+ghost use Rattle.cd_expand.specs.Inner.OfClauses.{NamesOne, NamesEach};
+ghost use Rattle.cd_expand.specs.Inner.Within.{StandsInGraph};
 ghost use Rattle.cd_expand.specs.Expansion.{IsExpansion};
 
 use crate::basic::some_element;
@@ -31,9 +31,9 @@ pub enum Expansion {
     Clauses(Vec<Needs>),
 }
 
-/// Looks at the clauses of a question. Where one of them is a set of integers, characters or atoms that is not empty the question
-/// has an element. Else what the clauses need is given, once they are reduced, and the questions of the needs are added to those that
-/// are asked.
+/// Looks at the clauses of a question. Where one of them is a set of integers, characters or atoms
+/// that is not empty the question has an element. Else what the clauses need is given, once they
+/// are reduced, and the questions of the needs are added to those that are asked.
 ///
 /// # Errors
 ///
@@ -45,8 +45,10 @@ pub fn expand(
     question: &Question,
 ) -> Result<Expansion, AllocError>
     requires { AsksNodes (length (nodes graph.now)) question.now }
-    ensures exact { IfOk result (λ expansion. IsExpansion (nodes graph.now) asked.new question.now expansion) }
-    ensures grows { (more : List AQuestion) × (asked.new ≡ asked.old ++ more) × Each (AsksNodes (length (nodes graph.now))) more }
+    ensures exact { IfOk result
+        (λ expansion. IsExpansion (nodes graph.now) asked.new question.now expansion) }
+    ensures grows { (more : List AQuestion) × (asked.new ≡ asked.old ++ more)
+        × AllOf (AsksNodes (length (nodes graph.now))) more }
 {
     // The contract of this call says that the graph is sound, and that it has the built-in nodes.
     let _sound = graph.len();
@@ -62,7 +64,9 @@ pub fn expand(
 
 // An element of the first clause of a set that is not empty.
 fn element_of_one(alloc: Global, clauses: &[Clause]) -> Result<Option<Shape>, AllocError>
-    ensures { IfOk result (λ found. MatchOption found (Each IsNoSet clauses.now) (λ shape. One (λ clause. IsIn clause shape) clauses.now)) }
+    ensures { IfOk result (λ found.
+        MatchOption found (AllOf IsNoSet clauses.now)
+        (λ shape. AnyOf (λ clause. IsIn clause shape) clauses.now)) }
 {
     for clause in clauses {
         if let Some(shape) = some_element(alloc, clause)? {
@@ -79,9 +83,10 @@ fn needs_of_each(
     asked: &mut Asked,
     clauses: Vec<Clause>,
 ) -> Result<Vec<Needs>, AllocError>
-    requires { Each (StandsInGraph (length (nodes graph.now))) clauses.items }
-    ensures names { IfOk result (λ all. NamesEach (nodes graph.now) asked.new clauses.items all.items) }
-    ensures grows { Adds (λ nodes. Each (StandsInGraph nodes) clauses.items) asked.old asked.new }
+    requires { AllOf (StandsInGraph (length (nodes graph.now))) clauses.items }
+    ensures names { IfOk result
+        (λ all. NamesEach (nodes graph.now) asked.new clauses.items all.items) }
+    ensures grows { Adds (λ nodes. AllOf (StandsInGraph nodes) clauses.items) asked.old asked.new }
 {
     let mut all = Vec::new(alloc);
     for clause in clauses {

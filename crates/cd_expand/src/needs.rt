@@ -2,7 +2,8 @@ use cd_asked::QuestionId;
 use cd_syntax::name::Name;
 use std::marker::Model;
 
-/// A way to meet a need: the questions that all have to have elements. A contract sees their numbers in a list.
+/// A way to meet a need: the questions that all have to have elements. A contract sees their
+/// numbers in a list.
 #[derive(Drop)]
 pub struct Way {
     questions: Vec<QuestionId>,
@@ -46,7 +47,8 @@ pub struct Cell {
     pub value: QuestionId,
 }
 
-/// A row of a clause of records: what may stand at some labels, and what has to stand at some other label.
+/// A row of a clause of records: what may stand at some labels, and what has to stand at some other
+/// label.
 #[derive(Drop)]
 pub struct Row {
     /// What may stand at the labels that some type names.

@@ -1,10 +1,10 @@
 //! Questions, ways and needs by the numbers of questions.
 ghost use Rattle.std.specs.Prelude.{IfOk};
-ghost use Rattle.cd_model.specs.Each.{Each};
+ghost use Rattle.cd_model.specs.AllOf.{AllOf};
 ghost use Rattle.cd_rules.specs.Family.{AsksNodes};
-ghost use Rattle.cd_expand.specs.Added.{Adds};
-ghost use Rattle.cd_expand.specs.Named.{Along, IsNumber, NamesWay, NamesNeed};
-ghost use Rattle.cd_expand.specs.Numbered.{NeedAsks, NamesWays};
+ghost use Rattle.cd_expand.specs.Inner.Added.{Adds};
+ghost use Rattle.cd_expand.specs.Named.{Pairwise, IsNumber, NamesWay, NamesNeed};
+ghost use Rattle.cd_expand.specs.Inner.Numbered.{NeedAsks, NamesWays};
 
 use crate::needs::Way;
 use cd_asked::{Asked, QuestionId};
@@ -26,7 +26,7 @@ pub(crate) fn number_each(
     questions: &[Question],
 ) -> Result<Vec<QuestionId>, AllocError>
     ensures names { IfOk result (λ ids. NamesWay asked.new ids.items questions.now) }
-    ensures grows { Adds (λ nodes. Each (AsksNodes nodes) questions.now) asked.old asked.new }
+    ensures grows { Adds (λ nodes. AllOf (AsksNodes nodes) questions.now) asked.old asked.new }
 {
     let mut ids = Vec::new(alloc);
     for question in questions {
@@ -42,7 +42,7 @@ pub(crate) fn number_way(
     way: &Questions,
 ) -> Result<Way, AllocError>
     ensures names { IfOk result (λ ids. NamesWay asked.new ids way.now) }
-    ensures grows { Adds (λ nodes. Each (AsksNodes nodes) way.now) asked.old asked.new }
+    ensures grows { Adds (λ nodes. AllOf (AsksNodes nodes) way.now) asked.old asked.new }
 {
     let ids = number_each(alloc, asked, way.items())?;
     Ok(Way::of(ids))
@@ -55,7 +55,7 @@ pub(crate) fn number_need(
     need: &[Questions],
 ) -> Result<Vec<Way>, AllocError>
     ensures names { IfOk result (λ ways. NamesNeed asked.new ways.items need.now) }
-    ensures grows { Adds (λ nodes. Each (Each (AsksNodes nodes)) need.now) asked.old asked.new }
+    ensures grows { Adds (λ nodes. AllOf (AllOf (AsksNodes nodes)) need.now) asked.old asked.new }
 {
     let mut ways = Vec::new(alloc);
     for way in need {
@@ -70,8 +70,8 @@ pub(crate) fn number_needs(
     asked: &mut Asked,
     needs: &[Vec<Questions>],
 ) -> Result<Vec<Vec<Way>>, AllocError>
-    ensures names { IfOk result (λ all. Along (NamesWays asked.new) all.items needs.now) }
-    ensures grows { Adds (λ nodes. Each (NeedAsks nodes) needs.now) asked.old asked.new }
+    ensures names { IfOk result (λ all. Pairwise (NamesWays asked.new) all.items needs.now) }
+    ensures grows { Adds (λ nodes. AllOf (NeedAsks nodes) needs.now) asked.old asked.new }
 {
     let mut all = Vec::new(alloc);
     for need in needs {

@@ -2,9 +2,10 @@
 ghost use Rattle.std.specs.Prelude.{IfOk};
 ghost use Rattle.cd_rules.specs.Clauses.{Pairs, Xmls, Records, Arrows};
 ghost use Rattle.cd_records.specs.RecordTypes.{record_types};
-ghost use Rattle.cd_expand.specs.Added.{Adds};
+ghost use Rattle.cd_expand.specs.Inner.Added.{Adds};
 ghost use Rattle.cd_expand.specs.Named.{Names};
-ghost use Rattle.cd_expand.specs.OfClauses.{PairsAsk, XmlsAsk, RecordsAsk, ArrowsAsk, ClauseAsks, NamesClause};
+ghost use Rattle.cd_expand.specs.Inner.OfClauses.{PairsAsk, XmlsAsk, RecordsAsk, ArrowsAsk};
+ghost use Rattle.cd_expand.specs.Inner.OfClauses.{ClauseAsks, NamesClause};
 
 use crate::needs::Needs;
 use crate::numbering::{number_need, number_needs};
@@ -82,7 +83,9 @@ fn needs_of_records(
     wanted: &[Fields],
     refused: &[Fields],
 ) -> Result<Needs, AllocError>
-    ensures names { IfOk result (λ needs. Names asked.new needs (Records (record_types wanted.now) (record_types refused.now))) }
+    ensures names { IfOk result
+        (λ needs. Names asked.new needs
+        (Records (record_types wanted.now) (record_types refused.now))) }
     ensures grows { Adds (λ nodes. RecordsAsk nodes wanted.now refused.now) asked.old asked.new }
 {
     let rows = rows(alloc, wanted, refused)?;

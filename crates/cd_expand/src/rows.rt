@@ -1,9 +1,9 @@
 //! Rows by the numbers of their questions.
 ghost use Rattle.std.specs.Prelude.{IfOk};
-ghost use Rattle.cd_model.specs.Each.{Each};
-ghost use Rattle.cd_expand.specs.Added.{Adds};
-ghost use Rattle.cd_expand.specs.Named.{Along};
-ghost use Rattle.cd_expand.specs.Numbered.{FieldAsks, NamesField, RowAsks, NamesRowOf};
+ghost use Rattle.cd_model.specs.AllOf.{AllOf};
+ghost use Rattle.cd_expand.specs.Inner.Added.{Adds};
+ghost use Rattle.cd_expand.specs.Named.{Pairwise};
+ghost use Rattle.cd_expand.specs.Inner.Numbered.{FieldAsks, NamesField, RowAsks, NamesRowOf};
 
 use crate::needs::{Cell, Row};
 use crate::numbering::{number, number_each};
@@ -18,8 +18,8 @@ pub(crate) fn number_rows(
     asked: &mut Asked,
     rows: &[RecordRow],
 ) -> Result<Vec<Row>, AllocError>
-    ensures names { IfOk result (λ all. Along (NamesRowOf asked.new) all.items rows.now) }
-    ensures grows { Adds (λ nodes. Each (RowAsks nodes) rows.now) asked.old asked.new }
+    ensures names { IfOk result (λ all. Pairwise (NamesRowOf asked.new) all.items rows.now) }
+    ensures grows { Adds (λ nodes. AllOf (RowAsks nodes) rows.now) asked.old asked.new }
 {
     let mut all = Vec::new(alloc);
     for row in rows {
@@ -44,8 +44,8 @@ fn number_cells(
     asked: &mut Asked,
     fields: &[(Name, FieldCell)],
 ) -> Result<Vec<Cell>, AllocError>
-    ensures names { IfOk result (λ cells. Along (NamesField asked.new) cells.items fields.now) }
-    ensures grows { Adds (λ nodes. Each (FieldAsks nodes) fields.now) asked.old asked.new }
+    ensures names { IfOk result (λ cells. Pairwise (NamesField asked.new) cells.items fields.now) }
+    ensures grows { Adds (λ nodes. AllOf (FieldAsks nodes) fields.now) asked.old asked.new }
 {
     let mut cells = Vec::new(alloc);
     for (label, cell) in fields {

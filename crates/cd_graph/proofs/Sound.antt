@@ -7,7 +7,7 @@ use Rattle.std.specs.Coded.{×_prop, Unit-prop}
 use mathlib.Core.Logic.{∥∥₁_elim}
 use Rattle.cd_syntax.specs.Name.{Name, IsLabel, is_word}
 use Rattle.cd_syntax.specs.Name.{IsAbove}
-use Rattle.cd_model.specs.Each.{Each}
+use Rattle.cd_model.specs.AllOf.{AllOf}
 use Rattle.cd_model.specs.Formula.{Formula, Formulas, Nothing, Everything, Ints, Chars, Atoms, Pair, Xml, Record, Arrow, And, Or, Not, NoFormula, AFormula, Field, Graph, AreRisingLabels, IsFormula, AreFormulas, IsGraph}
 use Rattle.cd_model.specs.BuiltIns.{built_ins}
 use Rattle.cd_graph.specs.PlainFormula.{plain}
@@ -16,7 +16,7 @@ use Rattle.cd_graph.proofs.Same.{formulas_are_a_set}
 
 -- each of these facts has one proof at most
 each_in_one_way : {X : Type 0} → (fact : X → Type 0) → ((one : X) → IsProp (fact one)) → (list : List X)
-    → IsProp (Each fact list)
+    → IsProp (AllOf fact list)
 each_in_one_way fact once [] = Unit-prop
 each_in_one_way fact once (one ∷ rest) = ×_prop (once one) (each_in_one_way fact once rest)
 
@@ -42,7 +42,7 @@ mutual
   formula_in_one_way nodes (Pair first second) = hlevel props
   formula_in_one_way nodes (Xml tag attributes content) = hlevel props
   formula_in_one_way nodes (Record named rest) =
-      let fields : IsProp (Each (λ field. field.1.type.0 < nodes) named) =
+      let fields : IsProp (AllOf (λ field. field.1.type.0 < nodes) named) =
       each_in_one_way (λ field. field.1.type.0 < nodes) (λ field. hlevel props) named in
       hlevel (labels_in_one_way None named, fields, props)
   formula_in_one_way nodes (Arrow argument result) = hlevel props
@@ -74,12 +74,12 @@ without_others graph all = ap (take 14) all.1
 
 -- a fact of each that follows from another
 each_also : {X : Type 0} → (fact other : X → Type 0) → ((one : X) → fact one → other one)
-    → (list : List X) → Each fact list → Each other list
+    → (list : List X) → AllOf fact list → AllOf other list
 each_also fact other also [] each = tt
 each_also fact other also (one ∷ rest) each = (also one each.0, each_also fact other also rest each.1)
 
-each_of_both : {X : Type 0} → (fact : X → Type 0) → (list others : List X) → Each fact list → Each fact others
-    → Each fact (list ++ others)
+each_of_both : {X : Type 0} → (fact : X → Type 0) → (list others : List X) → AllOf fact list → AllOf fact others
+    → AllOf fact (list ++ others)
 each_of_both fact [] others each more = more
 each_of_both fact (one ∷ rest) others each more = (each.0, each_of_both fact rest others each.1 more)
 
@@ -108,11 +108,11 @@ mutual
       (still_formula nodes more larger is sound.0, still_formulas nodes more larger rest sound.1)
 
 -- a graph with more formulas
-pub still_sound : (graph batch : Graph) → IsGraph graph → Each (IsFormula (length graph + length batch)) batch
+pub still_sound : (graph batch : Graph) → IsGraph graph → AllOf (IsFormula (length graph + length batch)) batch
     → IsGraph (graph ++ batch)
 still_sound graph batch sound more =
     let all : ℕ = length graph + length batch in
-    let first : Each (IsFormula all) graph =
+    let first : AllOf (IsFormula all) graph =
     each_also (IsFormula (length graph)) (IsFormula all) (still_formula (length graph) all (omega arith)) graph sound in
     rw (length-append graph batch) (each_of_both (IsFormula all) graph batch first more)
 
@@ -147,7 +147,7 @@ built_ins_are_sound =
     assumption
 
 -- where all formulas are of a graph, the one at a place is
-pub item_is_sound : (nodes : ℕ) (items : List CodeFormula) (place : ℕ) (d : CodeFormula) → Each (IsFormula nodes) (map plain items)
+pub item_is_sound : (nodes : ℕ) (items : List CodeFormula) (place : ℕ) (d : CodeFormula) → AllOf (IsFormula nodes) (map plain items)
     → place < length items → IsFormula nodes (plain (get_or items place d))
 item_is_sound nodes [] place d each within = absurd (omega arith)
 item_is_sound nodes (is ∷ items) zero d each within = each.0

@@ -1,3 +1,3 @@
 pub mod PlainFormula
-pub mod Questions
 pub mod Nodes
+pub mod Inner

@@ -1,11 +1,13 @@
 -- The formulas of the code as plain data.
 use Rattle.std.specs.Prelude.{List, map}
 use Rattle.cd_syntax.specs.Name.{Name}
-use Rattle.cd_model.specs.Formula.{formulas_of, Formula, Formulas, Field, Nothing, Everything, Ints, Chars, Atoms, Pair, Xml, Record, Arrow, And, Or, Not}
+use Rattle.cd_model.specs.Formula.{formulas_of, Formula, Formulas, Field, Nothing, Everything, Ints}
+use Rattle.cd_model.specs.Formula.{Chars, Atoms, Pair, Xml, Record, Arrow, And, Or, Not}
 use Rattle.cd_graph.specs.declared.fields.Field.{Field as CodeField}
 use Rattle.cd_graph.specs.declared.formula.Formula.TheOpen as layer
 use Rattle.cd_graph.specs.declared.formula.Formula.{Formula as CodeFormula, Formula-F, fold-Formula}
-use Rattle.cd_graph.specs.declared.formula.Formulas.{Formulas as CodeFormulas, Formulas-F, fold-Formulas}
+use Rattle.cd_graph.specs.declared.formula.Formulas.{Formulas as CodeFormulas, Formulas-F}
+use Rattle.cd_graph.specs.declared.formula.Formulas.{fold-Formulas}
 
 -- what a record type says of one label, and of some
 abbrev pub plain_field : CodeField → Field

@@ -2,7 +2,8 @@
 ghost use Rattle.std.specs.Prelude.{◌≡◌, [], ◌∷◌, IfOk, codes};
 ghost use Rattle.cd_intervals.specs.Atoms.{IsAtom};
 ghost use Rattle.cd_model.specs.Formula.{formulas_of, Pair, Record, Or};
-ghost use Rattle.cd_model.specs.BuiltIns.{node_named, all_ints, chars_to, all_atoms, atoms_of, data_formula, built_ins};
+ghost use Rattle.cd_model.specs.BuiltIns.{node_named, all_ints, chars_to, all_atoms, atoms_of};
+ghost use Rattle.cd_model.specs.BuiltIns.{data_formula, built_ins};
 ghost use Rattle.cd_graph.specs.PlainFormula.{plain, plain_list};
 
 use crate::fields::{FieldList, Fields};
@@ -106,7 +107,8 @@ fn records(alloc: Global, rest: NodeId) -> Formula
 // The truth values.
 fn truth_values(alloc: Global) -> Result<Formula, AllocError>
     ensures { IfOk result (λ is.
-        plain is ≡ Or (formulas_of (atoms_of (codes "false" ∷ []) ∷ atoms_of (codes "true" ∷ []) ∷ []))) }
+        plain is ≡ Or (formulas_of
+        (atoms_of (codes "false" ∷ []) ∷ atoms_of (codes "true" ∷ []) ∷ []))) }
 {
     let mut items = Vec::new(alloc);
     items.push(atom(alloc, "false")?)?;
@@ -116,7 +118,8 @@ fn truth_values(alloc: Global) -> Result<Formula, AllocError>
 
 // The sequences of characters.
 fn texts(alloc: Global) -> Result<Formula, AllocError>
-    ensures { IfOk result (λ is. plain is ≡ Or (formulas_of (Pair CHAR STRING ∷ atoms_of (codes "nil" ∷ []) ∷ []))) }
+    ensures { IfOk result (λ is.
+        plain is ≡ Or (formulas_of (Pair CHAR STRING ∷ atoms_of (codes "nil" ∷ []) ∷ []))) }
 {
     let mut items = Vec::new(alloc);
     items.push(Formula::pair(CHAR, STRING))?;

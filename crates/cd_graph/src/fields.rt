@@ -17,7 +17,8 @@ pub struct Field {
     pub node: NodeId,
 }
 
-/// Labels, which rise strictly, and what a record type says of each. A contract sees them in a list.
+/// Labels, which rise strictly, and what a record type says of each. A contract sees them in a
+/// list.
 #[derive(Drop)]
 pub struct FieldList {
     items: Vec<(Name, Field)>,
@@ -67,7 +68,8 @@ impl FieldList {
     }
 }
 
-/// A record type: its fields, and the node for all other labels, at which there is nothing or what is in that node.
+/// A record type: its fields, and the node for all other labels, at which there is nothing or what
+/// is in that node.
 #[derive(Drop)]
 pub struct Fields {
     /// What it says of the labels that it names.
@@ -77,8 +79,8 @@ pub struct Fields {
 }
 
 impl Fields {
-    /// What it says of a label: its field of this label, or else that nothing may stand there or what
-    /// is in the rest.
+    /// What it says of a label: its field of this label, or else that nothing may stand there or
+    /// what is in the rest.
     pub fn at(&self, label: &Name) -> Field
         ensures { plain_field result
             ≡ field_of (plain_named self.now.named) self.now.rest label.now }

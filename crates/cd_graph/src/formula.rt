@@ -102,7 +102,8 @@ impl Formulas {
 
     // Puts others after these. Where memory runs out these stay as they were.
     pub(crate) fn append(&mut self, others: Formulas) -> Result<(), AllocError>
-        ensures added { OnOk result (plain_list self.new ≡ plain_list self.old ++ plain_list others) }
+        ensures added { OnOk result
+            (plain_list self.new ≡ plain_list self.old ++ plain_list others) }
         ensures kept { OnErr result (plain_list self.new ≡ plain_list self.old) }
     {
         let mut items = others.items;

@@ -1,13 +1,15 @@
-ghost use Rattle.std.specs.Prelude.{◌≡◌, ◌+◌, ◌<◌, ◌++◌, ◌↔◌, Bool, List, map, take, length, IfOk, OnOk, OnErr};
+ghost use Rattle.std.specs.Prelude.{◌≡◌, ◌+◌, ◌<◌, ◌++◌, ◌↔◌, Bool, List, map, take, length, IfOk};
+ghost use Rattle.std.specs.Prelude.{OnOk, OnErr};
 ghost use Rattle.cd_sets.specs.declared.node_id.NodeId.{NodeId as AnId};
 ghost use Rattle.cd_model.specs.Thing.{Thing};
-ghost use Rattle.cd_model.specs.Each.{Each};
+ghost use Rattle.cd_model.specs.AllOf.{AllOf};
 ghost use Rattle.cd_model.specs.Formula.{Graph as PlainGraph, IsFormula, IsGraph, formula_at};
 ghost use Rattle.cd_model.specs.BuiltIns.{built_ins as built_in_formulas};
 ghost use Rattle.cd_model.specs.Interfaces.{Interfaces};
-ghost use Rattle.cd_model.specs.Membership.{asked, holds, reader, value_reader, answers, value_answers};
+ghost use Rattle.cd_model.specs.Membership.{asked, holds, reader, value_reader, answers};
+ghost use Rattle.cd_model.specs.Membership.{value_answers};
 ghost use Rattle.cd_graph.specs.PlainFormula.{plain, plain_list};
-ghost use Rattle.cd_graph.specs.Questions.{inside, outside, question_formula};
+ghost use Rattle.cd_graph.specs.Inner.Questions.{inside, outside, question_formula};
 
 use crate::built_in::built_ins;
 use crate::formula::{Formula, Formulas};
@@ -15,7 +17,8 @@ use cd_sets::node_id::NodeId;
 use cd_sets::question::Question;
 use std::alloc::{AllocError, Global};
 
-/// A graph of types: a list of formulas, each under the number of its place, which begins with the built-in nodes.
+/// A graph of types: a list of formulas, each under the number of its place, which begins with the
+/// built-in nodes.
 #[derive(Drop)]
 pub struct Graph {
     formulas: Formulas,
@@ -35,16 +38,21 @@ impl Graph {
         })
     }
 
-    /// Puts formulas after those of the graph, which stays sound, and gives the number of the first.
-    /// Each old node holds what it held. Where memory runs out the graph stays as it was.
+    /// Puts formulas after those of the graph, which stays sound, and gives the number of the
+    /// first. Each old node holds what it held. Where memory runs out the graph stays as it was.
     pub fn extend(&mut self, batch: Formulas) -> Result<NodeId, AllocError>
-        requires { Each (IsFormula (length (nodes self.old) + length (plain_list batch))) (plain_list batch) }
+        requires { AllOf (IsFormula (length (nodes self.old) + length (plain_list batch)))
+            (plain_list batch) }
         ensures first { IfOk result (λ first. first.0 ≡ length (nodes self.old)) }
         ensures added { OnOk result (nodes self.new ≡ nodes self.old ++ plain_list batch) }
-        ensures elements { OnOk result ((is : Thing) (id : AnId) (answer : Bool) → id.0 < length (nodes self.old)
+        ensures elements { OnOk result
+            ((is : Thing) (id : AnId) (answer : Bool) → id.0 < length (nodes self.old)
             → answers (nodes self.old) is id answer ↔ answers (nodes self.new) is id answer) }
-        ensures values { OnOk result ((interfaces : Interfaces) (is : Thing) (id : AnId) (answer : Bool) → id.0 < length (nodes self.old)
-            → value_answers (nodes self.old) interfaces is id answer ↔ value_answers (nodes self.new) interfaces is id answer) }
+        ensures values { OnOk result
+            ((interfaces : Interfaces) (is : Thing) (id : AnId) (answer : Bool)
+            → id.0 < length (nodes self.old)
+            → value_answers (nodes self.old) interfaces is id answer
+            ↔ value_answers (nodes self.new) interfaces is id answer) }
         ensures kept { OnErr result (nodes self.new ≡ nodes self.old) }
         ensures sound { IsGraph (nodes self.new) }
     {
@@ -71,25 +79,28 @@ impl Graph {
         self.formulas.items().len()
     }
 
-    /// A formula that holds just what is in each node of `pos` and in none of `neg`, made of copies of their formulas.
+    /// A formula that holds just what is in each node of `pos` and in none of `neg`, made of copies
+    /// of their formulas.
     pub fn formula_of(&self, question: &Question) -> Result<Formula, AllocError>
-        requires pos { Each (λ id. id.0 < length (nodes self.now)) question.now.pos }
-        requires neg { Each (λ id. id.0 < length (nodes self.now)) question.now.neg }
+        requires pos { AllOf (λ id. id.0 < length (nodes self.now)) question.now.pos }
+        requires neg { AllOf (λ id. id.0 < length (nodes self.now)) question.now.neg }
         ensures elements { IfOk result (λ formula. (is : Thing) (answer : Bool)
             → asked (answers (nodes self.now) is) question.now answer
             ↔ holds (reader (nodes self.now) is) (plain formula) answer) }
-        ensures values { IfOk result (λ formula. (interfaces : Interfaces) (is : Thing) (answer : Bool)
+        ensures values { IfOk result
+            (λ formula. (interfaces : Interfaces) (is : Thing) (answer : Bool)
             → asked (value_answers (nodes self.now) interfaces is) question.now answer
             ↔ holds (value_reader (nodes self.now) interfaces is) (plain formula) answer) }
-        ensures sound { IfOk result (λ formula. IsFormula (length (nodes self.now)) (plain formula)) }
+        ensures sound { IfOk result
+            (λ formula. IsFormula (length (nodes self.now)) (plain formula)) }
     {
         self.joined(question)
     }
 
     // The formula by its parts.
     fn joined(&self, question: &Question) -> Result<Formula, AllocError>
-        requires pos { Each (λ id. id.0 < length (nodes self.now)) question.now.pos }
-        requires neg { Each (λ id. id.0 < length (nodes self.now)) question.now.neg }
+        requires pos { AllOf (λ id. id.0 < length (nodes self.now)) question.now.pos }
+        requires neg { AllOf (λ id. id.0 < length (nodes self.now)) question.now.neg }
         ensures { IfOk result (λ is. plain is ≡ question_formula (nodes self.now) question.now) }
     {
         let mut formulas = self.copies(question.pos.ids())?;
@@ -99,7 +110,7 @@ impl Graph {
 
     // Copies of the formulas of nodes.
     fn copies(&self, ids: &[NodeId]) -> Result<Formulas, AllocError>
-        requires { Each (λ id. id.0 < length (nodes self.now)) ids.now }
+        requires { AllOf (λ id. id.0 < length (nodes self.now)) ids.now }
         ensures { IfOk result (λ formulas. plain_list formulas ≡ inside (nodes self.now) ids.now) }
     {
         let mut formulas = Vec::new(self.formulas.allocator());
@@ -111,7 +122,7 @@ impl Graph {
 
     // For each of the nodes what is outside it, with a copy of its formula.
     fn complements(&self, ids: &[NodeId]) -> Result<Formulas, AllocError>
-        requires { Each (λ id. id.0 < length (nodes self.now)) ids.now }
+        requires { AllOf (λ id. id.0 < length (nodes self.now)) ids.now }
         ensures { IfOk result (λ formulas. plain_list formulas ≡ outside (nodes self.now) ids.now) }
     {
         let alloc = self.formulas.allocator();

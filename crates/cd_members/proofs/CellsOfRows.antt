@@ -4,30 +4,30 @@ use Rattle.std.specs.Option.{option_map}
 use Rattle.std.proofs.lemmas.Option.{same_Some}
 use Rattle.cd_syntax.specs.Name.{Name}
 use Rattle.cd_model.specs.Thing.{Thing}
-use Rattle.cd_model.specs.Each.{Each, One}
+use Rattle.cd_model.specs.AllOf.{AllOf, AnyOf}
 use Rattle.cd_elements.specs.declared.shape.ElementId.{ElementId}
 use Rattle.cd_elements.specs.Table.{element_at}
 use Rattle.cd_expand.specs.declared.needs.Cell.{Cell}
 use Rattle.cd_members.specs.Marks.{mark_of}
 use Rattle.cd_members.specs.Making.{IsInCell, LabelsDiffer}
-use Rattle.cd_members.specs.Shapes.{put, with_cells}
+use Rattle.cd_members.specs.Inner.Shapes.{put, with_cells}
 use Rattle.cd_members.proofs.PartsOfRows.{next_cell}
 use Rattle.cd_members.proofs.PutFields.{at, at_there, at_elsewhere}
 
 -- a label is that of no cell
 abbrev pub IsFree : List Cell → Name → Type 0
-IsFree cells label = One (λ cell. cell.label ≡ label) cells → ⊥
+IsFree cells label = AnyOf (λ cell. cell.label ≡ label) cells → ⊥
 
 module _ (table : List Thing) (marks : List (Option ElementId)) where
   -- at the labels of the cells fields are in the cells, and at others they have what they had
   pub record FitCells (cells : List Cell) (before after : List (Name × ElementId)) : Type 0 where
-    pub inside : Each (λ cell. IsInCell table marks cell (at table after cell.label)) cells
+    pub inside : AllOf (λ cell. IsInCell table marks cell (at table after cell.label)) cells
     pub outside : (label : Name) → IsFree cells label → at table after label ≡ at table before label
 
   -- an element is put at a label of no cell, and so at none of theirs
   none_still : (label : Name) (id : ElementId) (before : List (Name × ElementId)) (cells : List Cell) → IsFree cells label
-      → Each (λ cell. at table before cell.label ≡ None) cells
-      → Each (λ cell. at table (put label id before) cell.label ≡ None) cells
+      → AllOf (λ cell. at table before cell.label ≡ None) cells
+      → AllOf (λ cell. at table (put label id before) cell.label ≡ None) cells
   none_still label id before [] free none = tt
   none_still label id before (cell ∷ cells) free none = (
     at_elsewhere table label id before cell.label (λ same. free (inl (sym same))) ∙ none.0,
@@ -59,7 +59,7 @@ module _ (table : List Thing) (marks : List (Option ElementId)) where
 
   -- so fields with the marks of all of them fit them
   pub cells_fit : (cells : List Cell) (before after : List (Name × ElementId)) → LabelsDiffer cells
-      → Each (λ cell. at table before cell.label ≡ None) cells → with_cells marks cells before ≡ Some after
+      → AllOf (λ cell. at table before cell.label ≡ None) cells → with_cells marks cells before ≡ Some after
       → FitCells cells before after
   cells_fit [] before after differ none same =
       record { inside = tt; outside = λ label free. ap (λ parts. at table parts label) (sym (same_Some before after same)) }

@@ -3,7 +3,7 @@ use Rattle.std.proofs.Common.{◌≡◌, true, List, [], ◌∷◌, map, Option,
 use Rattle.cd_sets.specs.declared.question.Question.{Question}
 use Rattle.cd_model.specs.Thing as thing
 use Rattle.cd_model.specs.Thing.{Thing}
-use Rattle.cd_model.specs.Each.{One}
+use Rattle.cd_model.specs.AllOf.{AnyOf}
 use Rattle.cd_model.specs.Formula.{Graph}
 use Rattle.cd_model.specs.Kinds.{APair, AnXml}
 use Rattle.cd_model.specs.Membership.{asked, answers, reader}
@@ -13,7 +13,7 @@ use Rattle.cd_rules.proofs.Ones.{one_picked}
 use Rattle.cd_rules.proofs.PairsBack.{pairs_back, xmls_back}
 use Rattle.cd_asked.specs.declared.asked.QuestionId.{QuestionId}
 use Rattle.cd_elements.specs.declared.shape.ElementId.{ElementId}
-use Rattle.cd_expand.specs.Named.{Along, IsNumber, NamesWay, NamesNeed}
+use Rattle.cd_expand.specs.Named.{Pairwise, IsNumber, NamesWay, NamesNeed}
 use Rattle.cd_members.specs.Marks.{marked, AreMarked}
 use Rattle.cd_members.specs.Making.{AreOfWay, AreOfNeed}
 use Rattle.cd_members.proofs.Alongs.{along_one, along_both}
@@ -27,15 +27,15 @@ module _ (graph : Graph) (table : List Thing) (questions : List Question) (marks
     (are : AreMarked graph table questions marks) where
   -- the elements of a way are in its questions
   pub way_has : (ids : List QuestionId) (way : Way) (parts : List Thing) → NamesWay questions ids way
-      → AreOfWay table marks ids parts → Along (Has graph) way parts
+      → AreOfWay table marks ids parts → Pairwise (Has graph) way parts
   way_has = along_both (IsNumber questions) (λ id is. marked table marks id ≡ Some is) (Has graph)
       (marked_has graph table questions marks are)
 
   -- and those of a need in the questions of one of its ways
   pub need_has : (parts : List Thing) (ways : List (List QuestionId)) (need : Need) → NamesNeed questions ways need
-      → AreOfNeed table marks ways parts → One (λ way. Along (Has graph) way parts) need
+      → AreOfNeed table marks ways parts → AnyOf (λ way. Pairwise (Has graph) way parts) need
   need_has parts = along_one (NamesWay questions) (λ ids. AreOfWay table marks ids parts)
-      (λ way. Along (Has graph) way parts) (λ ids way names of. way_has ids way parts names of)
+      (λ way. Pairwise (Has graph) way parts) (λ ids way names of. way_has ids way parts names of)
 
   -- a pair is in the clause
   pub pair_made : (wanted refused : List Pair) (ways : List (List QuestionId)) (first second : Thing)
@@ -43,7 +43,7 @@ module _ (graph : Graph) (table : List Thing) (questions : List Question) (marks
       → AreOfNeed table marks ways (first ∷ second ∷ [])
       → IsInClause APair (reader graph (thing.Pair first second)) (Pairs wanted refused)
   pair_made wanted refused ways first second names of =
-      let way = one_picked (pair_way wanted) (λ way. Along (Has graph) way (first ∷ second ∷ [])) (splits refused)
+      let way = one_picked (pair_way wanted) (λ way. Pairwise (Has graph) way (first ∷ second ∷ [])) (splits refused)
       (need_has (first ∷ second ∷ []) ways (map (pair_way wanted) (splits refused)) names of) in
       let back = pairs_back (answers graph first) (answers graph second) wanted refused way.0 way.1 way.2.0 way.2.1.0 in
       (refl, back.0, back.1)
@@ -55,7 +55,7 @@ module _ (graph : Graph) (table : List Thing) (questions : List Question) (marks
       → IsInClause AnXml (reader graph (thing.Xml tag attributes content)) (Xmls wanted refused)
   xml_made wanted refused ways tag attributes content names of =
       let parts = tag ∷ attributes ∷ content ∷ [] in
-      let way = one_picked (xml_way wanted) (λ way. Along (Has graph) way parts) (splits_in_three refused)
+      let way = one_picked (xml_way wanted) (λ way. Pairwise (Has graph) way parts) (splits_in_three refused)
       (need_has parts ways (map (xml_way wanted) (splits_in_three refused)) names of) in
       let back = xmls_back (answers graph tag) (answers graph attributes) (answers graph content) wanted refused
       way.0 way.1 way.2.0 way.2.1.0 way.2.1.1.0 in

@@ -6,7 +6,7 @@ use Rattle.cd_sets.specs.declared.question.Question.{Question}
 use Rattle.cd_syntax.specs.Name.{Name}
 use Rattle.cd_model.specs.Thing as thing
 use Rattle.cd_model.specs.Thing.{Thing}
-use Rattle.cd_model.specs.Each.{Each, One}
+use Rattle.cd_model.specs.AllOf.{AllOf, AnyOf}
 use Rattle.cd_model.specs.Formula.{Graph}
 use Rattle.cd_model.specs.Membership.{answers}
 use Rattle.cd_rules.specs.Clauses.{RecordType}
@@ -22,7 +22,7 @@ use Rattle.cd_asked.specs.declared.asked.QuestionId.{QuestionId}
 use Rattle.cd_elements.specs.declared.shape.ElementId.{ElementId}
 use Rattle.cd_expand.specs.declared.needs.Cell.{Cell}
 use Rattle.cd_expand.specs.declared.needs.Row.{Row}
-use Rattle.cd_expand.specs.Named.{Along, IsNumber, NamesCell, NamesRow}
+use Rattle.cd_expand.specs.Named.{Pairwise, IsNumber, NamesCell, NamesRow}
 use Rattle.cd_members.specs.Marks.{AreMarked}
 use Rattle.cd_members.specs.Making.{IsInCell, IsOfNoCell, HasAt, IsOfRow}
 use Rattle.cd_members.proofs.Alongs.{along_each, along_one, along_one_back, along_with}
@@ -37,10 +37,10 @@ wanted_has graph pos neg is has =
 
 -- what is in one of the other questions of a row may stand at each label of no cell
 abbrev IsEverywhere : Graph → rows.Row → Type 0
-IsEverywhere graph row = Each (λ question. (is : Thing) → Has graph question is → Has graph row.every is) row.some
+IsEverywhere graph row = AllOf (λ question. (is : Thing) → Has graph question is → Has graph row.every is) row.some
 
 -- it is so in each row of record types
-all_everywhere : (graph : Graph) (wanted refused : List RecordType) → Each (IsEverywhere graph) (rows_of wanted refused)
+all_everywhere : (graph : Graph) (wanted refused : List RecordType) → AllOf (IsEverywhere graph) (rows_of wanted refused)
 all_everywhere graph wanted refused =
     let labels = labels_of (wanted ++ refused) in
     each_of_map (row_of labels wanted) (IsEverywhere graph) (reasons_of labels refused)
@@ -107,7 +107,7 @@ module _ (graph : Graph) (table : List Thing) (questions : List Question) (marks
 
       -- and at such a label it has nothing or one of these elements
       every : IsEverywhere graph of → (label : Name)
-          → (thing_at fields label ≡ None) ⊎ One (HasAt table marks fields label) row.some.items
+          → (thing_at fields label ≡ None) ⊎ AnyOf (HasAt table marks fields label) row.some.items
           → rule.IsInCell (answers graph) (thing_at fields label) (record { absent = true; value = of.every })
       every everywhere label (inl none) = subst (λ (what : Option Thing).
           rule.IsInCell (answers graph) what (record { absent = true; value = of.every })) (sym none) refl
@@ -139,9 +139,9 @@ module _ (graph : Graph) (table : List Thing) (questions : List Question) (marks
 
     -- a record of one of the rows of the code is in one of the clause's rows
     pub record_made : (wanted refused : List RecordType) (all : List Row)
-        → Along (NamesRow questions) all (rows_of wanted refused)
-        → One (λ row. IsOfRow table marks row fields) all
-        → One (IsInRow (answers graph) (thing_at fields)) (rows_of wanted refused)
+        → Pairwise (NamesRow questions) all (rows_of wanted refused)
+        → AnyOf (λ row. IsOfRow table marks row fields) all
+        → AnyOf (IsInRow (answers graph) (thing_at fields)) (rows_of wanted refused)
     record_made wanted refused all names = along_one (λ row of. NamesRow questions row of × IsEverywhere graph of)
         (λ row. IsOfRow table marks row fields) (IsInRow (answers graph) (thing_at fields))
         (λ row of both is. row_made row of both.0 both.1 is) all (rows_of wanted refused)

@@ -3,19 +3,19 @@ use Rattle.std.proofs.Common.{◌≡◌, refl, sym, ◌∙◌, ap, subst, ℕ, z
 use Rattle.std.proofs.Common.{List, [], ◌∷◌, ◌++◌, map, Option, Some, None, inl, inr, MatchOption}
 use Rattle.std.specs.Option.{option_map}
 use Rattle.cd_model.specs.Thing.{Thing}
-use Rattle.cd_model.specs.Each.{Each, One}
+use Rattle.cd_model.specs.AllOf.{AllOf, AnyOf}
 use Rattle.cd_asked.specs.declared.asked.QuestionId.{QuestionId}
 use Rattle.cd_elements.specs.declared.shape.ElementId.{ElementId}
 use Rattle.cd_elements.specs.Table.{Names, element_at}
-use Rattle.cd_expand.specs.Named.{Along}
+use Rattle.cd_expand.specs.Named.{Pairwise}
 use Rattle.cd_members.specs.Marks.{mark_of, AreNumbers}
 use Rattle.cd_members.specs.Making.{AreOfWay, HasNoMark, IsStuckNeed}
-use Rattle.cd_members.specs.Living.{marks_after, marks_of, living}
+use Rattle.cd_members.specs.Inner.Living.{marks_after, marks_of, living}
 use Rattle.cd_members.proofs.Found.{made_of, nothing_of, one_of_two, none_of_two}
 
 -- these are the marks of the questions of a way
 abbrev pub AreMarks : List (Option ElementId) → List QuestionId → List ElementId → Type 0
-AreMarks marks = Along (λ question id. mark_of marks question ≡ Some id)
+AreMarks marks = Pairwise (λ question id. mark_of marks question ≡ Some id)
 
 module _ (marks : List (Option ElementId)) where
   -- those that are found after some are marks of the way
@@ -28,7 +28,7 @@ module _ (marks : List (Option ElementId)) where
       (id ∷ more, is_all ∙ append_assoc ids (id ∷ []) more, (is, are))
 
   -- where none are found a question has no mark
-  none_found : (way : List QuestionId) (ids : List ElementId) → marks_after marks way ids ≡ None → One (HasNoMark marks) way
+  none_found : (way : List QuestionId) (ids : List ElementId) → marks_after marks way ids ≡ None → AnyOf (HasNoMark marks) way
   none_found [] ids none = absurd cc
   none_found (question ∷ way) ids none =
       elim (nothing_of (λ id. marks_after marks way (ids ++ id ∷ [])) (mark_of marks question) none) [
@@ -38,7 +38,7 @@ module _ (marks : List (Option ElementId)) where
 
   -- the marks of one of the ways
   pub living_found : (ways : List (List QuestionId)) (ids : List ElementId) → living marks ways ≡ Some ids
-      → One (λ way. AreMarks marks way ids) ways
+      → AnyOf (λ way. AreMarks marks way ids) ways
   living_found [] ids same = absurd cc
   living_found (way ∷ ways) ids same = elim (one_of_two (marks_of marks way) (living marks ways) ids same) [
     | inl is ↦ let (more, is_all, are) = marks_found way [] ids is in inl (subst (AreMarks marks way) (sym is_all) are)
@@ -82,7 +82,7 @@ module _ (marks : List (Option ElementId)) where
           at (mark ∷ all) (suc index) are = at all index are.1
 
       -- and so are those of a way
-      pub are_numbers : (way : List QuestionId) (ids : List ElementId) → AreMarks marks way ids → Each (Names table) ids
+      pub are_numbers : (way : List QuestionId) (ids : List ElementId) → AreMarks marks way ids → AllOf (Names table) ids
       are_numbers [] [] are = tt
       are_numbers [] (id ∷ ids) are = elim are [ ]
       are_numbers (question ∷ way) [] are = elim are [ ]

@@ -7,7 +7,7 @@ use Rattle.std.proofs.lemmas.Option.{same_Some}
 use Rattle.std.proofs.lemmas.Slice.Eq.{bytes_eq-Decides}
 use Rattle.cd_syntax.specs.Name.{Name}
 use Rattle.cd_model.specs.Thing.{Thing}
-use Rattle.cd_model.specs.Each.{Each, One}
+use Rattle.cd_model.specs.AllOf.{AllOf, AnyOf}
 use Rattle.cd_rules.proofs.FreshLabels.{row_of_a, row_is_long, longest}
 use Rattle.cd_rules.proofs.Ones.{each_weaker, each_of_all, each_of_two}
 use Rattle.cd_asked.specs.declared.asked.QuestionId.{QuestionId}
@@ -17,7 +17,7 @@ use Rattle.cd_expand.specs.declared.needs.Cell.{Cell}
 use Rattle.cd_expand.specs.declared.needs.Row.{Row}
 use Rattle.cd_members.specs.Marks.{mark_of}
 use Rattle.cd_members.specs.Making.{HasAt, IsInCell, IsOfRow, LabelsDiffer}
-use Rattle.cd_members.specs.Shapes.{put, with_others, parts_of}
+use Rattle.cd_members.specs.Inner.Shapes.{put, with_others, parts_of}
 use Rattle.cd_members.proofs.CellsOfRows.{IsFree, cells_fit}
 use Rattle.cd_members.proofs.PartsOfRows.{next_other, both_of_row}
 use Rattle.cd_members.proofs.PutFields.{at, at_there, at_elsewhere}
@@ -27,7 +27,7 @@ abbrev most : List Cell → ℕ
 most cells = longest (map (λ cell. cell.label) cells)
 
 -- the others are no longer
-no_longer : (cells : List Cell) → Each (λ cell. length cell.label ≤ most cells) cells
+no_longer : (cells : List Cell) → AllOf (λ cell. length cell.label ≤ most cells) cells
 no_longer [] = tt
 no_longer (cell ∷ cells) = (
   omega arith,
@@ -45,10 +45,10 @@ module _ (table : List Thing) (marks : List (Option ElementId)) where
   -- Each of these questions has its element at a label that is longer than that; labels that are no longer have what they had, and each
   -- has that or one of the elements
   record HaveOthers (others : List QuestionId) (n : ℕ) (before after : List (Name × ElementId)) : Type 0 where
-    have : Each (λ id. (label : Name) × (n < length label) × HasAt table marks (fields_of table after) label id) others
+    have : AllOf (λ id. (label : Name) × (n < length label) × HasAt table marks (fields_of table after) label id) others
     shorter : (label : Name) → length label ≤ n → at table after label ≡ at table before label
     all : (label : Name) → (at table after label ≡ at table before label)
-        ⊎ One (HasAt table marks (fields_of table after) label) others
+        ⊎ AnyOf (HasAt table marks (fields_of table after) label) others
 
   module _ (question : QuestionId) (others : List QuestionId) (n : ℕ) (id : ElementId) (before after : List (Name × ElementId))
       (is : mark_of marks question ≡ Some id) (rest : HaveOthers others (suc n) (put (row_of_a n) id before) after) where
@@ -62,7 +62,7 @@ module _ (table : List Thing) (marks : List (Option ElementId)) where
 
     -- what is at a label is so still, or it is that one
     all_with : (label : Name) → (at table after label ≡ at table before label)
-        ⊎ One (HasAt table marks (fields_of table after) label) (question ∷ others)
+        ⊎ AnyOf (HasAt table marks (fields_of table after) label) (question ∷ others)
     all_with label = elim (rest.all label) [
       | inr later ↦ inr (inr later)
       | inl same ↦ elim (cases_Bool (bytes_eq (row_of_a n) label)) [

@@ -4,7 +4,7 @@ use Rattle.std.specs.Option.{option_and_then}
 use Rattle.std.proofs.lemmas.Option.{same_Some}
 use Rattle.cd_syntax.specs.Name.{Name, IsLabel}
 use Rattle.cd_model.specs.Thing.{Thing}
-use Rattle.cd_model.specs.Each.{Each}
+use Rattle.cd_model.specs.AllOf.{AllOf}
 use Rattle.cd_rules.proofs.FreshLabels.{row_of_a, row_is_label, longest}
 use Rattle.cd_asked.specs.declared.asked.QuestionId.{QuestionId}
 use Rattle.cd_elements.specs.declared.shape.ElementId.{ElementId}
@@ -13,7 +13,7 @@ use Rattle.cd_elements.specs.Table.{Names}
 use Rattle.cd_expand.specs.declared.needs.Cell.{Cell}
 use Rattle.cd_expand.specs.declared.needs.Row.{Row}
 use Rattle.cd_members.specs.Marks.{mark_of, AreNumbers}
-use Rattle.cd_members.specs.Shapes.{put, with_cells, with_others, fresh_label, parts_of}
+use Rattle.cd_members.specs.Inner.Shapes.{put, with_cells, with_others, fresh_label, parts_of}
 use Rattle.cd_members.proofs.Found.{made_of, by_test}
 use Rattle.cd_members.proofs.MarksOfWays.{is_number}
 use Rattle.cd_members.proofs.PutFields.{put_rises, put_keeps}
@@ -62,7 +62,7 @@ module _ (marks : List (Option ElementId)) where
   module _ (fact : List (Name × ElementId) → Type 0)
       (keeps : (label : Name) (question : QuestionId) (id : ElementId) (parts : List (Name × ElementId)) → IsLabel label
       → mark_of marks question ≡ Some id → fact parts → fact (put label id parts)) where
-    cells_keep : (cells : List Cell) (before after : List (Name × ElementId)) → Each (λ cell. IsLabel cell.label) cells
+    cells_keep : (cells : List Cell) (before after : List (Name × ElementId)) → AllOf (λ cell. IsLabel cell.label) cells
         → with_cells marks cells before ≡ Some after → fact before → fact after
     cells_keep [] before after labels same is = subst fact (same_Some before after same) is
     cells_keep (cell ∷ cells) before after labels same is = elim (next_cell cell cells before after same) [
@@ -79,7 +79,7 @@ module _ (marks : List (Option ElementId)) where
         others_keep others (suc n) (put (row_of_a n) id before) after later
         (keeps (row_of_a n) question id before (row_is_label n) marked is)
 
-    row_keeps : (row : Row) (parts : List (Name × ElementId)) → Each (λ cell. IsLabel cell.label) row.cells.items
+    row_keeps : (row : Row) (parts : List (Name × ElementId)) → AllOf (λ cell. IsLabel cell.label) row.cells.items
         → parts_of marks row ≡ Some parts → fact [] → fact parts
     row_keeps row parts labels same is =
         let (first, of_cells, of_others) = both_of_row row parts same in
@@ -87,15 +87,15 @@ module _ (marks : List (Option ElementId)) where
         (cells_keep row.cells.items [] first labels of_cells is)
 
   -- so their labels rise
-  pub labels_rise : (row : Row) (parts : List (Name × ElementId)) → Each (λ cell. IsLabel cell.label) row.cells.items
+  pub labels_rise : (row : Row) (parts : List (Name × ElementId)) → AllOf (λ cell. IsLabel cell.label) row.cells.items
       → parts_of marks row ≡ Some parts → HasLabels parts
   labels_rise row parts labels same =
       row_keeps HasLabels (λ label question id parts is marked rise. put_rises None label id parts is tt rise) row parts labels same tt
 
   -- and they are of the table
   pub parts_known : (table : List Thing) → AreNumbers table marks → (row : Row) (parts : List (Name × ElementId))
-      → Each (λ cell. IsLabel cell.label) row.cells.items → parts_of marks row ≡ Some parts
-      → Each (λ part. Names table part.1) parts
-  parts_known table numbers row parts labels same = row_keeps (Each (λ part. Names table part.1))
+      → AllOf (λ cell. IsLabel cell.label) row.cells.items → parts_of marks row ≡ Some parts
+      → AllOf (λ part. Names table part.1) parts
+  parts_known table numbers row parts labels same = row_keeps (AllOf (λ part. Names table part.1))
       (λ label question id parts is marked each.
       put_keeps (Names table) label id parts (is_number marks table numbers question id marked) each) row parts labels same tt

@@ -10,7 +10,7 @@ use Rattle.std.proofs.lemmas.Map.Text.{is_eq-slice_cmp}
 use Rattle.std.proofs.lemmas.Slice.Eq.{bytes_eq-Decides}
 use Rattle.cd_syntax.specs.Name.{Name, IsLabel, IsAbove}
 use Rattle.cd_model.specs.Thing.{Thing, Fields, NoField, Field}
-use Rattle.cd_model.specs.Each.{Each}
+use Rattle.cd_model.specs.AllOf.{AllOf}
 use Rattle.cd_elements.specs.declared.shape.ElementId.{ElementId}
 use Rattle.cd_elements.specs.Parts.{AreRisingLabels}
 use Rattle.cd_elements.specs.Table as table
@@ -18,7 +18,7 @@ use Rattle.cd_elements.specs.Table.{fields_of}
 use Rattle.cd_rules.specs.InRow.{thing_at}
 use Rattle.cd_rules.proofs.MembersFields as members
 use Rattle.cd_rules.proofs.MembersFields.{found, found_there, found_elsewhere}
-use Rattle.cd_members.specs.Shapes.{put}
+use Rattle.cd_members.specs.Inner.Shapes.{put}
 
 -- names that are not equal differ
 pub names_differ : (one other : Name) → (one ≡ other → ⊥) → bytes_eq one other ≡ false
@@ -59,13 +59,13 @@ put_rises before label id (part ∷ parts) is above rise =
 
 -- what holds of each element holds of each still
 pub put_keeps : (fact : ElementId → Type 0) (label : Name) (id : ElementId) (parts : List (Name × ElementId)) → fact id
-    → Each (λ part. fact part.1) parts → Each (λ part. fact part.1) (put label id parts)
+    → AllOf (λ part. fact part.1) parts → AllOf (λ part. fact part.1) (put label id parts)
 put_keeps fact label id [] is each = (is, tt)
 put_keeps fact label id (part ∷ parts) is each =
     by_order (slice_cmp nat_cmp label part.0) (put_keeps fact label id parts is each.1)
   where
-    by_order : (order : Ordering) → Each (λ part. fact part.1) (put label id parts)
-        → Each (λ part. fact part.1) (match_ordering order ((label, id) ∷ part ∷ parts) ((label, id) ∷ parts)
+    by_order : (order : Ordering) → AllOf (λ part. fact part.1) (put label id parts)
+        → AllOf (λ part. fact part.1) (match_ordering order ((label, id) ∷ part ∷ parts) ((label, id) ∷ parts)
         (part ∷ put label id parts))
     by_order Less later = (is, each)
     by_order Equal later = (is, each.1)

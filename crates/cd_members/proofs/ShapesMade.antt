@@ -4,7 +4,7 @@ use Rattle.std.specs.Option.{option_map}
 use Rattle.std.proofs.lemmas.Option.{same_Some}
 use Rattle.cd_syntax.specs.Name.{Name, IsLabel}
 use Rattle.cd_model.specs.Thing.{Thing, IsAtom, IsRecord}
-use Rattle.cd_model.specs.Each.{Each, One}
+use Rattle.cd_model.specs.AllOf.{AllOf, AnyOf}
 use Rattle.cd_rules.proofs.Asking.{each_of_map}
 use Rattle.cd_rules.proofs.Ones.{each_weaker, map_of_one}
 use Rattle.cd_elements.specs.declared.shape.ElementId.{ElementId}
@@ -17,7 +17,7 @@ use Rattle.cd_expand.specs.declared.needs.Needs.{Needs}
 use Rattle.cd_expand.specs.declared.needs.Needs.TheVariants.{Pair, Xml, Function, Record}
 use Rattle.cd_members.specs.Marks.{AreNumbers}
 use Rattle.cd_members.specs.Making.{AreOfWay, IsOfRow, IsFit, IsStuckNeed, IsStuck, LabelsDiffer}
-use Rattle.cd_members.specs.Shapes.{pairs_after, parts_of, parts_of_one, shape_of}
+use Rattle.cd_members.specs.Inner.Shapes.{pairs_after, parts_of, parts_of_one, shape_of}
 use Rattle.cd_members.proofs.Found.{one_of_two}
 use Rattle.cd_members.proofs.ShapesOfWays.{IsMadeFor, made_pair, made_xml, made_pairs, stuck_pair, stuck_xml, stuck_function}
 use Rattle.cd_members.proofs.StuckRows.{rows_stuck}
@@ -43,18 +43,18 @@ module _ (table : List Thing) (marks : List (Option ElementId)) where
       → IsAtom tag × IsRecord attributes)) (λ way. length way ≡ 3) (λ way both. both.0) ways.items fit) none
   none_made (Function needs) fit none = map_of_one (λ need. need.items) (IsStuckNeed marks) needs.items
       (stuck_function marks (map (λ need. need.items) needs.items) []
-      (each_of_map (λ need. need.items) (Each (λ way. (length way ≡ 1) ⊎ (length way ≡ 2))) needs.items fit)
+      (each_of_map (λ need. need.items) (AllOf (λ way. (length way ≡ 1) ⊎ (length way ≡ 2))) needs.items fit)
       (none_by shape.Fun (pairs_after marks (map (λ need. need.items) needs.items) []) none))
   none_made (Record rows) fit none = rows_stuck marks rows.items (none_by shape.Record (parts_of_one marks rows.items) none)
 
   module _ (numbers : AreNumbers table marks) where
     -- the fields that are made are of one of the rows
     abbrev ArePartsOf : List Row → List (Name × ElementId) → Type 0
-    ArePartsOf rows parts = (HasLabels parts × Each (λ part. Names table part.1) parts)
-        × One (λ row. IsOfRow table marks row (fields_of table parts)) rows
+    ArePartsOf rows parts = (HasLabels parts × AllOf (λ part. Names table part.1) parts)
+        × AnyOf (λ row. IsOfRow table marks row (fields_of table parts)) rows
 
     parts_are : (rows : List Row) (parts : List (Name × ElementId))
-        → Each (λ row. Each (λ cell. IsLabel cell.label) row.cells.items × LabelsDiffer row.cells.items) rows
+        → AllOf (λ row. AllOf (λ cell. IsLabel cell.label) row.cells.items × LabelsDiffer row.cells.items) rows
         → parts_of_one marks rows ≡ Some parts → ArePartsOf rows parts
     parts_are [] parts fit same = absurd cc
     parts_are (row ∷ rows) parts fit same = elim (one_of_two (parts_of marks row) (parts_of_one marks rows) parts same) [

@@ -5,7 +5,7 @@ use Rattle.std.proofs.lemmas.Option.{same_Some}
 use Rattle.std.specs.Option.{option_and_then}
 use Rattle.cd_model.specs.Thing as thing
 use Rattle.cd_model.specs.Thing.{Thing, IsAtom, IsRecord}
-use Rattle.cd_model.specs.Each.{Each, One}
+use Rattle.cd_model.specs.AllOf.{AllOf, AnyOf}
 use Rattle.cd_rules.proofs.Ones.{one_weaker, one_leads, one_with_each}
 use Rattle.cd_asked.specs.declared.asked.QuestionId.{QuestionId}
 use Rattle.cd_elements.specs.declared.shape.ElementId.{ElementId}
@@ -17,8 +17,8 @@ use Rattle.cd_expand.specs.declared.needs.Needs.{Needs}
 use Rattle.cd_expand.specs.declared.needs.Needs.TheVariants.{Pair, Xml}
 use Rattle.cd_members.specs.Marks.{AreNumbers}
 use Rattle.cd_members.specs.Making.{AreOfWay, AreOfNeed, ArePairsOf, IsMade, IsStuckNeed}
-use Rattle.cd_members.specs.Living.{living}
-use Rattle.cd_members.specs.Shapes.{pair_by, xml_by, mapping_by, pairs_after}
+use Rattle.cd_members.specs.Inner.Living.{living}
+use Rattle.cd_members.specs.Inner.Shapes.{pair_by, xml_by, mapping_by, pairs_after}
 use Rattle.cd_members.proofs.Found.{made_of, nothing_of}
 use Rattle.cd_members.proofs.MarksOfWays.{AreMarks, living_found, none_living, same_length, elements_of_way, are_numbers}
 
@@ -48,7 +48,7 @@ module _ (marks : List (Option ElementId)) where
   -- where the ways of a need make something, it is stuck if it makes nothing
   stuck_by : {X : Type 0} (make : List ElementId → Option X) (Fit : List QuestionId → Type 0)
       → ((way : List QuestionId) → Fit way → (ids : List ElementId) → AreMarks marks way ids → make ids ≡ None → ⊥)
-      → (ways : List (List QuestionId)) → Each Fit ways → option_and_then make (living marks ways) ≡ None
+      → (ways : List (List QuestionId)) → AllOf Fit ways → option_and_then make (living marks ways) ≡ None
       → IsStuckNeed marks ways
   stuck_by make Fit fits ways fit none = elim (nothing_of make (living marks ways) none) [
     | inl is ↦ none_living marks ways is
@@ -57,17 +57,17 @@ module _ (marks : List (Option ElementId)) where
         (one_with_each (λ way. AreMarks marks way ids) Fit ways (living_found marks ways ids is) fit))
   ]
 
-  pub stuck_pair : (ways : List (List QuestionId)) → Each (λ way. length way ≡ 2) ways
+  pub stuck_pair : (ways : List (List QuestionId)) → AllOf (λ way. length way ≡ 2) ways
       → option_and_then pair_by (living marks ways) ≡ None → IsStuckNeed marks ways
   stuck_pair ways fit none = stuck_by pair_by (λ way. length way ≡ 2)
       (λ way two ids are nothing. two_make ids (sym (same_length marks way ids are) ∙ two) nothing) ways fit none
 
-  pub stuck_xml : (ways : List (List QuestionId)) → Each (λ way. length way ≡ 3) ways
+  pub stuck_xml : (ways : List (List QuestionId)) → AllOf (λ way. length way ≡ 3) ways
       → option_and_then xml_by (living marks ways) ≡ None → IsStuckNeed marks ways
   stuck_xml ways fit none = stuck_by xml_by (λ way. length way ≡ 3)
       (λ way three ids are nothing. three_make ids (sym (same_length marks way ids are) ∙ three) nothing) ways fit none
 
-  pub stuck_mapping : (ways : List (List QuestionId)) → Each (λ way. (length way ≡ 1) ⊎ (length way ≡ 2)) ways
+  pub stuck_mapping : (ways : List (List QuestionId)) → AllOf (λ way. (length way ≡ 1) ⊎ (length way ≡ 2)) ways
       → option_and_then mapping_by (living marks ways) ≡ None → IsStuckNeed marks ways
   stuck_mapping ways fit none = stuck_by mapping_by (λ way. (length way ≡ 1) ⊎ (length way ≡ 2))
       (λ way some ids are nothing. one_or_two_make ids (of_ids (sym (same_length marks way ids are)) some) nothing) ways fit none
@@ -78,8 +78,8 @@ module _ (marks : List (Option ElementId)) where
 
   -- a function is stuck where one of its needs is
   pub stuck_function : (needs : List (List (List QuestionId))) (pairs : List (ElementId × Option ElementId))
-      → Each (Each (λ way. (length way ≡ 1) ⊎ (length way ≡ 2))) needs
-      → pairs_after marks needs pairs ≡ None → One (IsStuckNeed marks) needs
+      → AllOf (AllOf (λ way. (length way ≡ 1) ⊎ (length way ≡ 2))) needs
+      → pairs_after marks needs pairs ≡ None → AnyOf (IsStuckNeed marks) needs
   stuck_function [] pairs fit none = absurd cc
   stuck_function (need ∷ needs) pairs fit none = elim (nothing_of (λ pair. pairs_after marks needs (pairs ++ pair ∷ []))
       (option_and_then mapping_by (living marks need)) none) [
@@ -97,7 +97,7 @@ module _ (marks : List (Option ElementId)) where
 
     -- and are in the table
     names_of_need : (ways : List (List QuestionId)) (ids : List ElementId) → living marks ways ≡ Some ids
-        → Each (Names table) ids
+        → AllOf (Names table) ids
     names_of_need ways ids is = one_leads (λ way. AreMarks marks way ids)
         (λ way are. are_numbers marks table numbers way ids are) ways (living_found marks ways ids is)
 
@@ -124,7 +124,7 @@ module _ (marks : List (Option ElementId)) where
     IsXmlWay way = (length way ≡ 3) × ((tag attributes content : Thing)
         → AreOfWay table marks way (tag ∷ attributes ∷ content ∷ []) → IsAtom tag × IsRecord attributes)
 
-    pub made_xml : (ways : Vec Way Global) (one : Shape) → Each IsXmlWay ways.items
+    pub made_xml : (ways : Vec Way Global) (one : Shape) → AllOf IsXmlWay ways.items
         → option_and_then xml_by (living marks ways.items) ≡ Some one → IsMadeFor (Xml ways) one
     made_xml ways one fit same =
         let (ids, is, made) = made_of xml_by (living marks ways.items) one same in by_ids ids is made
@@ -167,7 +167,7 @@ module _ (marks : List (Option ElementId)) where
 
     -- the pairs that are made after some meet the needs
     abbrev pub MeetNeeds : List (List (List QuestionId)) → List (ElementId × Option ElementId) → Type 0
-    MeetNeeds needs pairs = Each (λ pair. Names table pair.0 × IsResult table pair.1) pairs
+    MeetNeeds needs pairs = AllOf (λ pair. Names table pair.0 × IsResult table pair.1) pairs
         × ArePairsOf table marks needs (pairs_of table pairs)
 
     pub made_pairs : (needs : List (List (List QuestionId))) (pairs all : List (ElementId × Option ElementId))

@@ -2,7 +2,7 @@
 use Rattle.std.proofs.Common.{◌≡◌, false, List, [], ◌∷◌, map, Option, inl, inr, refl, sym, ◌∙◌}
 use Rattle.cd_sets.specs.declared.question.Question.{Question}
 use Rattle.cd_syntax.specs.Name.{Name}
-use Rattle.cd_model.specs.Each.{One}
+use Rattle.cd_model.specs.AllOf.{AnyOf}
 use Rattle.cd_rules.specs.Clauses.{Clause, Pairs, Xmls, Records, Arrows}
 use Rattle.cd_rules.specs.Family.{IsCovered, BreaksNeed, BreaksRow, Breaks}
 use Rattle.cd_rules.specs.Needs.{Way, Need, pair_way, xml_way, arrow_way, splits, splits_in_three}
@@ -31,13 +31,13 @@ module _ (questions : List Question) (marks : List (Option ElementId)) where
   is_left id question number none = covers_own (unmarked questions marks) question (is_unmarked questions marks id question number none)
 
   -- and so is one of a way with one without a mark
-  way_left : (ids : List QuestionId) (way : Way) → NamesWay questions ids way → One (HasNoMark marks) ids → One IsLeft way
+  way_left : (ids : List QuestionId) (way : Way) → NamesWay questions ids way → AnyOf (HasNoMark marks) ids → AnyOf IsLeft way
   way_left = along_one (IsNumber questions) (HasNoMark marks) IsLeft is_left
 
   -- a need is broken by them
   need_broken : (ways : List (List QuestionId)) (need : Need) → NamesNeed questions ways need → IsStuckNeed marks ways
       → BreaksNeed (unmarked questions marks) need
-  need_broken = along_each (NamesWay questions) (One (HasNoMark marks)) (One IsLeft) way_left
+  need_broken = along_each (NamesWay questions) (AnyOf (HasNoMark marks)) (AnyOf IsLeft) way_left
 
   -- and a row
   cell_left : (cell : Cell) (of : Name × rows.Cell) → NamesCell questions cell of

@@ -2,20 +2,20 @@
 use Rattle.std.proofs.Common.{◌≡◌, false, List, [], ◌∷◌, ◌++◌, Option, None, inl, inr}
 use Rattle.std.specs.Option.{option_and_then}
 use Rattle.cd_syntax.specs.Name.{Name}
-use Rattle.cd_model.specs.Each.{Each, One}
+use Rattle.cd_model.specs.AllOf.{AllOf, AnyOf}
 use Rattle.cd_asked.specs.declared.asked.QuestionId.{QuestionId}
 use Rattle.cd_elements.specs.declared.shape.ElementId.{ElementId}
 use Rattle.cd_expand.specs.declared.needs.Cell.{Cell}
 use Rattle.cd_expand.specs.declared.needs.Row.{Row}
 use Rattle.cd_members.specs.Marks.{mark_of}
 use Rattle.cd_members.specs.Making.{HasNoMark, IsStuckRow}
-use Rattle.cd_members.specs.Shapes.{put, with_cells, with_others, fresh_label, parts_of, parts_of_one}
+use Rattle.cd_members.specs.Inner.Shapes.{put, with_cells, with_others, fresh_label, parts_of, parts_of_one}
 use Rattle.cd_members.proofs.Found.{nothing_of, none_of_two, by_test}
 
 module _ (marks : List (Option ElementId)) where
   -- where the cells of a row give no fields one that may not be absent has no mark
   cells_stuck : (cells : List Cell) (parts : List (Name × ElementId)) → with_cells marks cells parts ≡ None
-      → One (λ cell. (cell.absent ≡ false) × HasNoMark marks cell.value) cells
+      → AnyOf (λ cell. (cell.absent ≡ false) × HasNoMark marks cell.value) cells
   cells_stuck [] parts none = absurd cc
   cells_stuck (cell ∷ cells) parts none = elim (by_test cell.absent (with_cells marks cells parts)
       (option_and_then (λ id. with_cells marks cells (put cell.label id parts)) (mark_of marks cell.value)) None none) [
@@ -28,7 +28,7 @@ module _ (marks : List (Option ElementId)) where
 
   -- where the other questions give none one has no mark
   others_stuck : (others : List QuestionId) (label : Name) (parts : List (Name × ElementId))
-      → with_others marks others label parts ≡ None → One (HasNoMark marks) others
+      → with_others marks others label parts ≡ None → AnyOf (HasNoMark marks) others
   others_stuck [] label parts none = absurd cc
   others_stuck (question ∷ others) label parts none =
       elim (nothing_of (λ id. with_others marks others (label ++ 97 ∷ []) (put label id parts)) (mark_of marks question) none) [
@@ -45,7 +45,7 @@ module _ (marks : List (Option ElementId)) where
       ]
 
   -- and so is each where all give none
-  pub rows_stuck : (rows : List Row) → parts_of_one marks rows ≡ None → Each (IsStuckRow marks) rows
+  pub rows_stuck : (rows : List Row) → parts_of_one marks rows ≡ None → AllOf (IsStuckRow marks) rows
   rows_stuck [] none = tt
   rows_stuck (row ∷ rows) none =
       let both = none_of_two (parts_of marks row) (parts_of_one marks rows) none in

@@ -1,4 +1,3 @@
 pub mod Marks
 pub mod Making
-pub mod Living
-pub mod Shapes
+pub mod Inner

@@ -1,7 +1,7 @@
 //! Labels that no cell has.
 ghost use Rattle.std.specs.Prelude.{◌≡◌, map, IfOk};
 ghost use Rattle.cd_rules.proofs.FreshLabels.{row_of_a, longest};
-ghost use Rattle.cd_members.specs.Shapes.{fresh_label};
+ghost use Rattle.cd_members.specs.Inner.Shapes.{fresh_label};
 
 use crate::compare::length;
 use cd_expand::Cell;

@@ -2,8 +2,8 @@
 ghost use Rattle.std.specs.Prelude.{◌≡◌, [], map, IfOk};
 ghost use Rattle.std.specs.Option.{option_map, option_and_then};
 ghost use Rattle.cd_elements.specs.declared.shape.Shape.TheVariants.{Fun};
-ghost use Rattle.cd_members.specs.Living.{living};
-ghost use Rattle.cd_members.specs.Shapes.{mapping_by, pairs_after};
+ghost use Rattle.cd_members.specs.Inner.Living.{living};
+ghost use Rattle.cd_members.specs.Inner.Shapes.{mapping_by, pairs_after};
 
 use crate::living::living;
 use cd_elements::{ElementId, Pairs, Shape};
@@ -16,7 +16,8 @@ pub(crate) fn function(
     marks: &[Option<ElementId>],
     needs: &[Vec<Way>],
 ) -> Result<Option<Shape>, AllocError>
-    ensures { IfOk result (λ found. found ≡ option_map Fun (pairs_after marks.now (map (λ need. need.items) needs.now) [])) }
+    ensures { IfOk result (λ found.
+        found ≡ option_map Fun (pairs_after marks.now (map (λ need. need.items) needs.now) [])) }
 {
     let mut pairs = Vec::new(alloc);
     for need in needs {
@@ -34,7 +35,8 @@ fn mapping(
     marks: &[Option<ElementId>],
     need: &[Way],
 ) -> Result<Option<(ElementId, Option<ElementId>)>, AllocError>
-    ensures { IfOk result (λ found. found ≡ option_and_then mapping_by (living marks.now need.now)) }
+    ensures { IfOk result (λ found.
+        found ≡ option_and_then mapping_by (living marks.now need.now)) }
 {
     match living(alloc, marks, need)? {
         Some(ids) => Ok(mapping_by(ids.as_slice())),

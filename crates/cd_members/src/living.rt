@@ -2,7 +2,7 @@
 ghost use Rattle.std.specs.Prelude.{◌≡◌, IfOk};
 ghost use Rattle.std.specs.Option.{option_map};
 ghost use Rattle.cd_members.specs.Marks.{mark_of};
-ghost use Rattle.cd_members.specs.Living.{marks_of, living};
+ghost use Rattle.cd_members.specs.Inner.Living.{marks_of, living};
 
 use cd_asked::QuestionId;
 use cd_elements::ElementId;
@@ -22,7 +22,8 @@ fn all_of(
     marks: &[Option<ElementId>],
     way: &Way,
 ) -> Result<Option<Vec<ElementId>>, AllocError>
-    ensures { IfOk result (λ found. option_map (λ ids. ids.items) found ≡ marks_of marks.now way.now) }
+    ensures { IfOk result (λ found.
+        option_map (λ ids. ids.items) found ≡ marks_of marks.now way.now) }
 {
     let mut ids = Vec::new(alloc);
     for question in way.questions() {
@@ -40,7 +41,8 @@ pub(crate) fn living(
     marks: &[Option<ElementId>],
     need: &[Way],
 ) -> Result<Option<Vec<ElementId>>, AllocError>
-    ensures { IfOk result (λ found. option_map (λ ids. ids.items) found ≡ living marks.now need.now) }
+    ensures { IfOk result (λ found.
+        option_map (λ ids. ids.items) found ≡ living marks.now need.now) }
 {
     for way in need {
         if let Some(ids) = all_of(alloc, marks, way)? {

@@ -4,7 +4,7 @@ ghost use Rattle.cd_elements.specs.Elements.{table};
 ghost use Rattle.cd_elements.specs.Table.{Names, element_at};
 ghost use Rattle.cd_members.specs.Marks.{AreNumbers};
 ghost use Rattle.cd_members.specs.Making.{IsFit, IsMade, IsStuck};
-ghost use Rattle.cd_members.specs.Shapes.{shape_of, IsLabelled};
+ghost use Rattle.cd_members.specs.Inner.Shapes.{shape_of, IsLabelled};
 
 use crate::function::function;
 use crate::record::record;
@@ -13,8 +13,8 @@ use cd_elements::{ElementId, Elements, Shape};
 use cd_expand::Needs;
 use std::alloc::{AllocError, Global};
 
-/// An element that has what is needed, made of the elements that questions are marked with; none where some need, or each row,
-/// has a question without a mark that cannot be done without.
+/// An element that has what is needed, made of the elements that questions are marked with; none
+/// where some need, or each row, has a question without a mark that cannot be done without.
 ///
 /// # Errors
 ///
@@ -27,7 +27,9 @@ pub fn member(
 ) -> Result<Option<ElementId>, AllocError>
     requires marks { AreNumbers (table elements.old) marks.now }
     requires fit { IsFit (table elements.old) marks.now needs.now }
-    ensures made { IfOk result (λ found. MatchOption found (IsStuck marks.now needs.now) (λ id. Names (table elements.new) id
+    ensures made { IfOk result
+        (λ found. MatchOption found (IsStuck marks.now needs.now)
+        (λ id. Names (table elements.new) id
         × IsMade (table elements.old) marks.now needs.now (element_at (table elements.new) id))) }
     ensures grows { (more : List Thing) × (table elements.new ≡ table elements.old ++ more) }
 {

@@ -1,7 +1,7 @@
 //! Fields of a record that is being made, by rising label.
 ghost use Rattle.std.specs.Prelude.{◌≡◌, ◌<◌, ◌≤◌, length, MatchResult, OnOk};
 ghost use Rattle.cd_elements.specs.declared.shape.ElementId.{ElementId as AnId};
-ghost use Rattle.cd_members.specs.Shapes.{put, put_at};
+ghost use Rattle.cd_members.specs.Inner.Shapes.{put, put_at};
 
 use crate::compare::compare;
 use cd_elements::ElementId;
@@ -26,7 +26,8 @@ pub(crate) fn put(
 
 // The place of the field of a label, or the place where it would go.
 fn place_of(parts: &[(Name, ElementId)], label: &Name) -> Result<usize, usize>
-    ensures within { MatchResult result (λ place. place < length parts.now) (λ place. place ≤ length parts.now) }
+    ensures within { MatchResult result (λ place. place < length parts.now)
+        (λ place. place ≤ length parts.now) }
     ensures put { (id : AnId) → put label.now id parts.now ≡ put_at result label.now id parts.now }
 {
     for place in 0..parts.len() {

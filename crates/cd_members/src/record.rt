@@ -2,7 +2,8 @@
 ghost use Rattle.std.specs.Prelude.{◌≡◌, [], IfOk};
 ghost use Rattle.std.specs.Option.{option_map};
 ghost use Rattle.cd_elements.specs.declared.shape.Shape.TheVariants.{Record};
-ghost use Rattle.cd_members.specs.Shapes.{with_cells, with_others, parts_of, parts_of_one, HaveLabels};
+ghost use Rattle.cd_members.specs.Inner.Shapes.{with_cells, with_others, parts_of, parts_of_one};
+ghost use Rattle.cd_members.specs.Inner.Shapes.{HaveLabels};
 
 use crate::fresh::fresh_label;
 use crate::living::mark;
@@ -30,13 +31,15 @@ pub(crate) fn record(
     Ok(None)
 }
 
-// The fields of a row, if it has the elements: those of the cells, and those of its other questions at fresh labels.
+// The fields of a row, if it has the elements: those of the cells, and those of its other questions
+// at fresh labels.
 fn parts_of(
     alloc: Global,
     marks: &[Option<ElementId>],
     row: &Row,
 ) -> Result<Option<Vec<(Name, ElementId)>>, AllocError>
-    ensures { IfOk result (λ found. option_map (λ parts. parts.items) found ≡ parts_of marks.now row.now) }
+    ensures { IfOk result (λ found.
+        option_map (λ parts. parts.items) found ≡ parts_of marks.now row.now) }
 {
     let cells = row.cells.as_slice();
     let Some(parts) = of_cells(alloc, marks, cells)? else {
@@ -52,7 +55,8 @@ fn of_cells(
     marks: &[Option<ElementId>],
     cells: &[Cell],
 ) -> Result<Option<Vec<(Name, ElementId)>>, AllocError>
-    ensures { IfOk result (λ found. option_map (λ parts. parts.items) found ≡ with_cells marks.now cells.now []) }
+    ensures { IfOk result (λ found.
+        option_map (λ parts. parts.items) found ≡ with_cells marks.now cells.now []) }
 {
     let mut parts = Vec::new(alloc);
     for cell in cells {
@@ -67,7 +71,8 @@ fn of_cells(
     Ok(Some(parts))
 }
 
-// These fields and the elements of more questions, each at a label of its own, of which this is the first.
+// These fields and the elements of more questions, each at a label of its own, of which this is the
+// first.
 fn with_others(
     alloc: Global,
     marks: &[Option<ElementId>],
@@ -75,7 +80,9 @@ fn with_others(
     first: Vec<char>,
     fields: Vec<(Name, ElementId)>,
 ) -> Result<Option<Vec<(Name, ElementId)>>, AllocError>
-    ensures { IfOk result (λ found. option_map (λ parts. parts.items) found ≡ with_others marks.now others.now first.items fields.items) }
+    ensures { IfOk result (λ found.
+        option_map (λ parts. parts.items) found
+        ≡ with_others marks.now others.now first.items fields.items) }
 {
     let mut label = first;
     let mut parts = fields;

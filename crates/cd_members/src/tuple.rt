@@ -1,8 +1,8 @@
 //! Pairs and XML elements.
 ghost use Rattle.std.specs.Prelude.{◌≡◌, IfOk};
 ghost use Rattle.std.specs.Option.{option_and_then};
-ghost use Rattle.cd_members.specs.Living.{living};
-ghost use Rattle.cd_members.specs.Shapes.{pair_by, xml_by};
+ghost use Rattle.cd_members.specs.Inner.Living.{living};
+ghost use Rattle.cd_members.specs.Inner.Shapes.{pair_by, xml_by};
 
 use crate::living::living;
 use cd_elements::{ElementId, Shape};

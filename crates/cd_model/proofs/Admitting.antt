@@ -2,7 +2,7 @@
 use Rattle.std.proofs.Common.{ℕ, ◌<◌, Bool, true, false, List, [], ◌∷◌, length, ◌↔◌, subst}
 use Rattle.std.proofs.lemmas.List.{append-nil}
 use Rattle.cd_sets.specs.declared.node_id.NodeId.{NodeId}
-use Rattle.cd_model.specs.Each.{Each}
+use Rattle.cd_model.specs.AllOf.{AllOf}
 use Rattle.cd_model.specs.Formula.{Graph, IsGraph, nodes}
 use Rattle.cd_model.specs.Interfaces.{ArrowOf, OfNodes, OfWritten, ArrowsAgree, admits, value_in_node}
 use Rattle.cd_model.specs.Thing.{Thing, Function, Pairs, NoPair, Maps, Fails, IsElement}
@@ -23,8 +23,8 @@ module _ {X Y : Type 0} (at : Presentation X) (for : Presentation Y) (a b : X) (
 
 admit_alike : (graph : Graph) (count : ℕ) (pairs : Pairs) → IsElement (Function pairs)
     → (arrows : List (ArrowOf NodeId)) (others : List (ArrowOf WrittenType)) → ArrowsAgree graph count arrows others
-    → Each (λ arrow. element_maps (nodes graph) pairs arrow.argument arrow.result true) arrows
-    ↔ Each (λ arrow. element_maps (written count) pairs arrow.argument arrow.result true) others
+    → AllOf (λ arrow. element_maps (nodes graph) pairs arrow.argument arrow.result true) arrows
+    ↔ AllOf (λ arrow. element_maps (written count) pairs arrow.argument arrow.result true) others
 admit_alike graph count pairs sound [] [] agree = itself
 admit_alike graph count pairs sound [] (other ∷ others) agree = absurd agree
 admit_alike graph count pairs sound (arrow ∷ arrows) [] agree = absurd agree

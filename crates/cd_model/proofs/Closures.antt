@@ -2,6 +2,26 @@
 use Rattle.std.proofs.Common.{ℕ}
 use Rattle.cd_model.specs.Thing.{Thing, Integer, Character, Atom, Pair, Xml, Record, Function, Closure, Fields, NoField, Field, Pairs, NoPair, Maps, Fails, IsElement, AreFields, ArePairs, IsValue, AreValues, IsData, AreData, EachClosure, EachOfFields, EachOfPairs}
 
+-- what holds of each function holds of those in a thing
+module _ (fact : ℕ → Type 0) (each : (function : ℕ) → fact function) where
+  mutual
+    pub every_closure : (is : Thing) → EachClosure fact is
+    every_closure (Pair first second) = (every_closure first, every_closure second)
+    every_closure (Xml tag attributes content) = (every_closure tag, every_closure attributes, every_closure content)
+    every_closure (Record fields) = every_of_fields fields
+    every_closure (Function pairs) = every_of_pairs pairs
+    every_closure (Closure function environment) = each function
+    every_closure _ = tt
+
+    every_of_fields : (fields : Fields) → EachOfFields fact fields
+    every_of_fields NoField = tt
+    every_of_fields (Field label value rest) = (every_closure value, every_of_fields rest)
+
+    every_of_pairs : (pairs : Pairs) → EachOfPairs fact pairs
+    every_of_pairs NoPair = tt
+    every_of_pairs (Maps argument result rest) = (every_closure argument, every_closure result, every_of_pairs rest)
+    every_of_pairs (Fails argument rest) = (every_closure argument, every_of_pairs rest)
+
 -- an element holds no closure
 module _ (fact : ℕ → Type 0) where
   mutual

@@ -6,7 +6,7 @@ use Rattle.std.proofs.lemmas.Slice.Eq.{bytes_eq-Decides}
 use Rattle.cd_syntax.specs.Name.{Name}
 use Rattle.cd_syntax.specs.TypeTree as type
 use Rattle.cd_syntax.specs.TypeTree.{Tree, tree, Kind, Trees, ATree, Signs, ASign, Declarations, NoDeclaration, ADeclaration}
-use Rattle.cd_model.specs.Each.{Each}
+use Rattle.cd_model.specs.AllOf.{AllOf}
 use Rattle.cd_model.specs.Guarded.{IsOneOf, IsSigned, LeadsTo}
 use Rattle.cd_model.specs.Guarded as guarded
 use Rattle.cd_model.specs.Scope.{Scope, Declared, tree_in, declared_or, declared_as, names_in, names_in_kind, names_in_trees, names_in_signs, names_declared, names_over}
@@ -14,8 +14,8 @@ use Rattle.cd_model.specs.Written.{kind_of}
 
 -- the names in a form, and those that it stands under, have the fact
 pub record Covered (Fact : Declared → Type 0) (scope : Scope) (kind : Kind) : Type 0 where
-  pub within : Each Fact (names_in_kind scope kind)
-  pub over : Each Fact (names_over scope)
+  pub within : AllOf Fact (names_in_kind scope kind)
+  pub over : AllOf Fact (names_over scope)
 
 -- a name that is declared has the fact, and so have the names of its tree
 pub record IsCovered (Fact : Declared → Type 0) (is : Declared) : Type 0 where
@@ -23,34 +23,34 @@ pub record IsCovered (Fact : Declared → Type 0) (is : Declared) : Type 0 where
   pub place : Covered Fact is.scope (kind_of is.tree)
 
 -- what holds of each of two lists, one after the other
-pub each_parts : {X : Type 0} (Fact : X → Type 0) (first second : List X) → Each Fact (first ++ second)
-    → Each Fact first × Each Fact second
+pub each_parts : {X : Type 0} (Fact : X → Type 0) (first second : List X) → AllOf Fact (first ++ second)
+    → AllOf Fact first × AllOf Fact second
 each_parts Fact [] second each = (tt, each)
 each_parts Fact (one ∷ first) second each = by_rest (each_parts Fact first second each.1)
   where
-    by_rest : Each Fact first × Each Fact second → Each Fact (one ∷ first) × Each Fact second
+    by_rest : AllOf Fact first × AllOf Fact second → AllOf Fact (one ∷ first) × AllOf Fact second
     by_rest rest = ((each.0, rest.0), rest.1)
 
-pub each_both : {X : Type 0} (Fact : X → Type 0) (first second : List X) → Each Fact first → Each Fact second
-    → Each Fact (first ++ second)
+pub each_both : {X : Type 0} (Fact : X → Type 0) (first second : List X) → AllOf Fact first → AllOf Fact second
+    → AllOf Fact (first ++ second)
 each_both Fact [] second is_first is_second = is_second
 each_both Fact (one ∷ first) second is_first is_second =
     (is_first.0, each_both Fact first second is_first.1 is_second)
 
 module _ (Fact : Declared → Type 0) where
-  pub covered_tree : (scope : Scope) (is : Tree) → Each Fact (names_in scope is) → Each Fact (names_over scope)
+  pub covered_tree : (scope : Scope) (is : Tree) → AllOf Fact (names_in scope is) → AllOf Fact (names_over scope)
       → Covered Fact scope (kind_of is)
   covered_tree scope (tree span kind) within over = record { within = within; over = over }
 
-  one_of_trees : (scope : Scope) (is : Tree) (trees : Trees) → IsOneOf is trees → Each Fact (names_in_trees scope trees)
-      → Each Fact (names_in scope is)
+  one_of_trees : (scope : Scope) (is : Tree) (trees : Trees) → IsOneOf is trees → AllOf Fact (names_in_trees scope trees)
+      → AllOf Fact (names_in scope is)
   one_of_trees scope is _ (guarded.IsOneOf.first _ rest) each =
       (each_parts Fact (names_in scope is) (names_in_trees scope rest) each).0
   one_of_trees scope is _ (guarded.IsOneOf.later _ other rest on) each =
       one_of_trees scope is rest on (each_parts Fact (names_in scope other) (names_in_trees scope rest) each).1
 
-  one_of_signs : (scope : Scope) (is : Tree) (signs : Signs) → IsSigned is signs → Each Fact (names_in_signs scope signs)
-      → Each Fact (names_in scope is)
+  one_of_signs : (scope : Scope) (is : Tree) (signs : Signs) → IsSigned is signs → AllOf Fact (names_in_signs scope signs)
+      → AllOf Fact (names_in scope is)
   one_of_signs scope is _ (guarded.IsSigned.first kept _ rest) each =
       (each_parts Fact (names_in scope is) (names_in_signs scope rest) each).0
   one_of_signs scope is _ (guarded.IsSigned.later kept _ other rest on) each =
@@ -81,36 +81,36 @@ module _ (Fact : Declared → Type 0) where
       within : Scope
       within = declarations ∷ scope
 
-      by_parts : Each Fact (names_declared within declarations) × Each Fact (names_in within is)
+      by_parts : AllOf Fact (names_declared within declarations) × AllOf Fact (names_in within is)
           → Covered Fact within (kind_of is)
       by_parts parts = covered_tree within is parts.1
           (each_both Fact (names_declared within declarations) (names_over scope) parts.0 covered.over)
 
   -- the tree that a name has in a list of declarations
   in_list : (scope : Scope) (declarations : Declarations) (name : Name) (is : Tree) → tree_in declarations name ≡ Some is
-      → Each Fact (names_declared scope declarations)
-      → Fact (record { name = name; scope = scope; tree = is }) × Each Fact (names_in scope is)
+      → AllOf Fact (names_declared scope declarations)
+      → Fact (record { name = name; scope = scope; tree = is }) × AllOf Fact (names_in scope is)
   in_list scope NoDeclaration name is found each = absurd (none-some is found)
   in_list scope (ADeclaration other at first rest) name is found each =
       by_name (cases_Bool (bytes_eq other name)) (λ found each. in_list scope rest name is found each)
       (each_parts Fact (names_in scope first) (names_declared scope rest) each.1)
     where
       Result : Name → Tree → Type 0
-      Result name is = Fact (record { name = name; scope = scope; tree = is }) × Each Fact (names_in scope is)
+      Result name is = Fact (record { name = name; scope = scope; tree = is }) × AllOf Fact (names_in scope is)
 
       tested : (b : Bool) → bytes_eq other name ≡ b → (if b then Some first else tree_in rest name) ≡ Some is
       tested b test = subst (λ b. (if b then Some first else tree_in rest name) ≡ Some is) test found
 
       by_name : (bytes_eq other name ≡ true) ⊎ (bytes_eq other name ≡ false)
-          → (tree_in rest name ≡ Some is → Each Fact (names_declared scope rest) → Result name is)
-          → Each Fact (names_in scope first) × Each Fact (names_declared scope rest) → Result name is
+          → (tree_in rest name ≡ Some is → AllOf Fact (names_declared scope rest) → Result name is)
+          → AllOf Fact (names_in scope first) × AllOf Fact (names_declared scope rest) → Result name is
       by_name (inl same) later parts = subst (λ is. Result name is) (same_Some first is (tested true same))
           (subst (λ name. Result name first) ((bytes_eq-Decides other name).0 same) (each.0, parts.0))
       by_name (inr differs) later parts = later (tested false differs) parts.1
 
   -- a name of a place whose names have the fact
   pub declared_covered : (scope : Scope) (name : Name) (is : Declared) → declared_as scope name ≡ Some is
-      → Each Fact (names_over scope) → IsCovered Fact is
+      → AllOf Fact (names_over scope) → IsCovered Fact is
   declared_covered [] name is found over = absurd (none-some is found)
   declared_covered (declarations ∷ outer) name is found over =
       by_tree (tree_in declarations name) (λ i. tree_in declarations name) found (declared_covered outer name is)
@@ -120,14 +120,14 @@ module _ (Fact : Declared → Type 0) where
 
       by_tree : (first : Option Tree) → tree_in declarations name ≡ first
           → declared_or first name here (declared_as outer name) ≡ Some is
-          → (declared_as outer name ≡ Some is → Each Fact (names_over outer) → IsCovered Fact is) → IsCovered Fact is
+          → (declared_as outer name ≡ Some is → AllOf Fact (names_over outer) → IsCovered Fact is) → IsCovered Fact is
       by_tree None _ found later =
           later found (each_parts Fact (names_declared here declarations) (names_over outer) over).1
       by_tree (Some first) first_is found later = subst (λ is. IsCovered Fact is) (same_Some _ is found)
           (by_list (in_list here declarations name first first_is
           (each_parts Fact (names_declared here declarations) (names_over outer) over).0))
         where
-          by_list : Fact (record { name = name; scope = here; tree = first }) × Each Fact (names_in here first)
+          by_list : Fact (record { name = name; scope = here; tree = first }) × AllOf Fact (names_in here first)
               → IsCovered Fact (record { name = name; scope = here; tree = first })
           by_list parts = record { itself = parts.0; place = covered_tree here first parts.1 over }
 

@@ -2,7 +2,7 @@
 use Rattle.std.proofs.Common.{◌++◌}
 use Rattle.cd_syntax.specs.TypeTree as type
 use Rattle.cd_syntax.specs.TypeTree.{Tree, Trees, NoTree, ATree}
-use Rattle.cd_model.specs.Each.{Each}
+use Rattle.cd_model.specs.AllOf.{AllOf}
 use Rattle.cd_model.specs.Scope.{Scope, Declared, names_in, names_in_trees, names_over}
 use Rattle.cd_model.specs.Written.{kind_of, tuple_rest, arrows_rest}
 use Rattle.cd_model.proofs.Covered.{Covered, each_parts, covered_tree}
@@ -15,22 +15,22 @@ pub record XmlParts (Fact : Declared → Type 0) (scope : Scope) (tag attributes
 
 module _ (Fact : Declared → Type 0) where
   -- the first of some trees, and the others
-  first_tree : (scope : Scope) (is : Tree) (rest : Trees) → Each Fact (names_in_trees scope (ATree is rest))
-      → Each Fact (names_over scope) → Covered Fact scope (kind_of is)
+  first_tree : (scope : Scope) (is : Tree) (rest : Trees) → AllOf Fact (names_in_trees scope (ATree is rest))
+      → AllOf Fact (names_over scope) → Covered Fact scope (kind_of is)
   first_tree scope is rest within over =
       covered_tree Fact scope is (each_parts Fact (names_in scope is) (names_in_trees scope rest) within).0 over
 
-  other_trees : (scope : Scope) (is : Tree) (rest : Trees) → Each Fact (names_in_trees scope (ATree is rest))
-      → Each Fact (names_in_trees scope rest)
+  other_trees : (scope : Scope) (is : Tree) (rest : Trees) → AllOf Fact (names_in_trees scope (ATree is rest))
+      → AllOf Fact (names_in_trees scope rest)
   other_trees scope is rest within = (each_parts Fact (names_in scope is) (names_in_trees scope rest) within).1
 
-  tuple_of : (scope : Scope) (rest : Trees) → Each Fact (names_in_trees scope rest) → Each Fact (names_over scope)
+  tuple_of : (scope : Scope) (rest : Trees) → AllOf Fact (names_in_trees scope rest) → AllOf Fact (names_over scope)
       → Covered Fact scope (tuple_rest rest)
   tuple_of scope NoTree within over = record { within = within; over = over }
   tuple_of scope (ATree is NoTree) within over = first_tree scope is NoTree within over
   tuple_of scope (ATree is (ATree other rest)) within over = record { within = within; over = over }
 
-  arrows_of : (scope : Scope) (rest : Trees) → Each Fact (names_in_trees scope rest) → Each Fact (names_over scope)
+  arrows_of : (scope : Scope) (rest : Trees) → AllOf Fact (names_in_trees scope rest) → AllOf Fact (names_over scope)
       → Covered Fact scope (arrows_rest rest)
   arrows_of scope NoTree within over = record { within = within; over = over }
   arrows_of scope (ATree is NoTree) within over = first_tree scope is NoTree within over
@@ -57,7 +57,7 @@ module _ (Fact : Declared → Type 0) where
   covered_xml scope tag attributes content covered =
       by_content (each_parts Fact (names_in scope tag ++ names_in scope attributes) (names_in scope content) covered.within)
     where
-      by_all : Each Fact (names_in scope tag) × Each Fact (names_in scope attributes) → Each Fact (names_in scope content)
+      by_all : AllOf Fact (names_in scope tag) × AllOf Fact (names_in scope attributes) → AllOf Fact (names_in scope content)
           → XmlParts Fact scope tag attributes content
       by_all others last = record {
         tag_is = covered_tree Fact scope tag others.0 covered.over;
@@ -65,6 +65,6 @@ module _ (Fact : Declared → Type 0) where
         content_is = covered_tree Fact scope content last covered.over;
       }
 
-      by_content : Each Fact (names_in scope tag ++ names_in scope attributes) × Each Fact (names_in scope content)
+      by_content : AllOf Fact (names_in scope tag ++ names_in scope attributes) × AllOf Fact (names_in scope content)
           → XmlParts Fact scope tag attributes content
       by_content parts = by_all (each_parts Fact (names_in scope tag) (names_in scope attributes) parts.0) parts.1

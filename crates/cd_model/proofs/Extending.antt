@@ -5,7 +5,7 @@ use Rattle.cd_sets.specs.declared.node_id.NodeId.{NodeId}
 use Rattle.cd_syntax.specs.Name.{Name}
 use Rattle.cd_model.specs.Alike as heads
 use Rattle.cd_model.specs.Alike.{ReadAlike, FieldsStand}
-use Rattle.cd_model.specs.Each.{Each}
+use Rattle.cd_model.specs.AllOf.{AllOf}
 use Rattle.cd_model.specs.Formula as formula
 use Rattle.cd_model.specs.Formula.{Formula, Formulas, NoFormula, AFormula, Graph, IsFormula, AreFormulas, IsGraph, nodes, formula_at, at_formula, holds, each_holds, one_holds}
 use Rattle.cd_model.specs.Interfaces.{ArrowOf, OfNodes, admits}
@@ -26,7 +26,7 @@ module _ (count : ℕ) where
   old a below = record { below = below; same = refl }
 
   old_field : (named : List (Name × FieldOf NodeId)) (rest : NodeId) (label : Name)
-      → Each (λ field. field.1.type.0 < count) named → rest.0 < count
+      → AllOf (λ field. field.1.type.0 < count) named → rest.0 < count
       → FieldsStand (IsOld count) (field_of named rest label) (field_of named rest label)
   old_field [] rest label each rest_is = record { optional = refl; type = old rest rest_is }
   old_field (field ∷ named) rest label each rest_is = elim (cases_Bool (bytes_eq field.0 label)) [
@@ -67,7 +67,7 @@ kept [] more id below = absurd (omega arith)
 kept (is ∷ graph) more zero below = refl
 kept (is ∷ graph) more (suc id) below = kept graph more id (omega arith)
 
-sound_at : (count : ℕ) (graph : Graph) (id : ℕ) → Each (IsFormula count) graph → id < length graph
+sound_at : (count : ℕ) (graph : Graph) (id : ℕ) → AllOf (IsFormula count) graph → id < length graph
     → IsFormula count (formula_at graph (record { 0 = id }))
 sound_at count [] id each below = absurd (omega arith)
 sound_at count (is ∷ graph) zero each below = each.0
@@ -109,13 +109,13 @@ module _ (graph more : Graph) (sound : IsGraph graph) where
 
   -- interfaces whose arrows are old nodes admit the same in both graphs
   pub admit_same : (arrows : ℕ → List (ArrowOf NodeId))
-      → ((function : ℕ) → Each (λ arrow. (arrow.argument.0 < length graph) × (arrow.result.0 < length graph)) (arrows function))
+      → ((function : ℕ) → AllOf (λ arrow. (arrow.argument.0 < length graph) × (arrow.result.0 < length graph)) (arrows function))
       → AdmitSame (admits (OfNodes graph arrows)) (admits (OfNodes (graph ++ more) arrows))
   admit_same arrows below function pairs element = each_arrow (arrows function) (below function)
     where
-      each_arrow : (list : List (ArrowOf NodeId)) → Each (λ arrow. (arrow.argument.0 < length graph) × (arrow.result.0 < length graph)) list
-          → Each (λ arrow. element_maps (nodes graph) pairs arrow.argument arrow.result true) list
-          ↔ Each (λ arrow. element_maps (nodes (graph ++ more)) pairs arrow.argument arrow.result true) list
+      each_arrow : (list : List (ArrowOf NodeId)) → AllOf (λ arrow. (arrow.argument.0 < length graph) × (arrow.result.0 < length graph)) list
+          → AllOf (λ arrow. element_maps (nodes graph) pairs arrow.argument arrow.result true) list
+          ↔ AllOf (λ arrow. element_maps (nodes (graph ++ more)) pairs arrow.argument arrow.result true) list
       each_arrow [] each = itself
       each_arrow (arrow ∷ rest) each = both_agree
           (maps_alike (IsOld (length graph)) (nodes graph) (nodes (graph ++ more)) nodes_alike pairs element

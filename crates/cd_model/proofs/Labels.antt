@@ -3,12 +3,12 @@ use Rattle.std.proofs.Common.{◌≡◌, Bool, true, false, List, [], ◌∷◌,
 use Rattle.std.proofs.lemmas.Bool.{cases_Bool}
 use Rattle.std.proofs.lemmas.Slice.Eq.{bytes_eq-Decides}
 use Rattle.cd_syntax.specs.Name.{Name}
-use Rattle.cd_model.specs.Each.{Each, One}
+use Rattle.cd_model.specs.AllOf.{AllOf, AnyOf}
 use Rattle.cd_model.specs.Types.{FieldOf, field_of}
 
 -- the label is one of these
 abbrev pub IsOneOf : List Name → Name → Type 0
-IsOneOf names label = One (λ name. name ≡ label) names
+IsOneOf names label = AnyOf (λ name. name ≡ label) names
 
 -- the labels that a record type names
 abbrev pub names_of : {X : Type 0} → List (Name × FieldOf X) → List Name
@@ -28,14 +28,14 @@ named_or_not {X = X} (field ∷ named) rest label = by_name (cases_Bool (bytes_e
     by_name (inr other) (inr free) = inr (rw other free)
 
 -- what holds of each of these holds of a label that is one of them
-at_label : (Holds : Name → Type 0) (names : List Name) (label : Name) → Each Holds names → IsOneOf names label → Holds label
+at_label : (Holds : Name → Type 0) (names : List Name) (label : Name) → AllOf Holds names → IsOneOf names label → Holds label
 at_label Holds [] label each one = elim one [ ]
 at_label Holds (name ∷ names) label each (inl same) = subst Holds same each.0
 at_label Holds (name ∷ names) label each (inr later) = at_label Holds names label each.1 later
 
 module _ (Fact : Name → Bool → Type 0) (decided : (label : Name) → Fact label true ⊎ Fact label false) where
   -- it holds of each of these labels, or fails at a label
-  each_or_fails : (names : List Name) → Each (λ label. Fact label true) names ⊎ ((label : Name) × Fact label false)
+  each_or_fails : (names : List Name) → AllOf (λ label. Fact label true) names ⊎ ((label : Name) × Fact label false)
   each_or_fails [] = inl tt
   each_or_fails (name ∷ names) = elim (decided name) [
     | inr out ↦ inr (name, out)
@@ -51,7 +51,7 @@ module _ (Fact : Name → Bool → Type 0) (decided : (label : Name) → Fact la
     | inl here ↦ elim (each_or_fails those) [ inr fails ↦ inr fails | inl there ↦ inl (everywhere here there) ]
   ]
     where
-      everywhere : Each (λ label. Fact label true) these → Each (λ label. Fact label true) those
+      everywhere : AllOf (λ label. Fact label true) these → AllOf (λ label. Fact label true) those
           → (label : Name) → Fact label true
       everywhere here there label = elim (others label) [
         | inl one ↦ at_label (λ name. Fact name true) these label here one

@@ -3,7 +3,7 @@ use Rattle.std.proofs.Common.{◌≡◌, ℕ, suc, ◌≤◌, List, [], ◌∷�
 use Rattle.cd_syntax.specs.Name.{Name}
 use Rattle.cd_syntax.specs.TypeTree as type
 use Rattle.cd_syntax.specs.TypeTree.{Kind}
-use Rattle.cd_model.specs.Each.{Each, One}
+use Rattle.cd_model.specs.AllOf.{AllOf, AnyOf}
 use Rattle.cd_model.specs.Guarded.{LeadsTo, IsGuarded}
 use Rattle.cd_model.specs.Guarded as guarded
 use Rattle.cd_model.specs.Scope.{Scope, Declared, declared_as}
@@ -15,7 +15,7 @@ use Rattle.cd_model.proofs.Places.{AreClosed}
 
 -- the name is one of these
 abbrev pub IsIn : Declared → List Declared → Type 0
-IsIn is names = One (λ name. name ≡ is) names
+IsIn is names = AnyOf (λ name. name ≡ is) names
 
 -- the names without the one at this place
 abbrev pub without : (is : Declared) (names : List Declared) → IsIn is names → List Declared
@@ -42,13 +42,13 @@ still_in is (name ∷ names) (inr later) other differs (inl here) = inl here
 still_in is (name ∷ names) (inr later) other differs (inr there) = inr (still_in is names later other differs there)
 
 -- what holds of each of them holds of one, and each of them is one
-pub at_name : (Fact : Declared → Type 0) (names : List Declared) (is : Declared) → Each Fact names → IsIn is names → Fact is
+pub at_name : (Fact : Declared → Type 0) (names : List Declared) (is : Declared) → AllOf Fact names → IsIn is names → Fact is
 at_name Fact [] is each place = elim place [ ]
 at_name Fact (name ∷ names) is each (inl same) = subst Fact same each.0
 at_name Fact (name ∷ names) is each (inr later) = at_name Fact names is each.1 later
 
 pub of_each : (Fact : Declared → Type 0) (names : List Declared) → ((is : Declared) → IsIn is names → Fact is)
-    → Each Fact names
+    → AllOf Fact names
 of_each Fact [] every = tt
 of_each Fact (name ∷ names) every = (every name (inl refl), of_each Fact names (λ is place. every is (inr place)))
 

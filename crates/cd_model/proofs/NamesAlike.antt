@@ -4,7 +4,7 @@ use Rattle.cd_syntax.specs.Name.{Name}
 use Rattle.cd_syntax.specs.TypeTree as type
 use Rattle.cd_syntax.specs.TypeTree.{Kind}
 use Rattle.cd_model.specs.Alike.{ReadAlike}
-use Rattle.cd_model.specs.Each.{Each}
+use Rattle.cd_model.specs.AllOf.{AllOf}
 use Rattle.cd_model.specs.Guarded.{IsGuarded, NamesAreGuarded}
 use Rattle.cd_model.specs.Guarded as guarded
 use Rattle.cd_model.specs.Scope.{Scope, Declared, declared_as, names_in, names_over, names_seen}
@@ -97,7 +97,7 @@ module _ (type : Written) (are_guarded : NamesAreGuarded type) where
       (of_each (IsOfType type) (names_seen type.scope type.tree)
       (λ is place. (at_name IsGuarded (names_seen type.scope type.tree) is are_guarded place, place))))
     where
-      by_parts : Each (IsOfType type) (names_in type.scope type.tree) × Each (IsOfType type) (names_over type.scope)
+      by_parts : AllOf (IsOfType type) (names_in type.scope type.tree) × AllOf (IsOfType type) (names_over type.scope)
           → IsSeen (IsOfType type) (type_of type) (type_of type)
       by_parts parts = record { covered = covered_tree (IsOfType type) type.scope type.tree parts.0 parts.1; same = refl }
 

@@ -7,7 +7,7 @@ use Rattle.cd_syntax.specs.TypeTree as type
 use Rattle.cd_syntax.specs.TypeTree.{Tree, Kind, Trees, NoTree, ATree}
 use Rattle.cd_model.specs.Alike as heads
 use Rattle.cd_model.specs.Alike.{FieldsStand, HeadsIfAny, HeadsStand, RegularsStand, RowsStand}
-use Rattle.cd_model.specs.Each.{Each}
+use Rattle.cd_model.specs.AllOf.{AllOf}
 use Rattle.cd_model.specs.Scope.{Scope, Declared, names_in, names_in_fields, names_in_regular, names_in_regular_kind, names_in_regulars, names_over}
 use Rattle.cd_model.specs.Types.{FieldOf, field_of}
 use Rattle.cd_model.specs.Written.{WrittenType, alone, within, type_named, any_or_none, tuple_rest, arrows_rest, tuple_head, arrows_head, text_head, named_in, regular_in, regular_kind_in, regulars_in, head_of}
@@ -25,8 +25,8 @@ module _ (Fact : Declared → Type 0) where
   pub seen_named : (name : BuiltinName) → IsSeen Fact (type_named name) (type_named name)
   seen_named name = seen (type_named name) (record { within = tt; over = tt })
 
-  seen_field : (scope : Scope) (fields : type.Fields) (rest : WrittenType) (label : Name) → Each Fact (names_in_fields scope fields)
-      → Each Fact (names_over scope) → IsSeen Fact rest rest
+  seen_field : (scope : Scope) (fields : type.Fields) (rest : WrittenType) (label : Name) → AllOf Fact (names_in_fields scope fields)
+      → AllOf Fact (names_over scope) → IsSeen Fact rest rest
       → FieldsStand (IsSeen Fact) (field_of (named_in scope fields) rest label) (field_of (named_in scope fields) rest label)
   seen_field scope type.NoField rest label each over rest_is = record { optional = refl; type = rest_is }
   seen_field scope (type.AField name at optional is fields) rest label each over rest_is =
@@ -37,8 +37,8 @@ module _ (Fact : Declared → Type 0) where
       all = named_in scope (type.AField name at optional is fields)
 
       by_name : (bytes_eq name label ≡ true) ⊎ (bytes_eq name label ≡ false)
-          → Each Fact (names_in scope is) × Each Fact (names_in_fields scope fields)
-          → (Each Fact (names_in_fields scope fields)
+          → AllOf Fact (names_in scope is) × AllOf Fact (names_in_fields scope fields)
+          → (AllOf Fact (names_in_fields scope fields)
           → FieldsStand (IsSeen Fact) (field_of (named_in scope fields) rest label) (field_of (named_in scope fields) rest label))
           → FieldsStand (IsSeen Fact) (field_of all rest label) (field_of all rest label)
       by_name (inl equal) parts later =
@@ -46,11 +46,11 @@ module _ (Fact : Declared → Type 0) where
       by_name (inr differs) parts later = rw differs (later parts.1)
 
   mutual
-    seen_regular : (scope : Scope) (is : type.Regular) → Each Fact (names_in_regular scope is) → Each Fact (names_over scope)
+    seen_regular : (scope : Scope) (is : type.Regular) → AllOf Fact (names_in_regular scope is) → AllOf Fact (names_over scope)
         → RegularsStand (IsSeen Fact) (regular_in scope is) (regular_in scope is)
     seen_regular scope (type.regular span kind) each over = seen_kind scope kind each over
 
-    seen_kind : (scope : Scope) (kind : type.RegularKind) → Each Fact (names_in_regular_kind scope kind) → Each Fact (names_over scope)
+    seen_kind : (scope : Scope) (kind : type.RegularKind) → AllOf Fact (names_in_regular_kind scope kind) → AllOf Fact (names_over scope)
         → RegularsStand (IsSeen Fact) (regular_kind_in scope kind) (regular_kind_in scope kind)
     seen_kind scope type.Nothing each over = heads.no_item
     seen_kind scope (type.Item is) each over = heads.an_item _ _ (seen (within scope is) (covered_tree Fact scope is each over))
@@ -59,7 +59,7 @@ module _ (Fact : Declared → Type 0) where
     seen_kind scope (type.Repeat is post) each over = heads.repeat _ _ post (seen_regular scope is each over)
     seen_kind scope (type.Capture name is) each over = heads.one_of _ _ heads.no_more
 
-    seen_rows : (scope : Scope) (all : type.Regulars) → Each Fact (names_in_regulars scope all) → Each Fact (names_over scope)
+    seen_rows : (scope : Scope) (all : type.Regulars) → AllOf Fact (names_in_regulars scope all) → AllOf Fact (names_over scope)
         → RowsStand (IsSeen Fact) (regulars_in scope all) (regulars_in scope all)
     seen_rows scope type.NoRegular each over = heads.no_more
     seen_rows scope (type.ARegular first rest) each over = heads.one_more _ _ _ _

@@ -5,7 +5,8 @@ use Rattle.cd_intervals.specs.Atoms.{listing, leaving_out}
 use Rattle.cd_syntax.specs.Integer.{LEAST, GREATEST}
 use Rattle.cd_syntax.specs.declared.builtin.BuiltinName.{BuiltinName}
 use Rattle.cd_syntax.specs.declared.builtin.BuiltinName.TheVariants as name
-use Rattle.cd_model.specs.Formula.{FormulaOf, Graph, Formula, formulas_of, Nothing, Everything, Ints, Chars, Atoms, Pair, Xml, Record, Arrow, Or}
+use Rattle.cd_model.specs.Formula.{FormulaOf, Graph, Formula, formulas_of, Nothing, Everything}
+use Rattle.cd_model.specs.Formula.{Ints, Chars, Atoms, Pair, Xml, Record, Arrow, Or}
 
 -- all integers, all characters up to this one, these atoms alone, and all atoms
 abbrev pub all_ints : {X : Type 0} → FormulaOf X
@@ -28,15 +29,19 @@ built_in type name.Int = all_ints
 built_in type name.Char = chars_to 0x10FFFF
 built_in type name.Byte = chars_to 255
 built_in type name.Atom = all_atoms
-built_in type name.Bool = Or (formulas_of (atoms_of (codes "false" ∷ []) ∷ atoms_of (codes "true" ∷ []) ∷ []))
+built_in type name.Bool =
+    Or (formulas_of (atoms_of (codes "false" ∷ []) ∷ atoms_of (codes "true" ∷ []) ∷ []))
 built_in type name.String =
     Or (formulas_of (Pair (type name.Char) (type name.String) ∷ atoms_of (codes "nil" ∷ []) ∷ []))
 built_in type name.Arrow = Arrow (type name.Empty) (type name.Any)
 built_in type name.Pair = Pair (type name.Any) (type name.Any)
 built_in type name.Record = Record [] (type name.Any)
 built_in type name.AnyXml = Xml (type name.Any) (type name.Any) (type name.Any)
--- integers, characters, atoms, pairs of data, records of data, and XML things whose attributes and content are data
-built_in type name.Data = Or (formulas_of (all_ints ∷ chars_to 0x10FFFF ∷ all_atoms ∷ Pair (type name.Data) (type name.Data)
+-- integers, characters, atoms, pairs of data, records of data, and XML things whose attributes and
+-- content are data
+built_in type name.Data =
+    Or (formulas_of (all_ints ∷ chars_to 0x10FFFF ∷ all_atoms
+    ∷ Pair (type name.Data) (type name.Data)
     ∷ Record [] (type name.Data) ∷ Xml (type name.Atom) (type name.Data) (type name.Data) ∷ []))
 
 abbrev pub node : ℕ → NodeId
@@ -105,7 +110,8 @@ data_formula = built_in node_named name.Data
 
 -- in the order of these numbers
 abbrev pub names : List BuiltinName
-names = name.Empty ∷ name.Any ∷ name.Int ∷ name.Char ∷ name.Byte ∷ name.Atom ∷ name.Bool ∷ name.String ∷ name.Arrow
+names = name.Empty ∷ name.Any ∷ name.Int ∷ name.Char ∷ name.Byte ∷ name.Atom ∷ name.Bool
+    ∷ name.String ∷ name.Arrow
     ∷ name.Pair ∷ name.Record ∷ name.AnyXml ∷ name.Data ∷ []
 
 abbrev pub nodes_named : List BuiltinName → Graph

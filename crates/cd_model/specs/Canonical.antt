@@ -1,9 +1,11 @@
 -- The canonical text of a thing that holds no closure, and a fixed text for closures.
-use Rattle.std.specs.Prelude.{ℕ, ◌==◌, ◌||◌, List, [], ◌∷◌, ◌++◌, Option, Some, None, map, codes, bytes_eq, nat_lt, if◌then◌else◌}
+use Rattle.std.specs.Prelude.{ℕ, ◌==◌, ◌||◌, List, [], ◌∷◌, ◌++◌, Option, Some, None, map, codes}
+use Rattle.std.specs.Prelude.{bytes_eq, nat_lt, if◌then◌else◌}
 use Rattle.std.specs.Fmt.{decimal, signed_decimal}
 use Rattle.std.specs.List.{join_by}
 use Rattle.cd_syntax.specs.Name.{Name}
-use Rattle.cd_model.specs.Thing.{Thing, Integer, Character, Atom, Pair, Xml, Record, Function, Closure, Fields, NoField, Field, Pairs, NoPair, Maps, Fails}
+use Rattle.cd_model.specs.Thing.{Thing, Integer, Character, Atom, Pair, Xml, Record, Function}
+use Rattle.cd_model.specs.Thing.{Closure, Fields, NoField, Field, Pairs, NoPair, Maps, Fails}
 
 abbrev pub Text : Type 0
 Text = List ℕ
@@ -12,8 +14,8 @@ Text = List ℕ
 abbrev pub joined : Text → List Text → Text
 joined between texts = join_by (λ text. text) between texts
 
--- A character between two of these quotes: a backslash stands before a backslash and before the quote, and the characters
--- below U+0020 and U+007F are written by a letter or by their number
+-- A character between two of these quotes: a backslash stands before a backslash and before the
+-- quote, and the characters below U+0020 and U+007F are written by a letter or by their number
 abbrev pub escaped : (quote c : ℕ) → Text
 escaped quote c =
     if (c == 92) || (c == quote) then 92 ∷ c ∷ []
@@ -65,8 +67,8 @@ abbrev pub sequence_text : List Piece → Text
 sequence_text (Run characters ∷ []) = double_quoted characters
 sequence_text pieces = codes "[" ++ joined (codes " ") (map piece_text pieces) ++ codes "]"
 
--- what stands along the right of an element: first parts of pairs, and the text of what stands at the end, unless it is the
--- atom `nil`
+-- what stands along the right of an element: first parts of pairs, and the text of what stands at
+-- the end, unless it is the atom `nil`
 pub record Row : Type 0 where
   pub parts : List Part
   pub end : Option Text
@@ -74,9 +76,11 @@ pub record Row : Type 0 where
 -- pairs that end in `nil` are a sequence, and others a tuple
 abbrev pub row_text : List Part → Option Text → Text
 row_text parts None = sequence_text (pieces_of parts)
-row_text parts (Some end) = codes "(" ++ joined (codes ", ") (map part_text parts) ++ codes ", " ++ end ++ codes ")"
+row_text parts (Some end) =
+    codes "(" ++ joined (codes ", ") (map part_text parts) ++ codes ", " ++ end ++ codes ")"
 
--- how an element is written: by itself, as a first part, along the right, and as the fields between braces
+-- how an element is written: by itself, as a first part, along the right, and as the fields between
+-- braces
 pub record Written : Type 0 where
   pub text : Text
   pub part : Part
@@ -85,16 +89,31 @@ pub record Written : Type 0 where
 
 -- what is no pair and no record
 abbrev pub plainly : Text → Written
-plainly text = record { text = text; part = Other text; row = record { parts = []; end = Some text }; fields = [] }
+plainly text = record {
+  text = text;
+  part = Other text;
+  row = record { parts = []; end = Some text };
+  fields = [];
+}
 
 abbrev pub letter_written : ℕ → Written
 letter_written c =
     let text = single_quoted (c ∷ []) in
-    record { text = text; part = Letter c; row = record { parts = []; end = Some text }; fields = [] }
+    record {
+      text = text;
+      part = Letter c;
+      row = record { parts = []; end = Some text };
+      fields = [];
+    }
 
 -- the atom `nil` is the empty sequence
 abbrev pub nil_written : Written
-nil_written = record { text = codes "[]"; part = Other (codes "[]"); row = record { parts = []; end = None }; fields = [] }
+nil_written = record {
+  text = codes "[]";
+  part = Other (codes "[]");
+  row = record { parts = []; end = None };
+  fields = [];
+}
 
 abbrev pub atom_written : Name → Written
 atom_written name = if bytes_eq name (codes "nil") then nil_written else plainly (codes "`" ++ name)
@@ -103,12 +122,22 @@ abbrev pub pair_written : Written → Written → Written
 pair_written first second =
     let parts = first.part ∷ second.row.parts in
     let text = row_text parts second.row.end in
-    record { text = text; part = Other text; row = record { parts = parts; end = second.row.end }; fields = [] }
+    record {
+      text = text;
+      part = Other text;
+      row = record { parts = parts; end = second.row.end };
+      fields = [];
+    }
 
 abbrev pub record_written : List Text → Written
 record_written fields =
     let text = codes "{" ++ joined (codes "; ") fields ++ codes "}" in
-    record { text = text; part = Other text; row = record { parts = []; end = Some text }; fields = fields }
+    record {
+      text = text;
+      part = Other text;
+      row = record { parts = []; end = Some text };
+      fields = fields;
+    }
 
 abbrev pub xml_written : Name → Written → Written → Written
 xml_written tag attributes content =
@@ -125,20 +154,24 @@ abbrev mutual
   written (Character c) = letter_written c
   written (Atom name) = atom_written name
   written (Pair first second) = pair_written (written first) (written second)
-  written (Xml tag attributes content) = xml_written (tag_name tag) (written attributes) (written content)
+  written (Xml tag attributes content) =
+      xml_written (tag_name tag) (written attributes) (written content)
   written (Record fields) = record_written (field_texts fields)
-  written (Function pairs) = plainly (codes "fun{" ++ joined (codes "; ") (pair_texts pairs) ++ codes "}")
+  written (Function pairs) =
+      plainly (codes "fun{" ++ joined (codes "; ") (pair_texts pairs) ++ codes "}")
   -- what is printed of a closure says nothing of it
   written (Closure function environment) = plainly (codes "<fun>")
 
   pub field_texts : Fields → List Text
   field_texts NoField = []
-  field_texts (Field label value rest) = (label ++ codes "=" ++ (written value).text) ∷ field_texts rest
+  field_texts (Field label value rest) = (label ++ codes "=" ++ (written value).text)
+      ∷ field_texts rest
 
   -- a pair that fails has a question mark in the place of the result
   pub pair_texts : Pairs → List Text
   pair_texts NoPair = []
-  pair_texts (Maps argument result rest) = ((written argument).text ++ codes " => " ++ (written result).text) ∷ pair_texts rest
+  pair_texts (Maps argument result rest) =
+      ((written argument).text ++ codes " => " ++ (written result).text) ∷ pair_texts rest
   pair_texts (Fails argument rest) = ((written argument).text ++ codes " => ?") ∷ pair_texts rest
 
 -- the canonical text

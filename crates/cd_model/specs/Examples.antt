@@ -24,8 +24,8 @@ CHAR = node_named builtin.Char
 abbrev pub RECORD : NodeId
 RECORD = node_named builtin.Record
 
--- `0`, `0 -> Any`, `{a=Int}`, `{a=Int ..}`, the lists of integers, `` `a ``, `<a ..>[]`, `(Int,Char)`, `0 -> 0`, `{a=?Int}`,
--- `Int \ 0`, `0 -> Int`, `0 -> Char` and `0 -> Empty`
+-- `0`, `0 -> Any`, `{a=Int}`, `{a=Int ..}`, the lists of integers, `` `a ``, `<a ..>[]`,
+-- `(Int,Char)`, `0 -> 0`, `{a=?Int}`, `Int \ 0`, `0 -> Int`, `0 -> Char` and `0 -> Empty`
 abbrev pub ZERO : NodeId
 ZERO = node 14
 
@@ -80,7 +80,8 @@ graph = built_ins ++
     ∷ Pair INT CHAR
     ∷ Arrow ZERO ZERO
     ∷ Record ((codes "a", record { optional = true; type = INT }) ∷ []) EMPTY
-    ∷ And (formulas_of (Ints (record { low = LEAST; high = GREATEST } ∷ []) ∷ Not (Ints (record { low = pos 0; high = pos 0 } ∷ [])) ∷ []))
+    ∷ And (formulas_of (Ints (record { low = LEAST; high = GREATEST } ∷ [])
+    ∷ Not (Ints (record { low = pos 0; high = pos 0 } ∷ [])) ∷ []))
     ∷ Arrow ZERO INT
     ∷ Arrow ZERO CHAR
     ∷ Arrow ZERO EMPTY
@@ -101,14 +102,17 @@ sequence_of (first ∷ rest) = thing.Pair first (sequence_of rest)
 
 -- the function that maps this integer alone
 abbrev pub function_of : ℕ → Thing → Thing
-function_of argument result = thing.Function (thing.Maps (Integer (pos argument)) result thing.NoPair)
+function_of argument result =
+    thing.Function (thing.Maps (Integer (pos argument)) result thing.NoPair)
 
 -- `{a=1}` and `{a=1; b=2}`
 abbrev pub one_field : Thing
 one_field = thing.Record (thing.Field (codes "a") (Integer (pos 1)) thing.NoField)
 
 abbrev pub two_fields : Thing
-two_fields = thing.Record (thing.Field (codes "a") (Integer (pos 1)) (thing.Field (codes "b") (Integer (pos 2)) thing.NoField))
+two_fields = thing.Record
+    (thing.Field (codes "a") (Integer (pos 1))
+    (thing.Field (codes "b") (Integer (pos 2)) thing.NoField))
 
 -- `fun{0 => ?}`
 abbrev pub fails_at_zero : Thing
@@ -136,17 +140,23 @@ abbrev pub wrong_field : Thing
 wrong_field = thing.Record (thing.Field (codes "a") (Character 99) thing.NoField)
 
 abbrev pub falling_fields : Thing
-falling_fields = thing.Record (thing.Field (codes "b") (Integer (pos 1)) (thing.Field (codes "a") (Integer (pos 2)) thing.NoField))
+falling_fields = thing.Record
+    (thing.Field (codes "b") (Integer (pos 1))
+    (thing.Field (codes "a") (Integer (pos 2)) thing.NoField))
 
 abbrev pub label_again : Thing
-label_again = thing.Record (thing.Field (codes "a") (Integer (pos 1)) (thing.Field (codes "a") (Integer (pos 2)) thing.NoField))
+label_again = thing.Record
+    (thing.Field (codes "a") (Integer (pos 1))
+    (thing.Field (codes "a") (Integer (pos 2)) thing.NoField))
 
--- a closure, and interfaces in which its function has the arrows `0 -> Int` and `0 -> Char`, or none
+-- a closure, and interfaces in which its function has the arrows `0 -> Int` and `0 -> Char`, or
+-- none
 abbrev pub closure : Thing
 closure = thing.Closure 0 thing.NoField
 
 abbrev pub to_both : Interfaces
-to_both = OfNodes graph (λ function. record { argument = ZERO; result = INT } ∷ record { argument = ZERO; result = CHAR } ∷ [])
+to_both = OfNodes graph (λ function.
+    record { argument = ZERO; result = INT } ∷ record { argument = ZERO; result = CHAR } ∷ [])
 
 abbrev pub no_arrows : Interfaces
 no_arrows = OfNodes graph (λ function. [])

@@ -1,5 +1,7 @@
--- Formulas over types, as plain data: types stand only under constructors. And graphs, whose types are their nodes.
-use Rattle.std.specs.Prelude.{◌≡◌, ℕ, ◌<◌, Bool, true, false, not, List, [], ◌∷◌, Option, Some, None, ◌⊎◌, length}
+-- Formulas over types, as plain data: types stand only under constructors. And graphs, whose types
+-- are their nodes.
+use Rattle.std.specs.Prelude.{◌≡◌, ℕ, ◌<◌, Bool, true, false, not, List, [], ◌∷◌, Option, Some}
+use Rattle.std.specs.Prelude.{None, ◌⊎◌, length}
 use Rattle.std.specs.List.{slice_get}
 use Rattle.std.specs.Option.{unwrap_or}
 use Rattle.cd_sets.specs.declared.node_id.NodeId.{NodeId}
@@ -11,10 +13,12 @@ use Rattle.cd_intervals.specs.Atoms.{Atoms as AtomSet}
 use Rattle.cd_intervals.specs.Atoms as atoms
 use Rattle.cd_syntax.specs.Name.{Name, IsLabel}
 use Rattle.cd_syntax.specs.Name.{IsAbove}
-use Rattle.cd_model.specs.Each.{Each, One}
+use Rattle.cd_model.specs.AllOf.{AllOf, AnyOf}
 use Rattle.cd_model.specs.Thing.{Thing, IsElement}
 pub use Rattle.cd_model.specs.Types.{field_of}
-use Rattle.cd_model.specs.Types.{FieldOf, Head, Integers, Characters, Atoms as AtomsIn, Products, Xmls, Records, Arrows, Answers, Reader, Presentation, at_head, element_answers}
+use Rattle.cd_model.specs.Types.{FieldOf, Head, Integers, Characters, Atoms as AtomsIn, Products}
+use Rattle.cd_model.specs.Types.{Xmls, Records, Arrows, Answers, Reader, Presentation, at_head}
+use Rattle.cd_model.specs.Types.{element_answers}
 
 mutual
   pub data FormulaOf (X : Type 0) : Type 0 where
@@ -123,21 +127,27 @@ IsWithin graph one other = (is : Thing) → IsElement is → IsIn graph is one �
 
 -- what a thing answers at a question: it is in each node of `pos` and in none of `neg`
 abbrev pub asked : Answers NodeId → Question → Bool → Type 0
-asked answer question true = Each (λ id. answer id true) question.pos × Each (λ id. answer id false) question.neg
-asked answer question false = One (λ id. answer id false) question.pos ⊎ One (λ id. answer id true) question.neg
+asked answer question true = AllOf (λ id. answer id true) question.pos
+    × AllOf (λ id. answer id false) question.neg
+asked answer question false = AnyOf (λ id. answer id false) question.pos
+    ⊎ AnyOf (λ id. answer id true) question.neg
 
 -- each is a label, and they rise strictly
 abbrev pub AreRisingLabels : {X : Type 0} → Option Name → List (Name × X) → Type 0
 AreRisingLabels before [] = Unit {0}
-AreRisingLabels before (field ∷ named) = IsLabel field.0 × IsAbove before field.0 × AreRisingLabels (Some field.0) named
+AreRisingLabels before (field ∷ named) = IsLabel field.0 × IsAbove before field.0
+    × AreRisingLabels (Some field.0) named
 
--- a formula of a graph with so many nodes: its node numbers are below that, its names are atoms and rising labels
+-- a formula of a graph with so many nodes: its node numbers are below that, its names are atoms and
+-- rising labels
 abbrev mutual
   pub IsFormula : (nodes : ℕ) → Formula → Type 0
-  IsFormula nodes (Atoms set) = Each IsLabel set.names
+  IsFormula nodes (Atoms set) = AllOf IsLabel set.names
   IsFormula nodes (Pair first second) = (first.0 < nodes) × (second.0 < nodes)
-  IsFormula nodes (Xml tag attributes content) = (tag.0 < nodes) × (attributes.0 < nodes) × (content.0 < nodes)
-  IsFormula nodes (Record named rest) = AreRisingLabels None named × Each (λ field. field.1.type.0 < nodes) named × (rest.0 < nodes)
+  IsFormula nodes (Xml tag attributes content) = (tag.0 < nodes) × (attributes.0 < nodes)
+      × (content.0 < nodes)
+  IsFormula nodes (Record named rest) = AreRisingLabels None named
+      × AllOf (λ field. field.1.type.0 < nodes) named × (rest.0 < nodes)
   IsFormula nodes (Arrow argument result) = (argument.0 < nodes) × (result.0 < nodes)
   IsFormula nodes (And formulas) = AreFormulas nodes formulas
   IsFormula nodes (Or formulas) = AreFormulas nodes formulas
@@ -150,4 +160,4 @@ abbrev mutual
 
 -- each formula is one of this graph; that a graph begins with the built-in nodes is said apart
 abbrev pub IsGraph : Graph → Type 0
-IsGraph graph = Each (IsFormula (length graph)) graph
+IsGraph graph = AllOf (IsFormula (length graph)) graph

@@ -3,7 +3,9 @@ use Rattle.std.specs.Prelude.{◌≡◌, ◌<◌, ◌⊎◌, codes, None}
 use Rattle.cd_syntax.specs.Integer.{IsInteger}
 use Rattle.std.specs.Char.{IsScalar}
 use Rattle.cd_syntax.specs.Name.{IsLabel}
-use Rattle.cd_model.specs.Thing.{Thing, Integer, Character, Atom, Pair, Xml, Record, Function, Closure, Fields, NoField, Field, Pairs, NoPair, Maps, Fails, IsAtom, IsRecord, LabelsRise}
+use Rattle.cd_model.specs.Thing.{Thing, Integer, Character, Atom, Pair, Xml, Record, Function}
+use Rattle.cd_model.specs.Thing.{Closure, Fields, NoField, Field, Pairs, NoPair, Maps, Fails}
+use Rattle.cd_model.specs.Thing.{IsAtom, IsRecord, LabelsRise}
 
 pub data Kind : Type 0 where
   AnInteger : Kind

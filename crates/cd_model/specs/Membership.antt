@@ -2,8 +2,10 @@
 use Rattle.std.specs.Prelude.{ℕ, ℤ}
 use Rattle.cd_sets.specs.declared.node_id.NodeId.{NodeId}
 use Rattle.cd_syntax.specs.Name.{Name}
-use Rattle.cd_model.specs.Formula.{Graph, FormulaReader, formula_at, at_formula, nodes, in_node, holds}
-pub use Rattle.cd_model.specs.Formula.{holds, each_holds, one_holds, asked, IsIn, IsOutside, IsWithin}
+use Rattle.cd_model.specs.Formula.{Graph, FormulaReader, formula_at, at_formula, nodes, in_node}
+use Rattle.cd_model.specs.Formula.{holds}
+pub use Rattle.cd_model.specs.Formula.{holds, each_holds, one_holds, asked, IsIn, IsOutside}
+pub use Rattle.cd_model.specs.Formula.{IsWithin}
 use Rattle.cd_model.specs.Interfaces as by
 use Rattle.cd_model.specs.Interfaces.{Interfaces, admits, value_in_node}
 use Rattle.cd_model.specs.Thing.{Thing, Fields, Pairs}
@@ -60,7 +62,8 @@ abbrev pub value_reader : Graph → Interfaces → Thing → Reader
 value_reader graph interfaces is = at_formula (by.value_reader graph interfaces is)
 
 abbrev pub value_labelled : Graph → Interfaces → Fields → Labelled
-value_labelled graph interfaces = types.labelled (nodes graph) (closure_maps (nodes graph) (admits interfaces))
+value_labelled graph interfaces =
+    types.labelled (nodes graph) (closure_maps (nodes graph) (admits interfaces))
 
 abbrev pub closure_mapping : Graph → Interfaces → ℕ → Mapping
 closure_mapping graph interfaces function = closure_maps (nodes graph) (admits interfaces) function

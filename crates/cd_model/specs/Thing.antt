@@ -113,5 +113,6 @@ abbrev mutual
 
   pub EachOfPairs : (ℕ → Type 0) → Pairs → Type 0
   EachOfPairs fact NoPair = Unit {0}
-  EachOfPairs fact (Maps argument result rest) = EachClosure fact argument × EachClosure fact result × EachOfPairs fact rest
+  EachOfPairs fact (Maps argument result rest) = EachClosure fact argument × EachClosure fact result
+      × EachOfPairs fact rest
   EachOfPairs fact (Fails argument rest) = EachClosure fact argument × EachOfPairs fact rest

@@ -1,16 +1,22 @@
 -- What a type holds, whatever types are: nodes of a graph, or written types in a scope.
 --
--- A presentation gives types `X` and says how a thing answers at each of them from what it answers at heads: the forms that
--- are neither connectives nor names. What is special to nodes or to written types is in the presentation; the rest is here.
--- Each answer has a rule of its own: the one for false says which part is outside.
-use Rattle.std.specs.Prelude.{◌≡◌, ℕ, ℤ, Bool, true, false, List, [], ◌∷◌, Option, Some, None, ◌⊎◌, bytes_eq, codes, if◌then◌else◌}
+-- A presentation gives types `X` and says how a thing answers at each of them from what it answers
+-- at heads: the forms that are neither connectives nor names. What is special to nodes or to
+-- written types is in the presentation; the rest is here. Each answer has a rule of its own: the
+-- one for false says which part is outside.
+use Rattle.std.specs.Prelude.{◌≡◌, ℕ, ℤ, Bool, true, false, List, [], ◌∷◌, Option, Some, None, ◌⊎◌}
+use Rattle.std.specs.Prelude.{bytes_eq, codes, if◌then◌else◌}
 use Rattle.cd_syntax.specs.Name.{Name}
 use Rattle.cd_syntax.specs.declared.type_tree.Post.{Post}
 use Rattle.cd_syntax.specs.declared.type_tree.Post.TheVariants as post
-use Rattle.cd_model.specs.Language.{Language, none, nothing, item, either, followed, star, plus, optional}
-use Rattle.cd_model.specs.Thing.{Thing, Integer, Character, Atom, Pair, Xml, Record, Function, Closure, Fields, NoField, Field, Pairs, NoPair, Maps, Fails, IsElement}
+use Rattle.cd_model.specs.Language.{Language, none, nothing, item, either, followed, star, plus}
+use Rattle.cd_model.specs.Language.{optional}
+use Rattle.cd_model.specs.Thing.{Thing, Integer, Character, Atom, Pair, Xml, Record, Function}
+use Rattle.cd_model.specs.Thing.{Closure, Fields, NoField, Field, Pairs, NoPair, Maps, Fails}
+use Rattle.cd_model.specs.Thing.{IsElement}
 
--- what a record type says of one label: whether the field may be absent, and in which type its value is
+-- what a record type says of one label: whether the field may be absent, and in which type its
+-- value is
 pub record FieldOf (X : Type 0) : Type 0 where
   pub optional : Bool
   pub type : X
@@ -18,7 +24,8 @@ pub record FieldOf (X : Type 0) : Type 0 where
 -- a field that is not named may be absent, and else is in `rest`
 abbrev pub field_of : {X : Type 0} → List (Name × FieldOf X) → X → Name → FieldOf X
 field_of [] rest label = record { optional = true; type = rest }
-field_of (field ∷ named) rest label = if bytes_eq field.0 label then field.1 else field_of named rest label
+field_of (field ∷ named) rest label =
+    if bytes_eq field.0 label then field.1 else field_of named rest label
 
 -- a regular expression over types
 mutual
@@ -116,32 +123,38 @@ abbrev pub atom_at : {X : Type 0} → Name → Reader X
 atom_at name (Atoms set) answer = set name ≡ answer
 atom_at name head answer = answer ≡ false
 
--- a pair is in the pairs of two types where its first part is in the first and its second part in the second
+-- a pair is in the pairs of two types where its first part is in the first and its second part in
+-- the second
 abbrev pub pair_at : {X : Type 0} → Answers X → Answers X → Reader X
 pair_at first second (Products one other) true = first one true × second other true
 pair_at first second (Products one other) false = first one false ⊎ second other false
 pair_at first second head answer = answer ≡ false
 
 abbrev pub xml_at : {X : Type 0} → Answers X → Answers X → Answers X → Reader X
-xml_at tag attributes content (Xmls one other last) true = tag one true × attributes other true × content last true
-xml_at tag attributes content (Xmls one other last) false = tag one false ⊎ attributes other false ⊎ content last false
+xml_at tag attributes content (Xmls one other last) true = tag one true × attributes other true
+    × content last true
+xml_at tag attributes content (Xmls one other last) false = tag one false ⊎ attributes other false
+    ⊎ content last false
 xml_at tag attributes content head answer = answer ≡ false
 
--- A record is what it answers at each label: whether what it has there is as a type says of that label. It is in a record
--- type where this is so at every label
+-- A record is what it answers at each label: whether what it has there is as a type says of that
+-- label. It is in a record type where this is so at every label
 abbrev pub Labelled : Type 0 → Type 1
 Labelled X = Name → FieldOf X → Bool → Type 0
 
 abbrev pub record_at : {X : Type 0} → Labelled X → Reader X
-record_at labelled (Records named rest) true = (label : Name) → labelled label (field_of named rest label) true
-record_at labelled (Records named rest) false = (label : Name) × labelled label (field_of named rest label) false
+record_at labelled (Records named rest) true = (label : Name)
+    → labelled label (field_of named rest label) true
+record_at labelled (Records named rest) false = (label : Name)
+    × labelled label (field_of named rest label) false
 record_at labelled head answer = answer ≡ false
 
 -- where nothing is at the label, the field has to be one that may be absent
 abbrev pub absent : {X : Type 0} → FieldOf X → Bool → Type 0
 absent field answer = field.optional ≡ answer
 
--- a function is what it answers at an argument's type and a result's: whether it maps the one into the other
+-- a function is what it answers at an argument's type and a result's: whether it maps the one into
+-- the other
 abbrev pub Mapping : Type 0 → Type 1
 Mapping X = (argument result : X) → Bool → Type 0
 
@@ -167,8 +180,10 @@ module _ {X : Type 0} (at : Presentation X) (closed : ℕ → Mapping X) where
     reader (Character c) = character_at c
     reader (Atom name) = with_sequences (items_of_atom name) (atom_at name)
     reader (Pair first second) =
-        with_sequences (with_item (at (reader first)) (items second)) (pair_at (at (reader first)) (at (reader second)))
-    reader (Xml tag attributes content) = xml_at (at (reader tag)) (at (reader attributes)) (at (reader content))
+        with_sequences (with_item (at (reader first)) (items second))
+        (pair_at (at (reader first)) (at (reader second)))
+    reader (Xml tag attributes content) =
+        xml_at (at (reader tag)) (at (reader attributes)) (at (reader content))
     reader (Record fields) = record_at (labelled fields)
     reader (Function pairs) = function_at (mapping pairs)
     reader (Closure function environment) = function_at (closed function)
@@ -181,18 +196,23 @@ module _ {X : Type 0} (at : Presentation X) (closed : ℕ → Mapping X) where
     pub labelled : Fields → Labelled X
     labelled NoField label field answer = absent field answer
     labelled (Field name is rest) label field answer =
-        chosen (bytes_eq name label) (at (reader is) field.type answer) (labelled rest label field answer)
+        chosen (bytes_eq name label) (at (reader is) field.type answer)
+        (labelled rest label field answer)
 
-    -- A function maps one type into another where each of its pairs does: its argument is outside the one, or its result in
-    -- the other. A pair that fails has no result
+    -- A function maps one type into another where each of its pairs does: its argument is outside
+    -- the one, or its result in the other. A pair that fails has no result
     pub mapping : Pairs → Mapping X
     mapping NoPair argument result answer = answer ≡ true
     mapping (Maps from to rest) argument result true =
-        (at (reader from) argument false ⊎ at (reader to) result true) × mapping rest argument result true
+        (at (reader from) argument false ⊎ at (reader to) result true)
+        × mapping rest argument result true
     mapping (Maps from to rest) argument result false =
-        (at (reader from) argument true × at (reader to) result false) ⊎ mapping rest argument result false
-    mapping (Fails from rest) argument result true = at (reader from) argument false × mapping rest argument result true
-    mapping (Fails from rest) argument result false = at (reader from) argument true ⊎ mapping rest argument result false
+        (at (reader from) argument true × at (reader to) result false)
+        ⊎ mapping rest argument result false
+    mapping (Fails from rest) argument result true = at (reader from) argument false
+        × mapping rest argument result true
+    mapping (Fails from rest) argument result false = at (reader from) argument true
+        ⊎ mapping rest argument result false
 
   abbrev pub answers : Thing → Answers X
   answers is = at (reader is)
@@ -208,7 +228,8 @@ element_answers at = answers at no_closure
 abbrev pub element_maps : {X : Type 0} → Presentation X → Pairs → Mapping X
 element_maps at = mapping at no_closure
 
--- which function elements the interface of each function of a program admits: those that are in all its arrows
+-- which function elements the interface of each function of a program admits: those that are in all
+-- its arrows
 abbrev pub Admits : Type 1
 Admits = ℕ → Pairs → Type 0
 
@@ -219,7 +240,8 @@ AllMap at admits function argument result = (pairs : Pairs) → IsElement (Funct
 
 abbrev pub closure_maps : {X : Type 0} → Presentation X → Admits → ℕ → Mapping X
 closure_maps at admits function argument result true = AllMap at admits function argument result
-closure_maps at admits function argument result false = AllMap at admits function argument result → ⊥
+closure_maps at admits function argument result false = AllMap at admits function argument result
+    → ⊥
 
 -- what a value answers
 abbrev pub value_answers : {X : Type 0} → Presentation X → Admits → Thing → Answers X

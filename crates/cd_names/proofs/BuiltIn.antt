@@ -4,7 +4,7 @@ use Rattle.cd_syntax.specs.Name.{Name}
 use Rattle.cd_syntax.specs.declared.builtin.BuiltinName.{BuiltinName}
 use Rattle.cd_syntax.specs.TypeGrammar.{IsBuiltin}
 use Rattle.cd_syntax.specs.TypeGrammar as grammar
-use Rattle.cd_names.specs.BuiltinNames.{is_builtin, builtin_names}
+use Rattle.cd_names.specs.Inner.BuiltinNames.{is_builtin, builtin_names}
 use Rattle.cd_names.proofs.Complete.{among_in}
 use Rattle.cd_names.proofs.Lists.{IsIn}
 

@@ -5,9 +5,9 @@ use Rattle.std.specs.Prelude.{Result, Ok, Err, OnOk, IfErr}
 use Rattle.cd_syntax.specs.TypeTree.{Tree, Declarations}
 use Rattle.cd_names.specs.Faults.{Fault, IsFault, IsFaultOfList}
 use Rattle.cd_names.specs.Errors.{IsToldError}
-use Rattle.cd_names.specs.Walk.{Frames, State, entered, walked}
-use Rattle.cd_names.specs.Cycles.{least_from}
-use Rattle.cd_names.specs.Check.{type_walked, declarations_walked, all_faults, IsLeast}
+use Rattle.cd_names.specs.Inner.Walk.{Frames, State, entered, walked}
+use Rattle.cd_names.specs.Inner.Cycles.{least_from}
+use Rattle.cd_names.specs.Inner.Check.{type_walked, declarations_walked, all_faults, IsLeast}
 use Rattle.cd_names.specs.declared.error.NameError.{NameError}
 use Rattle.cd_names.specs.declared.error.NameError.TheVariants as error
 use Rattle.cd_names.proofs.Rich.{whole, lean, lean_walked, lean_list}

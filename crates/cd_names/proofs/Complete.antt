@@ -14,8 +14,8 @@ use Rattle.cd_model.specs.Written.{kind_of}
 use Rattle.cd_names.specs.declared.fault.NameFault.TheVariants.{Unknown, Twice, Unguarded}
 use Rattle.cd_names.specs.Faults.{Fault, IsField, LabelAgain, IsDeclared, DeclaredAgain, IsFirst, IsFault, IsFaultOfList}
 use Rattle.cd_names.specs.Faults as fault
-use Rattle.cd_names.specs.BuiltinNames.{is_among, is_builtin}
-use Rattle.cd_names.specs.Walk.{Frames, innermost, Id, Place, State, told_if, entered, met, place_of, labelled, start_of, walked, walked_declared}
+use Rattle.cd_names.specs.Inner.BuiltinNames.{is_among, is_builtin}
+use Rattle.cd_names.specs.Inner.Walk.{Frames, innermost, Id, Place, State, told_if, entered, met, place_of, labelled, start_of, walked, walked_declared}
 use Rattle.cd_names.proofs.Lists.{IsIn, in_front, in_last, in_more}
 use Rattle.cd_names.proofs.Rich.{whole}
 use Rattle.cd_names.proofs.Growing.{Grows, then, if_grows, labelled_grows, walked_grows, fields_grow, declared_grows}

@@ -3,8 +3,8 @@ use Rattle.std.proofs.Common.{◌≡◌, ℕ, Bool, List, [], ◌∷◌, ◌++�
 use Rattle.std.specs.Prelude.{◌||◌}
 use Rattle.cd_syntax.specs.Name.{Name}
 use Rattle.cd_syntax.specs.TypeTree.{Declaration, Declarations, ADeclaration}
-use Rattle.cd_names.specs.BuiltinNames.{is_among, is_builtin}
-use Rattle.cd_names.specs.Walk.{Frames, State, innermost, told_if, start_of, walked, walked_declared}
+use Rattle.cd_names.specs.Inner.BuiltinNames.{is_among, is_builtin}
+use Rattle.cd_names.specs.Inner.Walk.{Frames, State, innermost, told_if, start_of, walked, walked_declared}
 
 pub declared_more : (frames : Frames) (list : ℕ) (seen more : List Name) (one : Declaration) (rest : Declarations)
     (s after next : State Declarations) (again : Bool) (start : _)

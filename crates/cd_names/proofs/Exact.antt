@@ -10,8 +10,8 @@ use Rattle.cd_model.specs.Written.{kind_of}
 use Rattle.cd_names.specs.declared.fault.NameFault.TheVariants.{Unguarded}
 use Rattle.cd_names.specs.Faults.{Fault, IsFirst, IsFaultOfList}
 use Rattle.cd_names.specs.Faults as fault
-use Rattle.cd_names.specs.Walk.{Frames, innermost, Id, Link, State}
-use Rattle.cd_names.specs.Cycles.{is_cyclic, unguarded, told_cycle, cycles_told}
+use Rattle.cd_names.specs.Inner.Walk.{Frames, innermost, Id, Link, State}
+use Rattle.cd_names.specs.Inner.Cycles.{is_cyclic, unguarded, told_cycle, cycles_told}
 use Rattle.cd_names.proofs.Lists.{IsIn, in_front, in_last, in_more}
 use Rattle.cd_names.proofs.Standing.{scope_of, IsNode, declared_at, first_place, first_tree}
 use Rattle.cd_names.proofs.Visits.{VisitedKind, ListVisited, kind_visited}

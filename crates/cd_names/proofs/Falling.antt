@@ -5,9 +5,9 @@ use Rattle.std.specs.List.{list_all}
 use Rattle.std.specs.Option.{unwrap_or}
 use Rattle.std.proofs.lemmas.Bool.Decides.{Decides-ltb}
 use Rattle.cd_lookup.specs.Places.{first_place}
-use Rattle.cd_names.specs.Walk.{Id, Link}
-use Rattle.cd_names.specs.Cycles.{is_cyclic}
-use Rattle.cd_names.specs.Ranks.{rank_at, rank_of, falls, link_falls, all_fall}
+use Rattle.cd_names.specs.Inner.Walk.{Id, Link}
+use Rattle.cd_names.specs.Inner.Cycles.{is_cyclic}
+use Rattle.cd_names.specs.Inner.Ranks.{rank_at, rank_of, falls, link_falls, all_fall}
 use Rattle.cd_names.specs.declared.ranks.Ranks.{Ranks}
 use Rattle.cd_names.proofs.Lists.{IsIn}
 use Rattle.cd_names.proofs.Reaching.{Leads, by_link, and_on, cyclic_leads}

@@ -7,8 +7,8 @@ use Rattle.cd_syntax.specs.Name.{Name}
 use Rattle.cd_syntax.specs.TypeTree.{Tree, tree, Kind, Builtin, Ints, Chars, Atom, Text, Tuple, Arrows, Union, Meet, Sequence, Record, Xml, Named, Where, Variable, Default, Trees, NoTree, ATree, Signs, NoSign, ASign, Fields, NoField, AField, Declarations, NoDeclaration, ADeclaration, Regular, regular, RegularKind, Nothing, Item, Seq, Alt, Repeat, Capture, Regulars, NoRegular, ARegular}
 use Rattle.cd_names.specs.declared.fault.NameFault.{NameFault}
 use Rattle.cd_names.specs.Faults.{Fault}
-use Rattle.cd_names.specs.BuiltinNames.{is_among, is_builtin}
-use Rattle.cd_names.specs.Walk.{Frames, Id, Link, Place, State, told, told_if, entered, met, place_of, labelled, start_of, walked, walked_kind, walked_trees, walked_signs, walked_fields, walked_declared, walked_regular, walked_regular_kind, walked_regulars}
+use Rattle.cd_names.specs.Inner.BuiltinNames.{is_among, is_builtin}
+use Rattle.cd_names.specs.Inner.Walk.{Frames, Id, Link, Place, State, told, told_if, entered, met, place_of, labelled, start_of, walked, walked_kind, walked_trees, walked_signs, walked_fields, walked_declared, walked_regular, walked_regular_kind, walked_regulars}
 use Rattle.cd_names.proofs.Lists.{IsIn, in_front, nth_front}
 use Rattle.cd_names.proofs.Rich.{whole}
 

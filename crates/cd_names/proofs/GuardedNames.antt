@@ -3,7 +3,7 @@ use Rattle.std.proofs.Common.{◌≡◌, ℕ, ◌⊎◌, inl, inr, List, [], ◌
 use Rattle.cd_syntax.specs.Name.{Name}
 use Rattle.cd_syntax.specs.declared.tokens.Span.{Span}
 use Rattle.cd_syntax.specs.TypeTree.{Tree, tree, Kind, Builtin, Ints, Chars, Atom, Text, Tuple, Arrows, Union, Meet, Sequence, Record, Xml, Named, Where, Variable, Default, Trees, NoTree, ATree, Signs, NoSign, ASign, Fields, NoField, AField, Declarations, NoDeclaration, ADeclaration, Regular, regular, RegularKind, Nothing, Item, Seq, Alt, Repeat, Capture, Regulars, NoRegular, ARegular}
-use Rattle.cd_model.specs.Each.{Each}
+use Rattle.cd_model.specs.AllOf.{AllOf}
 use Rattle.cd_model.specs.Scope.{Scope, Declared, names_in, names_in_kind, names_in_trees, names_in_signs, names_in_fields, names_declared, names_in_regular, names_in_regular_kind, names_in_regulars, names_over}
 use Rattle.cd_model.specs.Guarded.{IsOneOf, IsSigned, LeadsTo, IsGuarded, NamesAreGuarded}
 use Rattle.cd_model.specs.Guarded as guarded
@@ -65,13 +65,13 @@ module _ (base : Declarations) (outer : Scope) where
   NoFault scope is = (fault : Fault) → IsFault outer scope is fault → ⊥
 
   mutual
-    pub each_in : (scope : Scope) (is : Tree) → Ends base scope → NoFault scope is → Each Fact (names_in scope is)
+    pub each_in : (scope : Scope) (is : Tree) → Ends base scope → NoFault scope is → AllOf Fact (names_in scope is)
     each_in scope (tree span kind) ends none = each_in_kind scope span kind ends none
         (λ inner part is_part wrong is. none wrong (fault.IsFault.in_part outer scope inner span kind part wrong is_part is))
 
     each_in_kind : (scope : Scope) (span : Span) (kind : Kind) → Ends base scope → NoFault scope (tree span kind)
         → ((inner : Scope) (part : Tree) → IsPart scope kind inner part → NoFault inner part)
-        → Each Fact (names_in_kind scope kind)
+        → AllOf Fact (names_in_kind scope kind)
     each_in_kind scope span (Tuple trees) ends none parts = each_in_trees scope trees ends
         (λ part one. parts scope part (fault.IsPart.in_tuple scope part trees one))
     each_in_kind scope span (Arrows trees) ends none parts = each_in_trees scope trees ends
@@ -110,7 +110,7 @@ module _ (base : Declarations) (outer : Scope) where
     each_in_kind scope span (Default _ _) ends none parts = tt
 
     each_in_trees : (scope : Scope) (trees : Trees) → Ends base scope
-        → ((part : Tree) → IsOneOf part trees → NoFault scope part) → Each Fact (names_in_trees scope trees)
+        → ((part : Tree) → IsOneOf part trees → NoFault scope part) → AllOf Fact (names_in_trees scope trees)
     each_in_trees scope NoTree ends parts = tt
     each_in_trees scope (ATree first rest) ends parts =
         each_both Fact (names_in scope first) (names_in_trees scope rest)
@@ -118,7 +118,7 @@ module _ (base : Declarations) (outer : Scope) where
         (each_in_trees scope rest ends (λ part one. parts part (guarded.IsOneOf.later part first rest one)))
 
     each_in_signs : (scope : Scope) (signs : Signs) → Ends base scope
-        → ((part : Tree) → IsSigned part signs → NoFault scope part) → Each Fact (names_in_signs scope signs)
+        → ((part : Tree) → IsSigned part signs → NoFault scope part) → AllOf Fact (names_in_signs scope signs)
     each_in_signs scope NoSign ends parts = tt
     each_in_signs scope (ASign kept first rest) ends parts =
         each_both Fact (names_in scope first) (names_in_signs scope rest)
@@ -127,7 +127,7 @@ module _ (base : Declarations) (outer : Scope) where
 
     each_in_fields : (scope : Scope) (fields : Fields) → Ends base scope
         → ((label : Name) (at : ℕ) (part : Tree) → IsField label at part fields → NoFault scope part)
-        → Each Fact (names_in_fields scope fields)
+        → AllOf Fact (names_in_fields scope fields)
     each_in_fields scope NoField ends parts = tt
     each_in_fields scope (AField label at optional first rest) ends parts =
         each_both Fact (names_in scope first) (names_in_fields scope rest)
@@ -136,7 +136,7 @@ module _ (base : Declarations) (outer : Scope) where
         (fault.IsField.later other label there at optional part first rest one)))
 
     pub each_declared : (scope : Scope) (declarations : Declarations) → Ends base scope
-        → IsSound outer scope declarations → Each Fact (names_declared scope declarations)
+        → IsSound outer scope declarations → AllOf Fact (names_declared scope declarations)
     each_declared scope NoDeclaration ends sound = tt
     each_declared scope (ADeclaration name at is rest) ends sound = (
       record { ends = ends; guarded = sound.first name at is (fault.IsFirst.here name at is rest) },
@@ -146,12 +146,12 @@ module _ (base : Declarations) (outer : Scope) where
     )
 
     each_in_regular : (scope : Scope) (is : Regular) → Ends base scope
-        → ((part : Tree) → IsItem part is → NoFault scope part) → Each Fact (names_in_regular scope is)
+        → ((part : Tree) → IsItem part is → NoFault scope part) → AllOf Fact (names_in_regular scope is)
     each_in_regular scope (regular span kind) ends parts = each_in_regular_kind scope span kind ends parts
 
     each_in_regular_kind : (scope : Scope) (span : Span) (kind : RegularKind) → Ends base scope
         → ((part : Tree) → IsItem part (regular span kind) → NoFault scope part)
-        → Each Fact (names_in_regular_kind scope kind)
+        → AllOf Fact (names_in_regular_kind scope kind)
     each_in_regular_kind scope span Nothing ends parts = tt
     each_in_regular_kind scope span (Item is) ends parts = each_in scope is ends (parts is (fault.IsItem.item span is))
     each_in_regular_kind scope span (Seq all) ends parts = each_in_regulars scope all ends
@@ -164,7 +164,7 @@ module _ (base : Declarations) (outer : Scope) where
         (λ part one. parts part (fault.IsItem.captured span part name all one))
 
     each_in_regulars : (scope : Scope) (all : Regulars) → Ends base scope
-        → ((part : Tree) → IsItemOfOne part all → NoFault scope part) → Each Fact (names_in_regulars scope all)
+        → ((part : Tree) → IsItemOfOne part all → NoFault scope part) → AllOf Fact (names_in_regulars scope all)
     each_in_regulars scope NoRegular ends parts = tt
     each_in_regulars scope (ARegular first rest) ends parts =
         each_both Fact (names_in_regular scope first) (names_in_regulars scope rest)
@@ -172,7 +172,7 @@ module _ (base : Declarations) (outer : Scope) where
         (each_in_regulars scope rest ends (λ part one. parts part (fault.IsItemOfOne.later part first rest one)))
 
 each_on : (First Second : Declared → Type 0) (names : List Declared) → ((is : Declared) → First is → Second is)
-    → Each First names → Each Second names
+    → AllOf First names → AllOf Second names
 each_on First Second [] on each = tt
 each_on First Second (name ∷ names) on each = (on name each.0, each_on First Second names on each.1)
 

@@ -4,7 +4,7 @@ use Rattle.std.specs.Bool.{Decides}
 use Rattle.std.proofs.lemmas.Bool.{cases_Bool, cases_order, cases_lt}
 use Rattle.std.proofs.lemmas.Bool.Decides.{Decides-eqb, Decides-and, Decides-or, Decides-ltb}
 use Rattle.cd_names.specs.Faults.{Fault, rank, IsBefore, IsTold}
-use Rattle.cd_names.specs.Cycles.{goes_before, lesser, least_from}
+use Rattle.cd_names.specs.Inner.Cycles.{goes_before, lesser, least_from}
 use Rattle.cd_names.proofs.Lists.{IsIn}
 
 goes_before_decides : (one other : Fault) → Decides (goes_before one other)

@@ -8,8 +8,8 @@ use Rattle.cd_model.specs.Scope.{Scope, Declared, declared_as}
 use Rattle.cd_model.specs.Guarded.{LeadsTo}
 use Rattle.cd_model.specs.Guarded as guarded
 use Rattle.cd_model.specs.Written.{kind_of}
-use Rattle.cd_names.specs.BuiltinNames.{is_among, is_builtin}
-use Rattle.cd_names.specs.Walk.{Frames, innermost, Id, Link, Place, State, told_if, entered, met, place_of, labelled, start_of, walked, walked_kind, walked_trees, walked_signs, walked_fields, walked_declared, walked_regular, walked_regular_kind, walked_regulars}
+use Rattle.cd_names.specs.Inner.BuiltinNames.{is_among, is_builtin}
+use Rattle.cd_names.specs.Inner.Walk.{Frames, innermost, Id, Link, Place, State, told_if, entered, met, place_of, labelled, start_of, walked, walked_kind, walked_trees, walked_signs, walked_fields, walked_declared, walked_regular, walked_regular_kind, walked_regulars}
 use Rattle.cd_names.proofs.Lists.{IsIn, in_last}
 use Rattle.cd_names.proofs.Rich.{whole}
 use Rattle.cd_names.proofs.Growing.{Grows, same, then, if_grows, entered_grows, met_grows, labelled_grows, walked_grows, trees_grow, signs_grow, fields_grow, declared_grows, regular_grows, regulars_grow}

@@ -10,7 +10,7 @@ use Rattle.cd_syntax.specs.declared.type_tree.Declaration.{Declaration as CodeDe
 use Rattle.cd_syntax.specs.declared.type_tree.RegKind.TheViews.{out-Declaration}
 use Rattle.cd_lookup.specs.Places.{first_place}
 use Rattle.cd_lookup.specs.NamesDeclared.{names_in}
-use Rattle.cd_names.specs.Walk.{place_in}
+use Rattle.cd_names.specs.Inner.Walk.{place_in}
 use Rattle.cd_names.proofs.Views.{declaration_is}
 
 pub placed_nowhere : (declarations : Declarations) (name : Name) → first_place (names_in declarations) name ≡ None

@@ -8,8 +8,8 @@ use Rattle.std.proofs.lemmas.Bool.Decides.{Decides-eqb, Decides-and, Decides-lik
 use Rattle.std.proofs.lemmas.Slice.Eq.{bytes_eq-Decides}
 use Rattle.std.proofs.lemmas.List.{length-append}
 use Rattle.cd_syntax.specs.Name.{Name}
-use Rattle.cd_names.specs.Walk.{Id, Link}
-use Rattle.cd_names.specs.Cycles.{same_id, is_held, add_if, with_next, with_next_of, reached_after, reached, is_cyclic}
+use Rattle.cd_names.specs.Inner.Walk.{Id, Link}
+use Rattle.cd_names.specs.Inner.Cycles.{same_id, is_held, add_if, with_next, with_next_of, reached_after, reached, is_cyclic}
 use Rattle.cd_names.proofs.Lists.{IsIn, in_front, in_last, in_more, nth_front, nth_is_within, nth_of, in_nth}
 
 -- a declared name leads to another one by links

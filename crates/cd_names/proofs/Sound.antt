@@ -12,8 +12,8 @@ use Rattle.cd_names.specs.declared.fault.NameFault.{NameFault}
 use Rattle.cd_names.specs.declared.fault.NameFault.TheVariants.{Unknown, Twice}
 use Rattle.cd_names.specs.Faults.{Fault, IsField, LabelAgain, IsItem, IsItemOfOne, IsDeclared, DeclaredAgain, IsFirst, IsFault, IsFaultOfList}
 use Rattle.cd_names.specs.Faults as fault
-use Rattle.cd_names.specs.BuiltinNames.{is_among, is_builtin}
-use Rattle.cd_names.specs.Walk.{Frames, innermost, Id, Link, Place, State, told, told_if, entered, linked, met, place_of, labelled, start_of, walked, walked_kind, walked_trees, walked_signs, walked_fields, walked_declared, walked_regular, walked_regular_kind, walked_regulars}
+use Rattle.cd_names.specs.Inner.BuiltinNames.{is_among, is_builtin}
+use Rattle.cd_names.specs.Inner.Walk.{Frames, innermost, Id, Link, Place, State, told, told_if, entered, linked, met, place_of, labelled, start_of, walked, walked_kind, walked_trees, walked_signs, walked_fields, walked_declared, walked_regular, walked_regular_kind, walked_regulars}
 use Rattle.cd_names.proofs.Lists.{IsIn, in_front, in_last, in_more}
 use Rattle.cd_names.proofs.Rich.{whole}
 use Rattle.cd_names.proofs.Growing.{Grows, same, then, if_grows, entered_grows, labelled_grows, walked_grows, declared_grows, regular_grows}

@@ -9,7 +9,7 @@ use Rattle.cd_syntax.specs.TypeTree.{Tree, Declarations, NoDeclaration, ADeclara
 use Rattle.cd_model.specs.Scope.{Scope, Declared, declared_as, tree_in}
 use Rattle.cd_names.specs.Faults.{IsFirst}
 use Rattle.cd_names.specs.Faults as fault
-use Rattle.cd_names.specs.Walk.{Frames, innermost, Id, Place, State, place_in, place_of}
+use Rattle.cd_names.specs.Inner.Walk.{Frames, innermost, Id, Place, State, place_in, place_of}
 use Rattle.cd_names.proofs.Growing.{Grows}
 
 abbrev pub scope_of : Frames → Scope

@@ -8,7 +8,7 @@ use Rattle.cd_model.specs.Guarded as guarded
 use Rattle.cd_model.specs.Written.{kind_of}
 use Rattle.cd_names.specs.Faults.{IsField, IsItem, IsItemOfOne, IsPart, IsDeclared, IsFirst}
 use Rattle.cd_names.specs.Faults as fault
-use Rattle.cd_names.specs.Walk.{Frames, innermost, Id, State, entered, labelled, walked, walked_kind, walked_trees, walked_signs, walked_fields, walked_declared, walked_regular, walked_regulars}
+use Rattle.cd_names.specs.Inner.Walk.{Frames, innermost, Id, State, entered, labelled, walked, walked_kind, walked_trees, walked_signs, walked_fields, walked_declared, walked_regular, walked_regulars}
 use Rattle.cd_names.proofs.Lists.{nth_last}
 use Rattle.cd_names.proofs.Rich.{whole}
 use Rattle.cd_names.proofs.Growing.{Grows, then, entered_grows, labelled_grows, walked_grows, trees_grow, signs_grow, fields_grow, declared_grows, regular_grows, regulars_grow}

@@ -5,5 +5,6 @@ use Rattle.cd_names.specs.declared.error.NameError.TheVariants as error
 
 -- it is the fault that is told of those that are such; want of memory says nothing
 abbrev pub IsToldError : (IsSuch : Fault → Type 0) → NameError → Type 0
-IsToldError IsSuch (error.Fault fault name at) = IsTold IsSuch (record { fault = fault; name = name; at = at })
+IsToldError IsSuch (error.Fault fault name at) = IsTold IsSuch
+    (record { fault = fault; name = name; at = at })
 IsToldError IsSuch error.Memory = Unit {0}

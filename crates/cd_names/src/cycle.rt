@@ -1,8 +1,10 @@
 //! Declared names that lead back to themselves by links.
 ghost use Rattle.std.specs.Prelude.{◌≡◌, IfOk, map, true, ◌&&◌, not, slice_get};
-ghost use Rattle.cd_names.specs.Cycles.{same_id, is_held, with_next, with_next_of, reached as reached_by, is_cyclic as is_cyclic_id, told_cycle, cycles_told};
-ghost use Rattle.cd_names.specs.Ranks.{all_fall};
-ghost use Rattle.cd_names.specs.PlainFound.{plain_id, plain_link, plain_told};
+ghost use Rattle.cd_names.specs.Inner.Cycles.{same_id, is_held, with_next, with_next_of};
+ghost use Rattle.cd_names.specs.Inner.Cycles.{reached as reached_by, is_cyclic as is_cyclic_id};
+ghost use Rattle.cd_names.specs.Inner.Cycles.{told_cycle, cycles_told};
+ghost use Rattle.cd_names.specs.Inner.Ranks.{all_fall};
+ghost use Rattle.cd_names.specs.Inner.PlainFound.{plain_id, plain_link, plain_told};
 
 use crate::fault::NameFault;
 use crate::found::{Id, Link, Told};
@@ -31,7 +33,9 @@ fn holds(ids: &[Id<'_>], id: &Id<'_>) -> bool
 
 // Adds those that a declared name leads to by one link, each once.
 fn add_next<'t>(links: &[Link<'t>], id: &Id<'t>, seen: &mut Vec<Id<'t>>) -> Result<(), AllocError>
-    ensures { IfOk result (λ _. map plain_id seen.new.items ≡ with_next (map plain_link links.now) (plain_id id.now) (map plain_id seen.old.items)) }
+    ensures { IfOk result (λ _.
+        map plain_id seen.new.items
+        ≡ with_next (map plain_link links.now) (plain_id id.now) (map plain_id seen.old.items)) }
 {
     for link in links {
         if is_next(link, id, seen.as_slice()) {
@@ -43,14 +47,16 @@ fn add_next<'t>(links: &[Link<'t>], id: &Id<'t>, seen: &mut Vec<Id<'t>>) -> Resu
 
 // Whether the link leads from the declared name to one that is not seen.
 fn is_next(link: &Link<'_>, id: &Id<'_>, seen: &[Id<'_>]) -> bool
-    ensures { result ≡ (same_id (plain_link link.now).start (plain_id id.now) && not (is_held (map plain_id seen.now) (plain_link link.now).to)) }
+    ensures { result ≡ (same_id (plain_link link.now).start (plain_id id.now)
+        && not (is_held (map plain_id seen.now) (plain_link link.now).to)) }
 {
     is_one(&link.start, id) && !holds(seen, &link.to)
 }
 
 // Those that a declared name leads to.
 fn reached<'t>(alloc: Global, links: &[Link<'t>], id: &Id<'t>) -> Result<Vec<Id<'t>>, AllocError>
-    ensures { IfOk result (λ seen. map plain_id seen.items ≡ reached_by (map plain_link links.now) (plain_id id.now)) }
+    ensures { IfOk result (λ seen.
+        map plain_id seen.items ≡ reached_by (map plain_link links.now) (plain_id id.now)) }
 {
     let mut seen = Vec::new(alloc);
     add_next(links, id, &mut seen)?;
@@ -66,7 +72,10 @@ fn add_next_of<'t>(
     index: usize,
     seen: &mut Vec<Id<'t>>,
 ) -> Result<(), AllocError>
-    ensures { IfOk result (λ _. map plain_id seen.new.items ≡ with_next_of (map plain_link links.now) (slice_get (map plain_id seen.old.items) index) (map plain_id seen.old.items)) }
+    ensures { IfOk result (λ _.
+        map plain_id seen.new.items
+        ≡ with_next_of (map plain_link links.now) (slice_get (map plain_id seen.old.items) index)
+        (map plain_id seen.old.items)) }
 {
     if index < seen.len() {
         let next = seen[index];
@@ -77,7 +86,8 @@ fn add_next_of<'t>(
 
 // Whether a declared name leads back to itself.
 fn is_cyclic<'t>(alloc: Global, links: &[Link<'t>], id: &Id<'t>) -> Result<bool, AllocError>
-    ensures { IfOk result (λ found. found ≡ is_cyclic_id (map plain_link links.now) (plain_id id.now)) }
+    ensures { IfOk result (λ found.
+        found ≡ is_cyclic_id (map plain_link links.now) (plain_id id.now)) }
 {
     let seen = reached(alloc, links, id)?;
     Ok(holds(seen.as_slice(), id))
@@ -91,7 +101,8 @@ fn leads_back<'t>(
     id: &Id<'t>,
 ) -> Result<bool, AllocError>
     requires { all_fall ranks.now (map plain_link links.now) ≡ true }
-    ensures { IfOk result (λ found. found ≡ is_cyclic_id (map plain_link links.now) (plain_id id.now)) }
+    ensures { IfOk result (λ found.
+        found ≡ is_cyclic_id (map plain_link links.now) (plain_id id.now)) }
 {
     if ranks.rank(id.name).is_some() {
         return Ok(false);
@@ -105,7 +116,10 @@ pub(crate) fn tell_cycles<'t>(
     links: &[Link<'t>],
     faults: &mut Vec<Told<'t>>,
 ) -> Result<(), AllocError>
-    ensures { IfOk result (λ _. map plain_told faults.new.items ≡ cycles_told (map plain_link links.now) (map plain_link links.now) (map plain_told faults.old.items)) }
+    ensures { IfOk result (λ _.
+        map plain_told faults.new.items
+        ≡ cycles_told (map plain_link links.now) (map plain_link links.now)
+        (map plain_told faults.old.items)) }
 {
     let ranks = Ranks::of(alloc, links)?;
     for link in links {
@@ -121,7 +135,9 @@ fn tell_cycle<'t>(
     link: &Link<'t>,
     faults: &mut Vec<Told<'t>>,
 ) -> Result<(), AllocError>
-    ensures { IfOk result (λ _. map plain_told faults.new.items ≡ told_cycle found (plain_link link.now) (map plain_told faults.old.items)) }
+    ensures { IfOk result (λ _.
+        map plain_told faults.new.items
+        ≡ told_cycle found (plain_link link.now) (map plain_told faults.old.items)) }
 {
     if found {
         faults.push(Told {

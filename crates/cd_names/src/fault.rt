@@ -6,7 +6,8 @@ pub enum NameFault {
     /// Nothing declares it there.
     #[error("unknown name")]
     Unknown,
-    /// It is declared again, or a built-in type has it, or it is a label that stands twice in one record.
+    /// It is declared again, or a built-in type has it, or it is a label that stands twice in one
+    /// record.
     #[error("name declared twice")]
     Twice,
     /// It leads back to itself through connectives, names and `where` alone.

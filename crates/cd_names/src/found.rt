@@ -1,8 +1,9 @@
 //! What a walk over a tree finds.
 ghost use Rattle.std.specs.Prelude.{◌≡◌, IfOk, length, []};
 ghost use Rattle.cd_syntax.specs.PlainTree.{plain_declarations};
-ghost use Rattle.cd_names.specs.Walk.{told, told_if, entered, linked, met, start_of as start_of_declared};
-ghost use Rattle.cd_names.specs.PlainFound.{plain_id, plain_start, plain_place, plain_found};
+ghost use Rattle.cd_names.specs.Inner.Walk.{told, told_if, entered, linked, met};
+ghost use Rattle.cd_names.specs.Inner.Walk.{start_of as start_of_declared};
+ghost use Rattle.cd_names.specs.Inner.PlainFound.{plain_id, plain_start, plain_place, plain_found};
 
 use crate::fault::NameFault;
 use cd_syntax::name::Name;
@@ -66,7 +67,8 @@ impl<'t> Found<'t> {
         name: &'t Name,
         at: usize,
     ) -> Result<(), AllocError>
-        ensures { IfOk result (λ _. plain_found self.new ≡ told fault name.now at (plain_found self.old)) }
+        ensures { IfOk result (λ _.
+            plain_found self.new ≡ told fault name.now at (plain_found self.old)) }
     {
         self.faults.push(Told { fault, name, at })?;
         Ok(())
@@ -79,7 +81,8 @@ impl<'t> Found<'t> {
         name: &'t Name,
         at: usize,
     ) -> Result<(), AllocError>
-        ensures { IfOk result (λ _. plain_found self.new ≡ told_if twice name.now at (plain_found self.old)) }
+        ensures { IfOk result (λ _.
+            plain_found self.new ≡ told_if twice name.now at (plain_found self.old)) }
     {
         if twice {
             return self.tell(NameFault::Twice, name, at);
@@ -89,14 +92,17 @@ impl<'t> Found<'t> {
 
     /// Enters a list of declarations, and gives its number.
     pub(crate) fn enter(&mut self, declarations: &'t Declarations) -> Result<usize, AllocError>
-        ensures { IfOk result (λ list. (list ≡ length (plain_found self.old).lists) × (plain_found self.new ≡ entered (plain_declarations declarations.now) (plain_found self.old))) }
+        ensures { IfOk result (λ list. (list ≡ length (plain_found self.old).lists)
+            × (plain_found self.new ≡ entered (plain_declarations declarations.now)
+            (plain_found self.old))) }
     {
         let list = self.lists.len();
         self.lists.push(declarations)?;
         Ok(list)
     }
 
-    /// A name is met at a place, in the tree of a declared name and under no constructor, if that is given.
+    /// A name is met at a place, in the tree of a declared name and under no constructor, if that
+    /// is given.
     pub(crate) fn meet(
         &mut self,
         start: Option<Id<'t>>,
@@ -104,7 +110,9 @@ impl<'t> Found<'t> {
         at: usize,
         place: Option<Place>,
     ) -> Result<(), AllocError>
-        ensures { IfOk result (λ _. plain_found self.new ≡ met (plain_start start.entry) name.now at (plain_place place) (plain_found self.old)) }
+        ensures { IfOk result (λ _.
+            plain_found self.new ≡ met (plain_start start.entry) name.now at (plain_place place)
+            (plain_found self.old)) }
     {
         let Some(place) = place else {
             return self.tell(NameFault::Unknown, name, at);
@@ -116,7 +124,9 @@ impl<'t> Found<'t> {
     }
 
     fn link(&mut self, start: Id<'t>, place: Place, name: &'t Name) -> Result<(), AllocError>
-        ensures { IfOk result (λ _. plain_found self.new ≡ linked (plain_id start.entry) (record { list = place.list; name = name.now }) place.at (plain_found self.old)) }
+        ensures { IfOk result (λ _.
+            plain_found self.new ≡ linked (plain_id start.entry)
+            (record { list = place.list; name = name.now }) place.at (plain_found self.old)) }
     {
         let to = Id {
             list: place.list,
@@ -131,7 +141,8 @@ impl<'t> Found<'t> {
     }
 }
 
-/// The declared name whose tree is walked. A name that is declared again leads nowhere, since uses mean the first.
+/// The declared name whose tree is walked. A name that is declared again leads nowhere, since uses
+/// mean the first.
 pub(crate) fn start_of<'t>(again: bool, list: usize, name: &'t Name) -> Option<Id<'t>>
     ensures { plain_start result ≡ start_of_declared again list name.now }
 {

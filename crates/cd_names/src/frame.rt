@@ -17,8 +17,8 @@ pub(crate) struct Frame<'t, 'n> {
 }
 
 impl<'t, 'n> Frame<'t, 'n> {
-    ghost use Rattle.cd_names.specs.Walk.{place_in as place_in_list};
-    ghost use Rattle.cd_names.specs.PlainFound.{plain_frame};
+    ghost use Rattle.cd_names.specs.Inner.Walk.{place_in as place_in_list};
+    ghost use Rattle.cd_names.specs.Inner.PlainFound.{plain_frame};
 
     /// This list, with its names and its number.
     pub(crate) fn of(
@@ -27,7 +27,8 @@ impl<'t, 'n> Frame<'t, 'n> {
         list: usize,
     ) -> Frame<'t, 'n>
         requires { names.now ≡ names_in (plain_declarations declarations.now) }
-        ensures { plain_frame result ≡ record { declarations = plain_declarations declarations.now; list = list } }
+        ensures { plain_frame result
+            ≡ record { declarations = plain_declarations declarations.now; list = list } }
     {
         Frame {
             declarations,

@@ -2,8 +2,9 @@
 ghost use Rattle.std.specs.Prelude.{◌≡◌, map, None};
 ghost use Rattle.std.specs.Option.{option_map};
 ghost use Rattle.cd_names.specs.Faults.{rank as rank_of};
-ghost use Rattle.cd_names.specs.Cycles.{goes_before as goes_before_fault, lesser as lesser_fault, least_from};
-ghost use Rattle.cd_names.specs.PlainFound.{plain_told};
+ghost use Rattle.cd_names.specs.Inner.Cycles.{goes_before as goes_before_fault};
+ghost use Rattle.cd_names.specs.Inner.Cycles.{lesser as lesser_fault, least_from};
+ghost use Rattle.cd_names.specs.Inner.PlainFound.{plain_told};
 
 use crate::fault::NameFault;
 use crate::found::Told;
@@ -20,7 +21,8 @@ pub(crate) fn least<'t>(faults: &[Told<'t>]) -> Option<Told<'t>>
 }
 
 fn lesser<'t>(least: Option<Told<'t>>, fault: &Told<'t>) -> Option<Told<'t>>
-    ensures { option_map plain_told result ≡ lesser_fault (option_map plain_told least.entry) (plain_told fault.now) }
+    ensures { option_map plain_told result
+        ≡ lesser_fault (option_map plain_told least.entry) (plain_told fault.now) }
 {
     let Some(so_far) = least else {
         return Some(*fault);

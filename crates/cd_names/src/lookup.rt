@@ -1,8 +1,9 @@
 //! Names among others.
 ghost use Rattle.std.specs.Prelude.{◌≡◌, ◌||◌, map, bytes_eq};
-ghost use Rattle.cd_names.specs.BuiltinNames.{is_among as is_one_of, is_builtin as is_builtin_name, builtin_names};
-ghost use Rattle.cd_names.specs.Walk.{place_of as place_in_frames};
-ghost use Rattle.cd_names.specs.PlainFound.{plain_frames, plain_place};
+ghost use Rattle.cd_names.specs.Inner.BuiltinNames.{is_among as is_one_of};
+ghost use Rattle.cd_names.specs.Inner.BuiltinNames.{is_builtin as is_builtin_name, builtin_names};
+ghost use Rattle.cd_names.specs.Inner.Walk.{place_of as place_in_frames};
+ghost use Rattle.cd_names.specs.Inner.PlainFound.{plain_frames, plain_place};
 
 use crate::found::Place;
 use crate::frame::Frame;
@@ -22,7 +23,8 @@ fn is_builtin(name: &Name) -> bool
     is_spelled_among(builtins(), name)
 }
 
-/// Whether nothing more may be declared with this name: it is declared before, or a built-in type has it.
+/// Whether nothing more may be declared with this name: it is declared before, or a built-in type
+/// has it.
 pub(crate) fn is_taken(again: bool, name: &Name) -> bool
     ensures { result ≡ (again || is_builtin_name name.now) }
 {

@@ -1,10 +1,11 @@
-//! An order of names in which each comes after those that it leads to. Nothing is claimed of it here: the ranks that it gives
-//! are looked at link by link before they are used.
+//! An order of names in which each comes after those that it leads to. Nothing is claimed of it
+//! here: the ranks that it gives are looked at link by link before they are used.
 use crate::found::Link;
 use cd_lookup::NameIndex;
 use std::alloc::{AllocError, Global};
 
-// Of each place of a name, how many links lead from it that are not taken away, and from which places links lead to it.
+// Of each place of a name, how many links lead from it that are not taken away, and from which
+// places links lead to it.
 #[derive(Drop)]
 struct Places {
     open: Vec<usize>,
@@ -29,8 +30,8 @@ impl Places {
     }
 }
 
-/// The names of links, and the rank at each of their places, if it has one. A name that leads to one which leads back to
-/// itself has none.
+/// The names of links, and the rank at each of their places, if it has one. A name that leads to
+/// one which leads back to itself has none.
 pub(crate) fn ranked<'t>(
     alloc: Global,
     links: &[Link<'t>],
@@ -75,8 +76,8 @@ fn places_of(
     Ok(places)
 }
 
-// The rank of each place: first those that no link leads from, and then those that no link leads from once the links to
-// earlier ones are taken away.
+// The rank of each place: first those that no link leads from, and then those that no link leads
+// from once the links to earlier ones are taken away.
 fn ranks_in(alloc: Global, places: Places) -> Result<Vec<Option<usize>>, AllocError> {
     let Places { mut open, before } = places;
     let mut order = free(alloc, open.as_slice())?;
@@ -102,7 +103,8 @@ fn free(alloc: Global, open: &[usize]) -> Result<Vec<usize>, AllocError> {
     Ok(free)
 }
 
-// Takes one link away from each of these places, and adds those to the order that no link leads from then.
+// Takes one link away from each of these places, and adds those to the order that no link leads
+// from then.
 fn close(
     starts: &[usize],
     open: &mut Vec<usize>,

@@ -1,7 +1,7 @@
 //! Ranks of names, with which links are told apart that no name leads back to itself by.
 ghost use Rattle.std.specs.Prelude.{◌≡◌, IfOk, map, true, []};
-ghost use Rattle.cd_names.specs.Ranks.{rank_of, link_falls, all_fall as all_links_fall};
-ghost use Rattle.cd_names.specs.PlainFound.{plain_link};
+ghost use Rattle.cd_names.specs.Inner.Ranks.{rank_of, link_falls, all_fall as all_links_fall};
+ghost use Rattle.cd_names.specs.Inner.PlainFound.{plain_link};
 
 use crate::found::Link;
 use crate::order::ranked;
@@ -17,7 +17,8 @@ pub(crate) struct Ranks<'t> {
 }
 
 impl<'t> Ranks<'t> {
-    /// Ranks with which all of these links fall. A name that leads to one which leads back to itself has none.
+    /// Ranks with which all of these links fall. A name that leads to one which leads back to
+    /// itself has none.
     pub(crate) fn of(alloc: Global, links: &[Link<'t>]) -> Result<Ranks<'t>, AllocError>
         ensures { IfOk result (λ ranks. all_links_fall ranks (map plain_link links.now) ≡ true) }
     {
@@ -48,7 +49,8 @@ impl<'t> Ranks<'t> {
         *rank
     }
 
-    // Whether all of these links lead from names with a rank to ones with a lesser rank, or from names with none.
+    // Whether all of these links lead from names with a rank to ones with a lesser rank, or from
+    // names with none.
     fn all_fall(&self, links: &[Link<'_>]) -> bool
         ensures { result ≡ all_links_fall self.now (map plain_link links.now) }
     {

@@ -1,9 +1,15 @@
 //! The walk over a tree, which finds its faults and the links between declared names.
 ghost use Rattle.std.specs.Prelude.{◌≡◌, IfOk, length, [], ◌∷◌, map};
 ghost use Rattle.cd_syntax.specs.TypeTree.{Where};
-ghost use Rattle.cd_syntax.specs.PlainTree.{plain, plain_kind, plain_trees, plain_signs, plain_fields, plain_declarations, plain_regular, plain_regular_kind, plain_regulars};
-ghost use Rattle.cd_names.specs.Walk.{innermost, labelled, walked, walked_kind, walked_trees, walked_signs, walked_fields, walked_declared, walked_list, walked_regular, walked_regular_kind, walked_regulars};
-ghost use Rattle.cd_names.specs.PlainFound.{plain_frame, plain_frames, plain_start, plain_found};
+ghost use Rattle.cd_syntax.specs.PlainTree.{plain, plain_kind, plain_trees, plain_signs};
+ghost use Rattle.cd_syntax.specs.PlainTree.{plain_fields, plain_declarations, plain_regular};
+ghost use Rattle.cd_syntax.specs.PlainTree.{plain_regular_kind, plain_regulars};
+ghost use Rattle.cd_names.specs.Inner.Walk.{innermost, labelled, walked, walked_kind, walked_trees};
+ghost use Rattle.cd_names.specs.Inner.Walk.{walked_signs, walked_fields, walked_declared};
+ghost use Rattle.cd_names.specs.Inner.Walk.{walked_list, walked_regular, walked_regular_kind};
+ghost use Rattle.cd_names.specs.Inner.Walk.{walked_regulars};
+ghost use Rattle.cd_names.specs.Inner.PlainFound.{plain_frame, plain_frames, plain_start};
+ghost use Rattle.cd_names.specs.Inner.PlainFound.{plain_found};
 
 use crate::found::{Found, Id, start_of};
 use crate::frame::Frame;
@@ -14,8 +20,8 @@ use cd_syntax::type_tree::{
 };
 use std::alloc::{AllocError, Global};
 
-/// Walks over a tree under these lists of declarations. `start` is the declared name that leads to the tree through no
-/// constructor, if one does.
+/// Walks over a tree under these lists of declarations. `start` is the declared name that leads to
+/// the tree through no constructor, if one does.
 #[cycle(walk)]
 pub(crate) fn walk<'t>(
     alloc: Global,
@@ -24,7 +30,9 @@ pub(crate) fn walk<'t>(
     start: Option<Id<'t>>,
     found: &mut Found<'t>,
 ) -> Result<(), AllocError>
-    ensures { IfOk result (λ _. plain_found found.new ≡ walked innermost (plain_frames frames.now) (plain_start start.entry) (plain tree.now) (plain_found found.old)) }
+    ensures { IfOk result (λ _.
+        plain_found found.new ≡ walked innermost (plain_frames frames.now) (plain_start start.entry)
+        (plain tree.now) (plain_found found.old)) }
 {
     walk_kind(alloc, &tree.kind, tree.span.from, frames, start, found)
 }
@@ -38,7 +46,9 @@ fn walk_kind<'t>(
     start: Option<Id<'t>>,
     found: &mut Found<'t>,
 ) -> Result<(), AllocError>
-    ensures { IfOk result (λ _. plain_found found.new ≡ walked_kind innermost (plain_frames frames.now) (plain_start start.entry) at (plain_kind kind.now) (plain_found found.old)) }
+    ensures { IfOk result (λ _.
+        plain_found found.new ≡ walked_kind innermost (plain_frames frames.now)
+        (plain_start start.entry) at (plain_kind kind.now) (plain_found found.old)) }
 {
     match kind {
         TreeKind::Tuple(trees) => walk_trees(alloc, trees, frames, None, found),
@@ -80,7 +90,9 @@ fn walk_trees<'t>(
     start: Option<Id<'t>>,
     found: &mut Found<'t>,
 ) -> Result<(), AllocError>
-    ensures { IfOk result (λ _. plain_found found.new ≡ walked_trees innermost (plain_frames frames.now) (plain_start start.entry) (plain_trees trees.now) (plain_found found.old)) }
+    ensures { IfOk result (λ _.
+        plain_found found.new ≡ walked_trees innermost (plain_frames frames.now)
+        (plain_start start.entry) (plain_trees trees.now) (plain_found found.old)) }
 {
     for tree in trees.items() {
         walk(alloc, tree, frames, start, found)?;
@@ -96,7 +108,9 @@ fn walk_signs<'t>(
     start: Option<Id<'t>>,
     found: &mut Found<'t>,
 ) -> Result<(), AllocError>
-    ensures { IfOk result (λ _. plain_found found.new ≡ walked_signs innermost (plain_frames frames.now) (plain_start start.entry) (plain_signs signs.now) (plain_found found.old)) }
+    ensures { IfOk result (λ _.
+        plain_found found.new ≡ walked_signs innermost (plain_frames frames.now)
+        (plain_start start.entry) (plain_signs signs.now) (plain_found found.old)) }
 {
     for sign in signs.items() {
         walk(alloc, &sign.tree, frames, start, found)?;
@@ -111,7 +125,9 @@ fn walk_fields<'t>(
     frames: &[Frame<'_, '_>],
     found: &mut Found<'t>,
 ) -> Result<(), AllocError>
-    ensures { IfOk result (λ _. plain_found found.new ≡ walked_fields innermost (plain_frames frames.now) (plain_fields fields.now) (plain_found found.old)) }
+    ensures { IfOk result (λ _.
+        plain_found found.new ≡ walked_fields innermost (plain_frames frames.now)
+        (plain_fields fields.now) (plain_found found.old)) }
 {
     for field in fields.items() {
         walk(alloc, &field.tree, frames, None, found)?;
@@ -125,7 +141,8 @@ fn tell_labels<'t>(
     fields: &'t FieldTrees,
     found: &mut Found<'t>,
 ) -> Result<(), AllocError>
-    ensures { IfOk result (λ _. plain_found found.new ≡ labelled [] (plain_fields fields.now) (plain_found found.old)) }
+    ensures { IfOk result (λ _.
+        plain_found found.new ≡ labelled [] (plain_fields fields.now) (plain_found found.old)) }
 {
     let mut seen = NameIndex::new(alloc);
     for field in fields.items() {
@@ -144,7 +161,10 @@ fn walk_where<'t>(
     start: Option<Id<'t>>,
     found: &mut Found<'t>,
 ) -> Result<(), AllocError>
-    ensures { IfOk result (λ _. plain_found found.new ≡ walked_kind innermost (plain_frames outer.now) (plain_start start.entry) 0 (Where (plain body.now) (plain_declarations declarations.now)) (plain_found found.old)) }
+    ensures { IfOk result (λ _.
+        plain_found found.new ≡ walked_kind innermost (plain_frames outer.now)
+        (plain_start start.entry) 0 (Where (plain body.now) (plain_declarations declarations.now))
+        (plain_found found.old)) }
 {
     let list = found.enter(declarations)?;
     let names = declared_names(alloc, &*declarations)?;
@@ -159,7 +179,8 @@ fn under<'t, 'n>(
     frame: Frame<'t, 'n>,
     outer: &[Frame<'t, 'n>],
 ) -> Result<Vec<Frame<'t, 'n>>, AllocError>
-    ensures { IfOk result (λ frames. plain_frames frames.items ≡ plain_frame frame.entry ∷ plain_frames outer.now) }
+    ensures { IfOk result (λ frames.
+        plain_frames frames.items ≡ plain_frame frame.entry ∷ plain_frames outer.now) }
 {
     let mut frames = Vec::new(alloc);
     frames.push(frame)?;
@@ -176,7 +197,9 @@ fn walk_declared<'t>(
     list: usize,
     found: &mut Found<'t>,
 ) -> Result<(), AllocError>
-    ensures { IfOk result (λ _. plain_found found.new ≡ walked_declared innermost (plain_frames frames.now) list [] (plain_declarations declarations.now) (plain_found found.old)) }
+    ensures { IfOk result (λ _.
+        plain_found found.new ≡ walked_declared innermost (plain_frames frames.now) list []
+        (plain_declarations declarations.now) (plain_found found.old)) }
 {
     let mut seen = NameIndex::new(alloc);
     for declaration in declarations.items() {
@@ -201,7 +224,9 @@ fn walk_regular<'t>(
     frames: &[Frame<'_, '_>],
     found: &mut Found<'t>,
 ) -> Result<(), AllocError>
-    ensures { IfOk result (λ _. plain_found found.new ≡ walked_regular innermost (plain_frames frames.now) (plain_regular expression.now) (plain_found found.old)) }
+    ensures { IfOk result (λ _.
+        plain_found found.new ≡ walked_regular innermost (plain_frames frames.now)
+        (plain_regular expression.now) (plain_found found.old)) }
 {
     walk_regular_kind(alloc, &expression.kind, frames, found)
 }
@@ -213,7 +238,9 @@ fn walk_regular_kind<'t>(
     frames: &[Frame<'_, '_>],
     found: &mut Found<'t>,
 ) -> Result<(), AllocError>
-    ensures { IfOk result (λ _. plain_found found.new ≡ walked_regular_kind innermost (plain_frames frames.now) (plain_regular_kind kind.now) (plain_found found.old)) }
+    ensures { IfOk result (λ _.
+        plain_found found.new ≡ walked_regular_kind innermost (plain_frames frames.now)
+        (plain_regular_kind kind.now) (plain_found found.old)) }
 {
     match kind {
         RegKind::Nothing => Ok(()),
@@ -232,7 +259,9 @@ fn walk_regulars<'t>(
     frames: &[Frame<'_, '_>],
     found: &mut Found<'t>,
 ) -> Result<(), AllocError>
-    ensures { IfOk result (λ _. plain_found found.new ≡ walked_regulars innermost (plain_frames frames.now) (plain_regulars all.now) (plain_found found.old)) }
+    ensures { IfOk result (λ _.
+        plain_found found.new ≡ walked_regulars innermost (plain_frames frames.now)
+        (plain_regulars all.now) (plain_found found.old)) }
 {
     for expression in all.items() {
         walk_regular(alloc, expression, frames, found)?;
@@ -246,7 +275,9 @@ pub(crate) fn walk_list<'t>(
     declarations: &'t Declarations,
     found: &mut Found<'t>,
 ) -> Result<(), AllocError>
-    ensures { IfOk result (λ _. plain_found found.new ≡ walked_list innermost [] (plain_declarations declarations.now) (plain_found found.old)) }
+    ensures { IfOk result (λ _.
+        plain_found found.new ≡ walked_list innermost [] (plain_declarations declarations.now)
+        (plain_found found.old)) }
 {
     let list = found.enter(declarations)?;
     let names = declared_names(alloc, &*declarations)?;

@@ -1,6 +1,7 @@
 //! The needs of pairs, XML elements and functions.
 ghost use Rattle.std.specs.Prelude.{◌≡◌, ◌∷◌, ◌++◌, map, IfOk, OnOk};
-ghost use Rattle.cd_rules.specs.Needs.{question, pair_way, xml_way, arrow_way, result_questions, splits, splits_in_three};
+ghost use Rattle.cd_rules.specs.Needs.{question, pair_way, xml_way, arrow_way, result_questions};
+ghost use Rattle.cd_rules.specs.Needs.{splits, splits_in_three};
 
 use crate::asking::question;
 use crate::parts_of::{after, attributes, contents, firsts, seconds, tags};
@@ -11,8 +12,8 @@ use cd_sets::node_id::NodeId;
 use cd_sets::question::{Question, Questions};
 use std::alloc::{AllocError, Global};
 
-/// The ways to meet the one need of a clause of pairs, those that are wanted and those that are refused: each refused one is
-/// given to one of the two parts.
+/// The ways to meet the one need of a clause of pairs, those that are wanted and those that are
+/// refused: each refused one is given to one of the two parts.
 ///
 /// # Errors
 ///
@@ -41,7 +42,8 @@ pub fn xml_ways(
     wanted: &[(NodeId, NodeId, NodeId)],
     refused: &[(NodeId, NodeId, NodeId)],
 ) -> Result<Vec<Questions>, AllocError>
-    ensures { IfOk result (λ need. need.items ≡ map (xml_way wanted.now) (splits_in_three refused.now)) }
+    ensures { IfOk result (λ need.
+        need.items ≡ map (xml_way wanted.now) (splits_in_three refused.now)) }
 {
     let mut ways = Vec::new(alloc);
     for split in splits_in_three(alloc, refused)?.iter() {
@@ -50,7 +52,8 @@ pub fn xml_ways(
     Ok(ways)
 }
 
-/// The needs of a clause of arrows: one for each refused arrow, with a way for each part of the wanted ones.
+/// The needs of a clause of arrows: one for each refused arrow, with a way for each part of the
+/// wanted ones.
 ///
 /// # Errors
 ///
@@ -60,7 +63,9 @@ pub fn arrow_needs(
     wanted: &[(NodeId, NodeId)],
     refused: &[(NodeId, NodeId)],
 ) -> Result<Vec<Vec<Questions>>, AllocError>
-    ensures { IfOk result (λ needs. map (λ need. need.items) needs.items ≡ map (λ one. map (arrow_way one) (splits wanted.now)) refused.now) }
+    ensures { IfOk result (λ needs.
+        map (λ need. need.items) needs.items
+        ≡ map (λ one. map (arrow_way one) (splits wanted.now)) refused.now) }
 {
     let splits = splits(alloc, wanted)?;
     let mut needs = Vec::new(alloc);
@@ -188,8 +193,9 @@ fn question_of_contents(
     question(alloc, pos.as_slice(), neg.as_slice())
 }
 
-// The questions of a pair by which a function is outside a refused arrow: its argument is outside those of the
-// wanted arrows on the one side, and its result is in the results of those on the other.
+// The questions of a pair by which a function is outside a refused arrow: its argument is outside
+// those of the wanted arrows on the one side, and its result is in the results of those on the
+// other.
 fn arrow_way(
     alloc: Global,
     refused: (NodeId, NodeId),

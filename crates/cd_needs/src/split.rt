@@ -75,7 +75,8 @@ impl Split {
     }
 }
 
-/// The pairs given to the two sides in every manner: first all with the first pair on the one side, then on the other.
+/// The pairs given to the two sides in every manner: first all with the first pair on the one side,
+/// then on the other.
 pub(crate) fn splits(alloc: Global, pairs: &[(NodeId, NodeId)]) -> Result<Vec<Split>, AllocError>
     ensures { IfOk result (λ found. found.items ≡ splits pairs.now) }
 {
@@ -103,7 +104,8 @@ fn with_one_more(
     pair: (NodeId, NodeId),
     less: &[Split],
 ) -> Result<Vec<Split>, AllocError>
-    ensures { IfOk result (λ found. found.items ≡ map (to_one pair) less.now ++ map (to_other pair) less.now) }
+    ensures { IfOk result (λ found.
+        found.items ≡ map (to_one pair) less.now ++ map (to_other pair) less.now) }
 {
     let mut found = Vec::new(alloc);
     add_to_one(alloc, pair, less, &mut found)?;

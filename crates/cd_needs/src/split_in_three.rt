@@ -106,7 +106,8 @@ impl SplitInThree {
     }
 }
 
-/// The triples given to the three sides in every manner: first all with the first triple on the first side.
+/// The triples given to the three sides in every manner: first all with the first triple on the
+/// first side.
 pub(crate) fn splits_in_three(
     alloc: Global,
     triples: &[(NodeId, NodeId, NodeId)],
@@ -138,7 +139,8 @@ fn with_one_more(
     less: &[SplitInThree],
 ) -> Result<Vec<SplitInThree>, AllocError>
     ensures { IfOk result (λ found. found.items
-        ≡ map (to_first triple) less.now ++ map (to_middle triple) less.now ++ map (to_last triple) less.now) }
+        ≡ map (to_first triple) less.now ++ map (to_middle triple) less.now
+        ++ map (to_last triple) less.now) }
 {
     let mut found = Vec::new(alloc);
     add_to_first(alloc, triple, less, &mut found)?;

@@ -1,17 +1,17 @@
 -- The clauses of a choice are those of the kinds that it is of.
 use Rattle.std.proofs.Common.{◌≡◌, Bool, true, false, List, [], ◌∷◌, Option, Some, ◌↔◌, inl, inr, refl, ap, ap₂, sym, ◌∙◌, subst, true≢false}
 use Rattle.std.proofs.lemmas.Bool.{and_parts}
-use Rattle.cd_model.specs.Each.{One}
+use Rattle.cd_model.specs.AllOf.{AnyOf}
 use Rattle.cd_model.specs.Kinds as model
 use Rattle.cd_model.specs.Formula as formula
 use Rattle.cd_model.specs.Formula.{Formula}
 use Rattle.cd_rules.specs.Choices.{Choice}
-use Rattle.cd_rules.specs.Clauses.{Clause, Ints, Chars, Atoms, Pairs, Xmls, Records, Arrows, kind_of_formula, AllOf, IsClauseOf}
+use Rattle.cd_rules.specs.Clauses.{Clause, Ints, Chars, Atoms, Pairs, Xmls, Records, Arrows, kind_of_formula, AllOfKind, IsClauseOf}
 use Rattle.cd_normal.proofs.WhatTestsTell.{both_true, if_first, so_if_first}
 use Rattle.cd_normal.specs.declared.kind.Kind.{Kind}
 use Rattle.cd_normal.specs.declared.kind.Kind.TheVariants as kind
-use Rattle.cd_normal.specs.KindsOfChoices.{is_of, allows, fits, kinds}
-use Rattle.cd_normal.specs.ClausesOfChoices.{of_kind, IsOfKind}
+use Rattle.cd_normal.specs.Inner.KindsOfChoices.{is_of, allows, fits, kinds}
+use Rattle.cd_normal.specs.Inner.ClausesOfChoices.{of_kind, IsOfKind}
 
 -- the kind of the model
 abbrev pub model_kind : Kind → model.Kind
@@ -73,7 +73,7 @@ is_of_its_kind kind is = (
 )
 
 -- all wanted literals are of the kind, by the test and by the rules
-pub all_of : (kind : Kind) (choice : Choice) → fits kind choice ≡ true → AllOf (model_kind kind) choice
+pub all_of : (kind : Kind) (choice : Choice) → fits kind choice ≡ true → AllOfKind (model_kind kind) choice
 all_of kind [] fit = tt
 all_of kind (literal ∷ rest) fit =
     let both = and_parts (allows kind literal) (fits kind rest) fit in (
@@ -81,14 +81,14 @@ all_of kind (literal ∷ rest) fit =
       all_of kind rest both.1,
     )
 
-pub all_fit : (kind : Kind) (choice : Choice) → AllOf (model_kind kind) choice → fits kind choice ≡ true
+pub all_fit : (kind : Kind) (choice : Choice) → AllOfKind (model_kind kind) choice → fits kind choice ≡ true
 all_fit kind [] all = refl
 all_fit kind (literal ∷ rest) all = both_true (allows kind literal) (fits kind rest)
     (so_if_first literal.wanted (is_of kind literal.is) (λ wanted. (is_of_its_kind kind literal.is).1 (all.0 wanted)))
     (all_fit kind rest all.1)
 
 -- the clause of a choice for a kind is one of the choice
-is_clause : (choice : Choice) (kind : Kind) → AllOf (model_kind kind) choice → IsClauseOf choice (of_kind kind choice)
+is_clause : (choice : Choice) (kind : Kind) → AllOfKind (model_kind kind) choice → IsClauseOf choice (of_kind kind choice)
 is_clause choice kind.Integer all = (all, refl, refl)
 is_clause choice kind.Character all = (all, refl, refl)
 is_clause choice kind.Atom all = (all, refl, refl)
@@ -97,7 +97,7 @@ is_clause choice kind.Xml all = (all, refl, refl)
 is_clause choice kind.Record all = (all, refl, refl)
 is_clause choice kind.Function all = (all, refl, refl)
 
-pub clause_of_kinds : (choice : Choice) (some : List Kind) (is : Clause) → One (λ kind. IsOfKind choice kind is) some
+pub clause_of_kinds : (choice : Choice) (some : List Kind) (is : Clause) → AnyOf (λ kind. IsOfKind choice kind is) some
     → IsClauseOf choice is
 clause_of_kinds choice [] is one = elim one [ ]
 clause_of_kinds choice (kind ∷ others) is (inl of) =
@@ -105,7 +105,7 @@ clause_of_kinds choice (kind ∷ others) is (inl of) =
 clause_of_kinds choice (kind ∷ others) is (inr later) = clause_of_kinds choice others is later
 
 -- and each of the choice is that of one of the kinds
-pub kinds_of_clause : (choice : Choice) (is : Clause) → IsClauseOf choice is → One (λ kind. IsOfKind choice kind is) kinds
+pub kinds_of_clause : (choice : Choice) (is : Clause) → IsClauseOf choice is → AnyOf (λ kind. IsOfKind choice kind is) kinds
 kinds_of_clause choice (Ints wanted refused) of = inl (all_fit kind.Integer choice of.0, ap₂ Ints of.1 of.2)
 kinds_of_clause choice (Chars wanted refused) of = inr (inl (all_fit kind.Character choice of.0, ap₂ Chars of.1 of.2))
 kinds_of_clause choice (Atoms wanted refused) of = inr (inr (inl (all_fit kind.Atom choice of.0, ap₂ Atoms of.1 of.2)))

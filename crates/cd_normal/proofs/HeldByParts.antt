@@ -8,20 +8,20 @@ use Rattle.cd_intervals.specs.Characters.{CharInterval, holds_character}
 use Rattle.cd_intervals.specs.Atoms as atoms
 use Rattle.cd_syntax.specs.Integer.{IsInteger}
 use Rattle.cd_syntax.specs.Name.{Name}
-use Rattle.cd_model.specs.Each.{Each}
+use Rattle.cd_model.specs.AllOf.{AllOf}
 use Rattle.cd_model.specs.Formula.{Formula}
 use Rattle.cd_rules.specs.Choices.{Choice}
 use Rattle.cd_rules.specs.Clauses.{one_more, parts_in, integers_of, characters_of, atoms_of}
 use Rattle.cd_normal.specs.declared.clause.Clause.TheVariants as code
 use Rattle.cd_normal.specs.declared.kind.Kind.TheVariants as kind
 use Rattle.cd_normal.specs.Standing.{Stands}
-use Rattle.cd_normal.specs.ClausesOfChoices.{in_part, in_parts, of_kind}
+use Rattle.cd_normal.specs.Inner.ClausesOfChoices.{in_part, in_parts, of_kind}
 use Rattle.cd_normal.proofs.WhatTestsTell.{both_true, is_false, not_true}
 
 module _ {X : Type 0} (holds : X → Bool) where
   -- a thing is in each wanted part and in no refused one
   abbrev Holding : (wanted refused : List X) → Type 0
-  Holding wanted refused = Each (λ one. holds one ≡ true) wanted × Each (λ one. holds one ≡ false) refused
+  Holding wanted refused = AllOf (λ one. holds one ≡ true) wanted × AllOf (λ one. holds one ≡ false) refused
 
   -- and so it is with one more literal
   one_more_held : (sign : Bool) (part : Option X) (before : Bool) (wanted refused : List X)

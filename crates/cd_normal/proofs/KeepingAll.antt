@@ -4,20 +4,20 @@ use Rattle.std.proofs.lemmas.Bool.{and_parts}
 use Rattle.std.proofs.lemmas.List.Folds.{list_all-append}
 use Rattle.cd_sets.specs.declared.node_id.NodeId.{NodeId}
 use Rattle.cd_sets.specs.declared.question.Question.{Question}
-use Rattle.cd_model.specs.Each.{One}
+use Rattle.cd_model.specs.AllOf.{AnyOf}
 use Rattle.cd_model.specs.Formula as formula
 use Rattle.cd_model.specs.Formula.{Formula, Formulas, NoFormula, AFormula, Graph, formula_at}
 use Rattle.cd_rules.specs.Choices.{Choice, joined, choices, choices_of_each, choices_of_one, choices_at, choices_of}
 use Rattle.cd_rules.proofs.Ones.{one_weaker, one_on_left, one_on_right, one_on_a_side}
 use Rattle.cd_normal.specs.declared.kind.Kind.{Kind}
 use Rattle.cd_normal.specs.declared.kind.Kind.TheVariants as kind
-use Rattle.cd_normal.specs.KindsOfChoices.{allows, fits, fits_one, kinds, has_kind}
-use Rattle.cd_normal.specs.KeptChoices.{kept, kept_with, kept_joined, kept_choices, kept_of_each, kept_of_one, kept_at, kept_of}
+use Rattle.cd_normal.specs.Inner.KindsOfChoices.{allows, fits, fits_one, kinds, has_kind}
+use Rattle.cd_normal.specs.Inner.KeptChoices.{kept, kept_with, kept_joined, kept_choices, kept_of_each, kept_of_one, kept_at, kept_of}
 use Rattle.cd_normal.proofs.WhatTestsTell.{or_left, or_right}
 use Rattle.cd_normal.proofs.Keeping.{OfBoth, out_of_joined}
 
 -- a choice of a kind is of one of those among which the kind is
-fits_among : (some : List Kind) (kind : Kind) (choice : Choice) → One (λ one. one ≡ kind) some → fits kind choice ≡ true
+fits_among : (some : List Kind) (kind : Kind) (choice : Choice) → AnyOf (λ one. one ≡ kind) some → fits kind choice ≡ true
     → fits_one some choice ≡ true
 fits_among [] kind choice among fit = elim among [ ]
 fits_among (first ∷ rest) kind choice (inl same) fit =
@@ -26,7 +26,7 @@ fits_among (first ∷ rest) kind choice (inr later) fit =
     or_right (fits first choice) (fits_one rest choice) (fits_among rest kind choice later fit)
 
 -- each kind is among all
-among_kinds : (kind : Kind) → One (λ one. one ≡ kind) kinds
+among_kinds : (kind : Kind) → AnyOf (λ one. one ≡ kind) kinds
 among_kinds kind.Integer = inl refl
 among_kinds kind.Character = inr (inl refl)
 among_kinds kind.Atom = inr (inr (inl refl))
@@ -48,17 +48,17 @@ module _ (kind : Kind) where
 
   -- whatever is so of one of these choices, and of choices of the kind alone, is so of one of those
   abbrev Keeps : List Choice → List Choice → Type 1
-  Keeps all some = (Fact : Choice → Type 0) → Fitting Fact → One Fact all → One Fact some
+  Keeps all some = (Fact : Choice → Type 0) → Fitting Fact → AnyOf Fact all → AnyOf Fact some
 
   -- a choice of one kind is kept
   if_kept : (Fact : Choice → Type 0) (choice : Choice) (keeps : Bool) → keeps ≡ true → Fact choice
-      → One Fact (if keeps then choice ∷ [] else [])
+      → AnyOf Fact (if keeps then choice ∷ [] else [])
   if_kept Fact choice true is fact = inl fact
   if_kept Fact choice false is fact = absurd (true≢false (sym is))
 
   -- one choice with another, where it is of the kind, is a kept one of the joined choices
   into_kept_with : (Fact : Choice → Type 0) → Fitting Fact → (choice : Choice) (others : List Choice)
-      → OfBoth Fact others choice → One Fact (kept_with choice others)
+      → OfBoth Fact others choice → AnyOf Fact (kept_with choice others)
   into_kept_with Fact fit choice [] one = one
   into_kept_with Fact fit choice (other ∷ others) (inl is) =
       one_on_left Fact (kept (choice ++ other)) (kept_with choice others)
@@ -68,7 +68,7 @@ module _ (kind : Kind) where
       one_on_right Fact (kept (choice ++ other)) (kept_with choice others) (into_kept_with Fact fit choice others later)
 
   into_kept_joined : (Fact : Choice → Type 0) → Fitting Fact → (some others : List Choice)
-      → One (OfBoth Fact others) some → One Fact (kept_joined some others)
+      → AnyOf (OfBoth Fact others) some → AnyOf Fact (kept_joined some others)
   into_kept_joined Fact fit [] others one = one
   into_kept_joined Fact fit (choice ∷ some) others (inl is) =
       one_on_left Fact (kept_with choice others) (kept_joined some others) (into_kept_with Fact fit choice others is)
@@ -97,7 +97,7 @@ module _ (kind : Kind) where
       → Keeps (all ++ more) (some ++ others)
   both_kept all more some others first second Fact fit one = on (one_on_a_side Fact all more one)
     where
-      on : One Fact all ⊎ One Fact more → One Fact (some ++ others)
+      on : AnyOf Fact all ⊎ AnyOf Fact more → AnyOf Fact (some ++ others)
       on (inl is) = one_on_left Fact some others (first Fact fit is)
       on (inr is) = one_on_right Fact some others (second Fact fit is)
 
@@ -137,8 +137,8 @@ module _ (kind : Kind) where
   -- each choice of a question that is of a kind is kept
   pub choices_are_kept : (graph : Graph) (question : Question) (Fact : Choice → Type 0)
       → ((choice : Choice) → Fact choice → fits kind choice ≡ true)
-      → One Fact (choices_of graph question)
-      → One Fact (kept_of graph question)
+      → AnyOf Fact (choices_of graph question)
+      → AnyOf Fact (kept_of graph question)
   choices_are_kept graph question = joined_kept (choices_at graph question.pos true) (choices_at graph question.neg false)
       (kept_at graph question.pos true) (kept_at graph question.neg false) (keeps_at graph question.pos true)
       (keeps_at graph question.neg false)

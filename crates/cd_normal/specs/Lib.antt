@@ -1,5 +1,2 @@
 pub mod Standing
-pub mod PlainChoice
-pub mod KindsOfChoices
-pub mod KeptChoices
-pub mod ClausesOfChoices
+pub mod Inner

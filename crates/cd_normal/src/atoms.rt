@@ -4,8 +4,8 @@ ghost use Rattle.cd_intervals.specs.Atoms.{holds};
 ghost use Rattle.cd_syntax.specs.Name.{Name};
 ghost use Rattle.cd_graph.specs.PlainFormula.{plain};
 ghost use Rattle.cd_rules.specs.Clauses.{atoms_of};
-ghost use Rattle.cd_normal.specs.PlainChoice.{plain_choice};
-ghost use Rattle.cd_normal.specs.ClausesOfChoices.{in_part, in_parts, of_kind, Gives};
+ghost use Rattle.cd_normal.specs.Inner.PlainChoice.{plain_choice};
+ghost use Rattle.cd_normal.specs.Inner.ClausesOfChoices.{in_part, in_parts, of_kind, Gives};
 ghost use Rattle.cd_normal.specs.declared.kind.Kind.TheVariants as kind;
 
 use crate::clause::Clause;
@@ -30,7 +30,8 @@ pub(crate) fn clause_of_atoms(
 
 // The atoms that each literal of the choice allows.
 fn allowed(alloc: Global, choice: &[Literal<'_>]) -> Result<AtomSet, AllocError>
-    ensures { IfOk result (λ set. (name : Name) → holds set name ≡ in_parts atoms_of (λ one. holds one name) (plain_choice choice.now)) }
+    ensures { IfOk result (λ set. (name : Name)
+        → holds set name ≡ in_parts atoms_of (λ one. holds one name) (plain_choice choice.now)) }
 {
     let mut set = AtomSet::all(alloc);
     let mut index = choice.len();
@@ -44,7 +45,8 @@ fn allowed(alloc: Global, choice: &[Literal<'_>]) -> Result<AtomSet, AllocError>
 // Those of the atoms that the literal allows.
 fn narrowed(set: &AtomSet, literal: &Literal<'_>) -> Result<AtomSet, AllocError>
     ensures { IfOk result (λ new. (name : Name) → holds new name ≡ (holds set.now name
-        && in_part (λ one. holds one name) literal.now.wanted (atoms_of (plain literal.now.formula.now)))) }
+        && in_part (λ one. holds one name) literal.now.wanted
+        (atoms_of (plain literal.now.formula.now)))) }
 {
     match atoms(literal.formula) {
         Some(one) if literal.wanted => set.intersect(one),

@@ -4,8 +4,8 @@ ghost use Rattle.std.specs.Char.{IsScalar};
 ghost use Rattle.cd_intervals.specs.Characters.{holds_character};
 ghost use Rattle.cd_graph.specs.PlainFormula.{plain};
 ghost use Rattle.cd_rules.specs.Clauses.{characters_of};
-ghost use Rattle.cd_normal.specs.PlainChoice.{plain_choice};
-ghost use Rattle.cd_normal.specs.ClausesOfChoices.{in_part, in_parts, of_kind, Gives};
+ghost use Rattle.cd_normal.specs.Inner.PlainChoice.{plain_choice};
+ghost use Rattle.cd_normal.specs.Inner.ClausesOfChoices.{in_part, in_parts, of_kind, Gives};
 ghost use Rattle.cd_normal.specs.declared.kind.Kind.TheVariants as kind;
 
 use crate::clause::Clause;
@@ -30,7 +30,9 @@ pub(crate) fn clause_of_characters(
 
 // The characters that each literal of the choice allows.
 fn allowed(alloc: Global, choice: &[Literal<'_>]) -> Result<CharSet, AllocError>
-    ensures { IfOk result (λ set. (c : ℕ) → IsScalar c → holds_character set c ≡ in_parts characters_of (λ one. holds_character one c) (plain_choice choice.now)) }
+    ensures { IfOk result (λ set. (c : ℕ) → IsScalar c
+        → holds_character set c ≡ in_parts characters_of (λ one. holds_character one c)
+        (plain_choice choice.now)) }
 {
     let mut set = CharSet::interval(alloc, '\0', '\u{10FFFF}')?;
     let mut index = choice.len();
@@ -43,8 +45,10 @@ fn allowed(alloc: Global, choice: &[Literal<'_>]) -> Result<CharSet, AllocError>
 
 // Those of the characters that the literal allows.
 fn narrowed(set: &CharSet, literal: &Literal<'_>) -> Result<CharSet, AllocError>
-    ensures { IfOk result (λ new. (c : ℕ) → IsScalar c → holds_character new c ≡ (holds_character set.now c
-        && in_part (λ one. holds_character one c) literal.now.wanted (characters_of (plain literal.now.formula.now)))) }
+    ensures { IfOk result (λ new. (c : ℕ) → IsScalar c
+        → holds_character new c ≡ (holds_character set.now c
+        && in_part (λ one. holds_character one c) literal.now.wanted
+        (characters_of (plain literal.now.formula.now)))) }
 {
     match characters(literal.formula) {
         Some(one) if literal.wanted => set.intersect(one),

@@ -2,10 +2,11 @@
 ghost use Rattle.std.specs.Prelude.{◌≡◌, ◌<◌, ◌∷◌, ◌++◌, [], true, false, length, map, IfOk};
 ghost use Rattle.cd_graph.specs.Nodes.{nodes};
 ghost use Rattle.cd_graph.specs.PlainFormula.{plain, plain_list, plain_formulas};
-ghost use Rattle.cd_model.specs.Each.{Each};
+ghost use Rattle.cd_model.specs.AllOf.{AllOf};
 ghost use Rattle.cd_rules.specs.Choices.{when as choices_when};
-ghost use Rattle.cd_normal.specs.PlainChoice.{plain_literal, plain_choice, plain_choices};
-ghost use Rattle.cd_normal.specs.KeptChoices.{kept_choices, kept_of_each, kept_of_one, kept_at, kept_of};
+ghost use Rattle.cd_normal.specs.Inner.PlainChoice.{plain_literal, plain_choice, plain_choices};
+ghost use Rattle.cd_normal.specs.Inner.KeptChoices.{kept_choices, kept_of_each, kept_of_one};
+ghost use Rattle.cd_normal.specs.Inner.KeptChoices.{kept_at, kept_of};
 
 use crate::joining::joined;
 use crate::literal::Literal;
@@ -20,9 +21,10 @@ pub(crate) fn choices_of<'g>(
     graph: &'g Graph,
     question: &Question,
 ) -> Result<Vec<Vec<Literal<'g>>>, AllocError>
-    requires pos { Each (λ id. id.0 < length (nodes graph.now)) question.now.pos }
-    requires neg { Each (λ id. id.0 < length (nodes graph.now)) question.now.neg }
-    ensures { IfOk result (λ choices. plain_choices choices.items ≡ kept_of (nodes graph.now) question.now) }
+    requires pos { AllOf (λ id. id.0 < length (nodes graph.now)) question.now.pos }
+    requires neg { AllOf (λ id. id.0 < length (nodes graph.now)) question.now.neg }
+    ensures { IfOk result (λ choices.
+        plain_choices choices.items ≡ kept_of (nodes graph.now) question.now) }
 {
     let inside = choices_at(alloc, graph, question.pos.ids(), true)?;
     let outside = choices_at(alloc, graph, question.neg.ids(), false)?;
@@ -36,8 +38,9 @@ fn choices_at<'g>(
     ids: &[NodeId],
     wanted: bool,
 ) -> Result<Vec<Vec<Literal<'g>>>, AllocError>
-    requires { Each (λ id. id.0 < length (nodes graph.now)) ids.now }
-    ensures { IfOk result (λ choices. plain_choices choices.items ≡ kept_at (nodes graph.now) ids.now wanted) }
+    requires { AllOf (λ id. id.0 < length (nodes graph.now)) ids.now }
+    ensures { IfOk result (λ choices.
+        plain_choices choices.items ≡ kept_at (nodes graph.now) ids.now wanted) }
 {
     let mut all = when(alloc, true)?;
     let mut index = ids.len();
@@ -56,7 +59,8 @@ fn choices<'g>(
     formula: &'g Formula,
     wanted: bool,
 ) -> Result<Vec<Vec<Literal<'g>>>, AllocError>
-    ensures { IfOk result (λ choices. plain_choices choices.items ≡ kept_choices (plain formula.now) wanted) }
+    ensures { IfOk result (λ choices.
+        plain_choices choices.items ≡ kept_choices (plain formula.now) wanted) }
 {
     match formula {
         Formula::None => when(alloc, !wanted),
@@ -83,7 +87,8 @@ fn of_each<'g>(
     formulas: &'g Formulas,
     wanted: bool,
 ) -> Result<Vec<Vec<Literal<'g>>>, AllocError>
-    ensures { IfOk result (λ choices. plain_choices choices.items ≡ kept_of_each (plain_formulas formulas.now) wanted) }
+    ensures { IfOk result (λ choices.
+        plain_choices choices.items ≡ kept_of_each (plain_formulas formulas.now) wanted) }
 {
     let formulas = formulas.items();
     let mut all = when(alloc, true)?;
@@ -103,7 +108,8 @@ fn of_one<'g>(
     formulas: &'g Formulas,
     wanted: bool,
 ) -> Result<Vec<Vec<Literal<'g>>>, AllocError>
-    ensures { IfOk result (λ choices. plain_choices choices.items ≡ kept_of_one (plain_formulas formulas.now) wanted) }
+    ensures { IfOk result (λ choices.
+        plain_choices choices.items ≡ kept_of_one (plain_formulas formulas.now) wanted) }
 {
     let formulas = formulas.items();
     let mut all = Vec::new(alloc);
@@ -121,7 +127,9 @@ fn before<'g>(
     choices: Vec<Vec<Literal<'g>>>,
     others: Vec<Vec<Literal<'g>>>,
 ) -> Result<Vec<Vec<Literal<'g>>>, AllocError>
-    ensures { IfOk result (λ all. plain_choices all.items ≡ plain_choices choices.entry.items ++ plain_choices others.entry.items) }
+    ensures { IfOk result (λ all.
+        plain_choices all.items ≡ plain_choices choices.entry.items
+        ++ plain_choices others.entry.items) }
 {
     let mut all = choices;
     let mut others = others;
@@ -131,7 +139,8 @@ fn before<'g>(
 
 // The choice of this literal alone.
 fn only<'g>(alloc: Global, literal: Literal<'g>) -> Result<Vec<Vec<Literal<'g>>>, AllocError>
-    ensures { IfOk result (λ choices. plain_choices choices.items ≡ (plain_literal literal.entry ∷ []) ∷ []) }
+    ensures { IfOk result (λ choices.
+        plain_choices choices.items ≡ (plain_literal literal.entry ∷ []) ∷ []) }
 {
     let mut choice = Vec::new(alloc);
     choice.push(literal)?;

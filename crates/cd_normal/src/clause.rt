@@ -4,8 +4,8 @@ use cd_intervals::char_set::CharSet;
 use cd_intervals::int_set::IntSet;
 use cd_sets::node_id::NodeId;
 
-/// What a question says of the things of one kind: a set of a basic kind; of another kind, the formulas that a thing is in, and
-/// those that it is outside.
+/// What a question says of the things of one kind: a set of a basic kind; of another kind, the
+/// formulas that a thing is in, and those that it is outside.
 #[derive(Drop)]
 pub enum Clause {
     /// These integers.

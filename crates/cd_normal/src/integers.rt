@@ -4,8 +4,8 @@ ghost use Rattle.cd_intervals.specs.Interval.{holds};
 ghost use Rattle.cd_syntax.specs.Integer.{IsInteger};
 ghost use Rattle.cd_graph.specs.PlainFormula.{plain};
 ghost use Rattle.cd_rules.specs.Clauses.{integers_of};
-ghost use Rattle.cd_normal.specs.PlainChoice.{plain_choice};
-ghost use Rattle.cd_normal.specs.ClausesOfChoices.{in_part, in_parts, of_kind, Gives};
+ghost use Rattle.cd_normal.specs.Inner.PlainChoice.{plain_choice};
+ghost use Rattle.cd_normal.specs.Inner.ClausesOfChoices.{in_part, in_parts, of_kind, Gives};
 ghost use Rattle.cd_normal.specs.declared.kind.Kind.TheVariants as kind;
 
 use crate::clause::Clause;
@@ -30,7 +30,8 @@ pub(crate) fn clause_of_integers(
 
 // The integers that each literal of the choice allows.
 fn allowed(alloc: Global, choice: &[Literal<'_>]) -> Result<IntSet, AllocError>
-    ensures { IfOk result (λ set. (z : ℤ) → IsInteger z → holds set z ≡ in_parts integers_of (λ one. holds one z) (plain_choice choice.now)) }
+    ensures { IfOk result (λ set. (z : ℤ) → IsInteger z
+        → holds set z ≡ in_parts integers_of (λ one. holds one z) (plain_choice choice.now)) }
 {
     let mut set = IntSet::interval(alloc, i128::MIN, i128::MAX)?;
     let mut index = choice.len();
@@ -44,7 +45,8 @@ fn allowed(alloc: Global, choice: &[Literal<'_>]) -> Result<IntSet, AllocError>
 // Those of the integers that the literal allows.
 fn narrowed(set: &IntSet, literal: &Literal<'_>) -> Result<IntSet, AllocError>
     ensures { IfOk result (λ new. (z : ℤ) → holds new z ≡ (holds set.now z
-        && in_part (λ one. holds one z) literal.now.wanted (integers_of (plain literal.now.formula.now)))) }
+        && in_part (λ one. holds one z) literal.now.wanted
+        (integers_of (plain literal.now.formula.now)))) }
 {
     match integers(literal.formula) {
         Some(one) if literal.wanted => set.intersect(one),

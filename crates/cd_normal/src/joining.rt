@@ -1,7 +1,7 @@
 //! Choices joined with others.
 ghost use Rattle.std.specs.Prelude.{◌≡◌, ◌++◌, IfOk, OnOk};
-ghost use Rattle.cd_normal.specs.PlainChoice.{plain_choice, plain_choices};
-ghost use Rattle.cd_normal.specs.KeptChoices.{kept, kept_with, kept_joined};
+ghost use Rattle.cd_normal.specs.Inner.PlainChoice.{plain_choice, plain_choices};
+ghost use Rattle.cd_normal.specs.Inner.KeptChoices.{kept, kept_with, kept_joined};
 
 use crate::kind::has_kind;
 use crate::literal::Literal;
@@ -13,7 +13,9 @@ pub(crate) fn joined<'g>(
     choices: &[Vec<Literal<'g>>],
     others: &[Vec<Literal<'g>>],
 ) -> Result<Vec<Vec<Literal<'g>>>, AllocError>
-    ensures { IfOk result (λ all. plain_choices all.items ≡ kept_joined (plain_choices choices.now) (plain_choices others.now)) }
+    ensures { IfOk result (λ all.
+        plain_choices all.items ≡ kept_joined (plain_choices choices.now)
+        (plain_choices others.now)) }
 {
     let mut all = Vec::new(alloc);
     for choice in choices {
@@ -29,7 +31,8 @@ fn add_joined<'g>(
     others: &[Vec<Literal<'g>>],
 ) -> Result<(), AllocError>
     ensures { OnOk result (plain_choices all.new.items
-        ≡ plain_choices all.old.items ++ kept_with (plain_choice choice.now) (plain_choices others.now)) }
+        ≡ plain_choices all.old.items
+        ++ kept_with (plain_choice choice.now) (plain_choices others.now)) }
 {
     for other in others {
         let both = both(*all.allocator(), choice, other.as_slice())?;
@@ -44,7 +47,8 @@ fn both<'g>(
     choice: &[Literal<'g>],
     other: &[Literal<'g>],
 ) -> Result<Vec<Literal<'g>>, AllocError>
-    ensures { IfOk result (λ both. plain_choice both.items ≡ plain_choice choice.now ++ plain_choice other.now) }
+    ensures { IfOk result (λ both.
+        plain_choice both.items ≡ plain_choice choice.now ++ plain_choice other.now) }
 {
     let mut both = Vec::from_slice(alloc, choice)?;
     both.extend_from_slice(other)?;
@@ -53,7 +57,8 @@ fn both<'g>(
 
 // Adds the choice where it is of one kind.
 fn add<'g>(all: &mut Vec<Vec<Literal<'g>>>, choice: Vec<Literal<'g>>) -> Result<(), AllocError>
-    ensures { OnOk result (plain_choices all.new.items ≡ plain_choices all.old.items ++ kept (plain_choice choice.entry.items)) }
+    ensures { OnOk result (plain_choices all.new.items
+        ≡ plain_choices all.old.items ++ kept (plain_choice choice.entry.items)) }
 {
     if has_kind(choice.as_slice()) {
         all.push(choice)?;

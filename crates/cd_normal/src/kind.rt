@@ -1,8 +1,10 @@
 //! The kinds of things, and the choices that are of one.
 ghost use Rattle.std.specs.Prelude.{◌≡◌, Some};
 ghost use Rattle.cd_graph.specs.PlainFormula.{plain};
-ghost use Rattle.cd_normal.specs.PlainChoice.{plain_choice};
-ghost use Rattle.cd_normal.specs.KindsOfChoices.{is_of as is_of_kind, fits as fits_kind, has_kind as has_some_kind, kinds as all_kinds};
+ghost use Rattle.cd_normal.specs.Inner.PlainChoice.{plain_choice};
+ghost use Rattle.cd_normal.specs.Inner.KindsOfChoices.{is_of as is_of_kind, fits as fits_kind};
+ghost use Rattle.cd_normal.specs.Inner.KindsOfChoices.{has_kind as has_some_kind};
+ghost use Rattle.cd_normal.specs.Inner.KindsOfChoices.{kinds as all_kinds};
 
 use crate::literal::Literal;
 use crate::part::{arrow, atoms, characters, integers, pair, record, xml};

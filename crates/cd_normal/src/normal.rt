@@ -1,6 +1,6 @@
 //! The clauses of a question.
 ghost use Rattle.std.specs.Prelude.{◌<◌, ◌⊎◌, length, IfOk};
-ghost use Rattle.cd_model.specs.Each.{Each, One};
+ghost use Rattle.cd_model.specs.AllOf.{AllOf, AnyOf};
 ghost use Rattle.cd_graph.specs.Nodes.{nodes};
 ghost use Rattle.cd_rules.specs.Clauses.{Clause as PlainClause, IsClauseOfQuestion};
 ghost use Rattle.cd_normal.specs.Standing.{Stands, HoldsNothing};
@@ -19,12 +19,14 @@ use std::alloc::{AllocError, Global};
 ///
 /// Want of memory.
 pub fn clauses(alloc: Global, graph: &Graph, question: &Question) -> Result<Vec<Clause>, AllocError>
-    requires pos { Each (λ id. id.0 < length (nodes graph.now)) question.now.pos }
-    requires neg { Each (λ id. id.0 < length (nodes graph.now)) question.now.neg }
-    ensures sound { IfOk result (λ clauses. Each (λ clause. (is : PlainClause)
+    requires pos { AllOf (λ id. id.0 < length (nodes graph.now)) question.now.pos }
+    requires neg { AllOf (λ id. id.0 < length (nodes graph.now)) question.now.neg }
+    ensures sound { IfOk result (λ clauses. AllOf (λ clause. (is : PlainClause)
         × IsClauseOfQuestion (nodes graph.now) question.now is × Stands clause is) clauses.items) }
-    ensures complete { IfOk result (λ clauses. (is : PlainClause) → IsClauseOfQuestion (nodes graph.now) question.now is
-        → One (λ clause. Stands clause is) clauses.items ⊎ ((clause : CodeClause) × Stands clause is × HoldsNothing clause)) }
+    ensures complete { IfOk result
+        (λ clauses. (is : PlainClause) → IsClauseOfQuestion (nodes graph.now) question.now is
+        → AnyOf (λ clause. Stands clause is) clauses.items
+        ⊎ ((clause : CodeClause) × Stands clause is × HoldsNothing clause)) }
 {
     let choices = choices_of(alloc, graph, question)?;
     let choices = choices.as_slice();

@@ -3,7 +3,7 @@ ghost use Rattle.std.specs.Prelude.{◌≡◌, ◌++◌, [], map, IfOk, OnOk};
 ghost use Rattle.std.specs.Option.{option_map};
 ghost use Rattle.cd_rules.specs.Clauses.{one_more, parts_in, pair_of, xml_of, record_of, arrow_of};
 ghost use Rattle.cd_normal.specs.Standing.{record_type};
-ghost use Rattle.cd_normal.specs.PlainChoice.{plain_choice};
+ghost use Rattle.cd_normal.specs.Inner.PlainChoice.{plain_choice};
 
 use crate::literal::Literal;
 use crate::part::{arrow, pair, record, xml};
@@ -18,7 +18,8 @@ pub(crate) fn pairs(
     wanted: bool,
     choice: &[Literal<'_>],
 ) -> Result<Vec<(NodeId, NodeId)>, AllocError>
-    ensures { IfOk result (λ parts. parts.items ≡ parts_in pair_of wanted (plain_choice choice.now)) }
+    ensures { IfOk result (λ parts.
+        parts.items ≡ parts_in pair_of wanted (plain_choice choice.now)) }
 {
     let mut parts = Vec::new(alloc);
     for literal in choice {
@@ -34,7 +35,8 @@ pub(crate) fn xmls(
     wanted: bool,
     choice: &[Literal<'_>],
 ) -> Result<Vec<(NodeId, NodeId, NodeId)>, AllocError>
-    ensures { IfOk result (λ parts. parts.items ≡ parts_in xml_of wanted (plain_choice choice.now)) }
+    ensures { IfOk result (λ parts.
+        parts.items ≡ parts_in xml_of wanted (plain_choice choice.now)) }
 {
     let mut parts = Vec::new(alloc);
     for literal in choice {
@@ -50,7 +52,8 @@ pub(crate) fn records(
     wanted: bool,
     choice: &[Literal<'_>],
 ) -> Result<Vec<Fields>, AllocError>
-    ensures { IfOk result (λ parts. map record_type parts.items ≡ parts_in record_of wanted (plain_choice choice.now)) }
+    ensures { IfOk result (λ parts.
+        map record_type parts.items ≡ parts_in record_of wanted (plain_choice choice.now)) }
 {
     let mut parts = Vec::new(alloc);
     for literal in choice {
@@ -66,7 +69,8 @@ pub(crate) fn arrows(
     wanted: bool,
     choice: &[Literal<'_>],
 ) -> Result<Vec<(NodeId, NodeId)>, AllocError>
-    ensures { IfOk result (λ parts. parts.items ≡ parts_in arrow_of wanted (plain_choice choice.now)) }
+    ensures { IfOk result (λ parts.
+        parts.items ≡ parts_in arrow_of wanted (plain_choice choice.now)) }
 {
     let mut parts = Vec::new(alloc);
     for literal in choice {
@@ -99,7 +103,8 @@ fn add_fields(
     part: Option<&Fields>,
 ) -> Result<(), AllocError>
     ensures { OnOk result (map record_type parts.new.items
-        ≡ map record_type parts.old.items ++ one_more side wanted (option_map (λ fields. record_type fields.now) part.entry) []) }
+        ≡ map record_type parts.old.items
+        ++ one_more side wanted (option_map (λ fields. record_type fields.now) part.entry) []) }
 {
     match part {
         Some(fields) if side == wanted => Ok(parts.push(fields.copy()?)?),

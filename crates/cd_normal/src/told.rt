@@ -2,8 +2,8 @@
 ghost use Rattle.std.specs.Prelude.{◌≡◌, ◌++◌, IfOk, OnOk};
 ghost use Rattle.std.specs.Option.{option_to_list};
 ghost use Rattle.cd_rules.specs.Clauses.{IsClauseOf};
-ghost use Rattle.cd_normal.specs.PlainChoice.{plain_choice};
-ghost use Rattle.cd_normal.specs.ClausesOfChoices.{of_kind, IsOfKind, Gives, Told};
+ghost use Rattle.cd_normal.specs.Inner.PlainChoice.{plain_choice};
+ghost use Rattle.cd_normal.specs.Inner.ClausesOfChoices.{of_kind, IsOfKind, Gives, Told};
 ghost use Rattle.cd_normal.specs.declared.kind.Kind.TheVariants as kind;
 
 use crate::atoms::clause_of_atoms;
@@ -15,7 +15,8 @@ use crate::literal::Literal;
 use crate::side::{arrows, pairs, records, xmls};
 use std::alloc::{AllocError, Global};
 
-/// The clauses of a choice, one for each kind to which all its wanted literals belong, without those that hold nothing.
+/// The clauses of a choice, one for each kind to which all its wanted literals belong, without
+/// those that hold nothing.
 pub(crate) fn clauses_of_choice(
     alloc: Global,
     choice: &[Literal<'_>],
@@ -48,7 +49,8 @@ fn clause_if_fits(
     kind: Kind,
     choice: &[Literal<'_>],
 ) -> Result<Option<Clause>, AllocError>
-    ensures { IfOk result (λ found. Told (IsOfKind (plain_choice choice.now) kind) (option_to_list found)) }
+    ensures { IfOk result (λ found.
+        Told (IsOfKind (plain_choice choice.now) kind) (option_to_list found)) }
 {
     if !fits(kind, choice) {
         return Ok(None);

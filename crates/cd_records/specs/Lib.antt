@@ -1,3 +1,2 @@
-pub mod PlainCells
-pub mod PlainReasons
 pub mod RecordTypes
+pub mod Inner

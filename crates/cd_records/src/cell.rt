@@ -1,9 +1,10 @@
 //! What a row says of one label.
 ghost use Rattle.std.specs.Prelude.{◌≡◌, map, not, IfOk};
 ghost use Rattle.std.specs.List.{list_all};
-ghost use Rattle.cd_rules.specs.Rows.{field_at as field_at_of, is_reason as is_reason_of, types_at, cell_at as cell_at_of};
+ghost use Rattle.cd_rules.specs.Rows.{field_at as field_at_of, is_reason as is_reason_of, types_at};
+ghost use Rattle.cd_rules.specs.Rows.{cell_at as cell_at_of};
 ghost use Rattle.cd_records.specs.RecordTypes.{record_types, plain_cell};
-ghost use Rattle.cd_records.specs.PlainReasons.{plain_chosen, plain_reasons};
+ghost use Rattle.cd_records.specs.Inner.PlainReasons.{plain_chosen, plain_reasons};
 
 use crate::reasons::Chosen;
 use crate::row::FieldCell;
@@ -25,7 +26,8 @@ fn is_reason(label: &Name, chosen: &Chosen<'_>) -> bool
 
 // The nodes of the wanted types at a label.
 fn wanted_nodes(alloc: Global, wanted: &[Fields], label: &Name) -> Result<Vec<NodeId>, AllocError>
-    ensures { IfOk result (λ nodes. nodes.items ≡ map (λ type. (field_at_of type label.now).type) (record_types wanted.now)) }
+    ensures { IfOk result (λ nodes.
+        nodes.items ≡ map (λ type. (field_at_of type label.now).type) (record_types wanted.now)) }
 {
     let mut nodes = Vec::new(alloc);
     for fields in wanted {
@@ -40,7 +42,9 @@ fn refused_nodes(
     reasons: &[Chosen<'_>],
     label: &Name,
 ) -> Result<Vec<NodeId>, AllocError>
-    ensures { IfOk result (λ nodes. nodes.items ≡ map (λ type. (field_at_of type label.now).type) (types_at label.now (plain_reasons reasons.now))) }
+    ensures { IfOk result (λ nodes.
+        nodes.items ≡ map (λ type. (field_at_of type label.now).type)
+        (types_at label.now (plain_reasons reasons.now))) }
 {
     let mut nodes = Vec::new(alloc);
     for chosen in reasons {
@@ -53,7 +57,8 @@ fn refused_nodes(
 
 // Whether each wanted type lets the field of a label be absent.
 fn all_optional(wanted: &[Fields], label: &Name) -> bool
-    ensures { result ≡ list_all (λ type. (field_at_of type label.now).optional) (record_types wanted.now) }
+    ensures { result ≡ list_all (λ type. (field_at_of type label.now).optional)
+        (record_types wanted.now) }
 {
     for fields in wanted {
         if !fields.at(label).optional {
@@ -65,7 +70,8 @@ fn all_optional(wanted: &[Fields], label: &Name) -> bool
 
 // Whether none of the types that have a label as their reason lets its field be absent.
 fn none_optional(reasons: &[Chosen<'_>], label: &Name) -> bool
-    ensures { result ≡ list_all (λ type. not (field_at_of type label.now).optional) (types_at label.now (plain_reasons reasons.now)) }
+    ensures { result ≡ list_all (λ type. not (field_at_of type label.now).optional)
+        (types_at label.now (plain_reasons reasons.now)) }
 {
     for chosen in reasons {
         if is_reason(label, chosen) && chosen.refused.at(label).optional {
@@ -75,14 +81,17 @@ fn none_optional(reasons: &[Chosen<'_>], label: &Name) -> bool
     true
 }
 
-/// What may stand at a label in the records of the wanted types that are outside the refused ones for these reasons.
+/// What may stand at a label in the records of the wanted types that are outside the refused ones
+/// for these reasons.
 pub(crate) fn cell_at(
     alloc: Global,
     wanted: &[Fields],
     reasons: &[Chosen<'_>],
     label: &Name,
 ) -> Result<FieldCell, AllocError>
-    ensures { IfOk result (λ cell. plain_cell cell ≡ cell_at_of (record_types wanted.now) (plain_reasons reasons.now) label.now) }
+    ensures { IfOk result (λ cell.
+        plain_cell cell ≡ cell_at_of (record_types wanted.now)
+        (plain_reasons reasons.now) label.now) }
 {
     let pos = wanted_nodes(alloc, wanted, label)?;
     let neg = refused_nodes(alloc, reasons, label)?;

@@ -2,9 +2,10 @@
 ghost use Rattle.std.specs.Prelude.{◌≡◌, ◌++◌, map, bytes_eq, IfOk};
 ghost use Rattle.std.specs.List.{list_any};
 ghost use Rattle.cd_graph.specs.PlainFormula.{plain_named};
-ghost use Rattle.cd_rules.specs.Rows.{with_label as with_label_of, labels_after, labels_of as labels_of_types};
+ghost use Rattle.cd_rules.specs.Rows.{with_label as with_label_of, labels_after};
+ghost use Rattle.cd_rules.specs.Rows.{labels_of as labels_of_types};
 ghost use Rattle.cd_records.specs.RecordTypes.{record_types};
-ghost use Rattle.cd_records.specs.PlainReasons.{plain_labels, labels_before};
+ghost use Rattle.cd_records.specs.Inner.PlainReasons.{plain_labels, labels_before};
 
 use cd_graph::fields::{Field, Fields, is_same};
 use cd_syntax::name::Name;
@@ -24,7 +25,8 @@ fn is_among(label: &Name, labels: &[&Name]) -> bool
 
 // These labels, with one more before them, where it is not one of them.
 fn with_label<'t>(labels: Vec<&'t Name>, label: &'t Name) -> Result<Vec<&'t Name>, AllocError>
-    ensures { IfOk result (λ all. plain_labels all.items ≡ with_label_of label.now (plain_labels labels.entry.items)) }
+    ensures { IfOk result (λ all.
+        plain_labels all.items ≡ with_label_of label.now (plain_labels labels.entry.items)) }
 {
     let mut all = labels;
     if !is_among(label, all.as_slice()) {
@@ -38,7 +40,9 @@ fn with_fields<'t>(
     labels: Vec<&'t Name>,
     fields: &'t [(Name, Field)],
 ) -> Result<Vec<&'t Name>, AllocError>
-    ensures { IfOk result (λ all. plain_labels all.items ≡ labels_after (map (λ field. field.0) (plain_named fields.now)) (plain_labels labels.entry.items)) }
+    ensures { IfOk result (λ all.
+        plain_labels all.items ≡ labels_after (map (λ field. field.0) (plain_named fields.now))
+        (plain_labels labels.entry.items)) }
 {
     let mut all = labels;
     let mut index = fields.len();
@@ -51,7 +55,9 @@ fn with_fields<'t>(
 
 // These labels, with those of some record types before them, each once.
 fn with_types<'t>(labels: Vec<&'t Name>, types: &'t [Fields]) -> Result<Vec<&'t Name>, AllocError>
-    ensures { IfOk result (λ all. plain_labels all.items ≡ labels_before (record_types types.now) (plain_labels labels.entry.items)) }
+    ensures { IfOk result (λ all.
+        plain_labels all.items ≡ labels_before (record_types types.now)
+        (plain_labels labels.entry.items)) }
 {
     let mut all = labels;
     let mut index = types.len();
@@ -68,7 +74,9 @@ pub(crate) fn labels_of<'t>(
     wanted: &'t [Fields],
     refused: &'t [Fields],
 ) -> Result<Vec<&'t Name>, AllocError>
-    ensures { IfOk result (λ labels. plain_labels labels.items ≡ labels_of_types (record_types wanted.now ++ record_types refused.now)) }
+    ensures { IfOk result (λ labels.
+        plain_labels labels.items
+        ≡ labels_of_types (record_types wanted.now ++ record_types refused.now)) }
 {
     let labels = with_types(Vec::new(alloc), refused)?;
     Ok(with_types(labels, wanted)?)

@@ -2,13 +2,15 @@
 ghost use Rattle.std.specs.Prelude.{◌≡◌, ◌∷◌, ◌++◌, map, [], None, Some, IfOk};
 ghost use Rattle.cd_rules.specs.Rows.{each_with as each_with_of, reasons_of as reasons_of_types};
 ghost use Rattle.cd_records.specs.RecordTypes.{record_type, record_types};
-ghost use Rattle.cd_records.specs.PlainReasons.{plain_labels, plain_chosen, plain_reasons, plain_choices};
+ghost use Rattle.cd_records.specs.Inner.PlainReasons.{plain_labels, plain_chosen, plain_reasons};
+ghost use Rattle.cd_records.specs.Inner.PlainReasons.{plain_choices};
 
 use cd_graph::fields::Fields;
 use cd_syntax::name::Name;
 use std::alloc::{AllocError, Global};
 
-/// A refused record type, and the label for which a record is outside it; without one that is a label that no type names.
+/// A refused record type, and the label for which a record is outside it; without one that is a
+/// label that no type names.
 #[derive(Clone, Copy)]
 pub(crate) struct Chosen<'t> {
     pub(crate) refused: &'t Fields,
@@ -27,7 +29,9 @@ fn longer<'t>(
     first: Chosen<'t>,
     others: &Choice<'t>,
 ) -> Result<Choice<'t>, AllocError>
-    ensures { IfOk result (λ choice. plain_reasons choice.reasons.items ≡ plain_chosen first.entry ∷ plain_reasons others.now.reasons.items) }
+    ensures { IfOk result (λ choice.
+        plain_reasons choice.reasons.items
+        ≡ plain_chosen first.entry ∷ plain_reasons others.now.reasons.items) }
 {
     let mut reasons = Vec::new(alloc);
     reasons.push(first)?;
@@ -42,7 +46,9 @@ fn joined<'t>(
     first: Chosen<'t>,
     others: &[Choice<'t>],
 ) -> Result<Vec<Choice<'t>>, AllocError>
-    ensures { IfOk result (λ all. plain_choices all.items ≡ plain_choices choices.entry.items ++ map (λ chosen. plain_chosen first.entry ∷ chosen) (plain_choices others.now)) }
+    ensures { IfOk result (λ all.
+        plain_choices all.items ≡ plain_choices choices.entry.items
+        ++ map (λ chosen. plain_chosen first.entry ∷ chosen) (plain_choices others.now)) }
 {
     let mut all = choices;
     for other in others {
@@ -51,14 +57,17 @@ fn joined<'t>(
     Ok(all)
 }
 
-// The choices where a type has one of the labels as its reason, or one that no type names, before each of these.
+// The choices where a type has one of the labels as its reason, or one that no type names, before
+// each of these.
 fn each_with<'t>(
     alloc: Global,
     refused: &'t Fields,
     labels: &[&'t Name],
     others: &[Choice<'t>],
 ) -> Result<Vec<Choice<'t>>, AllocError>
-    ensures { IfOk result (λ all. plain_choices all.items ≡ each_with_of (record_type refused.now) (None ∷ map Some (plain_labels labels.now)) (plain_choices others.now)) }
+    ensures { IfOk result (λ all.
+        plain_choices all.items ≡ each_with_of (record_type refused.now)
+        (None ∷ map Some (plain_labels labels.now)) (plain_choices others.now)) }
 {
     let unnamed = Chosen {
         refused,
@@ -86,13 +95,16 @@ fn none<'t>(alloc: Global) -> Result<Vec<Choice<'t>>, AllocError>
     Ok(all)
 }
 
-/// Each choice of reasons: for each of the refused types one of the labels, or one that no type names.
+/// Each choice of reasons: for each of the refused types one of the labels, or one that no type
+/// names.
 pub(crate) fn reasons_of<'t>(
     alloc: Global,
     labels: &[&'t Name],
     refused: &'t [Fields],
 ) -> Result<Vec<Choice<'t>>, AllocError>
-    ensures { IfOk result (λ all. plain_choices all.items ≡ reasons_of_types (plain_labels labels.now) (record_types refused.now)) }
+    ensures { IfOk result (λ all.
+        plain_choices all.items ≡ reasons_of_types (plain_labels labels.now)
+        (record_types refused.now)) }
 {
     let mut choices = none(alloc)?;
     let mut index = refused.len();

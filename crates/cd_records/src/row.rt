@@ -10,9 +10,10 @@ pub struct FieldCell {
     pub value: Question,
 }
 
-/// A part of a record clause: a record is in it where at each label of `fields` there is nothing, if that may be, or a value of the
-/// cell; where at each other label there is nothing or a value of `every`; and where for each question of `some` a label that
-/// `fields` does not have holds a value of it.
+/// A part of a record clause: a record is in it where at each label of `fields` there is nothing,
+/// if that may be, or a value of the cell; where at each other label there is nothing or a value of
+/// `every`; and where for each question of `some` a label that `fields` does not have holds a value
+/// of it.
 #[derive(Drop)]
 pub struct Row {
     /// The labels that some type names, and what may stand there.

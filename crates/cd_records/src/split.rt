@@ -3,8 +3,8 @@ ghost use Rattle.std.specs.Prelude.{◌≡◌, [], ◌∷◌, map, IfOk};
 ghost use Rattle.cd_rules.specs.Needs.{question as question_of};
 ghost use Rattle.cd_rules.specs.Rows.{types_elsewhere, row_of as row_of_reasons, rows_of};
 ghost use Rattle.cd_records.specs.RecordTypes.{record_types, plain_row};
-ghost use Rattle.cd_records.specs.PlainCells.{plain_cells, cells_at};
-ghost use Rattle.cd_records.specs.PlainReasons.{plain_labels, plain_reasons};
+ghost use Rattle.cd_records.specs.Inner.PlainCells.{plain_cells, cells_at};
+ghost use Rattle.cd_records.specs.Inner.PlainReasons.{plain_labels, plain_reasons};
 
 use crate::cell::cell_at;
 use crate::labels::labels_of;
@@ -24,7 +24,9 @@ fn cells(
     wanted: &[Fields],
     reasons: &[Chosen<'_>],
 ) -> Result<Vec<(Name, FieldCell)>, AllocError>
-    ensures { IfOk result (λ cells. plain_cells cells.items ≡ cells_at (record_types wanted.now) (plain_reasons reasons.now) (plain_labels labels.now)) }
+    ensures { IfOk result (λ cells.
+        plain_cells cells.items ≡ cells_at (record_types wanted.now) (plain_reasons reasons.now)
+        (plain_labels labels.now)) }
 {
     let mut cells = Vec::new(alloc);
     for label in labels {
@@ -36,7 +38,8 @@ fn cells(
 
 // The nodes of the types for labels that they do not name.
 fn rests(alloc: Global, types: &[Fields]) -> Result<Vec<NodeId>, AllocError>
-    ensures { IfOk result (λ nodes. nodes.items ≡ map (λ type. type.rest) (record_types types.now)) }
+    ensures { IfOk result (λ nodes.
+        nodes.items ≡ map (λ type. type.rest) (record_types types.now)) }
 {
     let mut nodes = Vec::new(alloc);
     for fields in types {
@@ -45,13 +48,16 @@ fn rests(alloc: Global, types: &[Fields]) -> Result<Vec<NodeId>, AllocError>
     Ok(nodes)
 }
 
-// What some value is in, at labels that no type names, for each type with such a label as its reason.
+// What some value is in, at labels that no type names, for each type with such a label as its
+// reason.
 fn somewhere(
     alloc: Global,
     rests: &[NodeId],
     reasons: &[Chosen<'_>],
 ) -> Result<Vec<Question>, AllocError>
-    ensures { IfOk result (λ questions. questions.items ≡ map (λ type. question_of rests.now (type.rest ∷ [])) (types_elsewhere (plain_reasons reasons.now))) }
+    ensures { IfOk result (λ questions.
+        questions.items ≡ map (λ type. question_of rests.now (type.rest ∷ []))
+        (types_elsewhere (plain_reasons reasons.now))) }
 {
     let mut questions = Vec::new(alloc);
     for chosen in reasons {
@@ -69,7 +75,9 @@ fn row_of(
     wanted: &[Fields],
     reasons: &[Chosen<'_>],
 ) -> Result<Row, AllocError>
-    ensures { IfOk result (λ row. plain_row row ≡ row_of_reasons (plain_labels labels.now) (record_types wanted.now) (plain_reasons reasons.now)) }
+    ensures { IfOk result (λ row.
+        plain_row row ≡ row_of_reasons (plain_labels labels.now) (record_types wanted.now)
+        (plain_reasons reasons.now)) }
 {
     let rests = rests(alloc, wanted)?;
     Ok(Row {
@@ -79,13 +87,15 @@ fn row_of(
     })
 }
 
-/// The rows of the records that are in each of `pos` and in none of `neg`: one for each choice of a reason for each of `neg`.
+/// The rows of the records that are in each of `pos` and in none of `neg`: one for each choice of a
+/// reason for each of `neg`.
 ///
 /// # Errors
 ///
 /// Want of memory.
 pub fn rows(alloc: Global, pos: &[Fields], neg: &[Fields]) -> Result<Vec<Row>, AllocError>
-    ensures { IfOk result (λ rows. map plain_row rows.items ≡ rows_of (record_types pos.now) (record_types neg.now)) }
+    ensures { IfOk result (λ rows.
+        map plain_row rows.items ≡ rows_of (record_types pos.now) (record_types neg.now)) }
 {
     let labels = labels_of(alloc, pos, neg)?;
     let choices = reasons_of(alloc, labels.as_slice(), neg)?;

@@ -5,7 +5,7 @@ use Rattle.cd_sets.specs.declared.node_id.NodeId.{NodeId}
 use Rattle.cd_model.specs.Interfaces.{admits}
 use Rattle.cd_model.specs.Types.{no_closure, closure_maps}
 use Rattle.cd_model.specs.Formula.{nodes}
-use Rattle.cd_model.specs.Each.{Each}
+use Rattle.cd_model.specs.AllOf.{AllOf}
 use Rattle.cd_model.specs.Formula.{Graph, Formula, IsFormula}
 use Rattle.cd_model.specs.BuiltIns.{node}
 use Rattle.cd_model.specs.Types.{Items, NoSequence, Listed, are_in}
@@ -30,7 +30,7 @@ batch_of is first = map state_formula (all_states is first)
 abbrev IsNumber : ℕ → ℕ → NodeId → Type 0
 IsNumber first past id = (first ≤ id.0) × (id.0 < past)
 
-edges_lead : (first past : ℕ) (edges : List Edge) → Each (IsEdge first past) edges → LeadTo (IsNumber first past) edges
+edges_lead : (first past : ℕ) (edges : List Edge) → AllOf (IsEdge first past) edges → LeadTo (IsNumber first past) edges
 edges_lead first past [] are = tt
 edges_lead first past (edge ∷ edges) are = ((are.0.1, are.0.2), edges_lead first past edges are.1)
 
@@ -48,7 +48,7 @@ module _ (is : Regular) (first : ℕ) (asks : AsksBelow first is) where
   abbrev within : Graph → Graph → Graph
   within before after = before ++ batch_of is first ++ after
 
-  all_are_sound : Each (IsState first past) all
+  all_are_sound : AllOf (IsState first past) all
   all_are_sound = sound_all_states first past is asks (omega (arith, length-states is first finish))
 
   has_states : (before after : Graph) → length before ≡ first → HasStates (IsNumber first past) at (within before after)
@@ -75,10 +75,10 @@ module _ (is : Regular) (first : ℕ) (asks : AsksBelow first is) where
   first_is : IsNumber first past (node first)
   first_is = (omega arith, omega arith)
 
-  formulas_are_sound : Each (IsFormula (first + length (batch_of is first))) (batch_of is first)
+  formulas_are_sound : AllOf (IsFormula (first + length (batch_of is first))) (batch_of is first)
   formulas_are_sound =
       let many : past ≡ first + length (batch_of is first) = ap (λ (count : ℕ). first + count) (sym (length-map all state_formula)) in
-      subst (λ (nodes : ℕ). Each (IsFormula nodes) (batch_of is first)) many
+      subst (λ (nodes : ℕ). AllOf (IsFormula nodes) (batch_of is first)) many
       (sound_formulas first past all (omega arith) all_are_sound)
 
   pub batch_holds : HoldsSequences first is (batch_of is first)

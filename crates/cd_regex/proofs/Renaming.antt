@@ -3,7 +3,7 @@ use Rattle.std.proofs.Common.{◌≡◌, ℕ, zero, suc, ◌<◌, List, [], ◌�
 use Rattle.std.specs.List.{slice_get}
 use Rattle.std.specs.Option.{unwrap_or}
 use Rattle.cd_sets.specs.declared.node_id.NodeId.{NodeId}
-use Rattle.cd_model.specs.Each.{Each}
+use Rattle.cd_model.specs.AllOf.{AllOf}
 use Rattle.cd_regex.specs.Regular.{Regular, Regulars, NoRegular, ARegular, Nothing, Item, Seq, Alt, Star, Plus, Opt, items_in, items_in_all}
 use Rattle.cd_regex.specs.Regular.{AsksBelow, AskBelow, node_at, renamed, all_renamed}
 
@@ -23,14 +23,14 @@ mutual
   items_in_all-renamed name (ARegular first rest) = omega (arith, items_in-renamed name first, items_in_all-renamed name rest)
 
 -- the node at a place is one of the nodes
-node_is_below : (bound : ℕ) (nodes : List NodeId) (place : ℕ) (other : NodeId) → Each (λ id. id.0 < bound) nodes → place < length nodes
+node_is_below : (bound : ℕ) (nodes : List NodeId) (place : ℕ) (other : NodeId) → AllOf (λ id. id.0 < bound) nodes → place < length nodes
     → (unwrap_or (slice_get nodes place) other).0 < bound
 node_is_below bound [] place other each below = absurd (omega arith)
 node_is_below bound (id ∷ nodes) zero other each below = each.0
 node_is_below bound (id ∷ nodes) (suc place) other each below = node_is_below bound nodes place other each.1 (omega arith)
 
 -- where each of the nodes is below a bound, the items ask for nodes below it
-module _ (bound : ℕ) (nodes : List NodeId) (each : Each (λ id. id.0 < bound) nodes) where
+module _ (bound : ℕ) (nodes : List NodeId) (each : AllOf (λ id. id.0 < bound) nodes) where
   mutual
     pub renamed_asks : (is : Regular) → AsksBelow (length nodes) is → AsksBelow bound (renamed (node_at nodes) is)
     renamed_asks Nothing asks = tt

@@ -2,7 +2,7 @@
 use Rattle.std.proofs.Common.{ℕ, ◌+◌, ◌<◌, ◌≤◌, Bool, true, false, List, [], ◌∷◌, ◌++◌, map, codes, refl, sym, true≢false, arith}
 use Rattle.std.proofs.lemmas.Slice.Eq.{bytes_eq-Decides}
 use Rattle.cd_syntax.specs.Name.{IsLabel}
-use Rattle.cd_model.specs.Each.{Each}
+use Rattle.cd_model.specs.AllOf.{AllOf}
 use Rattle.cd_model.specs.Formula.{Formula, formulas_of, IsFormula, AreFormulas}
 use Rattle.cd_regex.specs.Regular.{Regular, Regulars, NoRegular, ARegular, Nothing, Item, Seq, Alt, Star, Plus, Opt}
 use Rattle.cd_regex.specs.Regular.{items_in, items_in_all, AsksBelow, AskBelow}
@@ -11,7 +11,7 @@ use Rattle.cd_regex.specs.Automaton.{finish, before_all, after_turn, states, sta
 use Rattle.cd_regex.specs.Automaton.{edge_formula, end_formulas, state_formula}
 use Rattle.cd_regex.specs.declared.next.Edge.{Edge}
 
-pub each_of_both : {X : Type 0} (fact : X → Type 0) (list others : List X) → Each fact list → Each fact others → Each fact (list ++ others)
+pub each_of_both : {X : Type 0} (fact : X → Type 0) (list others : List X) → AllOf fact list → AllOf fact others → AllOf fact (list ++ others)
 each_of_both fact [] others each more = more
 each_of_both fact (one ∷ rest) others each more = (each.0, each_of_both fact rest others each.1 more)
 
@@ -20,11 +20,11 @@ abbrev pub IsEdge : ℕ → ℕ → Edge → Type 0
 IsEdge first past edge = (edge.item.0 < first) × (first ≤ edge.to.0) × (edge.to.0 < past)
 
 abbrev pub IsState : ℕ → ℕ → Next → Type 0
-IsState first past next = Each (IsEdge first past) next.edges
+IsState first past next = AllOf (IsEdge first past) next.edges
 
 module _ (first past : ℕ) where
   abbrev AreEdges : List Edge → Type 0
-  AreEdges edges = Each (IsEdge first past) edges
+  AreEdges edges = AllOf (IsEdge first past) edges
 
   -- so many items after this number fit
   abbrev Fit : ℕ → ℕ → Type 0
@@ -72,7 +72,7 @@ module _ (first past : ℕ) where
       each_of_both (IsEdge first past) (heads is before) next.edges (sound_heads is before asks fit) sound
 
   abbrev AreStates : List Next → Type 0
-  AreStates list = Each (IsState first past) list
+  AreStates list = AllOf (IsState first past) list
 
   mutual
     pub sound_states : (is : Regular) (before : ℕ) (next : Next) → AsksBelow first is → Fit before (items_in is) → IsState first past next
@@ -119,14 +119,14 @@ sound_end : (past : ℕ) (ends : Bool) → AreFormulas past (formulas_of (end_fo
 sound_end past true = ((nil_is, tt), tt)
 sound_end past false = tt
 
-sound_edges : (first past : ℕ) (edges : List Edge) (others : List Formula) → first < past → Each (IsEdge first past) edges
+sound_edges : (first past : ℕ) (edges : List Edge) (others : List Formula) → first < past → AllOf (IsEdge first past) edges
     → AreFormulas past (formulas_of others) → AreFormulas past (formulas_of (map edge_formula edges ++ others))
 sound_edges first past [] others some are sound = sound
 sound_edges first past (edge ∷ edges) others some are sound =
     ((omega (arith, are.0), omega (arith, are.0)), sound_edges first past edges others some are.1 sound)
 
-pub sound_formulas : (first past : ℕ) (list : List Next) → first < past → Each (IsState first past) list
-    → Each (IsFormula past) (map state_formula list)
+pub sound_formulas : (first past : ℕ) (list : List Next) → first < past → AllOf (IsState first past) list
+    → AllOf (IsFormula past) (map state_formula list)
 sound_formulas first past [] some are = tt
 sound_formulas first past (next ∷ rest) some are =
     (sound_edges first past next.edges (end_formulas next.ends) some are.0 (sound_end past next.ends), sound_formulas first past rest some are.1)

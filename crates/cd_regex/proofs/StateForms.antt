@@ -2,7 +2,7 @@
 use Rattle.std.proofs.Common.{◌≡◌, Bool, true, false, List, [], ◌∷◌, ◌++◌, map, ◌↔◌, refl, codes, bytes_eq}
 use Rattle.cd_sets.specs.declared.node_id.NodeId.{NodeId}
 use Rattle.cd_syntax.specs.Name.{Name}
-use Rattle.cd_model.specs.Each.{Each}
+use Rattle.cd_model.specs.AllOf.{AllOf}
 use Rattle.cd_model.specs.Formula.{Formula, formulas_of, Pair, Or}
 use Rattle.cd_model.specs.BuiltIns.{atoms_of}
 use Rattle.cd_model.specs.Language.{both, some}
@@ -106,7 +106,7 @@ pair_is first second one other false = same
 
 -- each edge leads to such a node
 abbrev pub LeadTo : (NodeId → Type 0) → List Edge → Type 0
-LeadTo place edges = Each (λ edge. place edge.to) edges
+LeadTo place edges = AllOf (λ edge. place edge.to) edges
 
 module _ (place : NodeId → Type 0) (at : NodeId → Next) (first second : Answers) (answer : Bool) where
   -- the second part is no sequence

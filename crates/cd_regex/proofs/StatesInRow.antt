@@ -4,7 +4,7 @@ use Rattle.std.specs.List.{slice_get}
 use Rattle.std.specs.Option.{unwrap_or}
 use Rattle.std.proofs.lemmas.List.{append_assoc, length-append}
 use Rattle.cd_sets.specs.declared.node_id.NodeId.{NodeId}
-use Rattle.cd_model.specs.Each.{Each}
+use Rattle.cd_model.specs.AllOf.{AllOf}
 use Rattle.cd_model.specs.Formula.{Graph, Nothing}
 use Rattle.cd_model.specs.BuiltIns.{node}
 use Rattle.cd_regex.specs.Automaton.{Next, finish, state_formula}
@@ -39,7 +39,7 @@ row_is_placed first start before (next ∷ rest) =
     (here, subst (λ (number : ℕ). ArePlaced at number rest) place_is later)
 
 -- what is so of each state is so of the state at a place
-pub nth_also : (fact : Next → Type 0) (list : List Next) (place : ℕ) → Each fact list → place < length list → fact (nth list place)
+pub nth_also : (fact : Next → Type 0) (list : List Next) (place : ℕ) → AllOf fact list → place < length list → fact (nth list place)
 nth_also fact [] place each below = absurd (omega arith)
 nth_also fact (next ∷ rest) zero each below = each.0
 nth_also fact (next ∷ rest) (suc place) each below = nth_also fact rest place each.1 (omega arith)

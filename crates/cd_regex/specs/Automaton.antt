@@ -1,12 +1,16 @@
--- The states of a regular expression: one to start in, and one after each of its items. States are numbered from the left, after a
--- number that is given, and what comes after the whole expression is given too.
-use Rattle.std.specs.Prelude.{ℕ, ◌+◌, Bool, true, false, ◌&&◌, ◌||◌, List, [], ◌∷◌, ◌++◌, map, codes}
+-- The states of a regular expression: one to start in, and one after each of its items. States are
+-- numbered from the left, after a number that is given, and what comes after the whole expression
+-- is given too.
+use Rattle.std.specs.Prelude.{ℕ, ◌+◌, Bool, true, false, ◌&&◌, ◌||◌, List, [], ◌∷◌, ◌++◌, map}
+use Rattle.std.specs.Prelude.{codes}
 use Rattle.cd_model.specs.Formula.{Formula, Pair, Or, formulas_of}
 use Rattle.cd_model.specs.BuiltIns.{node, atoms_of}
-use Rattle.cd_regex.specs.Regular.{Regular, Regulars, NoRegular, ARegular, Nothing, Item, Seq, Alt, Star, Plus, Opt, items_in}
+use Rattle.cd_regex.specs.Regular.{Regular, Regulars, NoRegular, ARegular, Nothing, Item, Seq, Alt}
+use Rattle.cd_regex.specs.Regular.{Star, Plus, Opt, items_in}
 use Rattle.cd_regex.specs.declared.next.Edge.{Edge}
 
--- what may come next in a state: the items that lead to other states, and whether the sequence may end here
+-- what may come next in a state: the items that lead to other states, and whether the sequence may
+-- end here
 pub record Next : Type 0 where
   pub edges : List Edge
   pub ends : Bool
@@ -53,7 +57,8 @@ abbrev mutual
 
   pub heads_of_one : Regulars → ℕ → List Edge
   heads_of_one NoRegular before = []
-  heads_of_one (ARegular first rest) before = heads first before ++ heads_of_one rest (before + items_in first)
+  heads_of_one (ARegular first rest) before =
+      heads first before ++ heads_of_one rest (before + items_in first)
 
 -- what comes next at the end, before all of these in turn, and after one of many turns
 abbrev pub finish : Next
@@ -82,7 +87,8 @@ abbrev mutual
   pub states_in_turn : Regulars → ℕ → Next → List Next
   states_in_turn NoRegular before next = []
   states_in_turn (ARegular first rest) before next =
-      states first before (before_all rest (before + items_in first) next) ++ states_in_turn rest (before + items_in first) next
+      states first before (before_all rest (before + items_in first) next)
+      ++ states_in_turn rest (before + items_in first) next
 
   pub states_of_one : Regulars → ℕ → Next → List Next
   states_of_one NoRegular before next = []

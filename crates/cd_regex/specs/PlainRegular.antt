@@ -1,6 +1,7 @@
 -- The regular expressions of the code as plain data.
 use Rattle.std.specs.Prelude.{List, map}
-use Rattle.cd_regex.specs.Regular.{Regular, Regulars, Nothing, Item, Seq, Alt, Star, Plus, Opt, regulars_of}
+use Rattle.cd_regex.specs.Regular.{Regular, Regulars, Nothing, Item, Seq, Alt, Star, Plus, Opt}
+use Rattle.cd_regex.specs.Regular.{regulars_of}
 use Rattle.cd_regex.specs.declared.regular.Reg.TheOpen as layer
 use Rattle.cd_regex.specs.declared.regular.Reg.{Reg, Reg-F, fold-Reg}
 use Rattle.cd_regex.specs.declared.regular.Regs.{Regs, Regs-F, fold-Regs}

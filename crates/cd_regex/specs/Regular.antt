@@ -3,7 +3,8 @@ use Rattle.std.specs.Prelude.{ℕ, ◌+◌, ◌<◌, List, [], ◌∷◌}
 use Rattle.std.specs.List.{slice_get}
 use Rattle.std.specs.Option.{unwrap_or}
 use Rattle.cd_sets.specs.declared.node_id.NodeId.{NodeId}
-use Rattle.cd_model.specs.Language.{Language, none, nothing, item, either, followed, star, plus, optional}
+use Rattle.cd_model.specs.Language.{Language, none, nothing, item, either, followed, star, plus}
+use Rattle.cd_model.specs.Language.{optional}
 use Rattle.cd_model.specs.Membership.{Answers}
 
 mutual

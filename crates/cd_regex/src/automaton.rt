@@ -14,8 +14,8 @@ use crate::states::add_states;
 use cd_graph::Formulas;
 use std::alloc::{AllocError, Global};
 
-/// The formulas of nodes that are to stand in a graph from this number on. The first of them holds just the sequences whose items
-/// fit the expression.
+/// The formulas of nodes that are to stand in a graph from this number on. The first of them holds
+/// just the sequences whose items fit the expression.
 ///
 /// # Errors
 ///
@@ -34,7 +34,8 @@ pub fn sequence_nodes(alloc: Global, first: usize, regular: &Reg) -> Result<Form
 // The formulas of all states.
 fn formulas_of_states(alloc: Global, first: usize, regular: &Reg) -> Result<Formulas, AllocError>
     requires { first + items_in (plain regular.now) < 2 ^ 64 }
-    ensures { IfOk result (λ batch. plain_list batch ≡ map state_formula (all_states (plain regular.now) first)) }
+    ensures { IfOk result (λ batch.
+        plain_list batch ≡ map state_formula (all_states (plain regular.now) first)) }
 {
     let mut batch = Vec::new(alloc);
     batch.push(start_of(alloc, first, regular)?.formula(alloc)?)?;

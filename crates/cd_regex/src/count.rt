@@ -40,7 +40,8 @@ fn count(is: &Reg) -> Option<usize>
 // How many items stand in these.
 #[cycle(count)]
 fn count_all(all: &[Reg]) -> Option<usize>
-    ensures { SomeIff result (items_in_all (plain_all all.now) < 2 ^ 64) (items_in_all (plain_all all.now)) }
+    ensures { SomeIff result (items_in_all (plain_all all.now) < 2 ^ 64)
+        (items_in_all (plain_all all.now)) }
 {
     let mut so_far = 0usize;
     for is in all {

@@ -3,7 +3,8 @@ ghost use Rattle.std.specs.Prelude.{◌≡◌, ◌+◌, ◌<◌, ◌^◌, [], �
 ghost use Rattle.cd_model.specs.BuiltIns.{node};
 ghost use Rattle.cd_regex.specs.Regular.{items_in, items_in_all};
 ghost use Rattle.cd_regex.specs.PlainRegular.{plain, plain_all};
-ghost use Rattle.cd_regex.specs.Automaton.{nullable, all_nullable, one_nullable, heads, heads_in_turn, heads_of_one};
+ghost use Rattle.cd_regex.specs.Automaton.{nullable, all_nullable, one_nullable, heads};
+ghost use Rattle.cd_regex.specs.Automaton.{heads_in_turn, heads_of_one};
 
 use crate::next::Edge;
 use crate::regular::Reg;
@@ -75,7 +76,8 @@ fn has_nullable(all: &[Reg]) -> bool
     false
 }
 
-/// Adds the edges to the items that may come first in an expression, whose states are numbered after this number.
+/// Adds the edges to the items that may come first in an expression, whose states are numbered
+/// after this number.
 #[cycle(add_heads)]
 pub(crate) fn add_heads(is: &Reg, before: usize, edges: &mut Vec<Edge>) -> Result<(), AllocError>
     requires { before + items_in (plain is.now) < 2 ^ 64 }
@@ -98,7 +100,8 @@ pub(crate) fn add_heads_in_turn(
     edges: &mut Vec<Edge>,
 ) -> Result<(), AllocError>
     requires { before + items_in_all (plain_all all.now) < 2 ^ 64 }
-    ensures { OnOk result (edges.new.items ≡ edges.old.items ++ heads_in_turn (plain_all all.now) before) }
+    ensures { OnOk result (edges.new.items
+        ≡ edges.old.items ++ heads_in_turn (plain_all all.now) before) }
 {
     let mut at = before;
     for is in all {
@@ -114,7 +117,8 @@ pub(crate) fn add_heads_in_turn(
 #[cycle(add_heads)]
 fn add_heads_of_one(all: &[Reg], before: usize, edges: &mut Vec<Edge>) -> Result<(), AllocError>
     requires { before + items_in_all (plain_all all.now) < 2 ^ 64 }
-    ensures { OnOk result (edges.new.items ≡ edges.old.items ++ heads_of_one (plain_all all.now) before) }
+    ensures { OnOk result (edges.new.items
+        ≡ edges.old.items ++ heads_of_one (plain_all all.now) before) }
 {
     let mut at = before;
     for is in all {
@@ -127,7 +131,8 @@ fn add_heads_of_one(all: &[Reg], before: usize, edges: &mut Vec<Edge>) -> Result
 // Adds an edge to the state after this number.
 fn add_edge(item: NodeId, before: usize, edges: &mut Vec<Edge>) -> Result<(), AllocError>
     requires { before + 1 < 2 ^ 64 }
-    ensures { OnOk result (edges.new.items ≡ edges.old.items ++ record { item = item; to = node (before + 1) } ∷ []) }
+    ensures { OnOk result (edges.new.items
+        ≡ edges.old.items ++ record { item = item; to = node (before + 1) } ∷ []) }
 {
     let to = NodeId(before + 1);
     edges.push(Edge { item, to })?;

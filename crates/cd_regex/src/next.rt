@@ -16,7 +16,8 @@ pub(crate) struct Edge {
     pub(crate) to: NodeId,
 }
 
-/// What may come next in a state: the items that lead to other states, and whether the sequence may end here.
+/// What may come next in a state: the items that lead to other states, and whether the sequence may
+/// end here.
 #[derive(Drop)]
 pub(crate) struct Next {
     edges: Vec<Edge>,
@@ -75,7 +76,8 @@ impl Next {
 
 // Adds the end of a sequence, where it may end.
 fn add_end(alloc: Global, ends: bool, items: &mut Vec<Formula>) -> Result<(), AllocError>
-    ensures { OnOk result (map plain items.new.items ≡ map plain items.old.items ++ end_formulas ends) }
+    ensures { OnOk result (map plain items.new.items
+        ≡ map plain items.old.items ++ end_formulas ends) }
 {
     if ends {
         items.push(Formula::atoms(AtomSet::one(alloc, "nil")?))?;

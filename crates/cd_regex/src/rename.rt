@@ -41,7 +41,8 @@ fn renamed(alloc: Global, is: &Reg, nodes: &[NodeId]) -> Result<Reg, AllocError>
 #[cycle(renamed)]
 fn boxed(alloc: Global, is: &Reg, nodes: &[NodeId]) -> Result<Box<Reg>, AllocError>
     requires { AsksBelow (length nodes.now) (plain is.now) }
-    ensures { IfOk result (λ other. plain other.value ≡ renamed (node_at nodes.now) (plain is.now)) }
+    ensures { IfOk result (λ other.
+        plain other.value ≡ renamed (node_at nodes.now) (plain is.now)) }
 {
     Ok(Box::new(alloc, renamed(alloc, is, nodes)?)?)
 }
@@ -50,7 +51,8 @@ fn boxed(alloc: Global, is: &Reg, nodes: &[NodeId]) -> Result<Box<Reg>, AllocErr
 #[cycle(renamed)]
 fn all_renamed(alloc: Global, all: &[Reg], nodes: &[NodeId]) -> Result<Regs, AllocError>
     requires { AskBelow (length nodes.now) (plain_all all.now) }
-    ensures { IfOk result (λ others. plain_regulars others ≡ all_renamed (node_at nodes.now) (plain_all all.now)) }
+    ensures { IfOk result (λ others.
+        plain_regulars others ≡ all_renamed (node_at nodes.now) (plain_all all.now)) }
 {
     let mut others = Vec::new(alloc);
     for is in all {

@@ -3,7 +3,8 @@ ghost use Rattle.std.specs.Prelude.{◌≡◌, ◌+◌, ◌<◌, ◌^◌, [], �
 ghost use Rattle.cd_graph.specs.PlainFormula.{plain as plain_formula};
 ghost use Rattle.cd_regex.specs.Regular.{items_in, items_in_all};
 ghost use Rattle.cd_regex.specs.PlainRegular.{plain, plain_all};
-ghost use Rattle.cd_regex.specs.Automaton.{edges_if, before_all, after_turn, states, states_in_turn, states_of_one, state_formula};
+ghost use Rattle.cd_regex.specs.Automaton.{edges_if, before_all, after_turn, states};
+ghost use Rattle.cd_regex.specs.Automaton.{states_in_turn, states_of_one, state_formula};
 
 use crate::heads::{add_heads, add_heads_in_turn, are_nullable, items_in};
 use crate::next::{Edge, Next};
@@ -11,8 +12,8 @@ use crate::regular::Reg;
 use cd_graph::Formula;
 use std::alloc::{AllocError, Global};
 
-/// Adds the formulas of the states after the items of an expression, from the left. `next` is what may come after the whole
-/// expression. The states are numbered after this number.
+/// Adds the formulas of the states after the items of an expression, from the left. `next` is what
+/// may come after the whole expression. The states are numbered after this number.
 #[cycle(add_states)]
 pub(crate) fn add_states(
     alloc: Global,
@@ -23,7 +24,8 @@ pub(crate) fn add_states(
 ) -> Result<(), AllocError>
     requires { before + items_in (plain is.now) < 2 ^ 64 }
     ensures { OnOk result (map plain_formula batch.new.items
-        ≡ map plain_formula batch.old.items ++ map state_formula (states (plain is.now) before next.now)) }
+        ≡ map plain_formula batch.old.items
+        ++ map state_formula (states (plain is.now) before next.now)) }
 {
     match is {
         Reg::Nothing => Ok(()),
@@ -46,7 +48,9 @@ fn add_of_turns(
 ) -> Result<(), AllocError>
     requires { before + items_in (plain is.now) < 2 ^ 64 }
     ensures { OnOk result (map plain_formula batch.new.items
-        ≡ map plain_formula batch.old.items ++ map state_formula (states (plain is.now) before (after_turn (plain is.now) before next.now))) }
+        ≡ map plain_formula batch.old.items
+        ++ map state_formula (states (plain is.now) before
+        (after_turn (plain is.now) before next.now))) }
 {
     let again = after_turn(alloc, is, before, next)?;
     add_states(alloc, is, before, &again, batch)
@@ -63,7 +67,8 @@ fn add_in_turn(
 ) -> Result<(), AllocError>
     requires { before + items_in_all (plain_all all.now) < 2 ^ 64 }
     ensures { OnOk result (map plain_formula batch.new.items
-        ≡ map plain_formula batch.old.items ++ map state_formula (states_in_turn (plain_all all.now) before next.now)) }
+        ≡ map plain_formula batch.old.items
+        ++ map state_formula (states_in_turn (plain_all all.now) before next.now)) }
 {
     let mut at = before;
     for (place, is) in all.iter().enumerate() {
@@ -86,7 +91,8 @@ fn add_of_one(
 ) -> Result<(), AllocError>
     requires { before + items_in_all (plain_all all.now) < 2 ^ 64 }
     ensures { OnOk result (map plain_formula batch.new.items
-        ≡ map plain_formula batch.old.items ++ map state_formula (states_of_one (plain_all all.now) before next.now)) }
+        ≡ map plain_formula batch.old.items
+        ++ map state_formula (states_of_one (plain_all all.now) before next.now)) }
 {
     let mut at = before;
     for is in all {
@@ -121,7 +127,8 @@ fn before_all(alloc: Global, all: &[Reg], before: usize, next: &Next) -> Result<
 
 // Adds the formula of a state.
 fn add_state(alloc: Global, next: &Next, batch: &mut Vec<Formula>) -> Result<(), AllocError>
-    ensures { OnOk result (map plain_formula batch.new.items ≡ map plain_formula batch.old.items ++ map state_formula (next.now ∷ [])) }
+    ensures { OnOk result (map plain_formula batch.new.items
+        ≡ map plain_formula batch.old.items ++ map state_formula (next.now ∷ [])) }
 {
     batch.push(next.formula(alloc)?)?;
     Ok(())

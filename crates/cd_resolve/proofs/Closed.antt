@@ -4,7 +4,7 @@ use Rattle.std.specs.List.{slice_get}
 use Rattle.std.specs.Option.{unwrap_or}
 use Rattle.std.proofs.lemmas.List.{length-map, length-append}
 use Rattle.std.proofs.lemmas.Option.{slice_get_within}
-use Rattle.cd_model.specs.Each.{Each}
+use Rattle.cd_model.specs.AllOf.{AllOf}
 use Rattle.cd_model.specs.BuiltIns.{node}
 use Rattle.cd_model.specs.Formula.{Graph, Formula, Nothing, IsFormula, IsGraph, formula_at}
 use Rattle.cd_order.specs.Order as order
@@ -15,9 +15,9 @@ use Rattle.cd_shapes.specs.Shape.{Shape, Leaf, Pair, Xml, Record, Arrow, And, Or
 use Rattle.cd_shapes.specs.Shaped.{Tables}
 use Rattle.cd_shapes.specs.Reading.{IsPlace}
 use Rattle.cd_resolve.specs.declared.counts.Counts.{Counts}
-use Rattle.cd_resolve.specs.Closing.{size_of, node_at, made, formula_of, AgreesWith}
-use Rattle.cd_resolve.specs.Links.{numbers_at, numbers_of, numbers_under, links}
-use Rattle.cd_resolve.specs.Making.{Fit, Counted, IsPlaced, ArePlaced, Item, Root, Made, items, so_far, of_found, of_number, filled, AreFilled}
+use Rattle.cd_resolve.specs.Inner.Closing.{size_of, node_at, made, formula_of, AgreesWith}
+use Rattle.cd_resolve.specs.Inner.Links.{numbers_at, numbers_of, numbers_under, links}
+use Rattle.cd_resolve.specs.Inner.Making.{Fit, Counted, IsPlaced, ArePlaced, Item, Root, Made, items, so_far, of_found, of_number, filled, AreFilled}
 use Rattle.cd_resolve.proofs.Places.{each_follows, each_at, placed_roots, placed_shapes}
 use Rattle.cd_resolve.proofs.SoundParts.{IsItem, items_placed, LeafIn, items_in, filled_are, each_among_more}
 use Rattle.cd_resolve.proofs.Settling.{Under, made_same, numbers_in, rows_are_links, all_settled, filled_length}
@@ -34,7 +34,7 @@ known_follows fact other follows [] each = tt
 known_follows fact other follows (one ∷ rest) each = (follows one each.0, known_follows fact other follows rest each.1)
 
 -- the same of numbers in the words of the model
-pub known_each : (fact : ℕ → Type 0) (list : List ℕ) → order.Each fact list → Each fact list
+pub known_each : (fact : ℕ → Type 0) (list : List ℕ) → order.Each fact list → AllOf fact list
 known_each fact [] each = tt
 known_each fact (one ∷ rest) each = (each.0, known_each fact rest each.1)
 
@@ -45,13 +45,13 @@ module _ (nodes names shapes : ℕ) where
   place_below (place.Declared list index) is = (omega arith, tt)
   place_below (place.Shape number) is = (omega arith, tt)
 
-  places_below : (places : List Place) → Each (IsPlace nodes names shapes) places
+  places_below : (places : List Place) → AllOf (IsPlace nodes names shapes) places
       → order.Each (λ next. next < names + shapes) (numbers_of names places)
   places_below [] are = tt
   places_below (at ∷ places) are = each_of_both (λ next. next < names + shapes) (numbers_at names at)
       (numbers_of names places) (place_below at are.0) (places_below places are.1)
 
-  signs_below : (signs : List (Bool × Place)) → Each (λ (sign : Bool × Place). IsPlace nodes names shapes sign.1) signs
+  signs_below : (signs : List (Bool × Place)) → AllOf (λ (sign : Bool × Place). IsPlace nodes names shapes sign.1) signs
       → order.Each (λ next. next < names + shapes) (numbers_of names (map (λ sign. sign.1) signs))
   signs_below [] are = tt
   signs_below (sign ∷ signs) are = each_of_both (λ next. next < names + shapes) (numbers_at names sign.1)
@@ -68,7 +68,7 @@ module _ (nodes names shapes : ℕ) where
   shape_below (Or places) shape = places_below places shape
   shape_below (Sequence regular places) shape = tt
 
-  row_below : (all : List Item) (number : ℕ) → Each (IsItem nodes names shapes) all
+  row_below : (all : List Item) (number : ℕ) → AllOf (IsItem nodes names shapes) all
       → order.Each (λ next. next < names + shapes) (row (map (numbers_in names) all) number)
   row_below [] number are = tt
   row_below (Root at ∷ all) zero are = place_below at are.0
@@ -244,7 +244,7 @@ all_made old counts tables counted left is formulas long number below =
 -- what is known of formulas that were filled in
 pub record IsClosed (old : Graph) (first : ℕ) (tables : Tables) (batch : List Formula) : Type 0 where
   pub number : length batch ≡ size_of tables
-  pub formulas : (nodes : ℕ) → first + length batch ≤ nodes → Each (LeafIn nodes) tables.shapes → Each (IsFormula nodes) batch
+  pub formulas : (nodes : ℕ) → first + length batch ≤ nodes → AllOf (LeafIn nodes) tables.shapes → AllOf (IsFormula nodes) batch
   pub made : (graph more : Graph) → length graph ≡ first → AgreesWith old graph
       → AreMade (graph ++ batch ++ more) first tables
 

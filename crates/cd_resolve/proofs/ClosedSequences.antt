@@ -1,7 +1,7 @@
 -- The formulas of tables with leaves, and the batches of sequences after them, are those that the tables with the sequences say.
 use Rattle.std.proofs.Common.{◌≡◌, ℕ, ◌+◌, ◌<◌, ◌≤◌, List, [], ◌∷◌, ◌++◌, map, length, refl, sym, ap, subst, ◌∙◌, arith}
 use Rattle.std.proofs.lemmas.List.{append_assoc, length-append}
-use Rattle.cd_model.specs.Each.{Each}
+use Rattle.cd_model.specs.AllOf.{AllOf}
 use Rattle.cd_model.specs.BuiltIns.{node}
 use Rattle.cd_model.specs.Formula.{Graph, Formula, IsFormula, formula_at}
 use Rattle.cd_order.specs.Order.{Ends}
@@ -12,10 +12,10 @@ use Rattle.cd_shapes.specs.Shape.{Shape}
 use Rattle.cd_shapes.specs.Shaped.{Tables}
 use Rattle.cd_shapes.specs.Reading.{IsPlace, AreSound}
 use Rattle.cd_resolve.specs.declared.counts.Counts.{Counts}
-use Rattle.cd_resolve.specs.Batches.{HaveLeaves, TablesHaveLeaves}
-use Rattle.cd_resolve.specs.Closing.{size_of, node_at, over_nodes, HoldsAt, Closes, AgreesWith}
-use Rattle.cd_resolve.specs.Links.{numbers_at, links}
-use Rattle.cd_resolve.specs.Making.{Counted, IsPlaced, ArePlaced}
+use Rattle.cd_resolve.specs.Inner.Batches.{HaveLeaves, TablesHaveLeaves}
+use Rattle.cd_resolve.specs.Inner.Closing.{size_of, node_at, over_nodes, HoldsAt, Closes, AgreesWith}
+use Rattle.cd_resolve.specs.Inner.Links.{numbers_at, links}
+use Rattle.cd_resolve.specs.Inner.Making.{Counted, IsPlaced, ArePlaced}
 use Rattle.cd_resolve.proofs.Closed.{AreMade, IsClosed}
 use Rattle.cd_resolve.proofs.LeafTables.{as_many, same_links, are_placed, leaves_are_in, batches_are_in, kept_at, LeafAt, leaf_at}
 use Rattle.cd_resolve.proofs.Places.{sound_shapes}
@@ -75,7 +75,7 @@ module _ (roots : List Place) (old new : List Shape) (first start : ℕ) (graph 
 -- what is known of all formulas
 pub record AllClose (first : ℕ) (tables : Tables) (old : Graph) (batch : List Formula) : Type 0 where
   pub number : size_of tables ≤ length batch
-  pub formulas : Each (IsFormula (first + length batch)) batch
+  pub formulas : AllOf (IsFormula (first + length batch)) batch
   pub closes : (graph : Graph) → length graph ≡ first → AgreesWith old graph
       → Closes (graph ++ batch) first tables
 
@@ -101,10 +101,10 @@ module _ (counts : Counts) (tables leaves : Tables) (counted : Counted counts ta
 
   pub leaves_placed : AreSound counts.nodes tables → ArePlaced counts.nodes leaves
   leaves_placed sound = subst (ArePlaced counts.nodes) leaves_are (record {
-    roots = subst (λ count. Each (IsPlace counts.nodes (length tables.roots) count) tables.roots) (sym same_count) sound.roots;
-    shapes = subst (λ count. Each (IsPlaced counts.nodes (length tables.roots) count) leaves.shapes) (sym same_count)
-        (subst (λ names. Each (IsPlaced counts.nodes names (length tables.shapes)) leaves.shapes) counted.names
-        (subst (λ shapes. Each (IsPlaced counts.nodes counts.names shapes) leaves.shapes) counted.shapes
+    roots = subst (λ count. AllOf (IsPlace counts.nodes (length tables.roots) count) tables.roots) (sym same_count) sound.roots;
+    shapes = subst (λ count. AllOf (IsPlaced counts.nodes (length tables.roots) count) leaves.shapes) (sym same_count)
+        (subst (λ names. AllOf (IsPlaced counts.nodes names (length tables.shapes)) leaves.shapes) counted.names
+        (subst (λ shapes. AllOf (IsPlaced counts.nodes counts.names shapes) leaves.shapes) counted.shapes
         (are_placed (node_at counts.before counts.names) counts.nodes counts.names counts.shapes
         (counts.before + (counts.names + counts.shapes)) tables.shapes leaves.shapes batches have.shapes
         (sound_shapes counts tables sound counted))));

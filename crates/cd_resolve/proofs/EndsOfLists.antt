@@ -1,16 +1,16 @@
 -- All ways from a number end where they end from each number that it leads to.
 use Rattle.std.proofs.Common.{ℕ, zero, suc, ◌+◌, ◌≤◌, List, [], ◌∷◌, ◌++◌, arith}
-use Rattle.cd_order.specs.Order.{Each, row, IsShort, Ends}
+use Rattle.cd_order.specs.Order.{AllOf, row, IsShort, Ends}
 
 -- what follows from a fact of a number holds of each, if the fact does
-pub each_so : (Fact Other : ℕ → Type 0) (numbers : List ℕ) → ((number : ℕ) → Fact number → Other number) → Each Fact numbers
-    → Each Other numbers
+pub each_so : (Fact Other : ℕ → Type 0) (numbers : List ℕ) → ((number : ℕ) → Fact number → Other number) → AllOf Fact numbers
+    → AllOf Other numbers
 each_so Fact Other [] so each = tt
 each_so Fact Other (number ∷ rest) so each = (so number each.0, each_so Fact Other rest so each.1)
 
 -- what holds of each of two lists holds of one after the other
-pub each_of_both : (Fact : ℕ → Type 0) (first second : List ℕ) → Each Fact first → Each Fact second
-    → Each Fact (first ++ second)
+pub each_of_both : (Fact : ℕ → Type 0) (first second : List ℕ) → AllOf Fact first → AllOf Fact second
+    → AllOf Fact (first ++ second)
 each_of_both Fact [] second is_first is_second = is_second
 each_of_both Fact (number ∷ rest) second is_first is_second =
     (is_first.0, each_of_both Fact rest second is_first.1 is_second)
@@ -24,12 +24,12 @@ module _ (links : List (List ℕ)) where
       (row links number) (λ next. short_for_more most more next (omega arith)) short
 
   -- where the ways from each of some numbers end, none is longer than some number
-  all_are_short : (numbers : List ℕ) → Each (Ends links) numbers → (most : ℕ) × Each (IsShort links most) numbers
+  all_are_short : (numbers : List ℕ) → AllOf (Ends links) numbers → (most : ℕ) × AllOf (IsShort links most) numbers
   all_are_short [] each = (zero, tt)
   all_are_short (number ∷ rest) each = by_rest each.0 (all_are_short rest each.1)
     where
-      by_rest : Ends links number → (most : ℕ) × Each (IsShort links most) rest
-          → (most : ℕ) × Each (IsShort links most) (number ∷ rest)
+      by_rest : Ends links number → (most : ℕ) × AllOf (IsShort links most) rest
+          → (most : ℕ) × AllOf (IsShort links most) (number ∷ rest)
       by_rest one all = (
         one.0 + all.0,
         (
@@ -40,8 +40,8 @@ module _ (links : List (List ℕ)) where
       )
 
   -- all ways from a number end, if they end from each in its row
-  pub ends_by_row : (number : ℕ) → Each (Ends links) (row links number) → Ends links number
+  pub ends_by_row : (number : ℕ) → AllOf (Ends links) (row links number) → Ends links number
   ends_by_row number each = by_most (all_are_short (row links number) each)
     where
-      by_most : (most : ℕ) × Each (IsShort links most) (row links number) → Ends links number
+      by_most : (most : ℕ) × AllOf (IsShort links most) (row links number) → Ends links number
       by_most all = (suc all.0, all.1)

@@ -12,13 +12,13 @@ use Rattle.cd_model.specs.Scope.{Scope, Declared}
 use Rattle.cd_model.specs.Written.{kind_of}
 use Rattle.cd_model.proofs.Covered.{Covered, led_to}
 use Rattle.cd_model.proofs.Leading.{IsIn, without, shorter, Leads, leads_closed, is_undeclared, leads_on}
-use Rattle.cd_order.specs.Order.{Each, Ends}
+use Rattle.cd_order.specs.Order.{AllOf, Ends}
 use Rattle.cd_shapes.specs.declared.place.Place.{Place}
 use Rattle.cd_shapes.specs.Frames.{Frames, scope_of, given, place_of}
 use Rattle.cd_shapes.specs.Names.{node_of}
 use Rattle.cd_shapes.specs.Shaped.{Tables, Shaped}
 use Rattle.cd_shapes.specs.Reading.{AreMet, HaveRoots}
-use Rattle.cd_resolve.specs.Links.{links}
+use Rattle.cd_resolve.specs.Inner.Links.{links}
 use Rattle.cd_resolve.proofs.EndsOfLists.{ends_by_row}
 use Rattle.cd_resolve.proofs.EndsOfTrees.{EndsAt, EndsAtNames, tree_ends}
 use Rattle.cd_resolve.proofs.NamesFound.{IsInside, IsOutside, found}
@@ -33,7 +33,7 @@ outer_ends tables (Some id) = tt
 pub root_ends : (tables : Tables) (number : ℕ) (root : Place) → slice_get tables.roots number ≡ Some root
     → EndsAt tables root → Ends (links tables) number
 root_ends tables number root there ends = ends_by_row (links tables) number
-    (subst (Each (Ends (links tables))) (sym (row_of_name tables number root there)) ends)
+    (subst (AllOf (Ends (links tables))) (sym (row_of_name tables number root there)) ends)
 
 -- names that have this fact are guarded
 module _ (names : List (Name × NodeId)) (base : Scope) (lists : List Frames) (tables : Tables)

@@ -9,7 +9,7 @@ use Rattle.cd_model.specs.Guarded.{IsOneOf, IsSigned}
 use Rattle.cd_model.specs.Scope.{Scope}
 use Rattle.cd_model.specs.Written.{kind_of}
 use Rattle.cd_model.proofs.Places.{AreClosed}
-use Rattle.cd_order.specs.Order.{Each, Ends}
+use Rattle.cd_order.specs.Order.{AllOf, Ends}
 use Rattle.cd_shapes.specs.declared.place.Place.{Place}
 use Rattle.cd_shapes.specs.declared.place.Place.TheVariants as place
 use Rattle.cd_shapes.specs.Frames.{Frames, scope_of, place_of}
@@ -17,18 +17,18 @@ use Rattle.cd_shapes.specs.Leaves.{integers, characters}
 use Rattle.cd_shapes.specs.Shape.{Shape, Leaf, Pair, Xml, Arrow, And, Or, Sequence}
 use Rattle.cd_shapes.specs.Shaped.{Tables, IsAt, HasLeaf, ShapedText, Shaped, ShapedKind, ShapedEach, ShapedSigns}
 use Rattle.cd_shapes.specs.Reading.{AreMet}
-use Rattle.cd_resolve.specs.Links.{numbers_at, numbers_of, numbers_under, links}
+use Rattle.cd_resolve.specs.Inner.Links.{numbers_at, numbers_of, numbers_under, links}
 use Rattle.cd_resolve.proofs.EndsOfLists.{each_of_both, ends_by_row}
 use Rattle.cd_resolve.proofs.LinksRows.{row_of_shape}
 
 module _ (tables : Tables) where
   -- all ways from a place end
   abbrev pub EndsAt : Place → Type 0
-  EndsAt at = Each (Ends (links tables)) (numbers_at (length tables.roots) at)
+  EndsAt at = AllOf (Ends (links tables)) (numbers_at (length tables.roots) at)
 
   -- and from each of some
   abbrev pub EndAtAll : List Place → Type 0
-  EndAtAll places = Each (Ends (links tables)) (numbers_of (length tables.roots) places)
+  EndAtAll places = AllOf (Ends (links tables)) (numbers_of (length tables.roots) places)
 
   -- none leads on from a node
   at_node : (at : Place) (id : NodeId) → at ≡ place.Node id → EndsAt at
@@ -36,10 +36,10 @@ module _ (tables : Tables) where
 
   -- they end from a shape, if they end from what it stands over
   at_shape : (at : Place) (shape : Shape) → IsAt tables.shapes at shape
-      → Each (Ends (links tables)) (numbers_under (length tables.roots) shape) → EndsAt at
+      → AllOf (Ends (links tables)) (numbers_under (length tables.roots) shape) → EndsAt at
   at_shape at shape is each = subst EndsAt (sym is.there) (
     ends_by_row (links tables) (length tables.roots + is.number)
-        (subst (Each (Ends (links tables))) (sym (row_of_shape tables is.number shape is.is)) each),
+        (subst (AllOf (Ends (links tables))) (sym (row_of_shape tables is.number shape is.is)) each),
     tt,
   )
 

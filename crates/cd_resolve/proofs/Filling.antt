@@ -7,7 +7,7 @@ use Rattle.cd_graph.specs.PlainFormula.{plain}
 use Rattle.cd_graph.specs.declared.formula.Formula.{Formula as CodeFormula}
 use Rattle.cd_shapes.specs.declared.place.Place.{Place}
 use Rattle.cd_shapes.specs.Shape.{Shape}
-use Rattle.cd_resolve.specs.Making.{Item, Root, Made, of_number, filled}
+use Rattle.cd_resolve.specs.Inner.Making.{Item, Root, Made, of_number, filled}
 
 -- a name has its root, and a shape stands after the names
 pub root_at : (roots : List Place) (shapes : List Shape) (number : ℕ) (root : Place) → number < length roots

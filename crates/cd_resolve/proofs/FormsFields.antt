@@ -16,7 +16,7 @@ use Rattle.cd_model.specs.Formula.{Field, field_of}
 use Rattle.cd_shapes.specs.declared.place.Place.{Place}
 use Rattle.cd_shapes.specs.declared.place.FieldPlace.{FieldPlace}
 use Rattle.cd_shapes.specs.Leaves.{by_order, inserted, sorted_after, sorted}
-use Rattle.cd_resolve.specs.Closing.{field_at}
+use Rattle.cd_resolve.specs.Inner.Closing.{field_at}
 
 abbrev pub Named : Type 0
 Named = List (Name × FieldPlace)

@@ -13,7 +13,7 @@ use Rattle.cd_syntax.specs.TypeTree.{Tree, tree, Kind, Trees, NoTree, ATree}
 use Rattle.cd_model.specs.Alike as heads
 use Rattle.cd_model.specs.Alike.{FieldsStand, HeadsStand}
 use Rattle.cd_model.specs.BuiltIns.{node_named, EMPTY}
-use Rattle.cd_model.specs.Each.{Each}
+use Rattle.cd_model.specs.AllOf.{AllOf}
 use Rattle.cd_model.specs.Formula as formula
 use Rattle.cd_model.specs.Formula.{Graph, Formula, formula_at}
 use Rattle.cd_model.specs.Scope.{Scope, Declared, names_in, names_in_fields, names_over}
@@ -30,7 +30,7 @@ use Rattle.cd_shapes.specs.Leaves.{Pairs, Arrows, characters}
 use Rattle.cd_shapes.specs.Shape.{Shape}
 use Rattle.cd_shapes.specs.Reading.{AreMet}
 use Rattle.cd_shapes.specs.Shaped.{Tables, IsAt, HasLeaf, Shaped, ShapedKind, ShapedChain, ShapedFields}
-use Rattle.cd_resolve.specs.Closing.{Closes, IsNoSequence, formula_of, made, node_at, over_nodes}
+use Rattle.cd_resolve.specs.Inner.Closing.{Closes, IsNoSequence, formula_of, made, node_at, over_nodes}
 use Rattle.cd_resolve.specs.Free.{free_names, free_in_fields}
 use Rattle.cd_resolve.proofs.BuiltInNodes.{Begins, formula_of_empty, formula_of_name, formula_of_nil}
 use Rattle.cd_resolve.proofs.FormsFields.{Named, found, field_found, field_is_found}
@@ -124,8 +124,8 @@ module _ (graph : Graph) (first : ℕ) (names : List (Name × NodeId)) (lists : 
   -- what is found of a label among fields stands for what is written first of it
   fields_stand : (frames : Frames) (all : type.Fields) (named : Named) (rest : NodeId) (of_rest : WrittenType) (label : Name)
       → StandsHere rest of_rest → AreMet lists frames → ShapedFields names lists tables.shapes frames all named
-      → Each Fact (names_in_fields (scope_of base frames) all) → Each Fact (names_over (scope_of base frames))
-      → Each Used (free_in_fields (scope_of [] frames) all) → Each Used (free_over (scope_of [] frames))
+      → AllOf Fact (names_in_fields (scope_of base frames) all) → AllOf Fact (names_over (scope_of base frames))
+      → AllOf Used (free_in_fields (scope_of [] frames) all) → AllOf Used (free_over (scope_of [] frames))
       → FieldsStand StandsHere (field_found (node_at first N) rest (found named label))
       (field_of (named_in (scope_of base frames) all) of_rest label)
   fields_stand frames type.NoField [] rest of_rest label stands met shaped facts over uses uses_over =
@@ -144,9 +144,9 @@ module _ (graph : Graph) (first : ℕ) (names : List (Name × NodeId)) (lists : 
           (field_of (named_in (scope_of base frames) (type.AField name at optional is fields)) of_rest label)
 
       by_name : (bytes_eq name label ≡ true) ⊎ (bytes_eq name label ≡ false)
-          → Each Fact (names_in (scope_of base frames) is) × Each Fact (names_in_fields (scope_of base frames) fields)
-          → Each Used (free_names (scope_of [] frames) is) × Each Used (free_in_fields (scope_of [] frames) fields)
-          → (Each Fact (names_in_fields (scope_of base frames) fields) → Each Used (free_in_fields (scope_of [] frames) fields)
+          → AllOf Fact (names_in (scope_of base frames) is) × AllOf Fact (names_in_fields (scope_of base frames) fields)
+          → AllOf Used (free_names (scope_of [] frames) is) × AllOf Used (free_in_fields (scope_of [] frames) fields)
+          → (AllOf Fact (names_in_fields (scope_of base frames) fields) → AllOf Used (free_in_fields (scope_of [] frames) fields)
           → FieldsStand StandsHere (field_found (node_at first N) rest (found named label))
           (field_of (named_in (scope_of base frames) fields) of_rest label))
           → FieldIs

@@ -19,7 +19,7 @@ use Rattle.cd_shapes.specs.Shape.{Shape, And, Or}
 use Rattle.cd_shapes.specs.Frames.{Frames, scope_of, given, place_of}
 use Rattle.cd_shapes.specs.Shaped.{Tables, IsAt, Shaped, ShapedKind, ShapedEach, ShapedSigns}
 use Rattle.cd_shapes.specs.Reading.{HaveRoots, AreMet}
-use Rattle.cd_resolve.specs.Closing.{Closes, IsNoSequence, formula_of, made, node_at, signed}
+use Rattle.cd_resolve.specs.Inner.Closing.{Closes, IsNoSequence, formula_of, made, node_at, signed}
 use Rattle.cd_resolve.proofs.BuiltInNodes.{Begins}
 use Rattle.cd_resolve.proofs.FormsOfHeads.{as_nothing, as_shape, alone_form, place_form}
 use Rattle.cd_resolve.proofs.FreeNames.{Uses, uses_closed, uses_declared, is_used}

@@ -13,7 +13,7 @@ use Rattle.cd_syntax.specs.declared.type_tree.Post.TheVariants as post
 use Rattle.cd_model.specs.Alike as heads
 use Rattle.cd_model.specs.Alike.{RegularsStand, RowsStand}
 use Rattle.cd_model.specs.BuiltIns.{node}
-use Rattle.cd_model.specs.Each.{Each}
+use Rattle.cd_model.specs.AllOf.{AllOf}
 use Rattle.cd_model.specs.Formula.{Graph, formula_at, nodes}
 use Rattle.cd_model.specs.Interfaces.{admits}
 use Rattle.cd_model.specs.Language as language
@@ -32,7 +32,7 @@ use Rattle.cd_shapes.specs.Frames.{Frames, scope_of}
 use Rattle.cd_shapes.specs.Repeated.{repeated}
 use Rattle.cd_shapes.specs.Shaped.{Tables, ShapedRegular, ShapedRegularKind, ShapedRegulars}
 use Rattle.cd_shapes.specs.Reading.{AreMet}
-use Rattle.cd_resolve.specs.Closing.{HoldsAt, node_at}
+use Rattle.cd_resolve.specs.Inner.Closing.{HoldsAt, node_at}
 use Rattle.cd_resolve.specs.Free.{free_in_regular, free_in_regular_kind, free_in_regulars}
 use Rattle.cd_resolve.proofs.FreeNames.{free_over, uses_tree}
 use Rattle.cd_resolve.proofs.NodesOfTypes.{Stands, part_stands}
@@ -75,7 +75,7 @@ named_node node_of (one ∷ places) (suc number) id at there = named_node node_o
 
 module _ (first : ℕ) (names : List (Name × NodeId)) (lists : List Frames) (tables : Tables) (base : Scope)
     (Fact : Declared → Type 0) (Used : Name → Type 0) (frames : Frames) (places : List Place) (met : AreMet lists frames)
-    (over : Each Fact (names_over (scope_of base frames))) (uses_over : Each Used (free_over (scope_of [] frames))) where
+    (over : AllOf Fact (names_over (scope_of base frames))) (uses_over : AllOf Used (free_over (scope_of [] frames))) where
   abbrev StandsHere : NodeId → WrittenType → Type 0
   StandsHere = Stands first names lists tables base Fact Used
 
@@ -130,13 +130,13 @@ module _ (first : ℕ) (names : List (Name × NodeId)) (lists : List Frames) (ta
   mutual
     pub regular_over : (is : type.Regular) (over_places : Regular)
         → ShapedRegular names lists tables.shapes frames places is over_places
-        → Each Fact (names_in_regular scope is) → Each Used (free_in_regular (scope_of [] frames) is)
+        → AllOf Fact (names_in_regular scope is) → AllOf Used (free_in_regular (scope_of [] frames) is)
         → IsOver over_places (regular_in scope is)
     regular_over (type.regular span kind) over_places shaped within uses = kind_over kind over_places shaped within uses
 
     kind_over : (kind : type.RegularKind) (is : Regular)
         → ShapedRegularKind names lists tables.shapes frames places kind is
-        → Each Fact (names_in_regular_kind scope kind) → Each Used (free_in_regular_kind (scope_of [] frames) kind)
+        → AllOf Fact (names_in_regular_kind scope kind) → AllOf Used (free_in_regular_kind (scope_of [] frames) kind)
         → IsOver is (regular_kind_in scope kind)
     kind_over type.Nothing is shaped within uses = subst (λ is. IsOver is types.NoItem) (sym shaped)
         (record { expression = types.NoItem; stands = heads.no_item; same = refl })
@@ -165,7 +165,7 @@ module _ (first : ℕ) (names : List (Name × NodeId)) (lists : List Frames) (ta
 
     rows_over : (all : type.Regulars) (parts : Regulars)
         → ShapedRegulars names lists tables.shapes frames places all parts
-        → Each Fact (names_in_regulars scope all) → Each Used (free_in_regulars (scope_of [] frames) all)
+        → AllOf Fact (names_in_regulars scope all) → AllOf Used (free_in_regulars (scope_of [] frames) all)
         → AreOver parts (regulars_in scope all)
     rows_over type.NoRegular NoRegular shaped within uses =
         record { rows = types.NoRegular; stand = heads.no_more; in_turn = refl; one = refl }

@@ -5,7 +5,7 @@ use Rattle.std.proofs.lemmas.Option.{none-some, same_Some}
 use Rattle.cd_syntax.specs.Name.{Name}
 use Rattle.cd_syntax.specs.TypeTree as type
 use Rattle.cd_syntax.specs.TypeTree.{Tree, tree, Kind, Trees, NoTree, ATree, Signs, ASign, Declarations, NoDeclaration, ADeclaration}
-use Rattle.cd_model.specs.Each.{Each, One}
+use Rattle.cd_model.specs.AllOf.{AllOf, AnyOf}
 use Rattle.cd_model.specs.Guarded.{IsOneOf, IsSigned}
 use Rattle.cd_model.specs.Guarded as guarded
 use Rattle.cd_model.specs.Scope.{Scope, Declared, tree_in, declared_or, declared_as}
@@ -21,8 +21,8 @@ free_over (declarations ∷ outer) = free_in_declared (declarations ∷ outer) d
 
 -- the free names of a form, and of the trees that are declared round it, are used
 pub record Uses (Used : Name → Type 0) (scope : Scope) (kind : Kind) : Type 0 where
-  pub within : Each Used (free_in_kind scope kind)
-  pub over : Each Used (free_over scope)
+  pub within : AllOf Used (free_in_kind scope kind)
+  pub over : AllOf Used (free_over scope)
 
 -- the parts of an XML type
 pub record XmlUses (Used : Name → Type 0) (scope : Scope) (tag attributes content : Tree) : Type 0 where
@@ -32,37 +32,37 @@ pub record XmlUses (Used : Name → Type 0) (scope : Scope) (tag attributes cont
 
 module _ (Used : Name → Type 0) where
   -- what is so of every name is so of each in a list
-  pub every_name : (names : List Name) → ((name : Name) → Used name) → Each Used names
+  pub every_name : (names : List Name) → ((name : Name) → Used name) → AllOf Used names
   every_name [] every = tt
   every_name (name ∷ names) every = (every name, every_name names every)
 
   -- what is so of each name of a list is so of one of them
-  pub one_name : (names : List Name) (name : Name) → Each Used names → One (λ other. other ≡ name) names → Used name
+  pub one_name : (names : List Name) (name : Name) → AllOf Used names → AnyOf (λ other. other ≡ name) names → Used name
   one_name [] name each one = elim one [ ]
   one_name (other ∷ names) name each (inl same) = subst Used same each.0
   one_name (other ∷ names) name each (inr later) = one_name names name each.1 later
 
   -- where it is so of one of them, it is so of each
-  pub each_name : (names : List Name) → ((name : Name) → One (λ other. other ≡ name) names → Used name) → Each Used names
+  pub each_name : (names : List Name) → ((name : Name) → AnyOf (λ other. other ≡ name) names → Used name) → AllOf Used names
   each_name [] every = tt
   each_name (name ∷ names) every =
       (every name (inl refl), each_name names (λ name one. every name (inr one)))
 
   -- a tree's place is that of its form
-  pub uses_tree : (scope : Scope) (is : Tree) → Each Used (free_names scope is) → Each Used (free_over scope)
+  pub uses_tree : (scope : Scope) (is : Tree) → AllOf Used (free_names scope is) → AllOf Used (free_over scope)
       → Uses Used scope (kind_of is)
   uses_tree scope (tree span kind) within over = record { within = within; over = over }
 
   -- one of some trees, and one after a sign
-  one_of_trees : (scope : Scope) (is : Tree) (trees : Trees) → IsOneOf is trees → Each Used (free_in_trees scope trees)
-      → Each Used (free_names scope is)
+  one_of_trees : (scope : Scope) (is : Tree) (trees : Trees) → IsOneOf is trees → AllOf Used (free_in_trees scope trees)
+      → AllOf Used (free_names scope is)
   one_of_trees scope is _ (guarded.IsOneOf.first _ rest) each =
       (each_parts Used (free_names scope is) (free_in_trees scope rest) each).0
   one_of_trees scope is _ (guarded.IsOneOf.later _ other rest on) each =
       one_of_trees scope is rest on (each_parts Used (free_names scope other) (free_in_trees scope rest) each).1
 
-  one_of_signs : (scope : Scope) (is : Tree) (signs : Signs) → IsSigned is signs → Each Used (free_in_signs scope signs)
-      → Each Used (free_names scope is)
+  one_of_signs : (scope : Scope) (is : Tree) (signs : Signs) → IsSigned is signs → AllOf Used (free_in_signs scope signs)
+      → AllOf Used (free_names scope is)
   one_of_signs scope is _ (guarded.IsSigned.first kept _ rest) each =
       (each_parts Used (free_names scope is) (free_in_signs scope rest) each).0
   one_of_signs scope is _ (guarded.IsSigned.later kept _ other rest on) each =
@@ -77,7 +77,7 @@ module _ (Used : Name → Type 0) where
       within : Scope
       within = declarations ∷ scope
 
-      by_parts : Each Used (free_in_declared within declarations) × Each Used (free_names within is)
+      by_parts : AllOf Used (free_in_declared within declarations) × AllOf Used (free_names within is)
           → Uses Used within (kind_of is)
       by_parts parts = uses_tree within is parts.1
           (each_both Used (free_in_declared within declarations) (free_over scope) parts.0 uses.over)
@@ -96,7 +96,7 @@ module _ (Used : Name → Type 0) where
 
   -- the tree that a name has in a list of declarations
   in_list : (scope : Scope) (declarations : Declarations) (name : Name) (is : Tree) → tree_in declarations name ≡ Some is
-      → Each Used (free_in_declared scope declarations) → Each Used (free_names scope is)
+      → AllOf Used (free_in_declared scope declarations) → AllOf Used (free_names scope is)
   in_list scope NoDeclaration name is found each = absurd (none-some is found)
   in_list scope (ADeclaration other at first rest) name is found each =
       by_name (cases_Bool (bytes_eq other name)) (λ found each. in_list scope rest name is found each)
@@ -106,15 +106,15 @@ module _ (Used : Name → Type 0) where
       tested b test = subst (λ b. (if b then Some first else tree_in rest name) ≡ Some is) test found
 
       by_name : (bytes_eq other name ≡ true) ⊎ (bytes_eq other name ≡ false)
-          → (tree_in rest name ≡ Some is → Each Used (free_in_declared scope rest) → Each Used (free_names scope is))
-          → Each Used (free_names scope first) × Each Used (free_in_declared scope rest) → Each Used (free_names scope is)
+          → (tree_in rest name ≡ Some is → AllOf Used (free_in_declared scope rest) → AllOf Used (free_names scope is))
+          → AllOf Used (free_names scope first) × AllOf Used (free_in_declared scope rest) → AllOf Used (free_names scope is)
       by_name (inl same) later parts =
-          subst (λ is. Each Used (free_names scope is)) (same_Some first is (tested true same)) parts.0
+          subst (λ is. AllOf Used (free_names scope is)) (same_Some first is (tested true same)) parts.0
       by_name (inr differs) later parts = later (tested false differs) parts.1
 
   -- the tree of a name that a list declares which a place stands under
   pub uses_declared : (scope : Scope) (name : Name) (is : Declared) → declared_as scope name ≡ Some is
-      → Each Used (free_over scope) → Uses Used is.scope (kind_of is.tree)
+      → AllOf Used (free_over scope) → Uses Used is.scope (kind_of is.tree)
   uses_declared [] name is found over = absurd (none-some is found)
   uses_declared (declarations ∷ outer) name is found over =
       by_tree (tree_in declarations name) (λ i. tree_in declarations name) found (uses_declared outer name is)
@@ -122,12 +122,12 @@ module _ (Used : Name → Type 0) where
       here : Scope
       here = declarations ∷ outer
 
-      parts : Each Used (free_in_declared here declarations) × Each Used (free_over outer)
+      parts : AllOf Used (free_in_declared here declarations) × AllOf Used (free_over outer)
       parts = each_parts Used (free_in_declared here declarations) (free_over outer) over
 
       by_tree : (first : Option Tree) → tree_in declarations name ≡ first
           → declared_or first name here (declared_as outer name) ≡ Some is
-          → (declared_as outer name ≡ Some is → Each Used (free_over outer) → Uses Used is.scope (kind_of is.tree))
+          → (declared_as outer name ≡ Some is → AllOf Used (free_over outer) → Uses Used is.scope (kind_of is.tree))
           → Uses Used is.scope (kind_of is.tree)
       by_tree None _ found later = later found parts.1
       by_tree (Some first) first_is found later =
@@ -136,26 +136,26 @@ module _ (Used : Name → Type 0) where
 
   -- a name that no list declares which it stands under is used
   pub is_used : (scope : Scope) (name : Name) → declared_as scope name ≡ None → Uses Used scope (type.Named name) → Used name
-  is_used scope name nowhere uses = (subst (λ found. Each Used (free_or found name)) nowhere uses.within).0
+  is_used scope name nowhere uses = (subst (λ found. AllOf Used (free_or found name)) nowhere uses.within).0
 
   -- the first of some trees, and the others
-  first_tree : (scope : Scope) (is : Tree) (rest : Trees) → Each Used (free_in_trees scope (ATree is rest))
-      → Each Used (free_over scope) → Uses Used scope (kind_of is)
+  first_tree : (scope : Scope) (is : Tree) (rest : Trees) → AllOf Used (free_in_trees scope (ATree is rest))
+      → AllOf Used (free_over scope) → Uses Used scope (kind_of is)
   first_tree scope is rest within over =
       uses_tree scope is (each_parts Used (free_names scope is) (free_in_trees scope rest) within).0 over
 
-  other_trees : (scope : Scope) (is : Tree) (rest : Trees) → Each Used (free_in_trees scope (ATree is rest))
-      → Each Used (free_in_trees scope rest)
+  other_trees : (scope : Scope) (is : Tree) (rest : Trees) → AllOf Used (free_in_trees scope (ATree is rest))
+      → AllOf Used (free_in_trees scope rest)
   other_trees scope is rest within = (each_parts Used (free_names scope is) (free_in_trees scope rest) within).1
 
   -- what is written after the first of a tuple's trees, or of arrows'
-  tuple_of : (scope : Scope) (rest : Trees) → Each Used (free_in_trees scope rest) → Each Used (free_over scope)
+  tuple_of : (scope : Scope) (rest : Trees) → AllOf Used (free_in_trees scope rest) → AllOf Used (free_over scope)
       → Uses Used scope (tuple_rest rest)
   tuple_of scope NoTree within over = record { within = within; over = over }
   tuple_of scope (ATree is NoTree) within over = first_tree scope is NoTree within over
   tuple_of scope (ATree is (ATree other rest)) within over = record { within = within; over = over }
 
-  arrows_of : (scope : Scope) (rest : Trees) → Each Used (free_in_trees scope rest) → Each Used (free_over scope)
+  arrows_of : (scope : Scope) (rest : Trees) → AllOf Used (free_in_trees scope rest) → AllOf Used (free_over scope)
       → Uses Used scope (arrows_rest rest)
   arrows_of scope NoTree within over = record { within = within; over = over }
   arrows_of scope (ATree is NoTree) within over = first_tree scope is NoTree within over
@@ -185,14 +185,14 @@ module _ (Used : Name → Type 0) where
       by_content
       (each_parts Used (free_names scope tag ++ free_names scope attributes) (free_names scope content) uses.within)
     where
-      by_all : Each Used (free_names scope tag) × Each Used (free_names scope attributes)
-          → Each Used (free_names scope content) → XmlUses Used scope tag attributes content
+      by_all : AllOf Used (free_names scope tag) × AllOf Used (free_names scope attributes)
+          → AllOf Used (free_names scope content) → XmlUses Used scope tag attributes content
       by_all others last = record {
         tag_is = uses_tree scope tag others.0 uses.over;
         attributes_are = uses_tree scope attributes others.1 uses.over;
         content_is = uses_tree scope content last uses.over;
       }
 
-      by_content : Each Used (free_names scope tag ++ free_names scope attributes) × Each Used (free_names scope content)
+      by_content : AllOf Used (free_names scope tag ++ free_names scope attributes) × AllOf Used (free_names scope content)
           → XmlUses Used scope tag attributes content
       by_content parts = by_all (each_parts Used (free_names scope tag) (free_names scope attributes) parts.0) parts.1

@@ -3,7 +3,7 @@ use Rattle.std.proofs.Common.{[], ◌∷◌}
 use Rattle.cd_syntax.specs.declared.builtin.BuiltinName.TheVariants as builtin
 use Rattle.cd_syntax.specs.declared.tokens.Span.{Span}
 use Rattle.cd_syntax.specs.TypeTree.{Tree, tree, Builtin, Declarations}
-use Rattle.cd_model.specs.Each.{Each}
+use Rattle.cd_model.specs.AllOf.{AllOf}
 use Rattle.cd_model.specs.Guarded.{IsGuarded}
 use Rattle.cd_model.specs.Scope.{Scope, names_over}
 use Rattle.cd_names.specs.Faults.{Fault, IsPart, IsFault, IsFaultOfList}
@@ -18,6 +18,6 @@ no_fault : (outer scope : Scope) (span : Span) (fault : Fault) → IsFault outer
 no_fault outer scope span _ (fault.IsFault.in_part _ _ inner _ _ part _ is_part _) = no_part scope inner part is_part
 
 pub list_is_guarded : (base : Declarations) → ((fault : Fault) → IsFaultOfList [] (base ∷ []) base fault → ⊥)
-    → Each IsGuarded (names_over (base ∷ []))
+    → AllOf IsGuarded (names_over (base ∷ []))
 list_is_guarded base none = names_are_guarded base none (tree (record { from = 0; to = 0 }) (Builtin builtin.Any))
     (no_fault (base ∷ []) (base ∷ []) (record { from = 0; to = 0 }))

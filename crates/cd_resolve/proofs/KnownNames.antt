@@ -6,7 +6,7 @@ use Rattle.cd_syntax.specs.TypeTree as type
 use Rattle.cd_syntax.specs.TypeTree.{Declarations}
 use Rattle.cd_model.specs.Alike.{ReadAlike}
 use Rattle.cd_model.specs.Formula.{Graph, IsGraph, formula_at}
-use Rattle.cd_model.specs.Each.{Each}
+use Rattle.cd_model.specs.AllOf.{AllOf}
 use Rattle.cd_model.specs.Guarded.{IsGuarded}
 use Rattle.cd_model.specs.Interfaces.{admits}
 use Rattle.cd_model.specs.Scope.{Scope, Declared, declared_as, names_over}
@@ -69,7 +69,7 @@ module _ (Fact : Declared → Type 0) (guards : (is : Declared) → Fact is → 
 
 -- nodes that stand for names of a list of declarations, in each longer graph
 module _ (old : Graph) (sound : IsGraph old) (declarations : Declarations)
-    (guarded : Each IsGuarded (names_over (declarations ∷ []))) (names : List (Name × NodeId)) (Used : Name → Type 0)
+    (guarded : AllOf IsGuarded (names_over (declarations ∷ []))) (names : List (Name × NodeId)) (Used : Name → Type 0)
     (known : (name : Name) → Used name
     → (id : NodeId) × (node_of names name ≡ Some id) × StandsFor old id (type_named declarations name))
     (count : ℕ) (fits : length (names_over (declarations ∷ [])) ≤ count) (more : Graph) where

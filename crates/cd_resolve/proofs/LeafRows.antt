@@ -3,7 +3,7 @@ use Rattle.std.proofs.Common.{◌≡◌, ℕ, ◌+◌, List, [], ◌∷◌, ◌+
 use Rattle.std.proofs.lemmas.List.{append-nil, append_assoc, length-append, map-append}
 use Rattle.cd_sets.specs.declared.node_id.NodeId.{NodeId}
 use Rattle.cd_model.specs.BuiltIns.{node}
-use Rattle.cd_model.specs.Each.{Each}
+use Rattle.cd_model.specs.AllOf.{AllOf}
 use Rattle.cd_model.specs.Formula.{Formula, formula_at}
 use Rattle.cd_regex.specs.Regular.{Regular}
 use Rattle.cd_regex.specs.Sequences.{HoldsSequences}
@@ -11,8 +11,8 @@ use Rattle.cd_shapes.specs.declared.place.Place.{Place}
 use Rattle.cd_shapes.specs.declared.shape.Shape.{Shape as CodeShape}
 use Rattle.cd_shapes.specs.declared.shape.Shape.TheVariants as code
 use Rattle.cd_shapes.specs.Shape.{Shape, Leaf, Sequence, plain_shape}
-use Rattle.cd_resolve.specs.Batches.{HaveLeaves, none, kept, leaf}
-use Rattle.cd_resolve.specs.Closing.{IsNoSequence, over_nodes}
+use Rattle.cd_resolve.specs.Inner.Batches.{HaveLeaves, none, kept, leaf}
+use Rattle.cd_resolve.specs.Inner.Closing.{IsNoSequence, over_nodes}
 
 -- what is no sequence in the code is none
 no_sequence : (shape : CodeShape) → ((is : _) (places : _) → shape ≡ code.Sequence is places → ⊥) → IsNoSequence (plain_shape shape)
@@ -76,10 +76,10 @@ module _ (node_of : Place → NodeId) where
 
 -- a fact of each of some things that are made is one of the next
 pub next_has : {X Y : Type 0} (fact : Y → Type 0) (make : X → Y) (gone : List X) (next : X) (rest all : List X)
-    → gone ++ next ∷ rest ≡ all → Each fact (map make all) → fact (make next)
+    → gone ++ next ∷ rest ≡ all → AllOf fact (map make all) → fact (make next)
 next_has fact make gone next rest all same each =
-    here gone (subst (λ all. Each fact (map make all)) (sym same) each)
+    here gone (subst (λ all. AllOf fact (map make all)) (sym same) each)
   where
-    here : (gone : List _) → Each fact (map make (gone ++ next ∷ rest)) → fact (make next)
+    here : (gone : List _) → AllOf fact (map make (gone ++ next ∷ rest)) → fact (make next)
     here [] each = each.0
     here (one ∷ gone) each = here gone each.1

@@ -4,7 +4,7 @@ use Rattle.std.specs.List.{slice_get}
 use Rattle.std.proofs.lemmas.List.{append_assoc, length-append}
 use Rattle.std.proofs.lemmas.Option.{same_Some}
 use Rattle.cd_sets.specs.declared.node_id.NodeId.{NodeId}
-use Rattle.cd_model.specs.Each.{Each}
+use Rattle.cd_model.specs.AllOf.{AllOf}
 use Rattle.cd_model.specs.BuiltIns.{node}
 use Rattle.cd_model.specs.Formula.{Formula, IsFormula, formula_at}
 use Rattle.cd_regex.specs.Regular.{Regular}
@@ -12,15 +12,15 @@ use Rattle.cd_regex.specs.Sequences.{HoldsSequences}
 use Rattle.cd_shapes.specs.declared.place.Place.{Place}
 use Rattle.cd_shapes.specs.Shape.{Shape, Leaf, Pair, Xml, Record, Arrow, And, Or, Sequence}
 use Rattle.cd_shapes.specs.Reading.{IsShape}
-use Rattle.cd_resolve.specs.Batches.{HaveLeaves, none, kept, leaf}
-use Rattle.cd_resolve.specs.Closing.{IsNoSequence, over_nodes}
-use Rattle.cd_resolve.specs.Links.{numbers_under}
-use Rattle.cd_resolve.specs.Making.{IsPlaced}
+use Rattle.cd_resolve.specs.Inner.Batches.{HaveLeaves, none, kept, leaf}
+use Rattle.cd_resolve.specs.Inner.Closing.{IsNoSequence, over_nodes}
+use Rattle.cd_resolve.specs.Inner.Links.{numbers_under}
+use Rattle.cd_resolve.specs.Inner.Making.{IsPlaced}
 use Rattle.cd_resolve.proofs.Places.{placed}
 use Rattle.cd_resolve.proofs.SoundParts.{LeafIn, formula_among_more, each_among_more, each_append}
 
 -- the first of some formulas is one of a graph, if each is
-first_is : (nodes : ℕ) (batch : List Formula) → 0 < length batch → Each (IsFormula nodes) batch
+first_is : (nodes : ℕ) (batch : List Formula) → 0 < length batch → AllOf (IsFormula nodes) batch
     → IsFormula nodes (formula_at batch (node 0))
 first_is nodes [] some each = absurd (omega arith)
 first_is nodes (is ∷ batch) some each = each.0
@@ -56,7 +56,7 @@ module _ (node_of : Place → NodeId) where
   module _ (nodes names shapes : ℕ) where
     -- their places are there
     pub are_placed : (first : ℕ) (old new : List Shape) (batches : List Formula) → HaveLeaves node_of first old new batches
-        → Each (IsShape nodes names shapes) old → Each (IsPlaced nodes names shapes) new
+        → AllOf (IsShape nodes names shapes) old → AllOf (IsPlaced nodes names shapes) new
     are_placed _ _ _ _ (none first) each = tt
     are_placed _ _ _ _ (kept first shape old new batches is rest) each =
         (placed nodes names shapes shape each.0, are_placed first old new batches rest each.1)
@@ -66,7 +66,7 @@ module _ (node_of : Place → NodeId) where
     module _ (total : ℕ) where
       -- and the formulas of leaves are those of a graph that has all batches
       pub leaves_are_in : (first : ℕ) (old new : List Shape) (batches : List Formula) → HaveLeaves node_of first old new batches
-          → first + length batches ≤ total → Each (IsShape nodes names shapes) old → Each (LeafIn total) new
+          → first + length batches ≤ total → AllOf (IsShape nodes names shapes) old → AllOf (LeafIn total) new
       leaves_are_in _ _ _ _ (none first) within each = tt
       leaves_are_in _ _ _ _ (kept first shape old new batches is rest) within each =
           (leaf_in nodes names shapes total shape each.0, leaves_are_in first old new batches rest within each.1)
@@ -77,7 +77,7 @@ module _ (node_of : Place → NodeId) where
       )
 
   pub batches_are_in : (total first : ℕ) (old new : List Shape) (batches : List Formula) → HaveLeaves node_of first old new batches
-      → first + length batches ≤ total → Each (IsFormula total) batches
+      → first + length batches ≤ total → AllOf (IsFormula total) batches
   batches_are_in total _ _ _ _ (none first) within = tt
   batches_are_in total _ _ _ _ (kept first shape old new batches is rest) within =
       batches_are_in total first old new batches rest within

@@ -4,7 +4,7 @@ use Rattle.std.proofs.lemmas.Bool.{cases_eq, cases_lt}
 use Rattle.cd_sets.specs.declared.node_id.NodeId.{NodeId}
 use Rattle.cd_syntax.specs.Name.{Name}
 use Rattle.cd_syntax.specs.TypeTree.{Tree, Declarations, NoDeclaration, ADeclaration}
-use Rattle.cd_model.specs.Each.{Each, One}
+use Rattle.cd_model.specs.AllOf.{AllOf, AnyOf}
 use Rattle.cd_model.specs.Guarded.{IsGuarded}
 use Rattle.cd_model.specs.Scope.{Scope, Declared, names_in, names_declared, names_over}
 use Rattle.cd_model.specs.Written.{kind_of}
@@ -21,11 +21,11 @@ IsSeen seen is = IsGuarded is × IsIn is seen
 
 -- all names that these frames see have the fact
 abbrev pub IsOver : (Declared → Type 0) → Scope → Frames → Type 0
-IsOver Fact base frames = Each Fact (names_over (scope_of base frames))
+IsOver Fact base frames = AllOf Fact (names_over (scope_of base frames))
 
 -- what the lists that were met see are such names
-pub all_seen : (base : Scope) (seen : List Declared) → Each IsGuarded seen → (lists : List Frames) → AreSeen base seen lists
-    → Each (IsOver (IsSeen seen) base) lists
+pub all_seen : (base : Scope) (seen : List Declared) → AllOf IsGuarded seen → (lists : List Frames) → AreSeen base seen lists
+    → AllOf (IsOver (IsSeen seen) base) lists
 all_seen base seen guards [] are = tt
 all_seen base seen guards (frames ∷ lists) are = (
   of_each (IsSeen seen) (names_over (scope_of base frames))
@@ -44,7 +44,7 @@ module _ (names : List (Name × NodeId)) (base : Scope) (lists : List Frames) (t
   -- a number among those of a list has its declaration
   in_list : (frames : Frames) → IsOver Fact base frames → (first : ℕ) (declarations : Declarations)
       → AreRoots names lists tables frames first declarations
-      → Each Fact (names_declared (scope_of base frames) declarations)
+      → AllOf Fact (names_declared (scope_of base frames) declarations)
       → (number : ℕ) → first ≤ number → number < first + number_in declarations → Declares frames number
   in_list frames over first NoDeclaration roots each number fits less = absurd (omega arith)
   in_list frames over first (ADeclaration name at is rest) roots each number fits less =
@@ -53,8 +53,8 @@ module _ (names : List (Name × NodeId)) (base : Scope) (lists : List Frames) (t
       (λ each fits. in_list frames over (first + 1) rest roots.1 each number fits (omega arith))
     where
       by_number : (first ≡ number) ⊎ (first ≡ number → ⊥)
-          → Each Fact (names_in (scope_of base frames) is) × Each Fact (names_declared (scope_of base frames) rest)
-          → (Each Fact (names_declared (scope_of base frames) rest) → first + 1 ≤ number → Declares frames number)
+          → AllOf Fact (names_in (scope_of base frames) is) × AllOf Fact (names_declared (scope_of base frames) rest)
+          → (AllOf Fact (names_declared (scope_of base frames) rest) → first + 1 ≤ number → Declares frames number)
           → Declares frames number
       by_number (inl same) parts later = subst (Declares frames) same (record {
         tree = is;
@@ -70,8 +70,8 @@ module _ (names : List (Name × NodeId)) (base : Scope) (lists : List Frames) (t
     pub is : Declares frames number
 
   -- and a number from the first on has its list
-  in_lists : (first : ℕ) (all : List Frames) → HaveRoots names lists tables first all → Each (IsOver Fact base) all
-      → ((frames : Frames) → One (λ met. met ≡ frames) all → One (λ met. met ≡ frames) lists)
+  in_lists : (first : ℕ) (all : List Frames) → HaveRoots names lists tables first all → AllOf (IsOver Fact base) all
+      → ((frames : Frames) → AnyOf (λ met. met ≡ frames) all → AnyOf (λ met. met ≡ frames) lists)
       → (number : ℕ) → first ≤ number → number < length tables.roots → IsDeclared number
   in_lists first [] have over among number fits less = absurd (omega arith)
   in_lists first ([] ∷ rest) have over among number fits less = elim have [ ]
@@ -93,6 +93,6 @@ module _ (names : List (Name × NodeId)) (base : Scope) (lists : List Frames) (t
       by_number (inr there) later = later there
 
   -- each number of a name does, where all names that lists see have the fact
-  pub is_declared : HaveRoots names lists tables 0 lists → Each (IsOver Fact base) lists → (number : ℕ)
+  pub is_declared : HaveRoots names lists tables 0 lists → AllOf (IsOver Fact base) lists → (number : ℕ)
       → number < length tables.roots → IsDeclared number
   is_declared have over number less = in_lists 0 lists have over (λ frames one. one) number (omega arith) less

@@ -5,7 +5,7 @@ use Rattle.std.proofs.lemmas.Option.{none-some, same_Some}
 use Rattle.std.specs.List.{slice_get}
 use Rattle.cd_sets.specs.declared.node_id.NodeId.{NodeId}
 use Rattle.cd_syntax.specs.Name.{Name}
-use Rattle.cd_model.specs.Each.{Each}
+use Rattle.cd_model.specs.AllOf.{AllOf}
 use Rattle.cd_model.specs.Guarded.{IsGuarded}
 use Rattle.cd_model.specs.Scope.{Scope, Declared}
 use Rattle.cd_order.specs.Order as order
@@ -14,8 +14,8 @@ use Rattle.cd_shapes.specs.Frames.{Frames}
 use Rattle.cd_shapes.specs.Shape.{Shape}
 use Rattle.cd_shapes.specs.Shaped.{Tables}
 use Rattle.cd_shapes.specs.Reading.{IsShape, AreShapes, AreSound, IsReading}
-use Rattle.cd_resolve.specs.Closing.{size_of}
-use Rattle.cd_resolve.specs.Links.{links}
+use Rattle.cd_resolve.specs.Inner.Closing.{size_of}
+use Rattle.cd_resolve.specs.Inner.Links.{links}
 use Rattle.cd_resolve.proofs.EndsOfLists.{ends_by_row}
 use Rattle.cd_resolve.proofs.EndsOfNames.{root_ends, place_ends}
 use Rattle.cd_resolve.proofs.LinksDeclared.{IsSeen, IsDeclared, all_seen, is_declared}
@@ -28,7 +28,7 @@ rows nodes tables sound = all_known nodes tables sound
 
 -- all ways from a name end
 name_ends : (names : List (Name × NodeId)) (base : Scope) (seen : List Declared) (lists : List Frames) (tables : Tables)
-    → IsReading names base seen lists tables → Each IsGuarded seen → (number : ℕ) → number < length tables.roots
+    → IsReading names base seen lists tables → AllOf IsGuarded seen → (number : ℕ) → number < length tables.roots
     → Ends (links tables) number
 name_ends names base seen lists tables reading guards number less =
     by_list (is_declared names base lists tables (IsSeen seen) reading.roots
@@ -91,7 +91,7 @@ module _ (tables : Tables) (nodes : ℕ) (sound : AreSound nodes tables)
 -- where names are guarded, all ways from a name and from a shape end
 pub ends : (names : List (Name × NodeId)) (base : Scope) (seen : List Declared) (lists : List Frames) (tables : Tables)
     (nodes : ℕ)
-    → IsReading names base seen lists tables → AreSound nodes tables → Each IsGuarded seen
+    → IsReading names base seen lists tables → AreSound nodes tables → AllOf IsGuarded seen
     → (number : ℕ) → number < size_of tables → Ends (links tables) number
 ends names base seen lists tables nodes reading sound guards number less =
     each_ends tables nodes sound (name_ends names base seen lists tables reading guards) number less

@@ -3,14 +3,14 @@ use Rattle.std.proofs.Common.{◌≡◌, ℕ, zero, suc, ◌+◌, ◌<◌, ◌�
 use Rattle.std.proofs.lemmas.List.{length-append, length-map}
 use Rattle.cd_model.specs.Each as model
 use Rattle.cd_model.proofs.Covered.{each_both}
-use Rattle.cd_order.specs.Order.{Each, row, AreRows}
+use Rattle.cd_order.specs.Order.{AllOf, row, AreRows}
 use Rattle.cd_shapes.specs.declared.place.Place.{Place}
 use Rattle.cd_shapes.specs.declared.place.Place.TheVariants as place
 use Rattle.cd_shapes.specs.Shape.{Shape, Leaf, Pair, Xml, Record, Arrow, And, Or, Sequence}
 use Rattle.cd_shapes.specs.Shaped.{Tables}
 use Rattle.cd_shapes.specs.Reading.{IsPlace, IsShape, AreShapes, AreSound}
-use Rattle.cd_resolve.specs.Closing.{size_of}
-use Rattle.cd_resolve.specs.Links.{numbers_at, numbers_of, numbers_under, links}
+use Rattle.cd_resolve.specs.Inner.Closing.{size_of}
+use Rattle.cd_resolve.specs.Inner.Links.{numbers_at, numbers_of, numbers_under, links}
 use Rattle.cd_resolve.proofs.EndsOfLists.{each_of_both}
 
 -- there are as many rows as names and shapes
@@ -26,27 +26,27 @@ as_many tables =
 module _ (nodes names before : ℕ) (Fact : ℕ → Type 0) (named : (number : ℕ) → number < names → Fact number)
     (shaped : (number : ℕ) → number < before → Fact (names + number)) where
   -- what holds of each name and of each shape before this one holds of the numbers at a place
-  pub each_at : (at : Place) → IsPlace nodes names before at → Each Fact (numbers_at names at)
+  pub each_at : (at : Place) → IsPlace nodes names before at → AllOf Fact (numbers_at names at)
   each_at (place.Node id) is = tt
   each_at (place.Declared first index) is = (named (first + index) is, tt)
   each_at (place.Shape number) is = (shaped number is, tt)
 
   -- at some places
-  each_of : (places : List Place) → model.Each (IsPlace nodes names before) places → Each Fact (numbers_of names places)
+  each_of : (places : List Place) → model.Each (IsPlace nodes names before) places → AllOf Fact (numbers_of names places)
   each_of [] each = tt
   each_of (at ∷ places) each =
       each_of_both Fact (numbers_at names at) (numbers_of names places) (each_at at each.0) (each_of places each.1)
 
   -- at places after signs
   each_signed : (signs : List (Bool × Place)) → model.Each (λ sign. IsPlace nodes names before sign.1) signs
-      → Each Fact (numbers_of names (map (λ sign. sign.1) signs))
+      → AllOf Fact (numbers_of names (map (λ sign. sign.1) signs))
   each_signed [] each = tt
   each_signed (sign ∷ signs) each =
       each_of_both Fact (numbers_at names sign.1) (numbers_of names (map (λ sign. sign.1) signs))
       (each_at sign.1 each.0) (each_signed signs each.1)
 
   -- and of what a shape stands over
-  pub each_under : (shape : Shape) → IsShape nodes names before shape → Each Fact (numbers_under names shape)
+  pub each_under : (shape : Shape) → IsShape nodes names before shape → AllOf Fact (numbers_under names shape)
   each_under (Leaf formula) is = tt
   each_under (Pair first second) is = tt
   each_under (Xml tag attributes content) is = tt
@@ -58,7 +58,7 @@ module _ (nodes names before : ℕ) (Fact : ℕ → Type 0) (named : (number : �
 
 -- each of the numbers in a row is below this one
 abbrev pub AllBelow : ℕ → List ℕ → Type 0
-AllBelow most numbers = Each (λ next. next < most) numbers
+AllBelow most numbers = AllOf (λ next. next < most) numbers
 
 module _ (nodes names shapes : ℕ) where
   -- those that names lead to

@@ -6,7 +6,7 @@ use Rattle.cd_order.specs.Order.{row}
 use Rattle.cd_shapes.specs.declared.place.Place.{Place}
 use Rattle.cd_shapes.specs.Shape.{Shape}
 use Rattle.cd_shapes.specs.Shaped.{Tables}
-use Rattle.cd_resolve.specs.Links.{numbers_at, numbers_under, links}
+use Rattle.cd_resolve.specs.Inner.Links.{numbers_at, numbers_under, links}
 
 -- the row of a thing in a list whose rows are made one by one, before rows of others
 row_in : {X : Type 0} (made : X → List ℕ) (things : List X) (others : List (List ℕ)) (number : ℕ) (is : X)

@@ -4,7 +4,7 @@ use Rattle.cd_sets.specs.declared.node_id.NodeId.{NodeId}
 use Rattle.cd_syntax.specs.Name.{Name}
 use Rattle.cd_syntax.specs.declared.tokens.Span.{Span}
 use Rattle.cd_syntax.specs.TypeTree.{Tree, tree, Kind, Builtin, Ints, Chars, Atom, Text, Tuple, Arrows, Union, Meet, Sequence, Record, Xml, Named, Where, Variable, Default, Trees, NoTree, ATree, Signs, NoSign, ASign, Fields, NoField, AField, Declarations, NoDeclaration, ADeclaration, Regular, regular, RegularKind, Nothing, Item, Seq, Alt, Repeat, Capture, Regulars, NoRegular, ARegular}
-use Rattle.cd_model.specs.Each.{Each}
+use Rattle.cd_model.specs.AllOf.{AllOf}
 use Rattle.cd_model.specs.Formula.{Graph}
 use Rattle.cd_model.specs.Guarded.{IsOneOf, IsSigned}
 use Rattle.cd_model.specs.Guarded as guarded
@@ -44,7 +44,7 @@ module _ (base : Scope) (outer : Scope) (Used : Name → Type 0)
 
   -- a name that no inner list declares
   in_name : (inner : Scope) (span : Span) (name : Name) → NoFault inner (tree span (Named name))
-      → (found : Option Declared) → declared_as inner name ≡ found → Each Used (free_or found name)
+      → (found : Option Declared) → declared_as inner name ≡ found → AllOf Used (free_or found name)
   in_name inner span name none (Some is) found = tt
   in_name inner span name none None free = (
     declared name (λ nowhere. none _
@@ -54,7 +54,7 @@ module _ (base : Scope) (outer : Scope) (Used : Name → Type 0)
 
   -- down the tree, with no fault in each part
   mutual
-    pub each_in : (inner : Scope) (is : Tree) → NoFault inner is → Each Used (free_names inner is)
+    pub each_in : (inner : Scope) (is : Tree) → NoFault inner is → AllOf Used (free_names inner is)
     each_in inner (tree span kind) none = each_in_kind inner span kind none
         (λ scope part is_part wrong is. none wrong
         (fault.IsFault.in_part outer (inner ++ base) scope span kind part wrong is_part is))
@@ -62,7 +62,7 @@ module _ (base : Scope) (outer : Scope) (Used : Name → Type 0)
     each_in_kind : (inner : Scope) (span : Span) (kind : Kind) → NoFault inner (tree span kind)
         → ((scope : Scope) (part : Tree) → IsPart (inner ++ base) kind scope part
         → (fault : Fault) → IsFault outer scope part fault → ⊥)
-        → Each Used (free_in_kind inner kind)
+        → AllOf Used (free_in_kind inner kind)
     each_in_kind inner span (Tuple trees) none parts = each_in_trees inner trees
         (λ part one. parts (inner ++ base) part (fault.IsPart.in_tuple (inner ++ base) part trees one))
     each_in_kind inner span (Arrows trees) none parts = each_in_trees inner trees
@@ -105,7 +105,7 @@ module _ (base : Scope) (outer : Scope) (Used : Name → Type 0)
     each_in_kind inner span (Default _ _) none parts = tt
 
     each_in_trees : (inner : Scope) (trees : Trees) → ((part : Tree) → IsOneOf part trees → NoFault inner part)
-        → Each Used (free_in_trees inner trees)
+        → AllOf Used (free_in_trees inner trees)
     each_in_trees inner NoTree parts = tt
     each_in_trees inner (ATree first rest) parts =
         each_both Used (free_names inner first) (free_in_trees inner rest)
@@ -113,7 +113,7 @@ module _ (base : Scope) (outer : Scope) (Used : Name → Type 0)
         (each_in_trees inner rest (λ part one. parts part (guarded.IsOneOf.later part first rest one)))
 
     each_in_signs : (inner : Scope) (signs : Signs) → ((part : Tree) → IsSigned part signs → NoFault inner part)
-        → Each Used (free_in_signs inner signs)
+        → AllOf Used (free_in_signs inner signs)
     each_in_signs inner NoSign parts = tt
     each_in_signs inner (ASign kept first rest) parts =
         each_both Used (free_names inner first) (free_in_signs inner rest)
@@ -122,7 +122,7 @@ module _ (base : Scope) (outer : Scope) (Used : Name → Type 0)
 
     each_in_fields : (inner : Scope) (fields : Fields)
         → ((label : Name) (at : ℕ) (part : Tree) → IsField label at part fields → NoFault inner part)
-        → Each Used (free_in_fields inner fields)
+        → AllOf Used (free_in_fields inner fields)
     each_in_fields inner NoField parts = tt
     each_in_fields inner (AField label at optional first rest) parts =
         each_both Used (free_names inner first) (free_in_fields inner rest)
@@ -131,7 +131,7 @@ module _ (base : Scope) (outer : Scope) (Used : Name → Type 0)
         (fault.IsField.later other label there at optional part first rest one)))
 
     each_in_declared : (inner : Scope) (declarations : Declarations) → NoneIn inner declarations
-        → Each Used (free_in_declared inner declarations)
+        → AllOf Used (free_in_declared inner declarations)
     each_in_declared inner NoDeclaration none = tt
     each_in_declared inner (ADeclaration name at is rest) none =
         each_both Used (free_names inner is) (free_in_declared inner rest)
@@ -140,12 +140,12 @@ module _ (base : Scope) (outer : Scope) (Used : Name → Type 0)
         (fault.IsDeclared.later other name there at one is rest is_one)))
 
     each_in_regular : (inner : Scope) (is : Regular) → ((part : Tree) → IsItem part is → NoFault inner part)
-        → Each Used (free_in_regular inner is)
+        → AllOf Used (free_in_regular inner is)
     each_in_regular inner (regular span kind) parts = each_in_regular_kind inner span kind parts
 
     each_in_regular_kind : (inner : Scope) (span : Span) (kind : RegularKind)
         → ((part : Tree) → IsItem part (regular span kind) → NoFault inner part)
-        → Each Used (free_in_regular_kind inner kind)
+        → AllOf Used (free_in_regular_kind inner kind)
     each_in_regular_kind inner span Nothing parts = tt
     each_in_regular_kind inner span (Item is) parts = each_in inner is (parts is (fault.IsItem.item span is))
     each_in_regular_kind inner span (Seq all) parts = each_in_regulars inner all
@@ -158,7 +158,7 @@ module _ (base : Scope) (outer : Scope) (Used : Name → Type 0)
         (λ part one. parts part (fault.IsItem.captured span part name all one))
 
     each_in_regulars : (inner : Scope) (all : Regulars) → ((part : Tree) → IsItemOfOne part all → NoFault inner part)
-        → Each Used (free_in_regulars inner all)
+        → AllOf Used (free_in_regulars inner all)
     each_in_regulars inner NoRegular parts = tt
     each_in_regulars inner (ARegular first rest) parts =
         each_both Used (free_in_regular inner first) (free_in_regulars inner rest)

@@ -5,7 +5,7 @@ use Rattle.std.specs.Option.{option_map}
 use Rattle.cd_sets.specs.declared.node_id.NodeId.{NodeId}
 use Rattle.cd_syntax.specs.Name.{Name}
 use Rattle.cd_syntax.specs.TypeTree.{Tree, Declarations, NoDeclaration, ADeclaration}
-use Rattle.cd_model.specs.Each.{One}
+use Rattle.cd_model.specs.AllOf.{AnyOf}
 use Rattle.cd_model.specs.Scope.{Scope, Declared, tree_in, declared_or, declared_as}
 use Rattle.cd_shapes.specs.declared.place.Place.{Place}
 use Rattle.cd_shapes.specs.declared.place.Place.TheVariants as place
@@ -57,7 +57,7 @@ module _ (names : List (Name × NodeId)) (lists : List Frames) (tables : Tables)
 
   -- each list that was met has its names' roots from its own number on
   met_roots : (number : ℕ) (some : List Frames) (frame : Frame) (outer : Frames) → HaveRoots names lists tables number some
-      → One (λ met. met ≡ frame ∷ outer) some → AreRoots names lists tables (frame ∷ outer) frame.first frame.declarations
+      → AnyOf (λ met. met ≡ frame ∷ outer) some → AreRoots names lists tables (frame ∷ outer) frame.first frame.declarations
   met_roots number [] frame outer roots met = elim met [ ]
   met_roots number ([] ∷ rest) frame outer roots met = elim roots [ ]
   met_roots number ((one ∷ round) ∷ rest) frame outer roots (inr later) =

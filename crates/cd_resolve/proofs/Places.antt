@@ -3,7 +3,7 @@ use Rattle.std.proofs.Common.{◌≡◌, ℕ, zero, suc, ◌+◌, ◌<◌, ◌�
 use Rattle.std.specs.List.{slice_get}
 use Rattle.cd_sets.specs.declared.node_id.NodeId.{NodeId}
 use Rattle.cd_syntax.specs.Name.{Name}
-use Rattle.cd_model.specs.Each.{Each}
+use Rattle.cd_model.specs.AllOf.{AllOf}
 use Rattle.cd_model.specs.Formula.{AreRisingLabels}
 use Rattle.cd_shapes.specs.declared.place.Place.{Place}
 use Rattle.cd_shapes.specs.declared.place.Place.TheVariants as place
@@ -12,31 +12,31 @@ use Rattle.cd_shapes.specs.Shape.{Shape, Leaf, Pair, Xml, Record, Arrow, And, Or
 use Rattle.cd_shapes.specs.Shaped.{Tables}
 use Rattle.cd_shapes.specs.Reading.{IsPlace, IsShape, AreShapes, AreSound, AreRising}
 use Rattle.cd_resolve.specs.declared.counts.Counts.{Counts}
-use Rattle.cd_resolve.specs.Closing.{field_at}
-use Rattle.cd_resolve.specs.Making.{Counted, IsPlaced, ArePlaced}
+use Rattle.cd_resolve.specs.Inner.Closing.{field_at}
+use Rattle.cd_resolve.specs.Inner.Making.{Counted, IsPlaced, ArePlaced}
 
 -- a fact that follows from another of each
 pub each_follows : {X : Type 0} (fact other : X → Type 0) → ((one : X) → fact one → other one) → (list : List X)
-    → Each fact list → Each other list
+    → AllOf fact list → AllOf other list
 each_follows fact other follows [] each = tt
 each_follows fact other follows (one ∷ rest) each = (follows one each.0, each_follows fact other follows rest each.1)
 
 -- a fact of each is one of what is at a place
 pub each_at : {X : Type 0} (fact : X → Type 0) (list : List X) (index : ℕ) (is : X) → slice_get list index ≡ Some is
-    → Each fact list → fact is
+    → AllOf fact list → fact is
 each_at fact [] index is at each = absurd (cc)
 each_at fact (one ∷ rest) zero is at each = let same : one ≡ is = cc in subst fact same each.0
 each_at fact (one ∷ rest) (suc index) is at each = each_at fact rest index is at each.1
 
 pub each_read : {X : Type 0} (fact : X → Type 0) (list : List X) (index : ℕ) (is : X) → index < length list
-    → is ≡ get_or list index is → Each fact list → fact is
+    → is ≡ get_or list index is → AllOf fact list → fact is
 each_read fact [] index is below at each = absurd (omega arith)
 each_read fact (one ∷ rest) zero is below at each = subst fact (sym at) each.0
 each_read fact (one ∷ rest) (suc index) is below at each = each_read fact rest index is (omega arith) at each.1
 
 -- a fact of each that was made of a list
 pub each_made : {X Y : Type 0} (fact : Y → Type 0) (make : X → Y) (list : List X) (index : ℕ) (is : X) → index < length list
-    → is ≡ get_or list index is → Each fact (map make list) → fact (make is)
+    → is ≡ get_or list index is → AllOf fact (map make list) → fact (make is)
 each_made fact make [] index is below at each = absurd (omega arith)
 each_made fact make (one ∷ rest) zero is below at each = subst (λ one. fact (make one)) (sym at) each.0
 each_made fact make (one ∷ rest) (suc index) is below at each = each_made fact make rest index is (omega arith) at each.1
@@ -82,7 +82,7 @@ shape_among_more nodes names before top (Sequence regular places) more is = (
 
 -- each shape is one among all
 pub shapes_among_all : (nodes names before top : ℕ) (shapes : List Shape) → before + length shapes ≤ top
-    → AreShapes nodes names before shapes → Each (IsShape nodes names top) shapes
+    → AreShapes nodes names before shapes → AllOf (IsShape nodes names top) shapes
 shapes_among_all nodes names before top [] within are = tt
 shapes_among_all nodes names before top (shape ∷ shapes) within are = (
   shape_among_more nodes names before top shape (omega arith) are.0,
@@ -98,9 +98,9 @@ labels_rise node_of before (field ∷ named) rising =
 
 -- the shapes of sound tables are shapes among all
 pub sound_shapes : (counts : Counts) (tables : Tables) → AreSound counts.nodes tables → Counted counts tables
-    → Each (IsShape counts.nodes counts.names counts.shapes) tables.shapes
+    → AllOf (IsShape counts.nodes counts.names counts.shapes) tables.shapes
 sound_shapes counts tables sound counted =
-    subst (λ (names : ℕ). Each (IsShape counts.nodes names counts.shapes) tables.shapes) (sym counted.names)
+    subst (λ (names : ℕ). AllOf (IsShape counts.nodes names counts.shapes) tables.shapes) (sym counted.names)
     (shapes_among_all counts.nodes (length tables.roots) 0 counts.shapes tables.shapes (omega arith) sound.shapes)
 
 -- shapes are placed
@@ -116,15 +116,15 @@ placed nodes names shapes (Sequence regular places) is = is
 
 -- the shapes and the roots of tables whose places are there
 pub placed_shapes : (counts : Counts) (tables : Tables) → ArePlaced counts.nodes tables → Counted counts tables
-    → Each (IsPlaced counts.nodes counts.names counts.shapes) tables.shapes
+    → AllOf (IsPlaced counts.nodes counts.names counts.shapes) tables.shapes
 placed_shapes counts tables are counted =
-    subst (λ (names : ℕ). Each (IsPlaced counts.nodes names counts.shapes) tables.shapes) (sym counted.names)
-    (subst (λ (shapes : ℕ). Each (IsPlaced counts.nodes (length tables.roots) shapes) tables.shapes) (sym counted.shapes)
+    subst (λ (names : ℕ). AllOf (IsPlaced counts.nodes names counts.shapes) tables.shapes) (sym counted.names)
+    (subst (λ (shapes : ℕ). AllOf (IsPlaced counts.nodes (length tables.roots) shapes) tables.shapes) (sym counted.shapes)
     are.shapes)
 
 pub placed_roots : (counts : Counts) (tables : Tables) → ArePlaced counts.nodes tables → Counted counts tables
-    → Each (IsPlace counts.nodes counts.names counts.shapes) tables.roots
+    → AllOf (IsPlace counts.nodes counts.names counts.shapes) tables.roots
 placed_roots counts tables are counted =
-    subst (λ (names : ℕ). Each (IsPlace counts.nodes names counts.shapes) tables.roots) (sym counted.names)
-    (subst (λ (shapes : ℕ). Each (IsPlace counts.nodes (length tables.roots) shapes) tables.roots) (sym counted.shapes)
+    subst (λ (names : ℕ). AllOf (IsPlace counts.nodes names counts.shapes) tables.roots) (sym counted.names)
+    (subst (λ (shapes : ℕ). AllOf (IsPlace counts.nodes (length tables.roots) shapes) tables.roots) (sym counted.shapes)
     are.roots)

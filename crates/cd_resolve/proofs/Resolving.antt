@@ -6,7 +6,7 @@ use Rattle.cd_sets.specs.declared.node_id.NodeId.{NodeId}
 use Rattle.cd_syntax.specs.Name.{Name}
 use Rattle.cd_syntax.specs.TypeTree.{Tree, tree, Kind, Named, Declarations}
 use Rattle.cd_model.specs.BuiltIns.{built_ins, node}
-use Rattle.cd_model.specs.Each.{One}
+use Rattle.cd_model.specs.AllOf.{AnyOf}
 use Rattle.cd_model.specs.Formula.{Graph, IsGraph, formula_at}
 use Rattle.cd_model.specs.Scope.{names_in, names_over, names_seen}
 use Rattle.cd_model.specs.StandsFor.{StandsFor}
@@ -20,8 +20,8 @@ use Rattle.cd_shapes.specs.Frames.{Frames, index_in, given, declared_or, place_o
 use Rattle.cd_shapes.specs.Shaped.{Tables, Shaped}
 use Rattle.cd_shapes.specs.Reading.{IsReading, AreSound, IsPlace, base_lists}
 use Rattle.cd_order.specs.Order.{Ends}
-use Rattle.cd_resolve.specs.Closing.{size_of, Closes, AgreesWith, node_at}
-use Rattle.cd_resolve.specs.Links.{links}
+use Rattle.cd_resolve.specs.Inner.Closing.{size_of, Closes, AgreesWith, node_at}
+use Rattle.cd_resolve.specs.Inner.Links.{links}
 use Rattle.cd_resolve.specs.Free.{free_names}
 use Rattle.cd_resolve.specs.Named.{numbered, type_named, AreNamed, AreKnown}
 use Rattle.cd_resolve.proofs.FreeNames.{Uses, every_name, one_name, each_name, uses_tree}
@@ -138,7 +138,7 @@ module _ (declarations : Declarations) (none : (fault : Fault) → IsFaultOfList
 
   -- the names that are free in it
   abbrev IsUsed : Name → Type 0
-  IsUsed name = One (λ other. other ≡ name) (free_names [] is)
+  IsUsed name = AnyOf (λ other. other ≡ name) (free_names [] is)
 
   uses : Uses IsUsed [] (kind_of is)
   uses = uses_tree IsUsed [] is (each_name IsUsed (free_names [] is) (λ name used. used)) tt

@@ -4,7 +4,7 @@ use Rattle.std.specs.List.{slice_get}
 use Rattle.std.specs.Option.{unwrap_or}
 use Rattle.std.proofs.lemmas.List.{append-nil, length-set}
 use Rattle.cd_sets.specs.declared.node_id.NodeId.{NodeId}
-use Rattle.cd_model.specs.Each.{Each}
+use Rattle.cd_model.specs.AllOf.{AllOf}
 use Rattle.cd_model.specs.BuiltIns.{node}
 use Rattle.cd_model.specs.Formula as formula
 use Rattle.cd_model.specs.Formula.{Graph, Formula, Nothing, formula_at, formulas_of}
@@ -14,9 +14,9 @@ use Rattle.cd_shapes.specs.declared.place.Place.{Place}
 use Rattle.cd_shapes.specs.declared.place.Place.TheVariants as place
 use Rattle.cd_shapes.specs.Shape.{Shape, Leaf, Pair, Xml, Record, Arrow, And, Or, Sequence}
 use Rattle.cd_shapes.specs.Shaped.{Tables}
-use Rattle.cd_resolve.specs.Closing.{node_at, signed, made}
-use Rattle.cd_resolve.specs.Links.{numbers_at, numbers_of, numbers_under, links}
-use Rattle.cd_resolve.specs.Making.{Item, Root, Made, items, so_far, of_number, filled}
+use Rattle.cd_resolve.specs.Inner.Closing.{node_at, signed, made}
+use Rattle.cd_resolve.specs.Inner.Links.{numbers_at, numbers_of, numbers_under, links}
+use Rattle.cd_resolve.specs.Inner.Making.{Item, Root, Made, items, so_far, of_number, filled}
 
 -- the numbers that the formula of what has a number is made of
 abbrev pub numbers_in : (names : ℕ) → Item → List ℕ
@@ -41,17 +41,17 @@ rows_are_links tables = rows_of (length tables.roots) tables.roots tables.shapes
 
 -- what a shape that is a connective stands over has this fact
 abbrev pub Under : (Place → Type 0) → Shape → Type 0
-Under fact (And signs) = Each (λ sign. fact sign.1) signs
-Under fact (Or places) = Each fact places
+Under fact (And signs) = AllOf (λ sign. fact sign.1) signs
+Under fact (Or places) = AllOf fact places
 Under fact shape = Unit {0}
 
-signs_same : (one other : Place → Formula) (signs : List (Bool × Place)) → Each (λ sign. one sign.1 ≡ other sign.1) signs
+signs_same : (one other : Place → Formula) (signs : List (Bool × Place)) → AllOf (λ sign. one sign.1 ≡ other sign.1) signs
     → map (λ sign. signed sign.0 (one sign.1)) signs ≡ map (λ sign. signed sign.0 (other sign.1)) signs
 signs_same one other [] same = refl
 signs_same one other (sign ∷ signs) same = ap₂ (λ (first : Formula) (rest : List Formula). first ∷ rest)
     (ap (signed sign.0) same.0) (signs_same one other signs same.1)
 
-places_same : (one other : Place → Formula) (places : List Place) → Each (λ at. one at ≡ other at) places
+places_same : (one other : Place → Formula) (places : List Place) → AllOf (λ at. one at ≡ other at) places
     → map one places ≡ map other places
 places_same one other [] same = refl
 places_same one other (at ∷ places) same =
@@ -128,7 +128,7 @@ module _ (old : Graph) (first names : ℕ) where
   place_same one other (place.Shape number) same = same (names + number) (inl refl)
 
   all_same : (one other : List Formula) (places : List Place) → Same one other (numbers_of names places)
-      → Each (λ at. so_far old first names one at ≡ so_far old first names other at) places
+      → AllOf (λ at. so_far old first names one at ≡ so_far old first names other at) places
   all_same one other [] same = tt
   all_same one other (at ∷ places) same = (
     place_same one other at (λ number is. same number (one_of_first number (numbers_at names at) _ is)),
@@ -137,7 +137,7 @@ module _ (old : Graph) (first names : ℕ) where
 
   all_signs_same : (one other : List Formula) (signs : List (Bool × Place))
       → Same one other (numbers_of names (map (λ sign. sign.1) signs))
-      → Each (λ sign. so_far old first names one sign.1 ≡ so_far old first names other sign.1) signs
+      → AllOf (λ sign. so_far old first names one sign.1 ≡ so_far old first names other sign.1) signs
   all_signs_same one other [] same = tt
   all_signs_same one other (sign ∷ signs) same = (
     place_same one other sign.1 (λ number is. same number (one_of_first number (numbers_at names sign.1) _ is)),

@@ -3,7 +3,7 @@ use Rattle.std.proofs.Common.{ℕ, zero, suc, ◌+◌, ◌<◌, ◌≤◌, Bool,
 use Rattle.std.specs.List.{slice_get}
 use Rattle.std.specs.Option.{unwrap_or}
 use Rattle.cd_syntax.specs.Name.{Name}
-use Rattle.cd_model.specs.Each.{Each}
+use Rattle.cd_model.specs.AllOf.{AllOf}
 use Rattle.cd_model.specs.Formula as formula
 use Rattle.cd_model.specs.Formula.{Graph, Formula, Formulas, Nothing, Everything, Ints, Chars, Atoms, Not, NoFormula, AFormula, Field, IsFormula, AreFormulas, formula_at, formulas_of}
 use Rattle.cd_shapes.specs.declared.place.Place.{Place}
@@ -13,8 +13,8 @@ use Rattle.cd_shapes.specs.Shape.{Shape, Leaf, Pair, Xml, Record, Arrow, And, Or
 use Rattle.cd_shapes.specs.Shaped.{Tables}
 use Rattle.cd_shapes.specs.Reading.{IsPlace}
 use Rattle.cd_resolve.specs.declared.counts.Counts.{Counts}
-use Rattle.cd_resolve.specs.Closing.{node_at, field_at, signed, made}
-use Rattle.cd_resolve.specs.Making.{Fit, Counted, IsPlaced, ArePlaced, Item, Root, Made, items, so_far, of_number, filled}
+use Rattle.cd_resolve.specs.Inner.Closing.{node_at, field_at, signed, made}
+use Rattle.cd_resolve.specs.Inner.Making.{Fit, Counted, IsPlaced, ArePlaced, Item, Root, Made, items, so_far, of_number, filled}
 use Rattle.cd_resolve.proofs.Places.{each_follows, labels_rise, placed_roots, placed_shapes}
 
 -- a formula of a graph is one of a longer graph
@@ -44,32 +44,32 @@ mutual
   formulas_among_more nodes more larger (AFormula is rest) sound =
       (formula_among_more nodes more larger is sound.0, formulas_among_more nodes more larger rest sound.1)
 
-pub each_among_more : (nodes more : ℕ) → nodes ≤ more → (graph : Graph) → Each (IsFormula nodes) graph
-    → Each (IsFormula more) graph
+pub each_among_more : (nodes more : ℕ) → nodes ≤ more → (graph : Graph) → AllOf (IsFormula nodes) graph
+    → AllOf (IsFormula more) graph
 each_among_more nodes more larger graph each =
     each_follows (IsFormula nodes) (IsFormula more) (formula_among_more nodes more larger) graph each
 
 -- the formula of any number is one of the graph
-at_is_formula : (nodes : ℕ) (graph : Graph) (number : ℕ) → Each (IsFormula nodes) graph
+at_is_formula : (nodes : ℕ) (graph : Graph) (number : ℕ) → AllOf (IsFormula nodes) graph
     → IsFormula nodes (unwrap_or (slice_get graph number) Nothing)
 at_is_formula nodes [] number each = tt
 at_is_formula nodes (is ∷ graph) zero each = each.0
 at_is_formula nodes (is ∷ graph) (suc number) each = at_is_formula nodes graph number each.1
 
 -- each is a fact where one is put in its place
-each_set : {X : Type 0} (fact : X → Type 0) (list : List X) (index : ℕ) (is : X) → fact is → Each fact list
-    → Each fact (set list index is)
+each_set : {X : Type 0} (fact : X → Type 0) (list : List X) (index : ℕ) (is : X) → fact is → AllOf fact list
+    → AllOf fact (set list index is)
 each_set fact [] index is holds each = tt
 each_set fact (one ∷ rest) zero is holds each = (holds, each.1)
 each_set fact (one ∷ rest) (suc index) is holds each = (each.0, each_set fact rest index is holds each.1)
 
-pub each_append : {X : Type 0} (fact : X → Type 0) (first later : List X) → Each fact first → Each fact later
-    → Each fact (first ++ later)
+pub each_append : {X : Type 0} (fact : X → Type 0) (first later : List X) → AllOf fact first → AllOf fact later
+    → AllOf fact (first ++ later)
 each_append fact [] later each more = more
 each_append fact (one ∷ rest) later each more = (each.0, each_append fact rest later each.1 more)
 
-pub each_map : {X Y : Type 0} (fact : Y → Type 0) (make : X → Y) (list : List X) → Each (λ one. fact (make one)) list
-    → Each fact (map make list)
+pub each_map : {X Y : Type 0} (fact : Y → Type 0) (make : X → Y) (list : List X) → AllOf (λ one. fact (make one)) list
+    → AllOf fact (map make list)
 each_map fact make [] each = tt
 each_map fact make (one ∷ rest) each = (each.0, each_map fact make rest each.1)
 
@@ -79,7 +79,7 @@ IsItem nodes names shapes (Root at) = IsPlace nodes names shapes at
 IsItem nodes names shapes (Made shape) = IsPlaced nodes names shapes shape
 
 pub items_placed : (counts : Counts) (tables : Tables) → ArePlaced counts.nodes tables → Counted counts tables
-    → Each (IsItem counts.nodes counts.names counts.shapes) (items tables)
+    → AllOf (IsItem counts.nodes counts.names counts.shapes) (items tables)
 items_placed counts tables are counted =
     let Is : Item → Type 0 = IsItem counts.nodes counts.names counts.shapes in
     each_append Is (map Root tables.roots) (map Made tables.shapes)
@@ -96,18 +96,18 @@ abbrev pub ItemIn : (nodes : ℕ) → Item → Type 0
 ItemIn nodes (Root at) = Unit {0}
 ItemIn nodes (Made shape) = LeafIn nodes shape
 
-each_root : (nodes : ℕ) (roots : List Place) → Each (λ at. ItemIn nodes (Root at)) roots
+each_root : (nodes : ℕ) (roots : List Place) → AllOf (λ at. ItemIn nodes (Root at)) roots
 each_root nodes [] = tt
 each_root nodes (at ∷ roots) = (tt, each_root nodes roots)
 
-pub items_in : (nodes : ℕ) (tables : Tables) → Each (LeafIn nodes) tables.shapes → Each (ItemIn nodes) (items tables)
+pub items_in : (nodes : ℕ) (tables : Tables) → AllOf (LeafIn nodes) tables.shapes → AllOf (ItemIn nodes) (items tables)
 items_in nodes tables leaves =
     each_append (ItemIn nodes) (map Root tables.roots) (map Made tables.shapes)
     (each_map (ItemIn nodes) Root tables.roots (each_root nodes tables.roots))
     (each_map (ItemIn nodes) Made tables.shapes leaves)
 
 module _ (old : Graph) (counts : Counts) (fit : Fit counts) (total : ℕ)
-    (last : counts.before + (counts.names + counts.shapes) ≤ total) (olds : Each (IsFormula total) old) where
+    (last : counts.before + (counts.names + counts.shapes) ≤ total) (olds : AllOf (IsFormula total) old) where
   node_below : (at : Place) → IsPlace counts.nodes counts.names counts.shapes at
       → (node_at counts.before counts.names at).0 < total
   node_below (place.Node id) is = omega (arith, fit.old)
@@ -115,7 +115,7 @@ module _ (old : Graph) (counts : Counts) (fit : Fit counts) (total : ℕ)
   node_below (place.Shape number) is = omega arith
 
   -- where each of the formulas so far is one of the graph
-  module _ (formulas : List Formula) (each : Each (IsFormula total) formulas) where
+  module _ (formulas : List Formula) (each : AllOf (IsFormula total) formulas) where
     so_far_is : (at : Place) → IsFormula total (so_far old counts.before counts.names formulas at)
     so_far_is (place.Node id) = at_is_formula total old id.0 olds
     so_far_is (place.Declared list index) = at_is_formula total formulas (list + index) each
@@ -136,8 +136,8 @@ module _ (old : Graph) (counts : Counts) (fit : Fit counts) (total : ℕ)
     places_are (at ∷ places) = (so_far_is at, places_are places)
 
     fields_are : (named : List (Name × FieldPlace))
-        → Each (λ (field : Name × FieldPlace). IsPlace counts.nodes counts.names counts.shapes field.1.place) named
-        → Each (λ (field : Name × Field). field.1.type.0 < total)
+        → AllOf (λ (field : Name × FieldPlace). IsPlace counts.nodes counts.names counts.shapes field.1.place) named
+        → AllOf (λ (field : Name × Field). field.1.type.0 < total)
         (map (λ field. (field.0, field_at (node_at counts.before counts.names) field.1)) named)
     fields_are [] are = tt
     fields_are (field ∷ named) are = (node_below field.1.place are.0, fields_are named are.1)
@@ -158,8 +158,8 @@ module _ (old : Graph) (counts : Counts) (fit : Fit counts) (total : ℕ)
     made_is (Or places) shape leaf = places_are places
     made_is (Sequence regular places) shape leaf = tt
 
-    number_is : (all : List Item) (number : ℕ) → Each (IsItem counts.nodes counts.names counts.shapes) all
-        → Each (ItemIn total) all
+    number_is : (all : List Item) (number : ℕ) → AllOf (IsItem counts.nodes counts.names counts.shapes) all
+        → AllOf (ItemIn total) all
         → IsFormula total (of_number old counts.before counts.names all formulas number)
     number_is [] number are leaves = tt
     number_is (Root at ∷ all) zero are leaves = so_far_is at
@@ -167,9 +167,9 @@ module _ (old : Graph) (counts : Counts) (fit : Fit counts) (total : ℕ)
     number_is (item ∷ all) (suc number) are leaves = number_is all number are.1 leaves.1
 
   -- however many are made
-  pub filled_are : (all : List Item) → Each (IsItem counts.nodes counts.names counts.shapes) all → Each (ItemIn total) all
-      → (order : List ℕ) (formulas : List Formula) → Each (IsFormula total) formulas
-      → Each (IsFormula total) (filled old counts.before counts.names all order formulas)
+  pub filled_are : (all : List Item) → AllOf (IsItem counts.nodes counts.names counts.shapes) all → AllOf (ItemIn total) all
+      → (order : List ℕ) (formulas : List Formula) → AllOf (IsFormula total) formulas
+      → AllOf (IsFormula total) (filled old counts.before counts.names all order formulas)
   filled_are all are leaves [] formulas each = each
   filled_are all are leaves (number ∷ order) formulas each = filled_are all are leaves order _
       (each_set (IsFormula total) formulas number _ (number_is formulas each all number are leaves) each)

@@ -14,7 +14,7 @@ use Rattle.cd_shapes.specs.Frames.{Frames, scope_of}
 use Rattle.cd_shapes.specs.Names.{node_of}
 use Rattle.cd_shapes.specs.Shaped.{Tables, Shaped}
 use Rattle.cd_shapes.specs.Reading.{HaveRoots, AreMet}
-use Rattle.cd_resolve.specs.Closing.{Closes, node_at}
+use Rattle.cd_resolve.specs.Inner.Closing.{Closes, node_at}
 use Rattle.cd_resolve.proofs.BuiltInNodes.{Begins}
 use Rattle.cd_resolve.proofs.FormsOfPlaces.{forms}
 use Rattle.cd_resolve.proofs.FreeNames.{Uses}

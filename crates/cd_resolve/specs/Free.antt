@@ -1,7 +1,11 @@
 -- The names that a tree uses and that no `where` seen there declares.
 use Rattle.std.specs.Prelude.{List, [], ◌∷◌, ◌++◌, Option, Some, None}
 use Rattle.cd_syntax.specs.Name.{Name}
-use Rattle.cd_syntax.specs.TypeTree.{Tree, tree, Kind, Tuple, Arrows, Union, Meet, Sequence, Record, Xml, Named, Where, Trees, NoTree, ATree, Signs, NoSign, ASign, Fields, NoField, AField, Declarations, NoDeclaration, ADeclaration, Regular, regular, RegularKind, Nothing, Item, Seq, Alt, Repeat, Capture, Regulars, NoRegular, ARegular}
+use Rattle.cd_syntax.specs.TypeTree.{Tree, tree, Kind, Tuple, Arrows, Union, Meet, Sequence, Record}
+use Rattle.cd_syntax.specs.TypeTree.{Xml, Named, Where, Trees, NoTree, ATree, Signs, NoSign, ASign}
+use Rattle.cd_syntax.specs.TypeTree.{Fields, NoField, AField, Declarations, NoDeclaration}
+use Rattle.cd_syntax.specs.TypeTree.{ADeclaration, Regular, regular, RegularKind, Nothing, Item}
+use Rattle.cd_syntax.specs.TypeTree.{Seq, Alt, Repeat, Capture, Regulars, NoRegular, ARegular}
 use Rattle.cd_model.specs.Scope.{Scope, Declared, declared_as}
 
 -- a name is free where no list declares it
@@ -38,12 +42,14 @@ abbrev mutual
 
   pub free_in_fields : Scope → Fields → List Name
   free_in_fields scope NoField = []
-  free_in_fields scope (AField label at optional is rest) = free_names scope is ++ free_in_fields scope rest
+  free_in_fields scope (AField label at optional is rest) =
+      free_names scope is ++ free_in_fields scope rest
 
   -- those in the trees of a list that stands first in the scope
   pub free_in_declared : Scope → Declarations → List Name
   free_in_declared scope NoDeclaration = []
-  free_in_declared scope (ADeclaration name at is rest) = free_names scope is ++ free_in_declared scope rest
+  free_in_declared scope (ADeclaration name at is rest) =
+      free_names scope is ++ free_in_declared scope rest
 
   pub free_in_regular : Scope → Regular → List Name
   free_in_regular scope (regular span kind) = free_in_regular_kind scope kind
@@ -58,4 +64,5 @@ abbrev mutual
 
   pub free_in_regulars : Scope → Regulars → List Name
   free_in_regulars scope NoRegular = []
-  free_in_regulars scope (ARegular first rest) = free_in_regular scope first ++ free_in_regulars scope rest
+  free_in_regulars scope (ARegular first rest) =
+      free_in_regular scope first ++ free_in_regulars scope rest

@@ -1,6 +1,3 @@
-pub mod Batches
-pub mod Closing
 pub mod Free
-pub mod Links
-pub mod Making
 pub mod Named
+pub mod Inner

@@ -1,16 +1,16 @@
 //! Formulas of tables.
 ghost use Rattle.std.specs.Prelude.{◌≡◌, ℕ, ◌+◌, ◌^◌, ◌<◌, ◌≤◌, ◌++◌, map, length, IfOk};
 ghost use Rattle.std.specs.Bool.{OnTrue};
-ghost use Rattle.cd_model.specs.Each.{Each};
+ghost use Rattle.cd_model.specs.AllOf.{AllOf};
 ghost use Rattle.cd_model.specs.Formula.{Graph as PlainGraph, IsFormula};
 ghost use Rattle.cd_graph.specs.Nodes.{nodes};
 ghost use Rattle.cd_graph.specs.PlainFormula.{plain, plain_list};
 ghost use Rattle.cd_shapes.specs.PlainTables.{plain_tables};
 ghost use Rattle.cd_shapes.specs.Reading.{AreSound};
 ghost use Rattle.cd_order.specs.Order.{Ends};
-ghost use Rattle.cd_resolve.specs.Closing.{size_of, Closes, AgreesWith};
-ghost use Rattle.cd_resolve.specs.Links.{links};
-ghost use Rattle.cd_resolve.specs.Making.{Fit, Counted, ArePlaced, AreFilled};
+ghost use Rattle.cd_resolve.specs.Inner.Closing.{size_of, Closes, AgreesWith};
+ghost use Rattle.cd_resolve.specs.Inner.Links.{links};
+ghost use Rattle.cd_resolve.specs.Inner.Making.{Fit, Counted, ArePlaced, AreFilled};
 
 use crate::counts::Counts;
 use crate::make::{blanks, fill};
@@ -54,8 +54,8 @@ fn formulas_of(
     fill(alloc, old, counts, tables, blanks, order.as_slice())
 }
 
-/// The formulas of the names and of the shapes of tables, and then those of the nodes of sequences, for a graph of `first` nodes
-/// that begins with those of `old`.
+/// The formulas of the names and of the shapes of tables, and then those of the nodes of sequences,
+/// for a graph of `first` nodes that begins with those of `old`.
 pub(crate) fn close(
     alloc: Global,
     old: &Graph,
@@ -63,11 +63,14 @@ pub(crate) fn close(
     tables: Tables,
 ) -> Result<Formulas, AllocError>
     requires sound { AreSound (length (nodes old.now)) (plain_tables tables) }
-    requires ends { (number : ℕ) → number < size_of (plain_tables tables) → Ends (links (plain_tables tables)) number }
+    requires ends { (number : ℕ) → number < size_of (plain_tables tables)
+        → Ends (links (plain_tables tables)) number }
     requires old { length (nodes old.now) ≤ first }
     ensures counted { IfOk result (λ _. first + size_of (plain_tables tables) < 2 ^ 64) }
-    ensures number { IfOk result (λ batch. size_of (plain_tables tables) ≤ length (plain_list batch)) }
-    ensures formulas { IfOk result (λ batch. Each (IsFormula (first + length (plain_list batch))) (plain_list batch)) }
+    ensures number { IfOk result
+        (λ batch. size_of (plain_tables tables) ≤ length (plain_list batch)) }
+    ensures formulas { IfOk result
+        (λ batch. AllOf (IsFormula (first + length (plain_list batch))) (plain_list batch)) }
     ensures closes { IfOk result (λ batch. (graph : PlainGraph) → length graph ≡ first
         → AgreesWith (nodes old.now) graph
         → Closes (graph ++ plain_list batch) first (plain_tables tables)) }

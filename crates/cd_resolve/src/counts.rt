@@ -1,5 +1,5 @@
-/// How many nodes there are: those that tables may name, all that stand before theirs, and then those of their names and
-/// of their shapes.
+/// How many nodes there are: those that tables may name, all that stand before theirs, and then
+/// those of their names and of their shapes.
 #[derive(Clone, Copy)]
 pub(crate) struct Counts {
     /// The nodes that places may be at.

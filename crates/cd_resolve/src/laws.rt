@@ -11,13 +11,15 @@ ghost use Rattle.cd_resolve.specs.Named.{AreKnown, AreNamed};
 
 /// Names whose nodes stand for what a list declares do so in each longer graph.
 pub fn standing_is_kept()
-    ensures names { (graph more : Graph) (declarations : Declarations) (names : List (Name × NodeId)) → IsGraph graph
+    ensures names { (graph more : Graph) (declarations : Declarations)
+        (names : List (Name × NodeId)) → IsGraph graph
         → AreNamed graph declarations names → AreNamed (graph ++ more) declarations names }
 {}
 
 /// Where names are named and no fault stands in a type, its free names are known.
 pub fn named_are_known()
-    ensures known { (graph : Graph) (declarations : Declarations) (names : List (Name × NodeId)) (is : Tree)
+    ensures known { (graph : Graph) (declarations : Declarations) (names : List (Name × NodeId))
+        (is : Tree)
         → ((fault : Fault) → IsFault (declarations ∷ []) (declarations ∷ []) is fault → ⊥)
         → AreNamed graph declarations names → AreKnown graph declarations names (free_names [] is) }
     ensures below { (graph : Graph) (declarations : Declarations) (names : List (Name × NodeId))

@@ -1,6 +1,6 @@
 //! The formulas of names and of shapes, one after another.
 ghost use Rattle.std.specs.Prelude.{◌≡◌, ℕ, ◌+◌, ◌<◌, map, length, IfOk};
-ghost use Rattle.cd_model.specs.Each.{Each};
+ghost use Rattle.cd_model.specs.AllOf.{AllOf};
 ghost use Rattle.cd_model.specs.Formula as formula;
 ghost use Rattle.cd_model.specs.Formula.{IsFormula};
 ghost use Rattle.cd_graph.specs.Nodes.{nodes};
@@ -9,8 +9,9 @@ ghost use Rattle.cd_shapes.specs.Shape as shape;
 ghost use Rattle.cd_shapes.specs.Shape.{plain_shape};
 ghost use Rattle.cd_shapes.specs.PlainTables.{plain_tables};
 ghost use Rattle.cd_shapes.specs.Reading.{IsPlace, IsShape};
-ghost use Rattle.cd_resolve.specs.Closing.{node_at, field_at, signed, made};
-ghost use Rattle.cd_resolve.specs.Making.{Fit, Counted, ArePlaced, IsPlaced, items, so_far, of_number, filled};
+ghost use Rattle.cd_resolve.specs.Inner.Closing.{node_at, field_at, signed, made};
+ghost use Rattle.cd_resolve.specs.Inner.Making.{Fit, Counted, ArePlaced, IsPlaced, items, so_far};
+ghost use Rattle.cd_resolve.specs.Inner.Making.{of_number, filled};
 
 use crate::counts::Counts;
 use cd_graph::fields::{Field, FieldList, Fields};
@@ -75,12 +76,13 @@ fn copies(
     formulas: &[Formula],
     places: &[Place],
 ) -> Result<Formulas, AllocError>
-    requires places { Each (IsPlace counts.nodes counts.names counts.shapes) places.now }
+    requires places { AllOf (IsPlace counts.nodes counts.names counts.shapes) places.now }
     requires fit { Fit counts }
     requires old { counts.nodes ≡ length (nodes old.now) }
     requires formulas { length formulas.now ≡ counts.names + counts.shapes }
     ensures { IfOk result (λ copies. plain_list copies
-        ≡ map (so_far (nodes old.now) counts.before counts.names (map plain formulas.now)) places.now) }
+        ≡ map (so_far (nodes old.now) counts.before counts.names
+        (map plain formulas.now)) places.now) }
 {
     let mut items = Vec::new(alloc);
     for at in places {
@@ -97,12 +99,14 @@ fn signed_copies(
     formulas: &[Formula],
     signs: &[(bool, Place)],
 ) -> Result<Formulas, AllocError>
-    requires signs { Each (λ sign. IsPlace counts.nodes counts.names counts.shapes sign.1) signs.now }
+    requires signs { AllOf (λ sign.
+        IsPlace counts.nodes counts.names counts.shapes sign.1) signs.now }
     requires fit { Fit counts }
     requires old { counts.nodes ≡ length (nodes old.now) }
     requires formulas { length formulas.now ≡ counts.names + counts.shapes }
     ensures { IfOk result (λ copies. plain_list copies ≡ map (λ sign. signed sign.0
-        (so_far (nodes old.now) counts.before counts.names (map plain formulas.now) sign.1)) signs.now) }
+        (so_far (nodes old.now) counts.before counts.names
+        (map plain formulas.now) sign.1)) signs.now) }
 {
     let mut items = Vec::new(alloc);
     for (kept, at) in signs {
@@ -117,7 +121,8 @@ fn field_of(counts: Counts, label: &Name, field: FieldPlace) -> Result<(Name, Fi
     requires place { IsPlace counts.nodes counts.names counts.shapes field.place }
     requires fit { Fit counts }
     ensures label { IfOk result (λ is. is.0 ≡ label.now) }
-    ensures field { IfOk result (λ is. plain_field is.1 ≡ field_at (node_at counts.before counts.names) field) }
+    ensures field { IfOk result
+        (λ is. plain_field is.1 ≡ field_at (node_at counts.before counts.names) field) }
 {
     let node = node_of(counts, field.place);
     let optional = field.optional;
@@ -130,10 +135,14 @@ fn fields_of(
     counts: Counts,
     named: &[(Name, FieldPlace)],
 ) -> Result<Vec<(Name, Field)>, AllocError>
-    requires named { Each (λ field. IsPlace counts.nodes counts.names counts.shapes field.1.place) named.now }
+    requires named { AllOf (λ field.
+        IsPlace counts.nodes counts.names counts.shapes field.1.place) named.now }
     requires fit { Fit counts }
     ensures { IfOk result (λ fields. plain_named fields.items
-        ≡ map (λ field. (field.0, field_at (node_at counts.before counts.names) field.1)) named.now) }
+        ≡ map (λ field. (
+          field.0,
+          field_at (node_at counts.before counts.names) field.1,
+        )) named.now) }
 {
     let mut items = Vec::new(alloc);
     for (label, field) in named {
@@ -153,7 +162,10 @@ fn record_of(
     requires shape { IsShape counts.nodes counts.names counts.shapes (shape.Record named.now rest) }
     requires fit { Fit counts }
     ensures { IfOk result (λ is. plain is ≡ formula.Record
-        (map (λ field. (field.0, field_at (node_at counts.before counts.names) field.1)) named.now) rest) }
+        (map (λ field. (
+          field.0,
+          field_at (node_at counts.before counts.names) field.1,
+        )) named.now) rest) }
 {
     let fields = fields_of(alloc, counts, named)?;
     let named = FieldList::of(fields);
@@ -173,7 +185,8 @@ fn formula_of_shape(
     requires old { counts.nodes ≡ length (nodes old.now) }
     requires formulas { length formulas.now ≡ counts.names + counts.shapes }
     ensures { IfOk result (λ is. plain is ≡ made (node_at counts.before counts.names)
-        (so_far (nodes old.now) counts.before counts.names (map plain formulas.now)) (plain_shape shape.now)) }
+        (so_far (nodes old.now) counts.before counts.names (map plain formulas.now))
+        (plain_shape shape.now)) }
 {
     match shape {
         Shape::Leaf(formula) => formula.copy(),
@@ -245,7 +258,7 @@ fn formula_of_number(
 /// As many formulas of nothing as these.
 pub(crate) fn blanks(alloc: Global, size: usize) -> Result<Vec<Formula>, AllocError>
     ensures length { IfOk result (λ formulas. length formulas.items ≡ size) }
-    ensures sound { IfOk result (λ formulas. Each (IsFormula 0) (map plain formulas.items)) }
+    ensures sound { IfOk result (λ formulas. AllOf (IsFormula 0) (map plain formulas.items)) }
 {
     let mut formulas = Vec::new(alloc);
     for _made in 0..size {
@@ -268,9 +281,10 @@ pub(crate) fn fill(
     requires fit { Fit counts }
     requires old { counts.nodes ≡ length (nodes old.now) }
     requires formulas { length formulas.items ≡ counts.names + counts.shapes }
-    requires known { Each (λ number. number < counts.names + counts.shapes) order.now }
+    requires known { AllOf (λ number. number < counts.names + counts.shapes) order.now }
     ensures { IfOk result (λ filled_up. map plain filled_up.items
-        ≡ filled (nodes old.now) counts.before counts.names (items (plain_tables tables.now)) order.now
+        ≡ filled (nodes old.now) counts.before counts.names
+        (items (plain_tables tables.now)) order.now
         (map plain formulas.items)) }
 {
     for number in order {

@@ -1,11 +1,11 @@
 //! Which formulas are copied into which, as rows of numbers.
 ghost use Rattle.std.specs.Prelude.{◌≡◌, ◌++◌, map, IfOk, OnOk};
-ghost use Rattle.cd_model.specs.Each.{Each};
+ghost use Rattle.cd_model.specs.AllOf.{AllOf};
 ghost use Rattle.cd_shapes.specs.Shape.{plain_shape};
 ghost use Rattle.cd_shapes.specs.PlainTables.{plain_tables};
 ghost use Rattle.cd_shapes.specs.Reading.{IsPlace};
-ghost use Rattle.cd_resolve.specs.Links.{numbers_at, numbers_of, numbers_under, links};
-ghost use Rattle.cd_resolve.specs.Making.{Fit, Counted, ArePlaced, IsPlaced};
+ghost use Rattle.cd_resolve.specs.Inner.Links.{numbers_at, numbers_of, numbers_under, links};
+ghost use Rattle.cd_resolve.specs.Inner.Making.{Fit, Counted, ArePlaced, IsPlaced};
 
 use crate::counts::Counts;
 use cd_shapes::place::Place;
@@ -40,7 +40,7 @@ fn row_of_place(alloc: Global, counts: Counts, at: Place) -> Result<Vec<usize>, 
 
 // The numbers of places.
 fn row_of_places(alloc: Global, counts: Counts, places: &[Place]) -> Result<Vec<usize>, AllocError>
-    requires places { Each (IsPlace counts.nodes counts.names counts.shapes) places.now }
+    requires places { AllOf (IsPlace counts.nodes counts.names counts.shapes) places.now }
     requires fit { Fit counts }
     ensures { IfOk result (λ row. row.items ≡ numbers_of counts.names places.now) }
 {
@@ -57,9 +57,11 @@ fn row_of_signs(
     counts: Counts,
     signs: &[(bool, Place)],
 ) -> Result<Vec<usize>, AllocError>
-    requires signs { Each (λ sign. IsPlace counts.nodes counts.names counts.shapes sign.1) signs.now }
+    requires signs { AllOf (λ sign.
+        IsPlace counts.nodes counts.names counts.shapes sign.1) signs.now }
     requires fit { Fit counts }
-    ensures { IfOk result (λ row. row.items ≡ numbers_of counts.names (map (λ sign. sign.1) signs.now)) }
+    ensures { IfOk result (λ row.
+        row.items ≡ numbers_of counts.names (map (λ sign. sign.1) signs.now)) }
 {
     let mut row = Vec::new(alloc);
     for (_, at) in signs {
@@ -88,9 +90,10 @@ fn row_of_shape(alloc: Global, counts: Counts, shape: &Shape) -> Result<Vec<usiz
 
 // The rows of the names.
 fn root_rows(alloc: Global, counts: Counts, roots: &[Place]) -> Result<Vec<Vec<usize>>, AllocError>
-    requires roots { Each (IsPlace counts.nodes counts.names counts.shapes) roots.now }
+    requires roots { AllOf (IsPlace counts.nodes counts.names counts.shapes) roots.now }
     requires fit { Fit counts }
-    ensures { IfOk result (λ rows. map (λ row. row.items) rows.items ≡ map (numbers_at counts.names) roots.now) }
+    ensures { IfOk result (λ rows.
+        map (λ row. row.items) rows.items ≡ map (numbers_at counts.names) roots.now) }
 {
     let mut rows = Vec::new(alloc);
     for at in roots {
@@ -105,7 +108,8 @@ fn shape_rows(
     counts: Counts,
     shapes: &[Shape],
 ) -> Result<Vec<Vec<usize>>, AllocError>
-    requires shapes { Each (IsPlaced counts.nodes counts.names counts.shapes) (map plain_shape shapes.now) }
+    requires shapes { AllOf (IsPlaced counts.nodes counts.names counts.shapes)
+        (map plain_shape shapes.now) }
     requires fit { Fit counts }
     ensures { IfOk result (λ rows. map (λ row. row.items) rows.items
         ≡ map (numbers_under counts.names) (map plain_shape shapes.now)) }
@@ -126,7 +130,8 @@ pub(crate) fn link_rows(
     requires placed { ArePlaced counts.nodes (plain_tables tables.now) }
     requires counted { Counted counts (plain_tables tables.now) }
     requires fit { Fit counts }
-    ensures { IfOk result (λ rows. map (λ row. row.items) rows.items ≡ links (plain_tables tables.now)) }
+    ensures { IfOk result (λ rows.
+        map (λ row. row.items) rows.items ≡ links (plain_tables tables.now)) }
 {
     let mut rows = root_rows(alloc, counts, tables.roots.as_slice())?;
     let mut later = shape_rows(alloc, counts, tables.shapes.as_slice())?;

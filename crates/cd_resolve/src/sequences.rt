@@ -1,6 +1,6 @@
 //! The nodes of sequences, and leaves in place of sequences.
 ghost use Rattle.std.specs.Prelude.{◌≡◌, ◌+◌, ◌≤◌, ◌++◌, [], ◌∷◌, List, map, length, IfOk, OnOk};
-ghost use Rattle.cd_model.specs.Each.{Each};
+ghost use Rattle.cd_model.specs.AllOf.{AllOf};
 ghost use Rattle.cd_model.specs.BuiltIns.{node};
 ghost use Rattle.cd_model.specs.Formula.{Formula as PlainFormula, formula_at};
 ghost use Rattle.cd_graph.specs.PlainFormula.{plain, plain_list};
@@ -10,9 +10,9 @@ ghost use Rattle.cd_regex.specs.Sequences.{HoldsSequences};
 ghost use Rattle.cd_shapes.specs.Shape.{plain_shape};
 ghost use Rattle.cd_shapes.specs.PlainTables.{plain_tables};
 ghost use Rattle.cd_shapes.specs.Reading.{AreSound, IsPlace, IsShape};
-ghost use Rattle.cd_resolve.specs.Batches.{HaveLeaves, TablesHaveLeaves};
-ghost use Rattle.cd_resolve.specs.Closing.{node_at, over_nodes};
-ghost use Rattle.cd_resolve.specs.Making.{Fit, Counted};
+ghost use Rattle.cd_resolve.specs.Inner.Batches.{HaveLeaves, TablesHaveLeaves};
+ghost use Rattle.cd_resolve.specs.Inner.Closing.{node_at, over_nodes};
+ghost use Rattle.cd_resolve.specs.Inner.Making.{Fit, Counted};
 
 use crate::counts::Counts;
 use crate::make::node_of;
@@ -26,9 +26,10 @@ use std::alloc::{AllocError, Global};
 
 // The nodes of places.
 fn nodes_of(alloc: Global, counts: Counts, places: &[Place]) -> Result<Vec<NodeId>, AllocError>
-    requires places { Each (IsPlace counts.nodes counts.names counts.shapes) places.now }
+    requires places { AllOf (IsPlace counts.nodes counts.names counts.shapes) places.now }
     requires fit { Fit counts }
-    ensures { IfOk result (λ nodes. nodes.items ≡ map (node_at counts.before counts.names) places.now) }
+    ensures { IfOk result (λ nodes.
+        nodes.items ≡ map (node_at counts.before counts.names) places.now) }
 {
     let mut nodes = Vec::new(alloc);
     for at in places {
@@ -37,7 +38,8 @@ fn nodes_of(alloc: Global, counts: Counts, places: &[Place]) -> Result<Vec<NodeI
     Ok(nodes)
 }
 
-// The formulas from this number on that hold the sequences of an expression, whose items are the numbers of these places.
+// The formulas from this number on that hold the sequences of an expression, whose items are the
+// numbers of these places.
 fn batch_of(
     alloc: Global,
     counts: Counts,
@@ -45,12 +47,13 @@ fn batch_of(
     regular: &Reg,
     places: &[Place],
 ) -> Result<Formulas, AllocError>
-    requires places { Each (IsPlace counts.nodes counts.names counts.shapes) places.now }
+    requires places { AllOf (IsPlace counts.nodes counts.names counts.shapes) places.now }
     requires asks { AsksBelow (length places.now) (plain_regular regular.now) }
     requires fit { Fit counts }
     requires first { counts.before + (counts.names + counts.shapes) ≤ first }
     ensures { IfOk result (λ batch. HoldsSequences first
-        (over_nodes (node_at counts.before counts.names) (plain_regular regular.now) places.now) (plain_list batch)) }
+        (over_nodes (node_at counts.before counts.names) (plain_regular regular.now) places.now)
+        (plain_list batch)) }
 {
     let nodes = nodes_of(alloc, counts, places)?;
     let is = regular.renamed(alloc, nodes.as_slice())?;
@@ -59,7 +62,8 @@ fn batch_of(
 
 // Puts copies of formulas after others.
 fn add_all(batch: &Formulas, batches: &mut Vec<Formula>) -> Result<(), AllocError>
-    ensures { OnOk result (map plain batches.new.items ≡ map plain batches.old.items ++ plain_list batch.now) }
+    ensures { OnOk result (map plain batches.new.items
+        ≡ map plain batches.old.items ++ plain_list batch.now) }
 {
     for formula in batch.items() {
         batches.push(formula.copy()?)?;
@@ -67,7 +71,8 @@ fn add_all(batch: &Formulas, batches: &mut Vec<Formula>) -> Result<(), AllocErro
     Ok(())
 }
 
-// Puts the batch of a sequence after others, which stand after the names and the shapes, and gives a copy of its first formula.
+// Puts the batch of a sequence after others, which stand after the names and the shapes, and gives
+// a copy of its first formula.
 fn add_batch(
     alloc: Global,
     counts: Counts,
@@ -75,12 +80,14 @@ fn add_batch(
     places: &[Place],
     batches: &mut Vec<Formula>,
 ) -> Result<Formula, AllocError>
-    requires places { Each (IsPlace counts.nodes counts.names counts.shapes) places.now }
+    requires places { AllOf (IsPlace counts.nodes counts.names counts.shapes) places.now }
     requires asks { AsksBelow (length places.now) (plain_regular regular.now) }
     requires fit { Fit counts }
-    ensures { IfOk result (λ is. (batch : List PlainFormula) × (map plain batches.new.items ≡ map plain batches.old.items ++ batch)
+    ensures { IfOk result (λ is. (batch : List PlainFormula)
+        × (map plain batches.new.items ≡ map plain batches.old.items ++ batch)
         × HoldsSequences (counts.before + (counts.names + counts.shapes) + length batches.old.items)
-        (over_nodes (node_at counts.before counts.names) (plain_regular regular.now) places.now) batch
+        (over_nodes (node_at counts.before counts.names)
+        (plain_regular regular.now) places.now) batch
         × (plain is ≡ formula_at batch (node 0))) }
 {
     let start = counts.before + (counts.names + counts.shapes);
@@ -101,7 +108,8 @@ fn as_leaf(
 ) -> Result<Shape, AllocError>
     requires shape { IsShape counts.nodes counts.names counts.shapes (plain_shape shape) }
     requires fit { Fit counts }
-    ensures { IfOk result (λ is. (added : List PlainFormula) × (map plain batches.new.items ≡ map plain batches.old.items ++ added)
+    ensures { IfOk result (λ is. (added : List PlainFormula)
+        × (map plain batches.new.items ≡ map plain batches.old.items ++ added)
         × HaveLeaves (node_at counts.before counts.names)
         (counts.before + (counts.names + counts.shapes) + length batches.old.items)
         (plain_shape shape ∷ []) (plain_shape is ∷ []) added) }
@@ -118,7 +126,8 @@ fn as_leaf(
     }
 }
 
-/// The tables with leaves for sequences, and the formulas of the nodes of these, which are to stand after those of names and shapes.
+/// The tables with leaves for sequences, and the formulas of the nodes of these, which are to stand
+/// after those of names and shapes.
 pub(crate) fn with_leaves(
     alloc: Global,
     counts: Counts,
@@ -127,8 +136,10 @@ pub(crate) fn with_leaves(
     requires sound { AreSound counts.nodes (plain_tables tables) }
     requires counted { Counted counts (plain_tables tables) }
     requires fit { Fit counts }
-    ensures { IfOk result (λ (leaves, batches). TablesHaveLeaves (node_at counts.before counts.names)
-        (counts.before + (counts.names + counts.shapes)) (plain_tables tables) (plain_tables leaves) (map plain batches.items)) }
+    ensures { IfOk result (λ (leaves, batches).
+        TablesHaveLeaves (node_at counts.before counts.names)
+        (counts.before + (counts.names + counts.shapes)) (plain_tables tables) (plain_tables leaves)
+        (map plain batches.items)) }
 {
     let mut batches = Vec::new(alloc);
     let mut shapes = Vec::new(alloc);

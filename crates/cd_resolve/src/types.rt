@@ -3,7 +3,7 @@ ghost use Rattle.std.specs.Prelude.{◌≡◌, ℕ, ◌+◌, ◌≤◌, ◌++◌
 ghost use Rattle.cd_syntax.specs.PlainTree.{plain, plain_declarations};
 ghost use Rattle.cd_syntax.specs.TypeTree.{Declarations as PlainDeclarations};
 ghost use Rattle.cd_syntax.specs.WellMade.{IsWellMade, AreWellMadeDeclarations};
-ghost use Rattle.cd_model.specs.Each.{Each};
+ghost use Rattle.cd_model.specs.AllOf.{AllOf};
 ghost use Rattle.cd_model.specs.BuiltIns.{built_ins};
 ghost use Rattle.cd_model.specs.Formula.{Graph as PlainGraph, IsFormula};
 ghost use Rattle.cd_model.specs.StandsFor.{StandsFor};
@@ -44,20 +44,29 @@ pub struct TypeBatch {
 
 /// Nodes for type declarations, which see one another and no others.
 ///
-/// The declarations are well made and no naming fault stands in them. Where the formulas are put after those of a graph of
-/// `first` nodes that begins with the built-in ones, the node of each name stands for its type.
+/// The declarations are well made and no naming fault stands in them. Where the formulas are put
+/// after those of a graph of `first` nodes that begins with the built-in ones, the node of each
+/// name stands for its type.
 ///
 /// # Errors
 ///
 /// Want of memory.
 pub fn resolve(alloc: Global, first: usize, declared: &Declarations) -> Result<Batch, AllocError>
     requires well_made { AreWellMadeDeclarations (plain_declarations declared.now) }
-    requires sound { (fault : Fault) → IsFaultOfList [] (plain_declarations declared.now ∷ []) (plain_declarations declared.now) fault → ⊥ }
+    requires sound { (fault : Fault)
+        → IsFaultOfList [] (plain_declarations declared.now ∷ [])
+        (plain_declarations declared.now) fault → ⊥ }
     requires built_ins { 14 ≤ first }
-    ensures formulas { IfOk result (λ batch. Each (IsFormula (first + length (plain_list batch.formulas))) (plain_list batch.formulas)) }
-    ensures names { IfOk result (λ batch. batch.names ≡ numbered first (plain_declarations declared.now)) }
-    ensures stand { IfOk result (λ batch. (graph : PlainGraph) → length graph ≡ first → ((more : PlainGraph) × (graph ≡ built_ins ++ more))
-        → AreNamed (graph ++ plain_list batch.formulas) (plain_declarations declared.now) batch.names) }
+    ensures formulas { IfOk result
+        (λ batch. AllOf (IsFormula (first + length (plain_list batch.formulas)))
+        (plain_list batch.formulas)) }
+    ensures names { IfOk result
+        (λ batch. batch.names ≡ numbered first (plain_declarations declared.now)) }
+    ensures stand { IfOk result
+        (λ batch. (graph : PlainGraph) → length graph ≡ first
+        → ((more : PlainGraph) × (graph ≡ built_ins ++ more))
+        → AreNamed (graph ++ plain_list batch.formulas)
+        (plain_declarations declared.now) batch.names) }
 {
     let tables = read_declarations(alloc, declared)?;
     let formulas = close(alloc, &Graph::new(alloc)?, first, tables)?;
@@ -81,9 +90,10 @@ fn numbered_from(alloc: Global, first: usize, declared: &Declarations) -> Result
 
 /// A node, for this graph, of a type that sees the declarations whose names have these nodes.
 ///
-/// The type is well made, and no naming fault stands in it nor in the declarations. Each name that occurs in it and that no
-/// `where` declares there has a node in `names`, which stands for what `declared` says of it; all nodes in `names` are nodes of
-/// the graph. Where the formulas are put after those of the graph, the root stands for the type.
+/// The type is well made, and no naming fault stands in it nor in the declarations. Each name that
+/// occurs in it and that no `where` declares there has a node in `names`, which stands for what
+/// `declared` says of it; all nodes in `names` are nodes of the graph. Where the formulas are put
+/// after those of the graph, the root stands for the type.
 ///
 /// # Errors
 ///
@@ -97,13 +107,17 @@ pub fn resolve_type(
     ghost declared: { PlainDeclarations }
     requires well_made { IsWellMade (plain tree.now) }
     requires sound_names { (fault : Fault) → IsFaultOfList [] (declared ∷ []) declared fault → ⊥ }
-    requires sound { (fault : Fault) → IsFault (declared ∷ []) (declared ∷ []) (plain tree.now) fault → ⊥ }
-    requires known { AreKnown (nodes graph.now) declared names.now (free_names [] (plain tree.now)) }
+    requires sound { (fault : Fault)
+        → IsFault (declared ∷ []) (declared ∷ []) (plain tree.now) fault → ⊥ }
+    requires known { AreKnown (nodes graph.now) declared names.now
+        (free_names [] (plain tree.now)) }
     requires below { AreBelow (length (nodes graph.now)) names.now }
     ensures formulas { IfOk result (λ batch.
-        Each (IsFormula (length (nodes graph.now) + length (plain_list batch.formulas))) (plain_list batch.formulas)) }
+        AllOf (IsFormula (length (nodes graph.now) + length (plain_list batch.formulas)))
+        (plain_list batch.formulas)) }
     ensures stands { IfOk result (λ batch.
-        StandsFor (nodes graph.now ++ plain_list batch.formulas) batch.root (record { scope = declared ∷ []; tree = plain tree.now })) }
+        StandsFor (nodes graph.now ++ plain_list batch.formulas) batch.root
+        (record { scope = declared ∷ []; tree = plain tree.now })) }
 {
     let first = graph.len();
     resolve_type_from(alloc, graph, first, names, tree)
@@ -111,8 +125,9 @@ pub fn resolve_type(
 
 /// The same for each graph of `first` nodes that begins with this one.
 ///
-/// Where the formulas are put after those of such a graph, the root stands for the type: so what comes between need not be there
-/// yet. This graph is asked for the formulas of its own nodes alone, which connectives over names copy.
+/// Where the formulas are put after those of such a graph, the root stands for the type: so what
+/// comes between need not be there yet. This graph is asked for the formulas of its own nodes
+/// alone, which connectives over names copy.
 ///
 /// # Errors
 ///
@@ -129,11 +144,13 @@ pub fn resolve_type_from(
     requires sound_names { (fault : Fault) → IsFaultOfList [] (declared ∷ []) declared fault → ⊥ }
     requires sound { (fault : Fault)
         → IsFault (declared ∷ []) (declared ∷ []) (plain tree.now) fault → ⊥ }
-    requires known { AreKnown (nodes graph.now) declared names.now (free_names [] (plain tree.now)) }
+    requires known { AreKnown (nodes graph.now) declared names.now
+        (free_names [] (plain tree.now)) }
     requires below { AreBelow (length (nodes graph.now)) names.now }
     requires first { length (nodes graph.now) ≤ first }
     ensures formulas { IfOk result (λ batch.
-        Each (IsFormula (first + length (plain_list batch.formulas))) (plain_list batch.formulas)) }
+        AllOf (IsFormula (first + length (plain_list batch.formulas)))
+        (plain_list batch.formulas)) }
     ensures stands { IfOk result (λ batch.
         (more : PlainGraph) → length (nodes graph.now ++ more) ≡ first
         → StandsFor (nodes graph.now ++ more ++ plain_list batch.formulas) batch.root

@@ -1,7 +1,7 @@
 -- Lists all of whose things are among those of another list.
 use Rattle.std.proofs.Common.{◌≡◌, List, [], ◌∷◌, map, inl, inr, refl, ap, subst}
 use Rattle.cd_sets.specs.declared.node_id.NodeId.{NodeId}
-use Rattle.cd_model.specs.Each.{Each, One}
+use Rattle.cd_model.specs.AllOf.{AllOf, AnyOf}
 use Rattle.cd_rules.specs.Needs.{set_of}
 use Rattle.cd_rules.proofs.Asking.{each_of_map, each_of_set}
 use Rattle.cd_rules.proofs.Answered.{set_of_each}
@@ -9,27 +9,27 @@ use Rattle.cd_rules.proofs.Ones.{each_weaker, one_weaker, one_of_map, one_leads,
 
 -- what `AreAmong` is for things of any type
 abbrev pub AreOf : {X : Type 0} → (some all : List X) → Type 0
-AreOf some all = Each (λ x. One (λ other. other ≡ x) all) some
+AreOf some all = AllOf (λ x. AnyOf (λ other. other ≡ x) all) some
 
 -- what is so of each of a list is so of one of it
-pub of_each : {X : Type 0} (fact : X → Type 0) (all : List X) (x : X) → Each fact all → One (λ other. other ≡ x) all → fact x
+pub of_each : {X : Type 0} (fact : X → Type 0) (all : List X) (x : X) → AllOf fact all → AnyOf (λ other. other ≡ x) all → fact x
 of_each {X} fact all x each is = one_leads (λ (other : X). (other ≡ x) × fact other) (λ other both. subst fact both.0 both.1) all
     (one_with_each (λ other. other ≡ x) fact all is each)
 
 -- and what is so of each one of it is so of each
-pub each_of_its : {X : Type 0} (fact : X → Type 0) (all : List X) → ((x : X) → One (λ other. other ≡ x) all → fact x) → Each fact all
+pub each_of_its : {X : Type 0} (fact : X → Type 0) (all : List X) → ((x : X) → AnyOf (λ other. other ≡ x) all → fact x) → AllOf fact all
 each_of_its fact [] is = tt
 each_of_its fact (x ∷ all) is = (is x (inl refl), each_of_its fact all (λ one there. is one (inr there)))
 
 -- what is so of each of a list is so of each of a list that is among it
-pub each_of_among : {X : Type 0} (fact : X → Type 0) (some all : List X) → AreOf some all → Each fact all → Each fact some
+pub each_of_among : {X : Type 0} (fact : X → Type 0) (some all : List X) → AreOf some all → AllOf fact all → AllOf fact some
 each_of_among {X} fact some all among each =
-    each_weaker (λ x. One (λ (other : X). other ≡ x) all) fact (λ x is. of_each fact all x each is) some among
+    each_weaker (λ x. AnyOf (λ (other : X). other ≡ x) all) fact (λ x is. of_each fact all x each is) some among
 
 -- what is among a list is among a longer one
 pub among_more : {X : Type 0} (x : X) (some all : List X) → AreOf some all → AreOf some (x ∷ all)
 among_more {X} x some all among =
-    each_weaker (λ one. One (λ (other : X). other ≡ one) all) (λ one. One (λ other. other ≡ one) (x ∷ all)) (λ one is. inr is) some among
+    each_weaker (λ one. AnyOf (λ (other : X). other ≡ one) all) (λ one. AnyOf (λ other. other ≡ one) (x ∷ all)) (λ one is. inr is) some among
 
 pub among_both : {X : Type 0} (x : X) (some all : List X) → AreOf some all → AreOf (x ∷ some) (x ∷ all)
 among_both x some all among = (inl refl, among_more x some all among)
@@ -41,23 +41,23 @@ among_itself (x ∷ all) = among_both x all all (among_itself all)
 
 -- a list among one that is among a third is among that
 pub among_on : {X : Type 0} (some others all : List X) → AreOf some others → AreOf others all → AreOf some all
-among_on {X} some others all among on = each_of_among (λ x. One (λ (other : X). other ≡ x) all) some others among on
+among_on {X} some others all among on = each_of_among (λ x. AnyOf (λ (other : X). other ≡ x) all) some others among on
 
 -- what is made of a list that is among another one is among what is made of that
 pub among_map : {X Y : Type 0} (f : X → Y) (some all : List X) → AreOf some all → AreOf (map f some) (map f all)
-among_map {X} {Y} f some all among = each_of_map f (λ y. One (λ (other : Y). other ≡ y) (map f all)) some
-    (each_weaker (λ x. One (λ (other : X). other ≡ x) all) (λ x. One (λ other. other ≡ f x) (map f all)) (λ x is. made x is) some among)
+among_map {X} {Y} f some all among = each_of_map f (λ y. AnyOf (λ (other : Y). other ≡ y) (map f all)) some
+    (each_weaker (λ x. AnyOf (λ (other : X). other ≡ x) all) (λ x. AnyOf (λ other. other ≡ f x) (map f all)) (λ x is. made x is) some among)
   where
-    made : (x : X) → One (λ other. other ≡ x) all → One (λ other. other ≡ f x) (map f all)
+    made : (x : X) → AnyOf (λ other. other ≡ x) all → AnyOf (λ other. other ≡ f x) (map f all)
     made x is = one_of_map f (λ other. other ≡ f x) all
         (one_weaker (λ other. other ≡ x) (λ other. f other ≡ f x) (λ other same. ap f same) all is)
 
 -- nodes are among their set, and that is among them
 pub among_set : (ids : List NodeId) → AreOf ids (set_of ids)
-among_set ids = set_of_each (λ id. One (λ other. other ≡ id) (set_of ids)) ids (among_itself (set_of ids))
+among_set ids = set_of_each (λ id. AnyOf (λ other. other ≡ id) (set_of ids)) ids (among_itself (set_of ids))
 
 pub set_among : (ids : List NodeId) → AreOf (set_of ids) ids
-set_among ids = each_of_set (λ id. One (λ other. other ≡ id) ids) ids (among_itself ids)
+set_among ids = each_of_set (λ id. AnyOf (λ other. other ≡ id) ids) ids (among_itself ids)
 
 -- so sets are among one another where nodes are
 pub among_sets : (some all : List NodeId) → AreOf some all → AreOf (set_of some) (set_of all)

@@ -5,7 +5,7 @@ use Rattle.cd_sets.specs.declared.node_id.NodeId.{NodeId}
 use Rattle.cd_sets.specs.declared.question.Question.{Question}
 use Rattle.cd_model.specs.Thing as thing
 use Rattle.cd_model.specs.Thing.{Thing, IsElement}
-use Rattle.cd_model.specs.Each.{Each, One}
+use Rattle.cd_model.specs.AllOf.{AllOf, AnyOf}
 use Rattle.cd_model.specs.Formula.{Graph, nodes}
 use Rattle.cd_model.specs.Membership as node
 use Rattle.cd_model.specs.Membership.{Answers, Mapping, answers}
@@ -35,7 +35,7 @@ IsInArrow maps parts = maps parts.0 parts.1 true
 module _ (Fact : Question → Type 0) (refused : Pair) where
   -- an argument that is in the refused one's, and outside of those of some arrows, answers the first question of their way
   argument_asked : (from : Answers) → IsAskedFact Fact from → from refused.0 true
-      → (others : List Pair) → Each (ArgumentIsOutside from) others
+      → (others : List Pair) → AllOf (ArgumentIsOutside from) others
       → Fact (question (refused.0 ∷ []) (map (λ parts. parts.0) others))
   argument_asked from have is others outside =
       have (question (refused.0 ∷ []) (map (λ parts. parts.0) others))
@@ -44,8 +44,8 @@ module _ (Fact : Question → Type 0) (refused : Pair) where
 
   -- a result that is outside of the refused one's, and in those of some arrows, answers the other questions of their way
   result_asked : (to : Answers) → IsAskedFact Fact to → to refused.1 false
-      → (others : List Pair) → Each (ResultIsInside to) others
-      → Each Fact (result_questions refused others)
+      → (others : List Pair) → AllOf (ResultIsInside to) others
+      → AllOf Fact (result_questions refused others)
   result_asked to have out [] inside = tt
   result_asked to have out (one ∷ others) inside = (
     have (question (map (λ parts. parts.1) (one ∷ others)) (refused.1 ∷ []))
@@ -55,26 +55,26 @@ module _ (Fact : Question → Type 0) (refused : Pair) where
   )
 
   -- where there are no other arrows there are no such questions
-  no_result_asked : (others : List Pair) → others ≡ [] → Each Fact (result_questions refused others)
-  no_result_asked others none = subst (λ others. Each Fact (result_questions refused others)) (sym none) tt
+  no_result_asked : (others : List Pair) → others ≡ [] → AllOf Fact (result_questions refused others)
+  no_result_asked others none = subst (λ others. AllOf Fact (result_questions refused others)) (sym none) tt
 
   -- a pair that maps a refused argument out of the refused result gives a way
   way_of_maps : (from to : Answers) → IsAskedFact Fact from → IsAskedFact Fact to → from refused.0 true → to refused.1 false
-      → (wanted : List Pair) → Each (λ parts. ArgumentIsOutside from parts ⊎ ResultIsInside to parts) wanted
-      → One (Each Fact) (map (arrow_way refused) (splits wanted))
+      → (wanted : List Pair) → AllOf (λ parts. ArgumentIsOutside from parts ⊎ ResultIsInside to parts) wanted
+      → AnyOf (AllOf Fact) (map (arrow_way refused) (splits wanted))
   way_of_maps from to has_from has_to is out wanted each =
-      one_of_map (arrow_way refused) (Each Fact) (splits wanted)
-      (one_weaker (HaveBoth (ArgumentIsOutside from) (ResultIsInside to)) (λ sides. Each Fact (arrow_way refused sides))
+      one_of_map (arrow_way refused) (AllOf Fact) (splits wanted)
+      (one_weaker (HaveBoth (ArgumentIsOutside from) (ResultIsInside to)) (λ sides. AllOf Fact (arrow_way refused sides))
       (λ sides are. (argument_asked from has_from is sides.0 are.0, result_asked to has_to out sides.1 are.1))
       (splits wanted) (one_splits (ArgumentIsOutside from) (ResultIsInside to) wanted each))
 
   -- a pair that fails at a refused argument gives a way
   way_of_fails : (from : Answers) → IsAskedFact Fact from → from refused.0 true
-      → (wanted : List Pair) → Each (ArgumentIsOutside from) wanted
-      → One (Each Fact) (map (arrow_way refused) (splits wanted))
+      → (wanted : List Pair) → AllOf (ArgumentIsOutside from) wanted
+      → AnyOf (AllOf Fact) (map (arrow_way refused) (splits wanted))
   way_of_fails from has_from is wanted each =
-      one_of_map (arrow_way refused) (Each Fact) (splits wanted)
-      (one_weaker (AllToOne (ArgumentIsOutside from)) (λ sides. Each Fact (arrow_way refused sides))
+      one_of_map (arrow_way refused) (AllOf Fact) (splits wanted)
+      (one_weaker (AllToOne (ArgumentIsOutside from)) (λ sides. AllOf Fact (arrow_way refused sides))
       (λ sides are. (argument_asked from has_from is sides.0 are.0, no_result_asked sides.1 are.1)) (splits wanted)
       (one_gives_all (ArgumentIsOutside from) wanted each))
 
@@ -91,8 +91,8 @@ module _ (graph : Graph) (closed : ℕ → Mapping) (Fact : Question → Type 0)
 
   -- a function that is in all wanted arrows and not in the refused one gives a way, by recursion on its pairs
   pub arrows_forward : (pairs : thing.Pairs) → PartsHave pairs → (wanted : List Pair) (refused : Pair)
-      → Each (IsInArrow (maps pairs)) wanted → maps pairs refused.0 refused.1 false
-      → One (Each Fact) (map (arrow_way refused) (splits wanted))
+      → AllOf (IsInArrow (maps pairs)) wanted → maps pairs refused.0 refused.1 false
+      → AnyOf (AllOf Fact) (map (arrow_way refused) (splits wanted))
   arrows_forward thing.NoPair have wanted refused each out = absurd (true≢false (sym out))
   arrows_forward (thing.Maps from to rest) have wanted refused each (inl here) =
       way_of_maps Fact refused (answers_of graph closed from) (answers_of graph closed to) have.0 have.1 here.0 here.1 wanted
@@ -144,9 +144,9 @@ parts_have graph Fact have (thing.Fails from rest) sound = (have from sound.0, p
 -- arrows of its interface is in the refused one
 pub closure_forward : (graph : Graph) (interfaces : Interfaces) (function : ℕ) (Fact : Question → Type 0)
     → ElementsHave graph Fact → (wanted : List Pair) (refused : Pair)
-    → Each (IsInArrow (node.closure_mapping graph interfaces function)) wanted
+    → AllOf (IsInArrow (node.closure_mapping graph interfaces function)) wanted
     → node.closure_mapping graph interfaces function refused.0 refused.1 false
-    → (One (Each Fact) (map (arrow_way refused) (splits wanted)) → ⊥) → ⊥
+    → (AnyOf (AllOf Fact) (map (arrow_way refused) (splits wanted)) → ⊥) → ⊥
 closure_forward graph interfaces function Fact have wanted refused each out no_way =
     out (λ pairs sound arrows. in_refused pairs sound arrows (mapping_decided graph pairs refused.0 refused.1))
   where

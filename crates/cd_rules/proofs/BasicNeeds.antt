@@ -12,7 +12,7 @@ use Rattle.cd_intervals.specs.Interval as integers
 use Rattle.cd_intervals.proofs.Numbering.{scalar_range}
 use Rattle.cd_syntax.specs.Integer.{IsInteger}
 use Rattle.cd_syntax.specs.Name.{Name, IsLabel}
-use Rattle.cd_model.specs.Each.{Each, One}
+use Rattle.cd_model.specs.AllOf.{AllOf, AnyOf}
 use Rattle.cd_model.proofs.Labels.{IsOneOf}
 use Rattle.cd_model.proofs.SoundOrNot.{names_or_not, label_or_not}
 use Rattle.cd_rules.specs.Needs.{Need, empty_or_not}
@@ -21,7 +21,7 @@ use Rattle.cd_rules.proofs.Ones.{one_weaker, one_leads, one_on_left, one_on_righ
 use Rattle.cd_model.proofs.HoldsOrNot.{HoldsOrNot, both_or_not, three_or_not, each_or_not, one_or_not, same_or_not, below_or_not}
 
 -- a test of each of some sets has the outcome or not
-tests_or_not : {X : Type 0} (test : X → Bool) (outcome : Bool) (sets : List X) → HoldsOrNot (Each (λ set. test set ≡ outcome) sets)
+tests_or_not : {X : Type 0} (test : X → Bool) (outcome : Bool) (sets : List X) → HoldsOrNot (AllOf (λ set. test set ≡ outcome) sets)
 tests_or_not test outcome = each_or_not (λ set. test set ≡ outcome) (λ set. same_or_not (test set) outcome)
 
 -- so it is known what a basic kind needs
@@ -33,14 +33,14 @@ needs_known IsMember (inr none) = ([] ∷ [], inl ((λ x is. none (x, is)), refl
 -- an integer
 module _ (wanted refused : List (List Interval)) where
   abbrev IsInSets : ℤ → Type 0
-  IsInSets z = Each (λ set. integers.holds set z ≡ true) wanted × Each (λ set. integers.holds set z ≡ false) refused
+  IsInSets z = AllOf (λ set. integers.holds set z ≡ true) wanted × AllOf (λ set. integers.holds set z ≡ false) refused
 
   in_sets_or_not : (z : ℤ) → HoldsOrNot (IsInSets z)
   in_sets_or_not z = both_or_not (tests_or_not (λ set. integers.holds set z) true wanted)
       (tests_or_not (λ set. integers.holds set z) false refused)
 
   abbrev pub IsIntegerOf : ℤ → Type 0
-  IsIntegerOf z = IsInteger z × Each (λ set. integers.holds set z ≡ true) wanted × Each (λ set. integers.holds set z ≡ false) refused
+  IsIntegerOf z = IsInteger z × AllOf (λ set. integers.holds set z ≡ true) wanted × AllOf (λ set. integers.holds set z ≡ false) refused
 
   none_of_both : ((n : ℕ) × (n < 170141183460469231731687303715884105728) × IsInSets (pos n) → ⊥)
       → ((n : ℕ) × (n < 170141183460469231731687303715884105728) × IsInSets (negsuc n) → ⊥) → (z : ℤ) → IsIntegerOf z → ⊥
@@ -62,7 +62,7 @@ module _ (wanted refused : List (List Interval)) where
 -- a character
 module _ (wanted refused : List (List CharInterval)) where
   abbrev pub IsCharacterOf : ℕ → Type 0
-  IsCharacterOf c = IsScalar c × Each (λ set. holds_character set c ≡ true) wanted × Each (λ set. holds_character set c ≡ false) refused
+  IsCharacterOf c = IsScalar c × AllOf (λ set. holds_character set c ≡ true) wanted × AllOf (λ set. holds_character set c ≡ false) refused
 
   scalars_are_below : (c : ℕ) → IsScalar c → c < 0x110000
   scalars_are_below c is = elim (scalar_range c is) [ inl low ↦ omega arith | inr high ↦ (let most = high.1 in omega arith) ]
@@ -103,7 +103,7 @@ held_alike set one other not_one not_other =
 
 all_alike : (sets : List AtomSet) (one other : Name) (outcome : Bool) → (IsOneOf (names_in sets) one → ⊥)
     → (IsOneOf (names_in sets) other → ⊥)
-    → Each (λ set. atoms.holds set one ≡ outcome) sets → Each (λ set. atoms.holds set other ≡ outcome) sets
+    → AllOf (λ set. atoms.holds set one ≡ outcome) sets → AllOf (λ set. atoms.holds set other ≡ outcome) sets
 all_alike [] one other outcome not_one not_other each = tt
 all_alike (set ∷ sets) one other outcome not_one not_other each = (
   sym (held_alike set one other (λ is. not_one (one_on_left (λ name. name ≡ one) set.names (names_in sets) is))
@@ -115,7 +115,7 @@ all_alike (set ∷ sets) one other outcome not_one not_other each = (
 -- an atom: one of those that are listed, or a label that is longer than all of these
 module _ (wanted refused : List AtomSet) where
   abbrev pub IsAtomOf : Name → Type 0
-  IsAtomOf name = IsLabel name × Each (λ set. atoms.holds set name ≡ true) wanted × Each (λ set. atoms.holds set name ≡ false) refused
+  IsAtomOf name = IsLabel name × AllOf (λ set. atoms.holds set name ≡ true) wanted × AllOf (λ set. atoms.holds set name ≡ false) refused
 
   atom_of_or_not : (name : Name) → HoldsOrNot (IsAtomOf name)
   atom_of_or_not name = three_or_not (label_or_not name) (tests_or_not (λ set. atoms.holds set name) true wanted)
@@ -148,16 +148,16 @@ module _ (wanted refused : List AtomSet) where
   pub atom_or_not : HoldsOrNot ((name : Name) × IsAtomOf name)
   atom_or_not = by_listed (one_or_not IsAtomOf atom_of_or_not listed) (atom_of_or_not fresh)
     where
-      at_listed : (names : List Name) (name : Name) → IsOneOf names name → IsAtomOf name → One IsAtomOf names
+      at_listed : (names : List Name) (name : Name) → IsOneOf names name → IsAtomOf name → AnyOf IsAtomOf names
       at_listed names name one is = one_weaker (λ other. other ≡ name) IsAtomOf (λ other same. subst IsAtomOf (sym same) is) names one
 
-      nowhere : (One IsAtomOf listed → ⊥) → (IsAtomOf fresh → ⊥) → (name : Name) → IsAtomOf name → ⊥
+      nowhere : (AnyOf IsAtomOf listed → ⊥) → (IsAtomOf fresh → ⊥) → (name : Name) → IsAtomOf name → ⊥
       nowhere none no_fresh name is = elim (listed_or_not listed name) [
         | inl one ↦ none (at_listed listed name one is)
         | inr not ↦ no_fresh (fresh_alike name not is)
       ]
 
-      by_listed : HoldsOrNot (One IsAtomOf listed) → HoldsOrNot (IsAtomOf fresh) → HoldsOrNot ((name : Name) × IsAtomOf name)
+      by_listed : HoldsOrNot (AnyOf IsAtomOf listed) → HoldsOrNot (IsAtomOf fresh) → HoldsOrNot ((name : Name) × IsAtomOf name)
       by_listed (inl one) other = inl (one_leads IsAtomOf (λ name is. (name, is)) listed one)
       by_listed (inr none) (inl is) = inl (fresh, is)
       by_listed (inr none) (inr no_fresh) = inr (λ one. nowhere none no_fresh one.0 one.1)

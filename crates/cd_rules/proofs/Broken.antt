@@ -2,7 +2,7 @@
 use Rattle.std.proofs.Common.{◌≡◌, true, false, List, [], ◌∷◌, map, ◌⊎◌, inl, inr, sym, subst, ◌∙◌, true≢false}
 use Rattle.cd_sets.specs.declared.question.Question.{Question}
 use Rattle.cd_syntax.specs.Name.{Name}
-use Rattle.cd_model.specs.Each.{Each, One}
+use Rattle.cd_model.specs.AllOf.{AllOf, AnyOf}
 use Rattle.cd_model.specs.BuiltIns.{ATOM, RECORD}
 use Rattle.cd_model.specs.Membership.{Answers, Reader, Labelled, pair_reader, xml_reader, record_reader}
 use Rattle.cd_rules.specs.Choices.{Choice, Meets}
@@ -24,8 +24,8 @@ pub record IsBroken (family : List Question) (reader : Reader) : Type 0 where
   pub meets : Meets reader choice
   pub breaks : (clause : Clause) → IsClauseOf choice clause → Breaks family clause
 
-pub broken_one : (family : List Question) (reader : Reader) (choices : List Choice) → One (Meets reader) choices
-    → ((clause : Clause) → One (λ choice. IsClauseOf choice clause) choices → Breaks family clause) → IsBroken family reader
+pub broken_one : (family : List Question) (reader : Reader) (choices : List Choice) → AnyOf (Meets reader) choices
+    → ((clause : Clause) → AnyOf (λ choice. IsClauseOf choice clause) choices → Breaks family clause) → IsBroken family reader
 broken_one family reader [] one breaks = elim one [ ]
 broken_one family reader (choice ∷ choices) (inl meets) breaks =
     record { choice = choice; meets = meets; breaks = λ clause is. breaks clause (inl is) }
@@ -38,36 +38,36 @@ module _ (family : List Question) where
   IsOut question = IsCovered question family → ⊥
 
   -- a way all of whose questions are out is not broken
-  way_out : (way : Way) → Each IsOut way → One (λ question. IsCovered question family) way → ⊥
+  way_out : (way : Way) → AllOf IsOut way → AnyOf (λ question. IsCovered question family) way → ⊥
   way_out [] out one = elim one [ ]
   way_out (question ∷ way) out (inl is) = out.0 is
   way_out (question ∷ way) out (inr later) = way_out way out.1 later
 
-  pub need_out : (need : Need) → One (Each IsOut) need → BreaksNeed family need → ⊥
+  pub need_out : (need : Need) → AnyOf (AllOf IsOut) need → BreaksNeed family need → ⊥
   need_out [] one breaks = elim one [ ]
   need_out (way ∷ need) (inl out) breaks = way_out way out breaks.0
   need_out (way ∷ need) (inr later) breaks = need_out need later breaks.1
 
   -- the one need of a clause
-  pub one_need_out : (needs : List Need) (need : Need) → needs ≡ need ∷ [] → One (Each IsOut) need
-      → One (BreaksNeed family) needs → ⊥
+  pub one_need_out : (needs : List Need) (need : Need) → needs ≡ need ∷ [] → AnyOf (AllOf IsOut) need
+      → AnyOf (BreaksNeed family) needs → ⊥
   one_need_out needs need same out broken = need_out need out (one_alone (BreaksNeed family) needs need same broken)
 
   -- a basic kind: there is a member
   pub member_out : {X : Type 0} (IsMember : X → Type 0) (x : X) → IsMember x → (needs : List Need) → empty_or_not IsMember needs
-      → One (BreaksNeed family) needs → ⊥
+      → AnyOf (BreaksNeed family) needs → ⊥
   member_out IsMember x is needs (inl empty) broken = empty.0 x is
-  member_out IsMember x is needs (inr member) broken = elim (subst (One (BreaksNeed family)) member.2 broken) [ ]
+  member_out IsMember x is needs (inr member) broken = elim (subst (AnyOf (BreaksNeed family)) member.2 broken) [ ]
 
   -- a row that lives is not broken
-  cells_out : (cells : List (Name × Cell)) → Each (λ cell. (cell.1.absent ≡ true) ⊎ IsOut cell.1.value) cells
-      → One (λ cell. (cell.1.absent ≡ false) × IsCovered cell.1.value family) cells → ⊥
+  cells_out : (cells : List (Name × Cell)) → AllOf (λ cell. (cell.1.absent ≡ true) ⊎ IsOut cell.1.value) cells
+      → AnyOf (λ cell. (cell.1.absent ≡ false) × IsCovered cell.1.value family) cells → ⊥
   cells_out [] lives one = elim one [ ]
   cells_out (cell ∷ cells) (inl absent, lives) (inl broken) = absurd (true≢false (sym absent ∙ broken.0))
   cells_out (cell ∷ cells) (inr out, lives) (inl broken) = out broken.1
   cells_out (cell ∷ cells) (first, lives) (inr later) = cells_out cells lives later
 
-  pub rows_out : (rows : List Row) → One (IsLiving IsOut) rows → Each (BreaksRow family) rows → ⊥
+  pub rows_out : (rows : List Row) → AnyOf (IsLiving IsOut) rows → AllOf (BreaksRow family) rows → ⊥
   rows_out [] one breaks = elim one [ ]
   rows_out (row ∷ rows) (inr later) breaks = rows_out rows later breaks.1
   rows_out (row ∷ rows) (inl lives) breaks = by_reason breaks.0

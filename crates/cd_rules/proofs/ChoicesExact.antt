@@ -3,7 +3,7 @@ use Rattle.std.proofs.Common.{◌≡◌, Bool, true, false, not, List, [], ◌�
 use Rattle.std.proofs.lemmas.Bool.{true≢false}
 use Rattle.cd_sets.specs.declared.node_id.NodeId.{NodeId}
 use Rattle.cd_sets.specs.declared.question.Question.{Question}
-use Rattle.cd_model.specs.Each.{Each, One}
+use Rattle.cd_model.specs.AllOf.{AllOf, AnyOf}
 use Rattle.cd_model.specs.Formula as formula
 use Rattle.cd_model.specs.Formula.{Formula, Formulas, NoFormula, AFormula, Graph, formula_at}
 use Rattle.cd_model.specs.Membership.{Reader, holds, each_holds, one_holds, at_nodes, asked}
@@ -28,7 +28,7 @@ means_back : {A B : Type 0} → (A ↔ B) → B ↔ A
 means_back both = (both.1, both.0)
 
 -- a fact of each of two lists is one of each of the whole
-each_of_both : {X : Type 0} (fact : X → Type 0) (xs ys : List X) → Each fact (xs ++ ys) ↔ (Each fact xs × Each fact ys)
+each_of_both : {X : Type 0} (fact : X → Type 0) (xs ys : List X) → AllOf fact (xs ++ ys) ↔ (AllOf fact xs × AllOf fact ys)
 each_of_both fact [] ys = (λ each. (tt, each), λ both. both.1)
 each_of_both fact (x ∷ xs) ys = (
   λ each. let later = (each_of_both fact xs ys).0 each.1 in ((each.0, later.0), later.1),
@@ -36,7 +36,7 @@ each_of_both fact (x ∷ xs) ys = (
 )
 
 -- a fact of one of the whole is one of one of two lists
-pub one_of_both : {X : Type 0} (fact : X → Type 0) (xs ys : List X) → One fact (xs ++ ys) ↔ (One fact xs ⊎ One fact ys)
+pub one_of_both : {X : Type 0} (fact : X → Type 0) (xs ys : List X) → AnyOf fact (xs ++ ys) ↔ (AnyOf fact xs ⊎ AnyOf fact ys)
 one_of_both fact [] ys = (λ one. inr one, λ either. elim either [ inl none ↦ absurd none | inr one ↦ one ])
 one_of_both fact (x ∷ xs) ys = by_rest (one_of_both fact xs ys)
   where
@@ -56,15 +56,15 @@ one_of_both fact (x ∷ xs) ys = by_rest (one_of_both fact xs ys)
 module _ (reader : Reader) where
   -- one of the choices that begin with this one is met where this one is, and one of the others
   one_with : (choice : Choice) (others : List Choice)
-      → One (Meets reader) (map (λ other. choice ++ other) others) ↔ (Meets reader choice × One (Meets reader) others)
+      → AnyOf (Meets reader) (map (λ other. choice ++ other) others) ↔ (Meets reader choice × AnyOf (Meets reader) others)
   one_with choice [] = (λ none. absurd none, λ both. both.1)
   one_with choice (other ∷ others) =
       by_rest (each_of_both (λ literal. reader literal.is literal.wanted) choice other) (one_with choice others)
     where
       by_rest : (Meets reader (choice ++ other) ↔ (Meets reader choice × Meets reader other))
-          → (One (Meets reader) (map (λ other. choice ++ other) others) ↔ (Meets reader choice × One (Meets reader) others))
-          → (Meets reader (choice ++ other) ⊎ One (Meets reader) (map (λ other. choice ++ other) others))
-          ↔ (Meets reader choice × (Meets reader other ⊎ One (Meets reader) others))
+          → (AnyOf (Meets reader) (map (λ other. choice ++ other) others) ↔ (Meets reader choice × AnyOf (Meets reader) others))
+          → (Meets reader (choice ++ other) ⊎ AnyOf (Meets reader) (map (λ other. choice ++ other) others))
+          ↔ (Meets reader choice × (Meets reader other ⊎ AnyOf (Meets reader) others))
       by_rest first rest = (
         λ one. elim one [
           | inl is ↦ ((first.0 is).0, inl (first.0 is).1)
@@ -75,7 +75,7 @@ module _ (reader : Reader) where
 
   -- one of the joined choices is met where one of these is, and one of those
   pub joined_exact : (first second : List Choice)
-      → One (Meets reader) (joined first second) ↔ (One (Meets reader) first × One (Meets reader) second)
+      → AnyOf (Meets reader) (joined first second) ↔ (AnyOf (Meets reader) first × AnyOf (Meets reader) second)
   joined_exact [] second = (λ none. absurd none, λ both. both.0)
   joined_exact (choice ∷ first) second = means_so
       (one_of_both (Meets reader) (map (λ other. choice ++ other) second) (joined first second))
@@ -94,17 +94,17 @@ module _ (reader : Reader) where
   leaf_exact : {fact : Type 0} → fact ↔ ((fact × Unit {0}) ⊎ ⊥)
   leaf_exact = (λ is. inl (is, tt), λ one. elim one [ inl is ↦ is.0 | inr none ↦ absurd none ])
 
-  nothing_exact : (wanted : Bool) → (wanted ≡ false) ↔ One (Meets reader) (choices formula.Nothing wanted)
+  nothing_exact : (wanted : Bool) → (wanted ≡ false) ↔ AnyOf (Meets reader) (choices formula.Nothing wanted)
   nothing_exact true = (λ no. absurd (true≢false no), λ none. absurd none)
   nothing_exact false = (λ _. inl tt, λ _. refl)
 
-  everything_exact : (wanted : Bool) → (wanted ≡ true) ↔ One (Meets reader) (choices formula.Everything wanted)
+  everything_exact : (wanted : Bool) → (wanted ≡ true) ↔ AnyOf (Meets reader) (choices formula.Everything wanted)
   everything_exact true = (λ _. inl tt, λ _. refl)
   everything_exact false = (λ no. absurd (true≢false (sym no)), λ none. absurd none)
 
   -- by recursion on the formula
   mutual
-    pub choices_exact : (is : Formula) (wanted : Bool) → holds reader is wanted ↔ One (Meets reader) (choices is wanted)
+    pub choices_exact : (is : Formula) (wanted : Bool) → holds reader is wanted ↔ AnyOf (Meets reader) (choices is wanted)
     choices_exact formula.Nothing wanted = nothing_exact wanted
     choices_exact formula.Everything wanted = everything_exact wanted
     choices_exact (formula.Ints set) wanted = leaf_exact
@@ -122,13 +122,13 @@ module _ (reader : Reader) where
 
     -- one choice of each of these, and a choice of one of them
     pub each_exact : (formulas : Formulas) (wanted : Bool)
-        → each_holds reader formulas wanted ↔ One (Meets reader) (choices_of_each formulas wanted)
+        → each_holds reader formulas wanted ↔ AnyOf (Meets reader) (choices_of_each formulas wanted)
     each_exact NoFormula wanted = (λ _. inl tt, λ _. tt)
     each_exact (AFormula is rest) wanted = means_so (both_mean (choices_exact is wanted) (each_exact rest wanted))
         (means_back (joined_exact (choices is wanted) (choices_of_each rest wanted)))
 
     pub one_exact : (formulas : Formulas) (wanted : Bool)
-        → one_holds reader formulas wanted ↔ One (Meets reader) (choices_of_one formulas wanted)
+        → one_holds reader formulas wanted ↔ AnyOf (Meets reader) (choices_of_one formulas wanted)
     one_exact NoFormula wanted = (λ none. none, λ none. none)
     one_exact (AFormula is rest) wanted = means_so (one_means (choices_exact is wanted) (one_exact rest wanted))
         (means_back (one_of_both (Meets reader) (choices is wanted) (choices_of_one rest wanted)))
@@ -136,7 +136,7 @@ module _ (reader : Reader) where
   module _ (graph : Graph) where
     -- a thing answers so at each of some nodes where it meets one choice of each
     pub nodes_exact : (ids : List NodeId) (wanted : Bool)
-        → Each (λ id. holds reader (formula_at graph id) wanted) ids ↔ One (Meets reader) (choices_at graph ids wanted)
+        → AllOf (λ id. holds reader (formula_at graph id) wanted) ids ↔ AnyOf (Meets reader) (choices_at graph ids wanted)
     nodes_exact [] wanted = (λ _. inl tt, λ _. tt)
     nodes_exact (id ∷ ids) wanted = means_so
         (both_mean (choices_exact (formula_at graph id) wanted) (nodes_exact ids wanted))
@@ -144,6 +144,6 @@ module _ (reader : Reader) where
 
     -- it is in a question where it meets one of the question's choices
     pub question_exact : (question : Question)
-        → asked (at_nodes graph reader) question true ↔ One (Meets reader) (choices_of graph question)
+        → asked (at_nodes graph reader) question true ↔ AnyOf (Meets reader) (choices_of graph question)
     question_exact question = means_so (both_mean (nodes_exact question.pos true) (nodes_exact question.neg false))
         (means_back (joined_exact (choices_at graph question.pos true) (choices_at graph question.neg false)))

@@ -1,12 +1,12 @@
 -- A thing of a kind that is in a clause of a choice meets the choice.
 use Rattle.std.proofs.Common.{◌≡◌, Bool, true, false, List, [], ◌∷◌, Option, Some, None, refl, subst}
-use Rattle.cd_model.specs.Each.{Each}
+use Rattle.cd_model.specs.AllOf.{AllOf}
 use Rattle.cd_model.specs.Formula as formula
 use Rattle.cd_model.specs.Formula.{Formula}
 use Rattle.cd_model.specs.Kinds.{Kind, AnInteger, ACharacter, AnAtom, APair, AnXml, ARecord, AFunction}
 use Rattle.cd_model.specs.Membership.{Reader}
 use Rattle.cd_rules.specs.Choices.{Choice, Meets}
-use Rattle.cd_rules.specs.Clauses.{Clause, Ints, Chars, Atoms, Pairs, Xmls, Records, Arrows, kind_of_formula, AllOf}
+use Rattle.cd_rules.specs.Clauses.{Clause, Ints, Chars, Atoms, Pairs, Xmls, Records, Arrows, kind_of_formula, AllOfKind}
 use Rattle.cd_rules.specs.Clauses.{integers_of, characters_of, atoms_of, pair_of, xml_of, record_of, arrow_of}
 use Rattle.cd_rules.specs.Clauses.{one_more, parts_in, IsOfParts, IsInParts, IsClauseOf, IsInClause}
 use Rattle.cd_rules.proofs.Elsewhere.{IsOfOther, IsElsewhere}
@@ -57,8 +57,8 @@ module _ {X : Type 0} (kind : Kind) (parts_of : Formula → Option X) (formula_o
   -- from what is so of the wanted and of the refused parts, what is so of the first literal and of the others' parts
   read_first : IsElsewhere kind reader → (wanted : Bool) (is : Formula) (parts : Option X) (trues falses : List X)
       → Makes kind formula_of parts is → (wanted ≡ true → kind_of_formula is ≡ Some kind)
-      → Each (Read true) (one_more true wanted parts trues) → Each (Read false) (one_more false wanted parts falses)
-      → reader is wanted × Each (Read true) trues × Each (Read false) falses
+      → AllOf (Read true) (one_more true wanted parts trues) → AllOf (Read false) (one_more false wanted parts falses)
+      → reader is wanted × AllOf (Read true) trues × AllOf (Read false) falses
   read_first elsewhere true is (Some parts) trues falses makes of_kind inside outside =
       (subst (λ (is : Formula). reader is true) makes inside.0, inside.1, outside)
   read_first elsewhere true is None trues falses makes of_kind inside outside = absurd (makes (of_kind refl))
@@ -68,8 +68,8 @@ module _ {X : Type 0} (kind : Kind) (parts_of : Formula → Option X) (formula_o
 
   -- where all wanted literals are of the kind, the parts say what is so of each literal
   pub meets_of_parts : MadeOfParts kind parts_of formula_of → IsElsewhere kind reader
-      → (choice : Choice) → AllOf kind choice → Each (Read true) (parts_in parts_of true choice)
-      → Each (Read false) (parts_in parts_of false choice) → Meets reader choice
+      → (choice : Choice) → AllOfKind kind choice → AllOf (Read true) (parts_in parts_of true choice)
+      → AllOf (Read false) (parts_in parts_of false choice) → Meets reader choice
   meets_of_parts makes elsewhere [] of_kind inside outside = tt
   meets_of_parts makes elsewhere (literal ∷ rest) of_kind inside outside =
       let first = read_first elsewhere literal.wanted literal.is (parts_of literal.is)
@@ -82,7 +82,7 @@ module _ {X : Type 0} (kind : Kind) (parts_of : Formula → Option X) (formula_o
       → IsInParts of kind reader formula_of wanted refused → Meets reader choice
   meets_of_clause makes of elsewhere choice wanted refused is inside = meets_of_parts makes
       (subst (λ (kind : Kind). IsElsewhere kind reader) inside.0 elsewhere) choice is.0
-      (subst (Each (Read true)) is.1 inside.1) (subst (Each (Read false)) is.2 inside.2)
+      (subst (AllOf (Read true)) is.1 inside.1) (subst (AllOf (Read false)) is.2 inside.2)
 
 -- for any kind
 pub clause_back : (kind : Kind) (reader : Reader) → IsElsewhere kind reader → (choice : Choice) (clause : Clause)

@@ -4,7 +4,7 @@ use Rattle.std.proofs.lemmas.Bool.{true≢false}
 use Rattle.cd_syntax.specs.Name.{Name}
 use Rattle.cd_model.specs.Thing as thing
 use Rattle.cd_model.specs.Thing.{Thing}
-use Rattle.cd_model.specs.Each.{Each}
+use Rattle.cd_model.specs.AllOf.{AllOf}
 use Rattle.cd_model.specs.Formula as formula
 use Rattle.cd_model.specs.Formula.{Formula, Graph}
 use Rattle.cd_sets.specs.declared.node_id.NodeId.{NodeId}
@@ -16,7 +16,7 @@ use Rattle.cd_model.specs.Membership as node
 use Rattle.cd_model.specs.Membership.{Reader, Answers, Labelled, Mapping, integer_reader, character_reader, atom_reader}
 use Rattle.cd_model.specs.Membership.{pair_reader, xml_reader, record_reader, function_reader}
 use Rattle.cd_rules.specs.Choices.{Choice, Meets}
-use Rattle.cd_rules.specs.Clauses.{Clause, Ints, Chars, Atoms, Pairs, Xmls, Records, Arrows, kind_of_formula, AllOf}
+use Rattle.cd_rules.specs.Clauses.{Clause, Ints, Chars, Atoms, Pairs, Xmls, Records, Arrows, kind_of_formula, AllOfKind}
 use Rattle.cd_rules.specs.Clauses.{integers_of, characters_of, atoms_of, pair_of, xml_of, record_of, arrow_of}
 use Rattle.cd_rules.specs.Clauses.{one_more, parts_in, IsClauseOf, IsInClause}
 use Rattle.cd_rules.proofs.Things.{reader_of, answers_of, labelled_of, mapping_of}
@@ -32,7 +32,7 @@ ReadAlike reader parts_of formula_of =
 
 module _ (reader : Reader) where
   -- all wanted literals of a choice that is met are of the thing's kind
-  all_of : (kind : Kind) → IsOfKind kind reader → (choice : Choice) → Meets reader choice → AllOf kind choice
+  all_of : (kind : Kind) → IsOfKind kind reader → (choice : Choice) → Meets reader choice → AllOfKind kind choice
   all_of kind of_kind [] meets = tt
   all_of kind of_kind (literal ∷ rest) meets = (
     λ wanted. of_kind literal.is (subst (λ (answer : Bool). reader literal.is answer) wanted meets.0),
@@ -42,8 +42,8 @@ module _ (reader : Reader) where
   -- and the parts of its literals of a kind read as the choice asks
   module _ {X : Type 0} (parts_of : Formula → Option X) (formula_of : X → Formula) where
     read_one : (sign wanted : Bool) (is : Option X) (rest : List X) → IfSome is (λ parts. reader (formula_of parts) wanted)
-        → Each (λ parts. reader (formula_of parts) sign) rest
-        → Each (λ parts. reader (formula_of parts) sign) (one_more sign wanted is rest)
+        → AllOf (λ parts. reader (formula_of parts) sign) rest
+        → AllOf (λ parts. reader (formula_of parts) sign) (one_more sign wanted is rest)
     read_one true true (Some parts) rest is each = (is, each)
     read_one false false (Some parts) rest is each = (is, each)
     read_one true true None rest is each = each
@@ -52,7 +52,7 @@ module _ (reader : Reader) where
     read_one false true is rest _ each = each
 
     read_parts : ReadAlike reader parts_of formula_of → (sign : Bool) (choice : Choice) → Meets reader choice
-        → Each (λ parts. reader (formula_of parts) sign) (parts_in parts_of sign choice)
+        → AllOf (λ parts. reader (formula_of parts) sign) (parts_in parts_of sign choice)
     read_parts alike sign [] meets = tt
     read_parts alike sign (literal ∷ rest) meets =
         read_one sign literal.wanted (parts_of literal.is) (parts_in parts_of sign rest)
@@ -89,8 +89,8 @@ module _ (reader : Reader) where
   -- the clause of a choice for each kind, and that its wanted and its refused formulas are read so
   pub in_integers : IsOfKind AnInteger reader → (choice : Choice) → Meets reader choice
       → IsClauseOf choice (Ints (parts_in integers_of true choice) (parts_in integers_of false choice))
-      × Each (λ set. reader (formula.Ints set) true) (parts_in integers_of true choice)
-      × Each (λ set. reader (formula.Ints set) false) (parts_in integers_of false choice)
+      × AllOf (λ set. reader (formula.Ints set) true) (parts_in integers_of true choice)
+      × AllOf (λ set. reader (formula.Ints set) false) (parts_in integers_of false choice)
   in_integers of_kind choice meets = (
     (all_of AnInteger of_kind choice meets, refl, refl),
     read_parts integers_of formula.Ints integers_alike true choice meets,
@@ -99,8 +99,8 @@ module _ (reader : Reader) where
 
   pub in_characters : IsOfKind ACharacter reader → (choice : Choice) → Meets reader choice
       → IsClauseOf choice (Chars (parts_in characters_of true choice) (parts_in characters_of false choice))
-      × Each (λ set. reader (formula.Chars set) true) (parts_in characters_of true choice)
-      × Each (λ set. reader (formula.Chars set) false) (parts_in characters_of false choice)
+      × AllOf (λ set. reader (formula.Chars set) true) (parts_in characters_of true choice)
+      × AllOf (λ set. reader (formula.Chars set) false) (parts_in characters_of false choice)
   in_characters of_kind choice meets = (
     (all_of ACharacter of_kind choice meets, refl, refl),
     read_parts characters_of formula.Chars characters_alike true choice meets,
@@ -109,8 +109,8 @@ module _ (reader : Reader) where
 
   pub in_atoms : IsOfKind AnAtom reader → (choice : Choice) → Meets reader choice
       → IsClauseOf choice (Atoms (parts_in atoms_of true choice) (parts_in atoms_of false choice))
-      × Each (λ set. reader (formula.Atoms set) true) (parts_in atoms_of true choice)
-      × Each (λ set. reader (formula.Atoms set) false) (parts_in atoms_of false choice)
+      × AllOf (λ set. reader (formula.Atoms set) true) (parts_in atoms_of true choice)
+      × AllOf (λ set. reader (formula.Atoms set) false) (parts_in atoms_of false choice)
   in_atoms of_kind choice meets = (
     (all_of AnAtom of_kind choice meets, refl, refl),
     read_parts atoms_of formula.Atoms atoms_alike true choice meets,
@@ -119,8 +119,8 @@ module _ (reader : Reader) where
 
   pub in_pairs : IsOfKind APair reader → (choice : Choice) → Meets reader choice
       → IsClauseOf choice (Pairs (parts_in pair_of true choice) (parts_in pair_of false choice))
-      × Each (λ parts. reader (formula.Pair parts.0 parts.1) true) (parts_in pair_of true choice)
-      × Each (λ parts. reader (formula.Pair parts.0 parts.1) false) (parts_in pair_of false choice)
+      × AllOf (λ parts. reader (formula.Pair parts.0 parts.1) true) (parts_in pair_of true choice)
+      × AllOf (λ parts. reader (formula.Pair parts.0 parts.1) false) (parts_in pair_of false choice)
   in_pairs of_kind choice meets = (
     (all_of APair of_kind choice meets, refl, refl),
     read_parts pair_of (λ parts. formula.Pair parts.0 parts.1) pairs_alike true choice meets,
@@ -129,8 +129,8 @@ module _ (reader : Reader) where
 
   pub in_xmls : IsOfKind AnXml reader → (choice : Choice) → Meets reader choice
       → IsClauseOf choice (Xmls (parts_in xml_of true choice) (parts_in xml_of false choice))
-      × Each (λ parts. reader (formula.Xml parts.0 parts.1 parts.2) true) (parts_in xml_of true choice)
-      × Each (λ parts. reader (formula.Xml parts.0 parts.1 parts.2) false) (parts_in xml_of false choice)
+      × AllOf (λ parts. reader (formula.Xml parts.0 parts.1 parts.2) true) (parts_in xml_of true choice)
+      × AllOf (λ parts. reader (formula.Xml parts.0 parts.1 parts.2) false) (parts_in xml_of false choice)
   in_xmls of_kind choice meets = (
     (all_of AnXml of_kind choice meets, refl, refl),
     read_parts xml_of (λ parts. formula.Xml parts.0 parts.1 parts.2) xmls_alike true choice meets,
@@ -139,8 +139,8 @@ module _ (reader : Reader) where
 
   pub in_records : IsOfKind ARecord reader → (choice : Choice) → Meets reader choice
       → IsClauseOf choice (Records (parts_in record_of true choice) (parts_in record_of false choice))
-      × Each (λ type. reader (formula.Record type.named type.rest) true) (parts_in record_of true choice)
-      × Each (λ type. reader (formula.Record type.named type.rest) false) (parts_in record_of false choice)
+      × AllOf (λ type. reader (formula.Record type.named type.rest) true) (parts_in record_of true choice)
+      × AllOf (λ type. reader (formula.Record type.named type.rest) false) (parts_in record_of false choice)
   in_records of_kind choice meets = (
     (all_of ARecord of_kind choice meets, refl, refl),
     read_parts record_of (λ type. formula.Record type.named type.rest) records_alike true choice meets,
@@ -149,8 +149,8 @@ module _ (reader : Reader) where
 
   pub in_arrows : IsOfKind AFunction reader → (choice : Choice) → Meets reader choice
       → IsClauseOf choice (Arrows (parts_in arrow_of true choice) (parts_in arrow_of false choice))
-      × Each (λ parts. reader (formula.Arrow parts.0 parts.1) true) (parts_in arrow_of true choice)
-      × Each (λ parts. reader (formula.Arrow parts.0 parts.1) false) (parts_in arrow_of false choice)
+      × AllOf (λ parts. reader (formula.Arrow parts.0 parts.1) true) (parts_in arrow_of true choice)
+      × AllOf (λ parts. reader (formula.Arrow parts.0 parts.1) false) (parts_in arrow_of false choice)
   in_arrows of_kind choice meets = (
     (all_of AFunction of_kind choice meets, refl, refl),
     read_parts arrow_of (λ parts. formula.Arrow parts.0 parts.1) arrows_alike true choice meets,

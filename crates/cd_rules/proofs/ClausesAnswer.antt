@@ -2,11 +2,11 @@
 use Rattle.std.proofs.Common.{◌≡◌, Bool, true, false, List, [], ◌∷◌, ◌⊎◌, inl, inr, refl, sym, ap, subst, true≢false, Option, Some, None}
 use Rattle.std.proofs.lemmas.Option.{none-some, same_Some}
 use Rattle.cd_sets.specs.declared.question.Question.{Question}
-use Rattle.cd_model.specs.Each.{One}
+use Rattle.cd_model.specs.AllOf.{AnyOf}
 use Rattle.cd_model.specs.Formula.{Formula}
 use Rattle.cd_model.specs.Kinds.{Kind, AnInteger, ACharacter, AnAtom, APair, AnXml, ARecord, AFunction}
 use Rattle.cd_rules.specs.Choices.{Choice, Literal}
-use Rattle.cd_rules.specs.Clauses.{Clause, Ints, Chars, Atoms, Pairs, Xmls, Records, Arrows, kind_of_formula, AllOf, parts_in, IsOfParts, IsClauseOf}
+use Rattle.cd_rules.specs.Clauses.{Clause, Ints, Chars, Atoms, Pairs, Xmls, Records, Arrows, kind_of_formula, AllOfKind, parts_in, IsOfParts, IsClauseOf}
 use Rattle.cd_rules.specs.Clauses.{integers_of, characters_of, atoms_of, pair_of, xml_of, record_of, arrow_of}
 use Rattle.cd_rules.specs.Family.{Breaks}
 use Rattle.cd_rules.specs.Members.{IsSupplied}
@@ -36,7 +36,7 @@ literal_or_not kind literal = by_sign literal.wanted (kind_of_formula literal.is
     by_sign true None = inr (λ is. none-some kind (is refl))
     by_sign true (Some other) = by_kind other (kinds_or_not other kind)
 
-kind_or_not : (kind : Kind) (choice : Choice) → HoldsOrNot (AllOf kind choice)
+kind_or_not : (kind : Kind) (choice : Choice) → HoldsOrNot (AllOfKind kind choice)
 kind_or_not kind =
     each_or_not (λ literal. literal.wanted ≡ true → kind_of_formula literal.is ≡ Some kind) (literal_or_not kind)
 
@@ -69,11 +69,11 @@ module _ (fact : Question → Type 0) (family : List Question) where
         the_same broken others rest of = subst (λ (others : List X). Breaks family (made others rest)) (sym of.1)
             (subst (λ (rest : List X). Breaks family (made wanted rest)) (sym of.2) broken)
 
-        by_clause : AllOf kind choice → Settles (made wanted refused) → PartAnswer
+        by_clause : AllOfKind kind choice → Settles (made wanted refused) → PartAnswer
         by_clause all (inl supplied) = inr (wanted, refused, (all, refl, refl), supplied)
         by_clause all (inr broken) = inl (the_same broken)
 
-        by_kind : HoldsOrNot (AllOf kind choice) → PartAnswer
+        by_kind : HoldsOrNot (AllOfKind kind choice) → PartAnswer
         by_kind (inl all) = by_clause all (settles wanted refused (all, refl, refl))
         by_kind (inr not) = inl (λ others rest of. absurd (not of.0))
 
@@ -120,10 +120,10 @@ module _ (fact : Question → Type 0) (family : List Question) where
 
   -- those of some choices
   abbrev IsOfOne : List Choice → Clause → Type 0
-  IsOfOne choices clause = One (λ choice. IsClauseOf choice clause) choices
+  IsOfOne choices clause = AnyOf (λ choice. IsClauseOf choice clause) choices
 
-  pub choices_answer : (choices : List Choice) → ((clause : Clause) → One (λ choice. IsClauseOf choice clause) choices → Settles clause)
-      → Answer (λ clause. One (λ choice. IsClauseOf choice clause) choices)
+  pub choices_answer : (choices : List Choice) → ((clause : Clause) → AnyOf (λ choice. IsClauseOf choice clause) choices → Settles clause)
+      → Answer (λ clause. AnyOf (λ choice. IsClauseOf choice clause) choices)
   choices_answer [] settles = inl (λ clause one. elim one [ ])
   choices_answer (choice ∷ choices) settles = by_first
       (choice_answer choice (λ clause of. settles clause (inl of))) (choices_answer choices (λ clause one. settles clause (inr one)))

@@ -1,7 +1,7 @@
 -- A thing is in a question just where it is in one of its clauses.
 use Rattle.std.proofs.Common.{ℕ, true, List, [], ◌∷◌, inl, inr, ◌↔◌}
 use Rattle.cd_sets.specs.declared.question.Question.{Question}
-use Rattle.cd_model.specs.Each.{One}
+use Rattle.cd_model.specs.AllOf.{AnyOf}
 use Rattle.cd_model.specs.Formula.{Graph}
 use Rattle.cd_model.specs.Kinds.{Kind, kind_of}
 use Rattle.cd_model.specs.Membership.{Reader, Mapping, at_nodes, asked}
@@ -18,10 +18,10 @@ use Rattle.cd_rules.proofs.Things.{reader_of, answers_of}
 module _ (kind : Kind) (reader : Reader) where
   -- a clause of one of some choices, and the thing is in it
   abbrev InOneOf : List Choice → Type 0
-  InOneOf choices = (clause : Clause) × One (λ choice. IsClauseOf choice clause) choices × IsInClause kind reader clause
+  InOneOf choices = (clause : Clause) × AnyOf (λ choice. IsClauseOf choice clause) choices × IsInClause kind reader clause
 
   -- what meets one of some choices is in a clause of one of them
-  clause_of_one : IsOfKind kind reader → (choices : List Choice) → One (Meets reader) choices → InOneOf choices
+  clause_of_one : IsOfKind kind reader → (choices : List Choice) → AnyOf (Meets reader) choices → InOneOf choices
   clause_of_one of_kind [] one = elim one [ ]
   clause_of_one of_kind (choice ∷ choices) (inl meets) =
       let is = in_clause kind reader of_kind choice meets in (is.0, inl is.1, is.2)
@@ -29,7 +29,7 @@ module _ (kind : Kind) (reader : Reader) where
       let is = clause_of_one of_kind choices later in (is.0, inr is.1, is.2)
 
   -- and what is in such a clause meets the choice
-  one_of_clause : IsElsewhere kind reader → (choices : List Choice) → InOneOf choices → One (Meets reader) choices
+  one_of_clause : IsElsewhere kind reader → (choices : List Choice) → InOneOf choices → AnyOf (Meets reader) choices
   one_of_clause elsewhere choices is = one_weaker (λ choice. IsClauseOf choice is.0) (Meets reader)
       (λ choice of. clause_back kind reader elsewhere choice is.0 of is.2) choices is.1
 

@@ -4,7 +4,7 @@ use Rattle.std.proofs.Math.Path.{ap₂}
 use Rattle.cd_sets.specs.declared.node_id.NodeId.{NodeId}
 use Rattle.cd_sets.specs.declared.question.Question.{Question}
 use Rattle.cd_model.specs.BuiltIns.{node}
-use Rattle.cd_model.specs.Each.{Each, One}
+use Rattle.cd_model.specs.AllOf.{AllOf, AnyOf}
 use Rattle.cd_model.specs.Formula.{Graph, formula_at}
 use Rattle.cd_rules.specs.Choices.{choices, joined, choices_at, choices_of}
 use Rattle.cd_rules.specs.Clauses.{Clause, IsClauseOf, IsClauseOfQuestion}
@@ -15,7 +15,7 @@ formula_kept [] more id below = absurd (omega arith)
 formula_kept (is ∷ graph) more zero below = refl
 formula_kept (is ∷ graph) more (suc id) below = formula_kept graph more id (omega arith)
 
-at_kept : (graph more : Graph) (ids : List NodeId) (wanted : Bool) → Each (λ id. id.0 < length graph) ids
+at_kept : (graph more : Graph) (ids : List NodeId) (wanted : Bool) → AllOf (λ id. id.0 < length graph) ids
     → choices_at graph ids wanted ≡ choices_at (graph ++ more) ids wanted
 at_kept graph more [] wanted below = refl
 at_kept graph more (id ∷ ids) wanted below = ap₂ joined
@@ -27,15 +27,15 @@ choices_kept graph more question below =
     ap₂ joined (at_kept graph more question.pos true below.0) (at_kept graph more question.neg false below.1)
 
 -- by recursion on a front of the family
-each_stays : (graph more : Graph) (family questions : List Question) → Each (AsksNodes (length graph)) questions
-    → Each (λ question. (clause : Clause) → IsClauseOfQuestion graph question clause → Breaks family clause) questions
-    → Each (λ question. (clause : Clause) → IsClauseOfQuestion (graph ++ more) question clause → Breaks family clause) questions
+each_stays : (graph more : Graph) (family questions : List Question) → AllOf (AsksNodes (length graph)) questions
+    → AllOf (λ question. (clause : Clause) → IsClauseOfQuestion graph question clause → Breaks family clause) questions
+    → AllOf (λ question. (clause : Clause) → IsClauseOfQuestion (graph ++ more) question clause → Breaks family clause) questions
 each_stays graph more family [] below closed = tt
 each_stays graph more family (question ∷ questions) below closed = (
-  λ clause is. closed.0 clause (subst (One (λ choice. IsClauseOf choice clause)) (sym (choices_kept graph more question below.0)) is),
+  λ clause is. closed.0 clause (subst (AnyOf (λ choice. IsClauseOf choice clause)) (sym (choices_kept graph more question below.0)) is),
   each_stays graph more family questions below.1 closed.1,
 )
 
-pub closed_stays : (graph more : Graph) (family : List Question) → Each (AsksNodes (length graph)) family → IsClosed graph family
+pub closed_stays : (graph more : Graph) (family : List Question) → AllOf (AsksNodes (length graph)) family → IsClosed graph family
     → IsClosed (graph ++ more) family
 closed_stays graph more family below closed = each_stays graph more family family below closed

@@ -3,7 +3,7 @@ use Rattle.std.proofs.Common.{◌≡◌, true, false, List, inl, inr, sym, subst
 use Rattle.cd_sets.specs.declared.node_id.NodeId.{NodeId}
 use Rattle.cd_sets.specs.declared.question.Question.{Question}
 use Rattle.cd_syntax.specs.Name.{Name}
-use Rattle.cd_model.specs.Each.{Each, One}
+use Rattle.cd_model.specs.AllOf.{AllOf, AnyOf}
 use Rattle.cd_model.specs.Membership.{Answers, asked}
 use Rattle.cd_rules.specs.Clauses.{Clause, Ints, Chars, Atoms, Pairs, Xmls, Records, Arrows}
 use Rattle.cd_rules.specs.Needs.{Way, Need, question}
@@ -48,13 +48,13 @@ covers_more family more question asks covered = one_weaker (AsksNoLess question)
 -- what is so of each question of a family, and comes from a question to each that asks no less, is so of each that the family covers
 pub of_covered : (Fact : Question → Type 0) (family : List Question) (question : Question)
     → ((other : Question) → AsksNoLess question other → Fact other → Fact question)
-    → Each Fact family → IsCovered question family → Fact question
+    → AllOf Fact family → IsCovered question family → Fact question
 of_covered Fact family question comes each covered = one_leads (λ other. AsksNoLess question other × Fact other)
     (λ other both. comes other both.0 both.1) family (one_with_each (AsksNoLess question) Fact family covered each)
 
 -- a family covers each of some questions, as where they are all of it
 abbrev pub AreCovered : (some all : List Question) → Type 0
-AreCovered some all = Each (λ question. IsCovered question all) some
+AreCovered some all = AllOf (λ question. IsCovered question all) some
 
 pub covered_where : (some all : List Question) → AreOf some all → AreCovered some all
 covered_where some all among =
@@ -65,11 +65,11 @@ module _ (some all : List Question) (covered : AreCovered some all) where
   pub covers_on : (question : Question) → IsCovered question some → IsCovered question all
   covers_on question is = of_covered (λ question. IsCovered question all) some question (covers_more all question) covered is
 
-  way_on : (way : Way) → One (λ question. IsCovered question some) way → One (λ question. IsCovered question all) way
+  way_on : (way : Way) → AnyOf (λ question. IsCovered question some) way → AnyOf (λ question. IsCovered question all) way
   way_on = one_weaker (λ question. IsCovered question some) (λ question. IsCovered question all) covers_on
 
   need_on : (need : Need) → BreaksNeed some need → BreaksNeed all need
-  need_on = each_weaker (λ way. One (λ question. IsCovered question some) way) (λ way. One (λ question. IsCovered question all) way) way_on
+  need_on = each_weaker (λ way. AnyOf (λ question. IsCovered question some) way) (λ way. AnyOf (λ question. IsCovered question all) way) way_on
 
   row_on : (row : Row) → BreaksRow some row → BreaksRow all row
   row_on row (inl cell) = inl (one_weaker (λ (cell : Name × Cell). (cell.1.absent ≡ false) × IsCovered cell.1.value some)

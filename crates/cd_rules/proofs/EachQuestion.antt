@@ -4,7 +4,7 @@
 use Rattle.std.proofs.Common.{◌≡◌, ℕ, zero, suc, ◌<◌, ◌≤◌, List, [], ◌∷◌, ◌++◌, ◌⊎◌, inl, inr, true, refl, sym, ap, subst, arith, map, length}
 use Rattle.cd_sets.specs.declared.question.Question.{Question}
 use Rattle.cd_model.specs.BuiltIns.{built_ins}
-use Rattle.cd_model.specs.Each.{Each, One}
+use Rattle.cd_model.specs.AllOf.{AllOf, AnyOf}
 use Rattle.cd_model.specs.Formula.{Graph, IsGraph}
 use Rattle.cd_model.specs.Interfaces.{Interfaces}
 use Rattle.cd_model.specs.Membership.{asked, answers, reader, value_answers, value_reader}
@@ -36,9 +36,9 @@ use Rattle.cd_rules.proofs.NodeSets.{all_questions, among_all}
 
 -- a basic kind has no questions
 basic_settled : {X : Type 0} (fact : Question → Type 0) (family : List Question) (IsMember : X → Type 0) (needs : List Need)
-    → empty_or_not IsMember needs → Each (AreSettled fact family) needs
-basic_settled fact family IsMember needs (inl empty) = subst (Each (AreSettled fact family)) (sym empty.1) (tt, tt)
-basic_settled fact family IsMember needs (inr member) = subst (Each (AreSettled fact family)) (sym member.2) tt
+    → empty_or_not IsMember needs → AllOf (AreSettled fact family) needs
+basic_settled fact family IsMember needs (inl empty) = subst (AllOf (AreSettled fact family)) (sym empty.1) (tt, tt)
+basic_settled fact family IsMember needs (inr member) = subst (AllOf (AreSettled fact family)) (sym member.2) tt
 
 module _ (graph more : Graph) (begins : graph ≡ built_ins ++ more) (sound : IsGraph graph) where
   abbrev nodes : ℕ
@@ -65,11 +65,11 @@ module _ (graph more : Graph) (begins : graph ≡ built_ins ++ more) (sound : Is
               (covers_own family (set_question one) of))
         ]
 
-    way_settled : (way : Way) → Each (AsksNodes nodes) way → Each (IsSettled (HasElement graph) family) way
+    way_settled : (way : Way) → AllOf (AsksNodes nodes) way → AllOf (IsSettled (HasElement graph) family) way
     way_settled = each_weaker (AsksNodes nodes) (IsSettled (HasElement graph) family) question_settled
 
-    need_settled : (need : Need) → Each (Each (AsksNodes nodes)) need → AreSettled (HasElement graph) family need
-    need_settled = each_weaker (Each (AsksNodes nodes)) (Each (IsSettled (HasElement graph) family)) way_settled
+    need_settled : (need : Need) → AllOf (AllOf (AsksNodes nodes)) need → AreSettled (HasElement graph) family need
+    need_settled = each_weaker (AllOf (AsksNodes nodes)) (AllOf (IsSettled (HasElement graph) family)) way_settled
 
     row_settled : (row : Row) → RowAsks nodes row → HasSettledRow (HasElement graph) family row
     row_settled row asks = (
@@ -106,7 +106,7 @@ module _ (graph more : Graph) (begins : graph ≡ built_ins ++ more) (sound : Is
     all_settled (Arrows wanted refused) within = (
       _,
       refl,
-      each_weaker (Each (Each (AsksNodes nodes))) (AreSettled (HasElement graph) family) need_settled
+      each_weaker (AllOf (AllOf (AsksNodes nodes))) (AreSettled (HasElement graph) family) need_settled
           (map (λ one. map (arrow_way one) (splits wanted)) refused) (arrow_ways_ask nodes wanted refused within),
     )
     all_settled (Records wanted refused) within = each_weaker (RowAsks nodes) (HasSettledRow (HasElement graph) family) row_settled
@@ -140,7 +140,7 @@ module _ (graph more : Graph) (begins : graph ≡ built_ins ++ more) (sound : Is
     shorter : suc (length rest) ≡ length family
     others : (one : Question) → IsOfFamily one family → HasOrIsOf rest one
 
-  without : (family : List Question) → One (HasElement graph) family → Without family
+  without : (family : List Question) → AnyOf (HasElement graph) family → Without family
   without [] has = elim has [ ]
   without (first ∷ family) (inl has) = record {
     rest = family;
@@ -168,7 +168,7 @@ module _ (graph more : Graph) (begins : graph ≡ built_ins ++ more) (sound : Is
       (each_of_all (λ one. IsBroken (first ∷ family) covers one ⊎ HasElement graph one)
       (broken_or_has (first ∷ family) covers) (first ∷ family))) (closed_of most)
     where
-      by_answer : Each (IsBroken (first ∷ family) covers) (first ∷ family) ⊎ One (HasElement graph) (first ∷ family)
+      by_answer : AllOf (IsBroken (first ∷ family) covers) (first ∷ family) ⊎ AnyOf (HasElement graph) (first ∷ family)
           → ((family : List Question) → length family ≤ most → Covers family → HasClosed) → HasClosed
       by_answer (inl closed) go_on = (first ∷ family, closed, covers)
       by_answer (inr has) go_on =

@@ -1,7 +1,7 @@
 -- What is at a label is in the cell of some types just where it is as the wanted ones say, and as the refused ones do not.
 use Rattle.std.proofs.Common.{◌≡◌, Bool, true, false, not, ◌&&◌, List, [], ◌∷◌, map, Option, Some, None, refl, ap}
 use Rattle.std.specs.List.{list_all}
-use Rattle.cd_model.specs.Each.{Each}
+use Rattle.cd_model.specs.AllOf.{AllOf}
 use Rattle.cd_model.specs.Formula.{Field}
 use Rattle.cd_model.specs.Membership.{Answers, asked}
 use Rattle.cd_rules.specs.Needs.{question}
@@ -17,7 +17,7 @@ Says answers None field answer = field.optional ≡ answer
 Says answers (Some is) field answer = answers is field.type answer
 
 -- a test that each of a list passes, and back
-all_pass : {X : Type 0} (test : X → Bool) (xs : List X) → Each (λ x. test x ≡ true) xs → list_all test xs ≡ true
+all_pass : {X : Type 0} (test : X → Bool) (xs : List X) → AllOf (λ x. test x ≡ true) xs → list_all test xs ≡ true
 all_pass test [] each = refl
 all_pass test (x ∷ xs) each = rw each.0 (all_pass test xs each.1)
 
@@ -25,7 +25,7 @@ both_hold : (one other : Bool) → one && other ≡ true → (one ≡ true) × (
 both_hold true other is = (refl, is)
 both_hold false other is = absurd cc
 
-each_passes : {X : Type 0} (test : X → Bool) (xs : List X) → list_all test xs ≡ true → Each (λ x. test x ≡ true) xs
+each_passes : {X : Type 0} (test : X → Bool) (xs : List X) → list_all test xs ≡ true → AllOf (λ x. test x ≡ true) xs
 each_passes test [] all = tt
 each_passes test (x ∷ xs) all =
     let both = both_hold (test x) (list_all test xs) all in (both.0, each_passes test xs both.1)
@@ -44,16 +44,16 @@ module _ {X T : Type 0} (answers : X → Answers) (field : T → Field) (wanted 
   }
 
   -- a value that is as the types say is in the question of the cell, and back
-  pub value_in : (is : X) → Each (λ type. Says answers (Some is) (field type) true) wanted
-      → Each (λ type. Says answers (Some is) (field type) false) refused → asked (answers is) cell_of.value true
+  pub value_in : (is : X) → AllOf (λ type. Says answers (Some is) (field type) true) wanted
+      → AllOf (λ type. Says answers (Some is) (field type) false) refused → asked (answers is) cell_of.value true
   value_in is inside outside =
       asked_of_each (answers is) (map (λ type. (field type).type) wanted) (map (λ type. (field type).type) refused)
       (each_of_map (λ type. (field type).type) (λ id. answers is id true) wanted inside)
       (each_of_map (λ type. (field type).type) (λ id. answers is id false) refused outside)
 
   pub value_says : (is : X) → asked (answers is) cell_of.value true
-      → Each (λ type. Says answers (Some is) (field type) true) wanted
-      × Each (λ type. Says answers (Some is) (field type) false) refused
+      → AllOf (λ type. Says answers (Some is) (field type) true) wanted
+      × AllOf (λ type. Says answers (Some is) (field type) false) refused
   value_says is asking =
       let both = each_of_asked (answers is) (map (λ type. (field type).type) wanted)
       (map (λ type. (field type).type) refused) asking in (
@@ -62,8 +62,8 @@ module _ {X T : Type 0} (answers : X → Answers) (field : T → Field) (wanted 
       )
 
   -- what is there is in the cell
-  pub into_cell : (what : Option X) → Each (λ type. Says answers what (field type) true) wanted
-      → Each (λ type. Says answers what (field type) false) refused → IsInCell answers what cell_of
+  pub into_cell : (what : Option X) → AllOf (λ type. Says answers what (field type) true) wanted
+      → AllOf (λ type. Says answers what (field type) false) refused → IsInCell answers what cell_of
   into_cell None inside outside =
       let wanted_free = all_pass (λ type. (field type).optional) wanted inside in
       let refused_free = all_pass (λ type. not (field type).optional) refused
@@ -74,8 +74,8 @@ module _ {X T : Type 0} (answers : X → Answers) (field : T → Field) (wanted 
 
   -- and what is in the cell is as the types say
   pub out_of_cell : (what : Option X) → IsInCell answers what cell_of
-      → Each (λ type. Says answers what (field type) true) wanted
-      × Each (λ type. Says answers what (field type) false) refused
+      → AllOf (λ type. Says answers what (field type) true) wanted
+      × AllOf (λ type. Says answers what (field type) false) refused
   out_of_cell None may =
       let both = both_hold (list_all (λ type. (field type).optional) wanted)
       (list_all (λ type. not (field type).optional) refused) may in (

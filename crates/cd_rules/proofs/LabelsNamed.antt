@@ -6,7 +6,7 @@ use Rattle.std.proofs.lemmas.Bool.{cases_Bool}
 use Rattle.std.proofs.lemmas.Slice.Eq.{bytes_eq-Decides}
 use Rattle.cd_sets.specs.declared.node_id.NodeId.{NodeId}
 use Rattle.cd_syntax.specs.Name.{Name}
-use Rattle.cd_model.specs.Each.{Each}
+use Rattle.cd_model.specs.AllOf.{AllOf}
 use Rattle.cd_model.specs.Formula.{Field, field_of}
 use Rattle.cd_model.proofs.Labels.{IsOneOf, names_of}
 use Rattle.cd_rules.specs.Clauses.{RecordType}
@@ -18,7 +18,7 @@ free_field type = record { optional = true; type = type.rest }
 
 -- each type says no more of the label than that
 abbrev pub IsUnnamed : List RecordType → Name → Type 0
-IsUnnamed types label = Each (λ type. field_at type label ≡ free_field type) types
+IsUnnamed types label = AllOf (λ type. field_at type label ≡ free_field type) types
 
 -- the second test holds where one of both does, and not the first
 passed : (first second : Bool) → first ≡ false → first || second ≡ true → second ≡ true

@@ -5,7 +5,7 @@ use Rattle.std.proofs.lemmas.Bool.{cases_Bool}
 use Rattle.std.proofs.lemmas.Slice.Eq.{bytes_eq-Decides}
 use Rattle.cd_syntax.specs.Name.{Name, IsLabel}
 use Rattle.cd_model.specs.Thing.{Thing, IsElement, Fields, NoField, LabelsRise, AreFields}
-use Rattle.cd_model.specs.Each.{Each}
+use Rattle.cd_model.specs.AllOf.{AllOf}
 use Rattle.cd_model.specs.Formula.{Graph}
 use Rattle.cd_model.specs.Membership.{answers, asked}
 use Rattle.cd_model.proofs.Labels.{IsOneOf}
@@ -86,8 +86,8 @@ module _ (graph : Graph) (cell_of : Name → Cell) where
           at_other first labels fields (put first is fields) label differ (found_elsewhere first is fields label differ) at
 
   -- where each cell may be absent or has an element there are fields
-  pub cells_fit : (labels : List Name) → Each IsLabel labels
-      → Each (λ label. ((cell_of label).absent ≡ true) ⊎ HasElement graph (cell_of label).value) labels → FitCells labels
+  pub cells_fit : (labels : List Name) → AllOf IsLabel labels
+      → AllOf (λ label. ((cell_of label).absent ≡ true) ⊎ HasElement graph (cell_of label).value) labels → FitCells labels
   cells_fit [] are living = (NoField, tt, tt, λ label. inr (λ one. elim one [ ], refl))
   cells_fit (first ∷ labels) are living = by_living living.0 (cells_fit labels are.1 living.1)
     where
@@ -118,7 +118,7 @@ module _ (Inside : Thing → Type 0) (Has : RecordType → Thing → Type 0)
   -- fields that have an element more for each of these types
   abbrev pub HaveMore : ℕ → List RecordType → Type 0
   HaveMore n types = (fields : Fields) × LabelsRise None fields × AreFields fields
-      × ((label : Name) → IsMore n fields label) × Each (HasIts n fields) types
+      × ((label : Name) → IsMore n fields label) × AllOf (HasIts n fields) types
 
   module _ (n : ℕ) (is : Thing) (fields : Fields) where
     -- longer labels have what they had
@@ -156,7 +156,7 @@ module _ (Inside : Thing → Type 0) (Has : RecordType → Thing → Type 0)
 
   -- where each type has an element there are fields with one more for each
   pub have_more : (types : List RecordType) (n : ℕ)
-      → Each (λ type. (is : Thing) × IsElement is × Has type is) types → HaveMore n types
+      → AllOf (λ type. (is : Thing) × IsElement is × Has type is) types → HaveMore n types
   have_more [] n each = (base, rises, are, λ label. inl refl, tt)
   have_more (type ∷ types) n (first, each) =
       let rest = have_more types (suc n) each in

@@ -3,7 +3,7 @@ use Rattle.std.proofs.Common.{◌≡◌, true, false, List, [], ◌∷◌, ◌++
 use Rattle.cd_model.specs.Thing as thing
 use Rattle.cd_model.specs.Thing.{Thing, IsElement}
 use Rattle.cd_model.specs.BuiltIns.{built_ins}
-use Rattle.cd_model.specs.Each.{Each}
+use Rattle.cd_model.specs.AllOf.{AllOf}
 use Rattle.cd_model.specs.Formula.{Graph}
 use Rattle.cd_model.specs.Kinds.{kind_of}
 use Rattle.cd_model.specs.Membership as node
@@ -30,9 +30,9 @@ module _ (graph : Graph) (begins : (more : Graph) × (graph ≡ built_ins ++ mor
 
   -- each refused arrow's need is met
   arrows_met : (pairs : thing.Pairs) → IsElement (thing.Function pairs) → (wanted refused : List Pair)
-      → Each (λ parts. node.mapping graph pairs parts.0 parts.1 true) wanted
-      → Each (λ parts. node.mapping graph pairs parts.0 parts.1 false) refused
-      → Each (IsMet (HasElement graph)) (map (λ one. map (arrow_way one) (splits wanted)) refused)
+      → AllOf (λ parts. node.mapping graph pairs parts.0 parts.1 true) wanted
+      → AllOf (λ parts. node.mapping graph pairs parts.0 parts.1 false) refused
+      → AllOf (IsMet (HasElement graph)) (map (λ one. map (arrow_way one) (splits wanted)) refused)
   arrows_met pairs is wanted [] inside outside = tt
   arrows_met pairs is wanted (one ∷ refused) inside outside = (
     arrows_forward graph no_closure (HasElement graph) pairs (parts_have graph (HasElement graph) asked_has pairs is) wanted one inside outside.0,

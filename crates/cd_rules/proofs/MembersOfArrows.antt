@@ -2,7 +2,7 @@
 use Rattle.std.proofs.Common.{◌≡◌, true, false, List, [], ◌∷◌, map, ◌⊎◌, inl, inr, refl, subst}
 use Rattle.cd_model.specs.Thing as thing
 use Rattle.cd_model.specs.Thing.{Thing, IsElement, ArePairs}
-use Rattle.cd_model.specs.Each.{Each, One}
+use Rattle.cd_model.specs.AllOf.{AllOf, AnyOf}
 use Rattle.cd_model.specs.Formula.{Graph}
 use Rattle.cd_model.specs.Membership.{answers, mapping}
 use Rattle.cd_rules.specs.Clauses.{Arrows, Pair}
@@ -21,10 +21,10 @@ IsOutsideArrow graph pairs parts = mapping graph pairs parts.0 parts.1 false
 -- a function is in each wanted arrow and outside each refused one
 abbrev pub IsInArrows : Graph → (wanted refused : List Pair) → thing.Pairs → Type 0
 IsInArrows graph wanted refused pairs =
-    ArePairs pairs × Each (IsInArrow (mapping graph pairs)) wanted × Each (IsOutsideArrow graph pairs) refused
+    ArePairs pairs × AllOf (IsInArrow (mapping graph pairs)) wanted × AllOf (IsOutsideArrow graph pairs) refused
 
 -- a function without pairs is in all arrows
-pub none_in_arrows : (graph : Graph) (wanted : List Pair) → Each (IsInArrow (mapping graph thing.NoPair)) wanted
+pub none_in_arrows : (graph : Graph) (wanted : List Pair) → AllOf (IsInArrow (mapping graph thing.NoPair)) wanted
 none_in_arrows graph [] = tt
 none_in_arrows graph (parts ∷ wanted) = (refl, none_in_arrows graph wanted)
 
@@ -33,7 +33,7 @@ module _ (graph : Graph) (wanted refused : List Pair) (one : Pair) (pairs : thin
   -- a pair that maps an argument of one more arrow out of its result, and is right for the wanted ones
   pub with_maps : (from to : Thing) → IsElement from → IsElement to
       → answers graph from one.0 true → answers graph to one.1 false
-      → Each (λ parts. ArgumentIsOutside (answers graph from) parts ⊎ ResultIsInside (answers graph to) parts) wanted
+      → AllOf (λ parts. ArgumentIsOutside (answers graph from) parts ⊎ ResultIsInside (answers graph to) parts) wanted
       → IsInArrows graph wanted (one ∷ refused) (thing.Maps from to pairs)
   with_maps from to from_is to_is inside outside right = (
     (from_is, to_is, rest.0),
@@ -48,7 +48,7 @@ module _ (graph : Graph) (wanted refused : List Pair) (one : Pair) (pairs : thin
 
   -- a pair that fails at an argument of one more arrow, and is right for the wanted ones
   pub with_fails : (from : Thing) → IsElement from → answers graph from one.0 true
-      → Each (ArgumentIsOutside (answers graph from)) wanted
+      → AllOf (ArgumentIsOutside (answers graph from)) wanted
       → IsInArrows graph wanted (one ∷ refused) (thing.Fails from pairs)
   with_fails from from_is inside right = (
     (from_is, rest.0),
@@ -61,8 +61,8 @@ module _ (graph : Graph) (wanted refused : List Pair) (one : Pair) (pairs : thin
   )
 
   -- where all wanted arrows are given to the one side, an element of the only question is what the function fails at
-  added_fails : (given : List Pair) → One (λ other. other ≡ (given, [])) (splits wanted)
-      → Each (HasElement graph) (arrow_way one (given, []))
+  added_fails : (given : List Pair) → AnyOf (λ other. other ≡ (given, [])) (splits wanted)
+      → AllOf (HasElement graph) (arrow_way one (given, []))
       → (more : thing.Pairs) × IsInArrows graph wanted (one ∷ refused) more
   added_fails given is have =
       let from = have.0.0 in
@@ -80,8 +80,8 @@ module _ (graph : Graph) (wanted refused : List Pair) (one : Pair) (pairs : thin
 
   -- where some are given to the other side, the function maps an element of the first question to one of the second
   added_maps : (given : List Pair) (first : Pair) (others : List Pair)
-      → One (λ other. other ≡ (given, first ∷ others)) (splits wanted)
-      → Each (HasElement graph) (arrow_way one (given, first ∷ others))
+      → AnyOf (λ other. other ≡ (given, first ∷ others)) (splits wanted)
+      → AllOf (HasElement graph) (arrow_way one (given, first ∷ others))
       → (more : thing.Pairs) × IsInArrows graph wanted (one ∷ refused) more
   added_maps given first others is have =
       let from = have.0.0 in
@@ -97,25 +97,25 @@ module _ (graph : Graph) (wanted refused : List Pair) (one : Pair) (pairs : thin
       )
 
   -- a way of one more refused arrow adds a pair for it
-  added : (given others : List Pair) → One (λ other. other ≡ (given, others)) (splits wanted)
-      → Each (HasElement graph) (arrow_way one (given, others))
+  added : (given others : List Pair) → AnyOf (λ other. other ≡ (given, others)) (splits wanted)
+      → AllOf (HasElement graph) (arrow_way one (given, others))
       → (more : thing.Pairs) × IsInArrows graph wanted (one ∷ refused) more
   added given [] is have = added_fails given is have
   added given (first ∷ others) is have = added_maps given first others is have
 
 -- a function with one pair for each refused arrow, by recursion on these
 pub function_of_ways : (graph : Graph) (wanted refused : List Pair)
-    → Each (IsMet (HasElement graph)) (map (λ one. map (arrow_way one) (splits wanted)) refused)
+    → AllOf (IsMet (HasElement graph)) (map (λ one. map (arrow_way one) (splits wanted)) refused)
     → (pairs : thing.Pairs) × IsInArrows graph wanted refused pairs
 function_of_ways graph wanted [] each = (thing.NoPair, (tt, none_in_arrows graph wanted, tt))
 function_of_ways graph wanted (one ∷ refused) each =
     let rest = function_of_ways graph wanted refused each.1 in
-    let way = one_picked (arrow_way one) (Each (HasElement graph)) (splits wanted) each.0 in
+    let way = one_picked (arrow_way one) (AllOf (HasElement graph)) (splits wanted) each.0 in
     added graph wanted refused one rest.0 rest.1 way.0.0 way.0.1 way.1 way.2
 
 -- where each need of a clause of arrows is met, a function is in the clause
 pub arrows_have : (graph : Graph) (wanted refused : List Pair) → HasAllNeeds (HasElement graph) (Arrows wanted refused)
     → HasMember graph (Arrows wanted refused)
 arrows_have graph wanted refused have =
-    let made = function_of_ways graph wanted refused (subst (Each (IsMet (HasElement graph))) have.1 have.2) in
+    let made = function_of_ways graph wanted refused (subst (AllOf (IsMet (HasElement graph))) have.1 have.2) in
     (thing.Function made.0, made.1.0, (refl, made.1.1, made.1.2))

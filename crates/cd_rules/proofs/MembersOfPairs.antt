@@ -1,7 +1,7 @@
 -- A clause of pairs whose need is met has a member: the pair of elements that meet the two questions of a way.
 use Rattle.std.proofs.Common.{◌≡◌, List, [], ◌∷◌, map, refl, subst}
 use Rattle.cd_model.specs.Thing as thing
-use Rattle.cd_model.specs.Each.{Each, One}
+use Rattle.cd_model.specs.AllOf.{AllOf, AnyOf}
 use Rattle.cd_model.specs.Formula.{Graph}
 use Rattle.cd_model.specs.Membership.{answers}
 use Rattle.cd_rules.specs.Clauses.{Pair, Pairs}
@@ -12,10 +12,10 @@ use Rattle.cd_rules.proofs.PairsBack.{pairs_back}
 
 -- where all needs are met, and there is one need whose ways are made of a list, all questions of a way have elements
 pub way_picked : {X : Type 0} (graph : Graph) (way_of : X → Way) (sides : List X) (needs : List Need)
-    → needs ≡ map way_of sides ∷ [] → Each (IsMet (HasElement graph)) needs
-    → (given : X) × One (λ other. other ≡ given) sides × Each (HasElement graph) (way_of given)
+    → needs ≡ map way_of sides ∷ [] → AllOf (IsMet (HasElement graph)) needs
+    → (given : X) × AnyOf (λ other. other ≡ given) sides × AllOf (HasElement graph) (way_of given)
 way_picked graph way_of sides needs same met =
-    one_picked way_of (Each (HasElement graph)) sides (subst (Each (IsMet (HasElement graph))) same met).0
+    one_picked way_of (AllOf (HasElement graph)) sides (subst (AllOf (IsMet (HasElement graph))) same met).0
 
 -- a clause of pairs has a member
 pub pairs_have : (graph : Graph) (wanted refused : List Pair)

@@ -3,7 +3,7 @@ use Rattle.std.proofs.Common.{◌≡◌, Bool, true, false, if◌then◌else◌,
 use Rattle.std.specs.List.{list_any}
 use Rattle.cd_syntax.specs.Name.{Name, IsLabel}
 use Rattle.cd_model.specs.Thing as thing
-use Rattle.cd_model.specs.Each.{Each, One}
+use Rattle.cd_model.specs.AllOf.{AllOf, AnyOf}
 use Rattle.cd_model.specs.Formula.{Graph, Field}
 use Rattle.cd_model.proofs.Labels.{names_of}
 use Rattle.cd_rules.specs.Clauses.{Records, RecordType}
@@ -20,27 +20,27 @@ use Rattle.cd_rules.proofs.MembersRows.{InRests, HasRest, in_rests, in_wanted, o
 use Rattle.cd_rules.proofs.MembersCells.{cells_fit, have_more}
 
 -- so each of their labels is one
-with_label_is : (label : Name) (labels : List Name) → IsLabel label → Each IsLabel labels
-    → Each IsLabel (with_label label labels)
+with_label_is : (label : Name) (labels : List Name) → IsLabel label → AllOf IsLabel labels
+    → AllOf IsLabel (with_label label labels)
 with_label_is label labels is each = by_any (list_any (bytes_eq label) labels)
   where
-    by_any : (any : Bool) → Each IsLabel (if any then labels else label ∷ labels)
+    by_any : (any : Bool) → AllOf IsLabel (if any then labels else label ∷ labels)
     by_any true = each
     by_any false = (is, each)
 
-labels_after_are : (these labels : List Name) → Each IsLabel these → Each IsLabel labels
-    → Each IsLabel (labels_after these labels)
+labels_after_are : (these labels : List Name) → AllOf IsLabel these → AllOf IsLabel labels
+    → AllOf IsLabel (labels_after these labels)
 labels_after_are [] labels are each = each
 labels_after_are (label ∷ these) labels are each =
     with_label_is label (labels_after these labels) are.0 (labels_after_are these labels are.1 each)
 
-pub labels_are : (types : List RecordType) → HaveLabels types → Each IsLabel (labels_of types)
+pub labels_are : (types : List RecordType) → HaveLabels types → AllOf IsLabel (labels_of types)
 labels_are [] have = tt
 labels_are (type ∷ types) have = labels_after_are (names_of type.named) (labels_of types)
     (each_of_map (λ (field : Name × Field). field.0) IsLabel type.named have.0) (labels_are types have.1)
 
 -- each of two lists together
-pub each_of_both : {X : Type 0} (Is : X → Type 0) (xs ys : List X) → Each Is xs → Each Is ys → Each Is (xs ++ ys)
+pub each_of_both : {X : Type 0} (Is : X → Type 0) (xs ys : List X) → AllOf Is xs → AllOf Is ys → AllOf Is (xs ++ ys)
 each_of_both Is [] ys each others = others
 each_of_both Is (x ∷ xs) ys each others = (each.0, each_of_both Is xs ys each.1 others)
 
@@ -52,7 +52,7 @@ row_has : (graph : Graph) (wanted refused : List RecordType) → HaveLabels want
 row_has graph wanted refused wanted_labels refused_labels (reasons, living, known, same) =
     let labels = labels_of (wanted ++ refused) in
     let are = labels_are (wanted ++ refused)
-    (each_of_both (λ (type : RecordType). Each (λ field. IsLabel field.0) type.named) wanted refused
+    (each_of_both (λ (type : RecordType). AllOf (λ field. IsLabel field.0) type.named) wanted refused
     wanted_labels refused_labels) in
     let base = cells_fit graph (cell_at wanted reasons) labels are
     (map_of_each (λ label. (label, cell_at wanted reasons label))
@@ -72,7 +72,7 @@ row_has graph wanted refused wanted_labels refused_labels (reasons, living, know
 
 -- A living row gives a record that is in each wanted type and outside each refused one
 pub records_have : (graph : Graph) (wanted refused : List RecordType) → HaveLabels wanted → HaveLabels refused
-    → One (IsLiving (HasElement graph)) (rows_of wanted refused) → HasMember graph (Records wanted refused)
+    → AnyOf (IsLiving (HasElement graph)) (rows_of wanted refused) → HasMember graph (Records wanted refused)
 records_have graph wanted refused wanted_labels refused_labels living =
     let labels = labels_of (wanted ++ refused) in
     row_has graph wanted refused wanted_labels refused_labels

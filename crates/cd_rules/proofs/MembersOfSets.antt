@@ -4,7 +4,7 @@ use Rattle.cd_intervals.specs.declared.interval.Interval.{Interval}
 use Rattle.cd_intervals.specs.Characters.{CharInterval}
 use Rattle.cd_intervals.specs.Atoms.{Atoms as AtomSet}
 use Rattle.cd_model.specs.Thing as thing
-use Rattle.cd_model.specs.Each.{Each}
+use Rattle.cd_model.specs.AllOf.{AllOf}
 use Rattle.cd_model.specs.Formula.{Graph}
 use Rattle.cd_rules.specs.Clauses.{Ints, Chars, Atoms}
 use Rattle.cd_rules.specs.Needs.{Need, empty_or_not}
@@ -12,8 +12,8 @@ use Rattle.cd_rules.specs.Members.{HasElement, HasMember, IsMet, HasAllNeeds}
 
 -- where all needs of a basic kind are met, something is in each wanted set and in no refused one
 member_of_met : {X : Type 0} (graph : Graph) (IsMember : X → Type 0) (needs : List Need)
-    → empty_or_not IsMember needs → Each (IsMet (HasElement graph)) needs → (x : X) × IsMember x
-member_of_met graph IsMember needs (inl empty) met = elim ((subst (Each (IsMet (HasElement graph))) empty.1 met).0) [ ]
+    → empty_or_not IsMember needs → AllOf (IsMet (HasElement graph)) needs → (x : X) × IsMember x
+member_of_met graph IsMember needs (inl empty) met = elim ((subst (AllOf (IsMet (HasElement graph))) empty.1 met).0) [ ]
 member_of_met graph IsMember needs (inr member) met = (member.0, member.1)
 
 -- a clause of integers has a member

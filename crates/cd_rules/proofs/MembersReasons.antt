@@ -4,7 +4,7 @@ use Rattle.std.proofs.Common.{◌⊎◌, inl, inr, refl, ap}
 use Rattle.std.proofs.lemmas.Option.{none-some, same_Some}
 use Rattle.std.proofs.lemmas.Slice.Eq.{bytes_eq-Decides}
 use Rattle.cd_syntax.specs.Name.{Name}
-use Rattle.cd_model.specs.Each.{Each, One}
+use Rattle.cd_model.specs.AllOf.{AllOf, AnyOf}
 use Rattle.cd_model.proofs.Labels.{IsOneOf}
 use Rattle.cd_rules.specs.Clauses.{RecordType}
 use Rattle.cd_rules.specs.Rows.{Reason, Reasons, each_with, reasons_of, types_at, types_elsewhere}
@@ -17,25 +17,25 @@ IsKnown labels (Some label) = IsOneOf labels label
 
 -- a reason that is one of a list is one with which reasons of the others begin
 with_back : (Fact : Reasons → Type 0) (type : RecordType) (reasons : List Reason) (others : List Reasons)
-    → One Fact (each_with type reasons others)
-    → (reason : Reason) × One (λ other. other ≡ reason) reasons × One (λ chosen. Fact ((type, reason) ∷ chosen)) others
+    → AnyOf Fact (each_with type reasons others)
+    → (reason : Reason) × AnyOf (λ other. other ≡ reason) reasons × AnyOf (λ chosen. Fact ((type, reason) ∷ chosen)) others
 with_back Fact type [] others one = elim one [ ]
 with_back Fact type (reason ∷ reasons) others one =
     by_side (one_on_a_side Fact (map (λ chosen. (type, reason) ∷ chosen) others) (each_with type reasons others) one)
     (with_back Fact type reasons others)
   where
-    by_side : One Fact (map (λ chosen. (type, reason) ∷ chosen) others) ⊎ One Fact (each_with type reasons others)
-        → (One Fact (each_with type reasons others)
-        → (reason : Reason) × One (λ other. other ≡ reason) reasons
-        × One (λ chosen. Fact ((type, reason) ∷ chosen)) others)
-        → (other : Reason) × One (λ one. one ≡ other) (reason ∷ reasons)
-        × One (λ chosen. Fact ((type, other) ∷ chosen)) others
+    by_side : AnyOf Fact (map (λ chosen. (type, reason) ∷ chosen) others) ⊎ AnyOf Fact (each_with type reasons others)
+        → (AnyOf Fact (each_with type reasons others)
+        → (reason : Reason) × AnyOf (λ other. other ≡ reason) reasons
+        × AnyOf (λ chosen. Fact ((type, reason) ∷ chosen)) others)
+        → (other : Reason) × AnyOf (λ one. one ≡ other) (reason ∷ reasons)
+        × AnyOf (λ chosen. Fact ((type, other) ∷ chosen)) others
     by_side (inl here) later =
         (reason, inl refl, map_of_one (λ chosen. (type, reason) ∷ chosen) Fact others here)
     by_side (inr there) later = let rest = later there in (rest.0, inr rest.1, rest.2)
 
 -- a reason that is one of those that a type may have is known
-known : (labels : List Name) (reason : Reason) → One (λ other. other ≡ reason) (None ∷ map Some labels)
+known : (labels : List Name) (reason : Reason) → AnyOf (λ other. other ≡ reason) (None ∷ map Some labels)
     → IsKnown labels reason
 known labels None one = tt
 known labels (Some label) (inl none) = absurd (none-some _ none)
@@ -44,12 +44,12 @@ known labels (Some label) (inr later) = one_weaker (λ (name : Name). Some name 
 
 -- reasons of the refused types, with a fact
 abbrev pub Chosen : (Reasons → Type 0) → List Name → List RecordType → Type 0
-Chosen Fact labels refused = (reasons : Reasons) × Fact reasons × Each (λ one. IsKnown labels one.1) reasons
+Chosen Fact labels refused = (reasons : Reasons) × Fact reasons × AllOf (λ one. IsKnown labels one.1) reasons
     × (map (λ one. one.0) reasons ≡ refused)
 
 -- a fact of one of the choices of reasons is one of reasons that are known, of the refused types
 pub reasons_back : (Fact : Reasons → Type 0) (labels : List Name) (refused : List RecordType)
-    → One Fact (reasons_of labels refused) → Chosen Fact labels refused
+    → AnyOf Fact (reasons_of labels refused) → Chosen Fact labels refused
 reasons_back Fact labels [] (inl fact) = ([], fact, tt, refl)
 reasons_back Fact labels [] (inr none) = elim none [ ]
 reasons_back Fact labels (type ∷ refused) one =
@@ -68,9 +68,9 @@ module _ (At : Name → RecordType → Type 0) (Elsewhere : RecordType → Type 
   ByReason type (Some label) = At label type
 
   -- what the types of each label have, and those elsewhere, each type has
-  pub by_reasons : (labels : List Name) (reasons : Reasons) → Each (λ one. IsKnown labels one.1) reasons
-      → ((label : Name) → IsOneOf labels label → Each (At label) (types_at label reasons))
-      → Each Elsewhere (types_elsewhere reasons) → Each (λ one. ByReason one.0 one.1) reasons
+  pub by_reasons : (labels : List Name) (reasons : Reasons) → AllOf (λ one. IsKnown labels one.1) reasons
+      → ((label : Name) → IsOneOf labels label → AllOf (At label) (types_at label reasons))
+      → AllOf Elsewhere (types_elsewhere reasons) → AllOf (λ one. ByReason one.0 one.1) reasons
   by_reasons labels [] each at elsewhere = tt
   by_reasons labels ((type, None) ∷ reasons) each at elsewhere =
       (elsewhere.0, by_reasons labels reasons each.1 at elsewhere.1)
@@ -80,12 +80,12 @@ module _ (At : Name → RecordType → Type 0) (Elsewhere : RecordType → Type 
   )
     where
       here : (same : Bool) → same ≡ true
-          → Each (At name) (if same then type ∷ types_at name reasons else types_at name reasons) → At name type
+          → AllOf (At name) (if same then type ∷ types_at name reasons else types_at name reasons) → At name type
       here true is those = those.0
       here false is those = absurd cc
 
       later : (label : Name) (same : Bool)
-          → Each (At label) (if same then type ∷ types_at label reasons else types_at label reasons)
-          → Each (At label) (types_at label reasons)
+          → AllOf (At label) (if same then type ∷ types_at label reasons else types_at label reasons)
+          → AllOf (At label) (types_at label reasons)
       later label true those = those.1
       later label false those = those

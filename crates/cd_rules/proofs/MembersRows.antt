@@ -5,7 +5,7 @@ use Rattle.std.proofs.Common.{Option, Some, None, ◌⊎◌, inl, inr, refl, sym
 use Rattle.std.specs.List.{list_all}
 use Rattle.cd_syntax.specs.Name.{Name}
 use Rattle.cd_model.specs.Thing.{Thing, Fields}
-use Rattle.cd_model.specs.Each.{Each}
+use Rattle.cd_model.specs.AllOf.{AllOf}
 use Rattle.cd_model.specs.Formula as formula
 use Rattle.cd_model.specs.Formula.{Graph, Field}
 use Rattle.cd_model.specs.Membership.{answers, asked, labelled, record_reader}
@@ -23,8 +23,8 @@ use Rattle.cd_rules.proofs.MembersReasons.{IsKnown, ByReason, by_reasons}
 use Rattle.cd_rules.proofs.MembersCells.{FitsCell, AtLabel, FitCells, IsMore, HasIts, HaveMore}
 
 -- what each of a list is at each place, each of it is at all places
-each_everywhere : {X L : Type 0} (Is : L → X → Type 0) (xs : List X) → ((place : L) → Each (Is place) xs)
-    → Each (λ x. (place : L) → Is place x) xs
+each_everywhere : {X L : Type 0} (Is : L → X → Type 0) (xs : List X) → ((place : L) → AllOf (Is place) xs)
+    → AllOf (λ x. (place : L) → Is place x) xs
 each_everywhere Is [] each = tt
 each_everywhere Is (x ∷ xs) each =
     (λ place. (each place).0, each_everywhere Is xs (λ place. (each place).1))
@@ -34,7 +34,7 @@ both_pass : (one other : Bool) → one && other ≡ true → (one ≡ true) × (
 both_pass true other is = (refl, is)
 both_pass false other is = absurd cc
 
-all_passed : {X : Type 0} (test : X → Bool) (xs : List X) → list_all test xs ≡ true → Each (λ x. test x ≡ true) xs
+all_passed : {X : Type 0} (test : X → Bool) (xs : List X) → list_all test xs ≡ true → AllOf (λ x. test x ≡ true) xs
 all_passed test [] all = tt
 all_passed test (x ∷ xs) all = let both = both_pass (test x) (list_all test xs) all in (both.0, all_passed test xs both.1)
 
@@ -45,7 +45,7 @@ is_not false is = refl
 module _ (graph : Graph) (wanted : List RecordType) where
   -- an element is in each wanted rest
   abbrev pub InRests : Thing → Type 0
-  InRests is = Each (λ type. answers graph is type.rest true) wanted
+  InRests is = AllOf (λ type. answers graph is type.rest true) wanted
 
   -- nothing is right at a label that no type names, and so is what is in each wanted rest
   abbrev pub IsFree : Option Thing → Type 0
@@ -54,7 +54,7 @@ module _ (graph : Graph) (wanted : List RecordType) where
 
   -- it is as each wanted type says of such a label
   as_rest : (label : Name) (there : Option Thing) → IsUnnamed wanted label → IsFree there
-      → Each (λ type. has graph there (field_at type label) true) wanted
+      → AllOf (λ type. has graph there (field_at type label) true) wanted
   as_rest label None unnamed free = each_weaker (λ (type : RecordType). field_at type label ≡ free_field type)
       (λ type. has graph None (field_at type label) true)
       (λ type same. subst (λ (field : Field). has graph None field true) (sym same) refl) wanted unnamed
@@ -81,8 +81,8 @@ module _ (graph : Graph) (wanted : List RecordType) where
 module _ (graph : Graph) (wanted : List RecordType) (reasons : Reasons) where
   -- what fits a cell is as each wanted type says of the label, and outside what the types say that are refused there
   as_cell : (label : Name) (there : Option Thing) → FitsCell graph (cell_at wanted reasons label) there
-      → Each (λ type. has graph there (field_at type label) true) wanted
-      × Each (λ type. has graph there (field_at type label) false) (types_at label reasons)
+      → AllOf (λ type. has graph there (field_at type label) true) wanted
+      × AllOf (λ type. has graph there (field_at type label) false) (types_at label reasons)
   as_cell label None free =
       let types = types_at label reasons in
       let both = both_pass (list_all (λ type. (field_at type label).optional) wanted)
@@ -140,19 +140,19 @@ module _ (graph : Graph) (wanted : List RecordType) (reasons : Reasons) where
         by_more (inr (long, (is, there, inside))) = subst (IsFree graph wanted) (sym there) inside
 
     -- so the record is as each wanted type says of each label
-    wanted_at : (label : Name) → Each (λ type. labelled graph fields label (field_at type label) true) wanted
+    wanted_at : (label : Name) → AllOf (λ type. labelled graph fields label (field_at type label) true) wanted
     wanted_at label = each_weaker (λ (type : RecordType). has graph (found fields label) (field_at type label) true)
         (λ type. labelled graph fields label (field_at type label) true)
         (λ type is. labelled_as_found graph fields label (field_at type label) true is) wanted (by_base (base.3 label))
       where
         by_base : AtLabel graph (cell_at wanted reasons) labels base.0 label
-            → Each (λ type. has graph (found fields label) (field_at type label) true) wanted
+            → AllOf (λ type. has graph (found fields label) (field_at type label) true) wanted
         by_base (inl (one, fits)) = (as_cell label (found fields label) (at_named label one)).0
         by_base (inr (other, none)) =
             as_rest graph wanted label (found fields label) (unnamed_by_all label other).0 (at_unnamed label none)
 
     -- and is in each wanted type
-    pub in_wanted : Each (λ type. record_reader (labelled graph fields) (formula.Record type.named type.rest) true) wanted
+    pub in_wanted : AllOf (λ type. record_reader (labelled graph fields) (formula.Record type.named type.rest) true) wanted
     in_wanted = each_everywhere
         (λ (label : Name) (type : RecordType). labelled graph fields label (field_at type label) true) wanted wanted_at
 
@@ -168,13 +168,13 @@ module _ (graph : Graph) (wanted : List RecordType) (reasons : Reasons) where
     IsOut type = ((label : Name) × IsOutAt label type) ⊎ IsOutElsewhere type
 
     -- it is so at each label that is named, for the types that are refused there
-    refused_at : (label : Name) → IsOneOf labels label → Each (IsOutAt label) (types_at label reasons)
+    refused_at : (label : Name) → IsOneOf labels label → AllOf (IsOutAt label) (types_at label reasons)
     refused_at label one = each_weaker (λ (type : RecordType). has graph (found fields label) (field_at type label) false)
         (IsOutAt label) (λ type is. labelled_as_found graph fields label (field_at type label) false is)
         (types_at label reasons) (as_cell label (found fields label) (at_named label one)).1
 
     -- and so for the types that are refused at a label that is not named
-    refused_elsewhere : Each IsOutElsewhere (types_elsewhere reasons)
+    refused_elsewhere : AllOf IsOutElsewhere (types_elsewhere reasons)
     refused_elsewhere = each_weaker
         (HasIts (InRests graph wanted) (HasRest graph wanted) (in_rests graph wanted) base.0 base.1 base.2
         (longest labels) fields)
@@ -202,8 +202,8 @@ module _ (graph : Graph) (wanted : List RecordType) (reasons : Reasons) where
         (label, subst (λ (field : Field). labelled graph fields label field false) (sym (free (label, other))) outside)
 
     -- the record is outside each refused type
-    pub out_of_refused : Each (λ one. IsKnown labels one.1) reasons → map (λ one. one.0) reasons ≡ refused
-        → Each (λ type. record_reader (labelled graph fields) (formula.Record type.named type.rest) false) refused
+    pub out_of_refused : AllOf (λ one. IsKnown labels one.1) reasons → map (λ one. one.0) reasons ≡ refused
+        → AllOf (λ type. record_reader (labelled graph fields) (formula.Record type.named type.rest) false) refused
     out_of_refused known same = each_weaker
         (λ (type : RecordType). ((at : (label : Name) × (IsOneOf labels label → ⊥)) → field_at type at.0 ≡ free_field type)
         × IsOut type)
@@ -213,6 +213,6 @@ module _ (graph : Graph) (wanted : List RecordType) (reasons : Reasons) where
         → field_at type at.0 ≡ free_field type) IsOut refused
         (each_everywhere (λ (at : (label : Name) × (IsOneOf labels label → ⊥)) (type : RecordType).
         field_at type at.0 ≡ free_field type) refused (λ at. (unnamed_by_all at.0 at.1).1))
-        (subst (Each IsOut) same (each_of_map (λ (one : RecordType × Option Name). one.0) IsOut reasons
+        (subst (AllOf IsOut) same (each_of_map (λ (one : RecordType × Option Name). one.0) IsOut reasons
         (each_weaker (λ (one : RecordType × Option Name). ByReason IsOutAt IsOutElsewhere one.0 one.1) (λ one. IsOut one.0)
         out_of reasons (by_reasons IsOutAt IsOutElsewhere labels reasons known refused_at refused_elsewhere)))))

@@ -11,7 +11,7 @@ use Rattle.cd_model.specs.Types.{Answers as AnswersOf, Items, pair_at, with_sequ
 use Rattle.cd_model.specs.Thing as thing
 use Rattle.cd_model.specs.Thing.{Thing, IsElement, IsValue, EachClosure, EachOfFields, EachOfPairs}
 use Rattle.cd_model.specs.BuiltIns.{built_ins, ATOM, RECORD}
-use Rattle.cd_model.specs.Each.{Each, One}
+use Rattle.cd_model.specs.AllOf.{AllOf, AnyOf}
 use Rattle.cd_model.specs.Kinds.{IsSound, AreSound, ArePairsSound}
 use Rattle.cd_model.specs.Membership as node
 use Rattle.cd_model.specs.Membership.{Reader, Mapping, asked, answers, value_answers, at_nodes, function_reader}
@@ -33,7 +33,7 @@ use Rattle.cd_rules.proofs.Things.{answers_of, labelled_of, mapping_of}
 
 -- a function that is in some arrows is not outside another one whose need is broken
 abbrev BreaksNone : List Question → Mapping → Type 0
-BreaksNone family maps = (wanted : List Pair) (refused : Pair) → Each (IsInArrow maps) wanted → maps refused.0 refused.1 false
+BreaksNone family maps = (wanted : List Pair) (refused : Pair) → AllOf (IsInArrow maps) wanted → maps refused.0 refused.1 false
     → BreaksNeed family (map (arrow_way refused) (splits wanted)) → ⊥
 
 -- so it is in no question that is broken
@@ -43,11 +43,11 @@ arrows_out family maps none broken =
     let wanted = parts_in arrow_of true broken.choice in
     let refused = parts_in arrow_of false broken.choice in
     let needs = broken.breaks (Arrows wanted refused) in_clause.0 in
-    by_refused wanted refused in_clause.1 in_clause.2 (subst (One (BreaksNeed family)) needs.1 needs.2)
+    by_refused wanted refused in_clause.1 in_clause.2 (subst (AnyOf (BreaksNeed family)) needs.1 needs.2)
   where
-    by_refused : (wanted refused : List Pair) → Each (IsInArrow maps) wanted
-        → Each (λ parts. maps parts.0 parts.1 false) refused
-        → One (BreaksNeed family) (map (λ one. map (arrow_way one) (splits wanted)) refused) → ⊥
+    by_refused : (wanted refused : List Pair) → AllOf (IsInArrow maps) wanted
+        → AllOf (λ parts. maps parts.0 parts.1 false) refused
+        → AnyOf (BreaksNeed family) (map (λ one. map (arrow_way one) (splits wanted)) refused) → ⊥
     by_refused wanted [] inside outside one = elim one [ ]
     by_refused wanted (one ∷ refused) inside outside (inl breaks) = none wanted one inside outside.0 breaks
     by_refused wanted (one ∷ refused) inside outside (inr later) = by_refused wanted refused inside outside.1 later

@@ -4,7 +4,7 @@ use Rattle.std.proofs.lemmas.Bool.{ltb-true, ltb-false}
 use Rattle.cd_sets.specs.declared.node_id.NodeId.{NodeId}
 use Rattle.cd_sets.specs.declared.question.Question.{Question}
 use Rattle.cd_model.specs.BuiltIns.{built_ins, node, EMPTY}
-use Rattle.cd_model.specs.Each.{Each}
+use Rattle.cd_model.specs.AllOf.{AllOf}
 use Rattle.cd_model.specs.Formula.{Graph, Nothing, formula_at, holds}
 use Rattle.cd_model.specs.Membership.{Reader, asked, at_nodes}
 use Rattle.cd_rules.specs.Family.{AsksNodes}
@@ -50,7 +50,7 @@ module _ (graph more : Graph) (begins : graph ≡ built_ins ++ more) where
   abbrev pub of_nodes : Question → Question
   of_nodes one = question (map named one.pos) (map named one.neg)
 
-  all_below : (ids : List NodeId) → Each (λ id. id.0 < length graph) (map named ids)
+  all_below : (ids : List NodeId) → AllOf (λ id. id.0 < length graph) (map named ids)
   all_below ids = each_of_map named (λ id. id.0 < length graph) ids
       (each_of_all (λ id. (named id).0 < length graph) named_below ids)
 
@@ -64,12 +64,12 @@ module _ (graph more : Graph) (begins : graph ≡ built_ins ++ more) where
     abbrev Answered : (answer : Bool) → NodeId → Type 0
     Answered answer id = at_nodes graph read id answer
 
-    there : (answer : Bool) (ids : List NodeId) → Each (Answered answer) ids → Each (Answered answer) (map named ids)
+    there : (answer : Bool) (ids : List NodeId) → AllOf (Answered answer) ids → AllOf (Answered answer) (map named ids)
     there answer ids each = each_of_map named (Answered answer) ids
         (each_weaker (Answered answer) (λ id. Answered answer (named id))
         (λ id. subst (λ formula. holds read formula answer) (sym (named_alike id))) ids each)
 
-    back : (answer : Bool) (ids : List NodeId) → Each (Answered answer) (map named ids) → Each (Answered answer) ids
+    back : (answer : Bool) (ids : List NodeId) → AllOf (Answered answer) (map named ids) → AllOf (Answered answer) ids
     back answer ids each = each_weaker (λ id. Answered answer (named id)) (Answered answer)
         (λ id. subst (λ formula. holds read formula answer) (named_alike id)) ids
         (map_of_each named (Answered answer) ids each)

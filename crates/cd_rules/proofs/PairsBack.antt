@@ -1,7 +1,7 @@
 -- A pair whose parts meet both questions of a way of a clause's need is in the clause; and so an XML element.
 use Rattle.std.proofs.Common.{◌≡◌, true, false, List, [], ◌∷◌, map}
 use Rattle.cd_sets.specs.declared.node_id.NodeId.{NodeId}
-use Rattle.cd_model.specs.Each.{Each, One}
+use Rattle.cd_model.specs.AllOf.{AllOf, AnyOf}
 use Rattle.cd_model.specs.BuiltIns.{ATOM, RECORD}
 use Rattle.cd_model.specs.Formula as formula
 use Rattle.cd_model.specs.Membership.{Answers, asked, pair_reader, xml_reader}
@@ -12,13 +12,13 @@ use Rattle.cd_rules.proofs.Sides.{splits_back, splits_in_three_back}
 
 -- what has two facts of each of a list, and three, has them together
 pub both_of_each : {X : Type 0} (one other : X → Type 0) (xs : List X)
-    → Each one xs → Each other xs → Each (λ x. one x × other x) xs
+    → AllOf one xs → AllOf other xs → AllOf (λ x. one x × other x) xs
 both_of_each one other [] each_one each_other = tt
 both_of_each one other (x ∷ xs) each_one each_other =
     ((each_one.0, each_other.0), both_of_each one other xs each_one.1 each_other.1)
 
-pub three_of_each : {X : Type 0} (one other last : X → Type 0) (xs : List X) → Each one xs → Each other xs → Each last xs
-    → Each (λ x. one x × other x × last x) xs
+pub three_of_each : {X : Type 0} (one other last : X → Type 0) (xs : List X) → AllOf one xs → AllOf other xs → AllOf last xs
+    → AllOf (λ x. one x × other x × last x) xs
 three_of_each one other last [] each_one each_other each_last = tt
 three_of_each one other last (x ∷ xs) each_one each_other each_last =
     ((each_one.0, each_other.0, each_last.0), three_of_each one other last xs each_one.1 each_other.1 each_last.1)
@@ -26,7 +26,7 @@ three_of_each one other last (x ∷ xs) each_one each_other each_last =
 -- what answers the question of these parts answers so at the part of each
 pub parts_of_asked : {X : Type 0} (answers : Answers) (part : X → NodeId) (wanted refused : List X)
     → asked answers (question (map part wanted) (map part refused)) true
-    → Each (λ parts. answers (part parts) true) wanted × Each (λ parts. answers (part parts) false) refused
+    → AllOf (λ parts. answers (part parts) true) wanted × AllOf (λ parts. answers (part parts) false) refused
 parts_of_asked answers part wanted refused is =
     let each = each_of_asked answers (map part wanted) (map part refused) is in
     (map_of_each part (λ id. answers id true) wanted each.0, map_of_each part (λ id. answers id false) refused each.1)
@@ -34,8 +34,8 @@ parts_of_asked answers part wanted refused is =
 -- the same where one node more is wanted
 pub parts_of_asked_more : {X : Type 0} (answers : Answers) (more : NodeId) (part : X → NodeId) (wanted refused : List X)
     → asked answers (question (more ∷ map part wanted) (map part refused)) true
-    → answers more true × Each (λ parts. answers (part parts) true) wanted
-    × Each (λ parts. answers (part parts) false) refused
+    → answers more true × AllOf (λ parts. answers (part parts) true) wanted
+    × AllOf (λ parts. answers (part parts) false) refused
 parts_of_asked_more answers more part wanted refused is =
     let each = each_of_asked answers (more ∷ map part wanted) (map part refused) is in (
       each.0.0,
@@ -45,11 +45,11 @@ parts_of_asked_more answers more part wanted refused is =
 
 -- a pair whose parts meet both questions of a way is in the clause
 pub pairs_back : (first second : Answers) (wanted refused : List Pair) (sides : List Pair × List Pair)
-    → One (λ other. other ≡ sides) (splits refused)
+    → AnyOf (λ other. other ≡ sides) (splits refused)
     → asked first (question (map (λ parts. parts.0) wanted) (map (λ parts. parts.0) sides.0)) true
     → asked second (question (map (λ parts. parts.1) wanted) (map (λ parts. parts.1) sides.1)) true
-    → Each (λ parts. pair_reader first second (formula.Pair parts.0 parts.1) true) wanted
-    × Each (λ parts. pair_reader first second (formula.Pair parts.0 parts.1) false) refused
+    → AllOf (λ parts. pair_reader first second (formula.Pair parts.0 parts.1) true) wanted
+    × AllOf (λ parts. pair_reader first second (formula.Pair parts.0 parts.1) false) refused
 pairs_back first second wanted refused sides is of_first of_second =
     let at_first = parts_of_asked first (λ (parts : Pair). parts.0) wanted sides.0 of_first in
     let at_second = parts_of_asked second (λ (parts : Pair). parts.1) wanted sides.1 of_second in (
@@ -61,13 +61,13 @@ pairs_back first second wanted refused sides is of_first of_second =
 -- an XML element whose parts meet all questions of a way is in the clause, and its tag is an atom, its attributes a record
 pub xmls_back : (tag attributes content : Answers) (wanted refused : List Triple)
     (sides : List Triple × List Triple × List Triple)
-    → One (λ other. other ≡ sides) (splits_in_three refused)
+    → AnyOf (λ other. other ≡ sides) (splits_in_three refused)
     → asked tag (question (ATOM ∷ map (λ parts. parts.0) wanted) (map (λ parts. parts.0) sides.0)) true
     → asked attributes (question (RECORD ∷ map (λ parts. parts.1) wanted) (map (λ parts. parts.1) sides.1)) true
     → asked content (question (map (λ parts. parts.2) wanted) (map (λ parts. parts.2) sides.2)) true
     → tag ATOM true × attributes RECORD true
-    × Each (λ parts. xml_reader tag attributes content (formula.Xml parts.0 parts.1 parts.2) true) wanted
-    × Each (λ parts. xml_reader tag attributes content (formula.Xml parts.0 parts.1 parts.2) false) refused
+    × AllOf (λ parts. xml_reader tag attributes content (formula.Xml parts.0 parts.1 parts.2) true) wanted
+    × AllOf (λ parts. xml_reader tag attributes content (formula.Xml parts.0 parts.1 parts.2) false) refused
 xmls_back tag attributes content wanted refused sides is of_tag of_attributes of_content =
     let at_tag = parts_of_asked_more tag ATOM (λ (parts : Triple). parts.0) wanted sides.0 of_tag in
     let at_attributes = parts_of_asked_more attributes RECORD (λ (parts : Triple). parts.1) wanted sides.1 of_attributes in

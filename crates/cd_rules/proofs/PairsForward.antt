@@ -2,7 +2,7 @@
 use Rattle.std.proofs.Common.{true, false, List, [], ◌∷◌, map}
 use Rattle.cd_sets.specs.declared.node_id.NodeId.{NodeId}
 use Rattle.cd_sets.specs.declared.question.Question.{Question}
-use Rattle.cd_model.specs.Each.{Each, One}
+use Rattle.cd_model.specs.AllOf.{AllOf, AnyOf}
 use Rattle.cd_model.specs.Formula as formula
 use Rattle.cd_model.specs.Membership.{Answers, asked, pair_reader}
 use Rattle.cd_rules.specs.Clauses.{Pair}
@@ -15,7 +15,7 @@ use Rattle.cd_rules.proofs.Things.{IsAskedFact}
 
 -- what answers so at one part of each of some pairs of nodes answers the question of these parts
 pub asked_of_parts : {X : Type 0} (answers : Answers) (part : X → NodeId) (wanted refused : List X)
-    → Each (λ parts. answers (part parts) true) wanted → Each (λ parts. answers (part parts) false) refused
+    → AllOf (λ parts. answers (part parts) true) wanted → AllOf (λ parts. answers (part parts) false) refused
     → asked answers (question (map part wanted) (map part refused)) true
 asked_of_parts answers part wanted refused inside outside = asked_of_each answers (map part wanted) (map part refused)
     (each_of_map part (λ id. answers id true) wanted inside) (each_of_map part (λ id. answers id false) refused outside)
@@ -25,7 +25,7 @@ abbrev pub EachGives : (Question → Type 0) → List Answers → Type 0
 EachGives Fact [] = Unit {0}
 EachGives Fact (answers ∷ parts) = IsAskedFact Fact answers × EachGives Fact parts
 
-pub facts_of_way : (Fact : Question → Type 0) (parts : List Answers) → EachGives Fact parts → (way : Way) → AreInWay parts way → Each Fact way
+pub facts_of_way : (Fact : Question → Type 0) (parts : List Answers) → EachGives Fact parts → (way : Way) → AreInWay parts way → AllOf Fact way
 facts_of_way Fact [] gives [] within = tt
 facts_of_way Fact [] gives (question ∷ way) within = absurd within
 facts_of_way Fact (answers ∷ parts) gives [] within = absurd within
@@ -34,9 +34,9 @@ facts_of_way Fact (answers ∷ parts) gives (question ∷ way) within =
 
 -- a pair of a clause has its parts in one way
 pub pair_in_way : (first second : Answers) (wanted refused : List Pair)
-    → Each (λ parts. pair_reader first second (formula.Pair parts.0 parts.1) true) wanted
-    → Each (λ parts. pair_reader first second (formula.Pair parts.0 parts.1) false) refused
-    → One (AreInWay (first ∷ second ∷ [])) (map (pair_way wanted) (splits refused))
+    → AllOf (λ parts. pair_reader first second (formula.Pair parts.0 parts.1) true) wanted
+    → AllOf (λ parts. pair_reader first second (formula.Pair parts.0 parts.1) false) refused
+    → AnyOf (AreInWay (first ∷ second ∷ [])) (map (pair_way wanted) (splits refused))
 pair_in_way first second wanted refused inside outside =
     one_of_map (pair_way wanted) (AreInWay (first ∷ second ∷ [])) (splits refused)
     (one_weaker (HaveBoth out_first out_second) (λ given. AreInWay (first ∷ second ∷ []) (pair_way wanted given)) of_way (splits refused)
@@ -48,10 +48,10 @@ pair_in_way first second wanted refused inside outside =
     out_second : Pair → Type 0
     out_second = λ parts. second parts.1 false
 
-    in_first : Each (λ (parts : Pair). first parts.0 true) wanted
+    in_first : AllOf (λ (parts : Pair). first parts.0 true) wanted
     in_first = each_weaker (λ (parts : Pair). first parts.0 true × second parts.1 true) (λ parts. first parts.0 true) (λ parts is. is.0) wanted inside
 
-    in_second : Each (λ (parts : Pair). second parts.1 true) wanted
+    in_second : AllOf (λ (parts : Pair). second parts.1 true) wanted
     in_second = each_weaker (λ (parts : Pair). first parts.0 true × second parts.1 true) (λ parts. second parts.1 true) (λ parts is. is.1) wanted inside
 
     of_way : (given : List Pair × List Pair) → HaveBoth out_first out_second given
@@ -64,10 +64,10 @@ pair_in_way first second wanted refused inside outside =
 -- so what is so of each question that a part of it is in is so of both questions of one way
 pub pairs_forward : (first second : Answers) (Fact : Question → Type 0) → IsAskedFact Fact first → IsAskedFact Fact second
     → (wanted refused : List Pair)
-    → Each (λ parts. pair_reader first second (formula.Pair parts.0 parts.1) true) wanted
-    → Each (λ parts. pair_reader first second (formula.Pair parts.0 parts.1) false) refused
-    → One (Each Fact) (map (pair_way wanted) (splits refused))
+    → AllOf (λ parts. pair_reader first second (formula.Pair parts.0 parts.1) true) wanted
+    → AllOf (λ parts. pair_reader first second (formula.Pair parts.0 parts.1) false) refused
+    → AnyOf (AllOf Fact) (map (pair_way wanted) (splits refused))
 pairs_forward first second Fact of_first of_second wanted refused inside outside =
-    one_weaker (AreInWay (first ∷ second ∷ [])) (Each Fact)
+    one_weaker (AreInWay (first ∷ second ∷ [])) (AllOf Fact)
     (facts_of_way Fact (first ∷ second ∷ []) (of_first, (of_second, tt)))
     (map (pair_way wanted) (splits refused)) (pair_in_way first second wanted refused inside outside)

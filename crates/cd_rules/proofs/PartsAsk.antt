@@ -5,7 +5,7 @@ use Rattle.cd_sets.specs.declared.node_id.NodeId.{NodeId}
 use Rattle.cd_sets.specs.declared.question.Question.{Question}
 use Rattle.cd_syntax.specs.Name.{Name, IsLabel}
 use Rattle.cd_model.specs.BuiltIns.{node, ATOM, RECORD}
-use Rattle.cd_model.specs.Each.{Each}
+use Rattle.cd_model.specs.AllOf.{AllOf}
 use Rattle.cd_model.specs.Formula as formula
 use Rattle.cd_model.specs.Formula.{Formula, Formulas, NoFormula, AFormula, Graph, Field, formula_at, field_of}
 use Rattle.cd_model.specs.Formula.{AreRisingLabels, IsFormula, AreFormulas, IsGraph}
@@ -27,22 +27,22 @@ use Rattle.cd_rules.specs.Within.{IsPairWithin, IsXmlWithin, IsTypeWithin, IsWit
 -- what each literal of these choices and of those has, each of the joined choices has
 module _ (fact : Literal → Type 0) where
   -- one choice with each of those
-  joined_with : (choice : Choice) (others : List Choice) → Each fact choice → Each (Each fact) others
-      → Each (Each fact) (map (λ other. choice ++ other) others)
+  joined_with : (choice : Choice) (others : List Choice) → AllOf fact choice → AllOf (AllOf fact) others
+      → AllOf (AllOf fact) (map (λ other. choice ++ other) others)
   joined_with choice [] each those = tt
   joined_with choice (other ∷ others) each those =
       (each_of_lists fact choice other each those.0, joined_with choice others each those.1)
 
   -- each of these with each of those
-  joined_have : (first second : List Choice) → Each (Each fact) first → Each (Each fact) second
-      → Each (Each fact) (joined first second)
+  joined_have : (first second : List Choice) → AllOf (AllOf fact) first → AllOf (AllOf fact) second
+      → AllOf (AllOf fact) (joined first second)
   joined_have [] second these those = tt
   joined_have (choice ∷ first) second these those =
-      each_of_lists (Each fact) (map (λ other. choice ++ other) second) (joined first second)
+      each_of_lists (AllOf fact) (map (λ other. choice ++ other) second) (joined first second)
       (joined_with choice second these.0 those) (joined_have first second these.1 those)
 
   -- a choice that asks for nothing has no literal
-  always_or_not : (wanted : Bool) → Each (Each fact) (when wanted)
+  always_or_not : (wanted : Bool) → AllOf (AllOf fact) (when wanted)
   always_or_not true = (tt, tt)
   always_or_not false = tt
 
@@ -54,7 +54,7 @@ module _ (nodes : ℕ) where
 
   mutual
     -- each literal of the choices of a formula is one of the graph
-    choices_are : (is : Formula) (wanted : Bool) → IsFormula nodes is → Each (Each IsLiteral) (choices is wanted)
+    choices_are : (is : Formula) (wanted : Bool) → IsFormula nodes is → AllOf (AllOf IsLiteral) (choices is wanted)
     choices_are formula.Nothing wanted whole = always_or_not IsLiteral (not wanted)
     choices_are formula.Everything wanted whole = always_or_not IsLiteral wanted
     choices_are (formula.And formulas) true whole = choices_of_each_are formulas true whole
@@ -66,7 +66,7 @@ module _ (nodes : ℕ) where
 
     -- so it is of a choice of each formula
     choices_of_each_are : (formulas : Formulas) (wanted : Bool) → AreFormulas nodes formulas
-        → Each (Each IsLiteral) (choices_of_each formulas wanted)
+        → AllOf (AllOf IsLiteral) (choices_of_each formulas wanted)
     choices_of_each_are NoFormula wanted whole = (tt, tt)
     choices_of_each_are (AFormula is rest) wanted whole =
         joined_have IsLiteral (choices is wanted) (choices_of_each rest wanted)
@@ -74,29 +74,29 @@ module _ (nodes : ℕ) where
 
     -- and of a choice of one of them
     choices_of_one_are : (formulas : Formulas) (wanted : Bool) → AreFormulas nodes formulas
-        → Each (Each IsLiteral) (choices_of_one formulas wanted)
+        → AllOf (AllOf IsLiteral) (choices_of_one formulas wanted)
     choices_of_one_are NoFormula wanted whole = tt
     choices_of_one_are (AFormula is rest) wanted whole =
-        each_of_lists (Each IsLiteral) (choices is wanted) (choices_of_one rest wanted)
+        each_of_lists (AllOf IsLiteral) (choices is wanted) (choices_of_one rest wanted)
         (choices_are is wanted whole.0) (choices_of_one_are rest wanted whole.1)
 
   -- each number has a formula of the graph
-  formula_is : (graph : Graph) (id : ℕ) → Each (IsFormula nodes) graph → IsFormula nodes (formula_at graph (node id))
+  formula_is : (graph : Graph) (id : ℕ) → AllOf (IsFormula nodes) graph → IsFormula nodes (formula_at graph (node id))
   formula_is [] id each = tt
   formula_is (is ∷ graph) zero each = each.0
   formula_is (is ∷ graph) (suc id) each = formula_is graph id each.1
 
   -- so the literals of a choice of each node are of the graph
-  choices_at_are : (graph : Graph) → Each (IsFormula nodes) graph → (ids : List NodeId) (wanted : Bool)
-      → Each (Each IsLiteral) (choices_at graph ids wanted)
+  choices_at_are : (graph : Graph) → AllOf (IsFormula nodes) graph → (ids : List NodeId) (wanted : Bool)
+      → AllOf (AllOf IsLiteral) (choices_at graph ids wanted)
   choices_at_are graph whole [] wanted = (tt, tt)
   choices_at_are graph whole (id ∷ ids) wanted =
       joined_have IsLiteral (choices (formula_at graph id) wanted) (choices_at graph ids wanted)
       (choices_are (formula_at graph id) wanted (formula_is graph id.0 whole)) (choices_at_are graph whole ids wanted)
 
   -- and those of a question's choices
-  choices_of_question_are : (graph : Graph) → Each (IsFormula nodes) graph → (question : Question)
-      → Each (Each IsLiteral) (choices_of graph question)
+  choices_of_question_are : (graph : Graph) → AllOf (IsFormula nodes) graph → (question : Question)
+      → AllOf (AllOf IsLiteral) (choices_of graph question)
   choices_of_question_are graph whole question =
       joined_have IsLiteral (choices_at graph question.pos true) (choices_at graph question.neg false)
       (choices_at_are graph whole question.pos true) (choices_at_are graph whole question.neg false)
@@ -104,8 +104,8 @@ module _ (nodes : ℕ) where
   -- what the parts of each formula have, the parts of a choice have
   module _ {X : Type 0} (has : X → Type 0) where
     -- of one more literal
-    one_more_has : (sign wanted : Bool) (part : Option X) (rest : List X) → IfSome part has → Each has rest
-        → Each has (one_more sign wanted part rest)
+    one_more_has : (sign wanted : Bool) (part : Option X) (rest : List X) → IfSome part has → AllOf has rest
+        → AllOf has (one_more sign wanted part rest)
     one_more_has true true (Some part) rest is each = (is, each)
     one_more_has false false (Some part) rest is each = (is, each)
     one_more_has true true None rest is each = each
@@ -119,7 +119,7 @@ module _ (nodes : ℕ) where
 
     -- of all literals of a choice
     parts_in_have : (parts_of : Formula → Option X) → PartsHave parts_of → (sign : Bool) (choice : Choice)
-        → Each IsLiteral choice → Each has (parts_in parts_of sign choice)
+        → AllOf IsLiteral choice → AllOf has (parts_in parts_of sign choice)
     parts_in_have parts_of have sign [] each = tt
     parts_in_have parts_of have sign (literal ∷ rest) each =
         one_more_has sign literal.wanted (parts_of literal.is) (parts_in parts_of sign rest)
@@ -128,10 +128,10 @@ module _ (nodes : ℕ) where
     -- and so the wanted and the refused parts of a clause
     clause_parts_have : (kind : Kind) (parts_of : Formula → Option X) → PartsHave parts_of
         → (choice : Choice) (wanted refused : List X) → IsOfParts kind parts_of choice wanted refused
-        → Each IsLiteral choice → Each has wanted × Each has refused
+        → AllOf IsLiteral choice → AllOf has wanted × AllOf has refused
     clause_parts_have kind parts_of have choice wanted refused is each = (
-      subst (Each has) (sym is.1) (parts_in_have parts_of have true choice each),
-      subst (Each has) (sym is.2) (parts_in_have parts_of have false choice each),
+      subst (AllOf has) (sym is.1) (parts_in_have parts_of have true choice each),
+      subst (AllOf has) (sym is.2) (parts_in_have parts_of have false choice each),
     )
 
   -- the parts of a formula of the graph are among its nodes: of pairs
@@ -155,7 +155,7 @@ module _ (nodes : ℕ) where
   arrow_is_within _ whole = tt
 
   -- a clause of a choice of formulas of the graph has its parts among the nodes
-  within_by_choice : (clause : Clause) (choice : Choice) → IsClauseOf choice clause → Each IsLiteral choice
+  within_by_choice : (clause : Clause) (choice : Choice) → IsClauseOf choice clause → AllOf IsLiteral choice
       → IsWithin nodes clause
   within_by_choice (Pairs wanted refused) choice is each =
       clause_parts_have (IsPairWithin nodes) APair pair_of pair_is_within choice wanted refused is each
@@ -169,31 +169,31 @@ module _ (nodes : ℕ) where
 
   -- labels that rise are labels
   rising_are_labels : (before : Option Name) (named : List (Name × Field)) → AreRisingLabels before named
-      → Each (λ field. IsLabel field.0) named
+      → AllOf (λ field. IsLabel field.0) named
   rising_are_labels before [] rising = tt
   rising_are_labels before (field ∷ named) rising = (rising.0, rising_are_labels (Some field.0) named rising.2)
 
   -- so a record type of the graph names labels
-  record_names_labels : PartsHave (λ type. Each (λ field. IsLabel field.0) type.named) record_of
+  record_names_labels : PartsHave (λ type. AllOf (λ field. IsLabel field.0) type.named) record_of
   record_names_labels (formula.Record named rest) whole = rising_are_labels None named whole.0
   record_names_labels _ whole = tt
 
   -- and so does a clause of a choice of formulas of the graph
-  labels_by_choice : (clause : Clause) (choice : Choice) → IsClauseOf choice clause → Each IsLiteral choice
+  labels_by_choice : (clause : Clause) (choice : Choice) → IsClauseOf choice clause → AllOf IsLiteral choice
       → NamesLabels clause
   labels_by_choice (Records wanted refused) choice is each =
-      clause_parts_have (λ type. Each (λ field. IsLabel field.0) type.named) ARecord record_of record_names_labels
+      clause_parts_have (λ type. AllOf (λ field. IsLabel field.0) type.named) ARecord record_of record_names_labels
       choice wanted refused is each
   labels_by_choice _ choice is each = tt
 
 -- a clause of a question has a fact that each of its choices gives
 by_choices : (Fact : Clause → Type 0) (graph : Graph) → IsGraph graph → (question : Question) (clause : Clause)
-    → ((choice : Choice) → IsClauseOf choice clause → Each (IsLiteral (length graph)) choice → Fact clause)
+    → ((choice : Choice) → IsClauseOf choice clause → AllOf (IsLiteral (length graph)) choice → Fact clause)
     → IsClauseOfQuestion graph question clause → Fact clause
 by_choices Fact graph whole question clause leads of =
-    one_leads (λ choice. IsClauseOf choice clause × Each (IsLiteral (length graph)) choice)
+    one_leads (λ choice. IsClauseOf choice clause × AllOf (IsLiteral (length graph)) choice)
     (λ choice both. leads choice both.0 both.1) (choices_of graph question)
-    (one_with_each (λ choice. IsClauseOf choice clause) (Each (IsLiteral (length graph))) (choices_of graph question)
+    (one_with_each (λ choice. IsClauseOf choice clause) (AllOf (IsLiteral (length graph))) (choices_of graph question)
     of (choices_of_question_are (length graph) graph whole question))
 
 -- a clause of a question has its parts among the nodes of the graph
@@ -212,10 +212,10 @@ clause_names_labels graph whole question clause of = by_choices NamesLabels grap
 module _ {X : Type 0} (has : X → Type 0) where
   -- all that is given to either side has it
   abbrev BothHave : List X × List X → Type 0
-  BothHave sides = Each has sides.0 × Each has sides.1
+  BothHave sides = AllOf has sides.0 × AllOf has sides.1
 
   -- in each split into two
-  splits_have : (xs : List X) → Each has xs → Each BothHave (splits xs)
+  splits_have : (xs : List X) → AllOf has xs → AllOf BothHave (splits xs)
   splits_have [] each = ((tt, tt), tt)
   splits_have (x ∷ xs) each =
       let rest = splits_have xs each.1 in
@@ -227,10 +227,10 @@ module _ {X : Type 0} (has : X → Type 0) where
 
   -- all that is given to one of three sides has it
   abbrev AllHave : List X × List X × List X → Type 0
-  AllHave sides = Each has sides.0 × Each has sides.1 × Each has sides.2
+  AllHave sides = AllOf has sides.0 × AllOf has sides.1 × AllOf has sides.2
 
   -- in each split into three
-  splits_in_three_have : (xs : List X) → Each has xs → Each AllHave (splits_in_three xs)
+  splits_in_three_have : (xs : List X) → AllOf has xs → AllOf AllHave (splits_in_three xs)
   splits_in_three_have [] each = ((tt, tt, tt), tt)
   splits_in_three_have (x ∷ xs) each =
       let rest = splits_in_three_have xs each.1 in
@@ -250,25 +250,25 @@ module _ (nodes : ℕ) where
   IsBelow id = id.0 < nodes
 
   -- a question of nodes below asks them
-  question_asks : (pos neg : List NodeId) → Each IsBelow pos → Each IsBelow neg → AsksNodes nodes (question pos neg)
+  question_asks : (pos neg : List NodeId) → AllOf IsBelow pos → AllOf IsBelow neg → AsksNodes nodes (question pos neg)
   question_asks pos neg inside outside = (each_of_set IsBelow pos inside, each_of_set IsBelow neg outside)
 
   -- the nodes that are one part of each
   parts_below : {X : Type 0} (part : X → NodeId) (has : X → Type 0) → ((x : X) → has x → IsBelow (part x)) → (xs : List X)
-      → Each has xs → Each IsBelow (map part xs)
+      → AllOf has xs → AllOf IsBelow (map part xs)
   parts_below part has leads xs each = each_of_map part IsBelow xs (each_weaker has (λ x. IsBelow (part x)) leads xs each)
 
   -- the first parts of pairs
-  firsts_below : (pairs : List Pair) → Each (IsPairWithin nodes) pairs → Each IsBelow (map (λ parts. parts.0) pairs)
+  firsts_below : (pairs : List Pair) → AllOf (IsPairWithin nodes) pairs → AllOf IsBelow (map (λ parts. parts.0) pairs)
   firsts_below = parts_below (λ (parts : Pair). parts.0) (IsPairWithin nodes) (λ parts both. both.0)
 
   -- the second parts of pairs
-  seconds_below : (pairs : List Pair) → Each (IsPairWithin nodes) pairs → Each IsBelow (map (λ parts. parts.1) pairs)
+  seconds_below : (pairs : List Pair) → AllOf (IsPairWithin nodes) pairs → AllOf IsBelow (map (λ parts. parts.1) pairs)
   seconds_below = parts_below (λ (parts : Pair). parts.1) (IsPairWithin nodes) (λ parts both. both.1)
 
   -- the way of a clause of pairs, for what its parts are given
-  pair_way_asks : (wanted : List Pair) → Each (IsPairWithin nodes) wanted → (given : List Pair × List Pair)
-      → BothHave (IsPairWithin nodes) given → Each (AsksNodes nodes) (pair_way wanted given)
+  pair_way_asks : (wanted : List Pair) → AllOf (IsPairWithin nodes) wanted → (given : List Pair × List Pair)
+      → BothHave (IsPairWithin nodes) given → AllOf (AsksNodes nodes) (pair_way wanted given)
   pair_way_asks wanted within given both = (
     question_asks (map (λ parts. parts.0) wanted) (map (λ parts. parts.0) given.0)
         (firsts_below wanted within) (firsts_below given.0 both.0),
@@ -280,21 +280,21 @@ module _ (nodes : ℕ) where
   )
 
   -- the tags of XML elements
-  tags_below : (xmls : List Triple) → Each (IsXmlWithin nodes) xmls → Each IsBelow (map (λ parts. parts.0) xmls)
+  tags_below : (xmls : List Triple) → AllOf (IsXmlWithin nodes) xmls → AllOf IsBelow (map (λ parts. parts.0) xmls)
   tags_below = parts_below (λ (parts : Triple). parts.0) (IsXmlWithin nodes) (λ parts all. all.0)
 
   -- their attributes
-  attributes_below : (xmls : List Triple) → Each (IsXmlWithin nodes) xmls → Each IsBelow (map (λ parts. parts.1) xmls)
+  attributes_below : (xmls : List Triple) → AllOf (IsXmlWithin nodes) xmls → AllOf IsBelow (map (λ parts. parts.1) xmls)
   attributes_below = parts_below (λ (parts : Triple). parts.1) (IsXmlWithin nodes) (λ parts all. all.1)
 
   -- their content
-  contents_below : (xmls : List Triple) → Each (IsXmlWithin nodes) xmls → Each IsBelow (map (λ parts. parts.2) xmls)
+  contents_below : (xmls : List Triple) → AllOf (IsXmlWithin nodes) xmls → AllOf IsBelow (map (λ parts. parts.2) xmls)
   contents_below = parts_below (λ (parts : Triple). parts.2) (IsXmlWithin nodes) (λ parts all. all.2)
 
   -- the way of a clause of XML elements; it asks for an atom and for a record besides
-  xml_way_asks : 14 ≤ nodes → (wanted : List Triple) → Each (IsXmlWithin nodes) wanted
+  xml_way_asks : 14 ≤ nodes → (wanted : List Triple) → AllOf (IsXmlWithin nodes) wanted
       → (given : List Triple × List Triple × List Triple) → AllHave (IsXmlWithin nodes) given
-      → Each (AsksNodes nodes) (xml_way wanted given)
+      → AllOf (AsksNodes nodes) (xml_way wanted given)
   xml_way_asks least wanted within given all = (
     question_asks (ATOM ∷ map (λ parts. parts.0) wanted) (map (λ parts. parts.0) given.0)
         (omega arith, tags_below wanted within) (tags_below given.0 all.0),
@@ -310,8 +310,8 @@ module _ (nodes : ℕ) where
   )
 
   -- the question of a pair's result, if there is one
-  result_asks : (refused : Pair) → IsPairWithin nodes refused → (others : List Pair) → Each (IsPairWithin nodes) others
-      → Each (AsksNodes nodes) (result_questions refused others)
+  result_asks : (refused : Pair) → IsPairWithin nodes refused → (others : List Pair) → AllOf (IsPairWithin nodes) others
+      → AllOf (AsksNodes nodes) (result_questions refused others)
   result_asks refused within [] each = tt
   result_asks refused within (one ∷ others) each = (
     question_asks (map (λ parts. parts.1) (one ∷ others)) (refused.1 ∷ []) (seconds_below (one ∷ others) each) (within.1, tt),
@@ -320,14 +320,14 @@ module _ (nodes : ℕ) where
 
   -- the way of a refused arrow
   arrow_way_asks : (refused : Pair) → IsPairWithin nodes refused → (given : List Pair × List Pair)
-      → BothHave (IsPairWithin nodes) given → Each (AsksNodes nodes) (arrow_way refused given)
+      → BothHave (IsPairWithin nodes) given → AllOf (AsksNodes nodes) (arrow_way refused given)
   arrow_way_asks refused within given both = (
     question_asks (refused.0 ∷ []) (map (λ parts. parts.0) given.0) (within.0, tt) (firsts_below given.0 both.0),
     result_asks refused within given.1 both.1,
   )
 
   -- what a record type says of a label is of a node of the type
-  field_below : (named : List (Name × Field)) (rest : NodeId) (label : Name) → Each (λ field. IsBelow field.1.type) named
+  field_below : (named : List (Name × Field)) (rest : NodeId) (label : Name) → AllOf (λ field. IsBelow field.1.type) named
       → IsBelow rest → IsBelow (field_of named rest label).type
   field_below [] rest label each is = is
   field_below (field ∷ named) rest label each is =
@@ -339,22 +339,22 @@ module _ (nodes : ℕ) where
       by_name false later = later
 
   -- what record types say of a label is of nodes below
-  fields_below : (label : Name) (types : List RecordType) → Each (IsTypeWithin nodes) types
-      → Each IsBelow (map (λ type. (field_at type label).type) types)
+  fields_below : (label : Name) (types : List RecordType) → AllOf (IsTypeWithin nodes) types
+      → AllOf IsBelow (map (λ type. (field_at type label).type) types)
   fields_below label = parts_below (λ (type : RecordType). (field_at type label).type) (IsTypeWithin nodes)
       (λ type both. field_below type.named type.rest label both.0 both.1)
 
   -- and so are their rests
-  rests_below : (types : List RecordType) → Each (IsTypeWithin nodes) types → Each IsBelow (map (λ type. type.rest) types)
+  rests_below : (types : List RecordType) → AllOf (IsTypeWithin nodes) types → AllOf IsBelow (map (λ type. type.rest) types)
   rests_below = parts_below (λ (type : RecordType). type.rest) (IsTypeWithin nodes) (λ type both. both.1)
 
   -- the types of some reasons are of nodes below
   abbrev TypesAreWithin : Reasons → Type 0
-  TypesAreWithin reasons = Each (λ one. IsTypeWithin nodes one.0) reasons
+  TypesAreWithin reasons = AllOf (λ one. IsTypeWithin nodes one.0) reasons
 
   -- so they are with a type that is
   with_reasons_within : (type : RecordType) → IsTypeWithin nodes type → (reasons : List Reason) (others : List Reasons)
-      → Each TypesAreWithin others → Each TypesAreWithin (each_with type reasons others)
+      → AllOf TypesAreWithin others → AllOf TypesAreWithin (each_with type reasons others)
   with_reasons_within type within [] others each = tt
   with_reasons_within type within (reason ∷ reasons) others each =
       each_of_lists TypesAreWithin (map (λ chosen. (type, reason) ∷ chosen) others) (each_with type reasons others)
@@ -363,61 +363,61 @@ module _ (nodes : ℕ) where
       (with_reasons_within type within reasons others each)
 
   -- and in each choice of reasons of refused types that are
-  reasons_within : (labels : List Name) (refused : List RecordType) → Each (IsTypeWithin nodes) refused
-      → Each TypesAreWithin (reasons_of labels refused)
+  reasons_within : (labels : List Name) (refused : List RecordType) → AllOf (IsTypeWithin nodes) refused
+      → AllOf TypesAreWithin (reasons_of labels refused)
   reasons_within labels [] each = (tt, tt)
   reasons_within labels (type ∷ refused) each =
       with_reasons_within type each.0 (None ∷ map Some labels) (reasons_of labels refused) (reasons_within labels refused each.1)
 
   -- and those that are refused at a label
   types_at_within : (label : Name) (reasons : Reasons) → TypesAreWithin reasons
-      → Each (IsTypeWithin nodes) (types_at label reasons)
+      → AllOf (IsTypeWithin nodes) (types_at label reasons)
   types_at_within label [] each = tt
   types_at_within label (one ∷ reasons) each = by_reason (is_reason label one.1) (types_at_within label reasons each.1)
     where
-      by_reason : (is : Bool) → Each (IsTypeWithin nodes) (types_at label reasons)
-          → Each (IsTypeWithin nodes) (if is then one.0 ∷ types_at label reasons else types_at label reasons)
+      by_reason : (is : Bool) → AllOf (IsTypeWithin nodes) (types_at label reasons)
+          → AllOf (IsTypeWithin nodes) (if is then one.0 ∷ types_at label reasons else types_at label reasons)
       by_reason true later = (each.0, later)
       by_reason false later = later
 
   -- and those that are refused elsewhere
-  types_elsewhere_within : (reasons : Reasons) → TypesAreWithin reasons → Each (IsTypeWithin nodes) (types_elsewhere reasons)
+  types_elsewhere_within : (reasons : Reasons) → TypesAreWithin reasons → AllOf (IsTypeWithin nodes) (types_elsewhere reasons)
   types_elsewhere_within [] each = tt
   types_elsewhere_within ((type, None) ∷ reasons) each = (each.0, types_elsewhere_within reasons each.1)
   types_elsewhere_within ((type, Some label) ∷ reasons) each = types_elsewhere_within reasons each.1
 
 -- the ways of a clause of pairs ask nodes of the graph
 pub pair_ways_ask : (nodes : ℕ) (wanted refused : List Pair) → IsWithin nodes (Pairs wanted refused)
-    → Each (Each (AsksNodes nodes)) (map (pair_way wanted) (splits refused))
-pair_ways_ask nodes wanted refused within = each_of_map (pair_way wanted) (Each (AsksNodes nodes)) (splits refused)
-    (each_weaker (BothHave (IsPairWithin nodes)) (λ given. Each (AsksNodes nodes) (pair_way wanted given))
+    → AllOf (AllOf (AsksNodes nodes)) (map (pair_way wanted) (splits refused))
+pair_ways_ask nodes wanted refused within = each_of_map (pair_way wanted) (AllOf (AsksNodes nodes)) (splits refused)
+    (each_weaker (BothHave (IsPairWithin nodes)) (λ given. AllOf (AsksNodes nodes) (pair_way wanted given))
     (pair_way_asks nodes wanted within.0) (splits refused) (splits_have (IsPairWithin nodes) refused within.1))
 
 -- those of a clause of XML elements do, where the graph has the built-in nodes
 pub xml_ways_ask : (nodes : ℕ) → 14 ≤ nodes → (wanted refused : List Triple) → IsWithin nodes (Xmls wanted refused)
-    → Each (Each (AsksNodes nodes)) (map (xml_way wanted) (splits_in_three refused))
+    → AllOf (AllOf (AsksNodes nodes)) (map (xml_way wanted) (splits_in_three refused))
 xml_ways_ask nodes least wanted refused within =
-    each_of_map (xml_way wanted) (Each (AsksNodes nodes)) (splits_in_three refused)
-    (each_weaker (AllHave (IsXmlWithin nodes)) (λ given. Each (AsksNodes nodes) (xml_way wanted given))
+    each_of_map (xml_way wanted) (AllOf (AsksNodes nodes)) (splits_in_three refused)
+    (each_weaker (AllHave (IsXmlWithin nodes)) (λ given. AllOf (AsksNodes nodes) (xml_way wanted given))
     (xml_way_asks nodes least wanted within.0) (splits_in_three refused)
     (splits_in_three_have (IsXmlWithin nodes) refused within.1))
 
 -- and those of each need of a clause of functions
 pub arrow_ways_ask : (nodes : ℕ) (wanted refused : List Pair) → IsWithin nodes (Arrows wanted refused)
-    → Each (Each (Each (AsksNodes nodes))) (map (λ one. map (arrow_way one) (splits wanted)) refused)
+    → AllOf (AllOf (AllOf (AsksNodes nodes))) (map (λ one. map (arrow_way one) (splits wanted)) refused)
 arrow_ways_ask nodes wanted refused within =
-    each_of_map (λ one. map (arrow_way one) (splits wanted)) (Each (Each (AsksNodes nodes))) refused
-    (each_weaker (IsPairWithin nodes) (λ one. Each (Each (AsksNodes nodes)) (map (arrow_way one) (splits wanted)))
-    (λ one is. each_of_map (arrow_way one) (Each (AsksNodes nodes)) (splits wanted)
-    (each_weaker (BothHave (IsPairWithin nodes)) (λ given. Each (AsksNodes nodes) (arrow_way one given))
+    each_of_map (λ one. map (arrow_way one) (splits wanted)) (AllOf (AllOf (AsksNodes nodes))) refused
+    (each_weaker (IsPairWithin nodes) (λ one. AllOf (AllOf (AsksNodes nodes)) (map (arrow_way one) (splits wanted)))
+    (λ one is. each_of_map (arrow_way one) (AllOf (AsksNodes nodes)) (splits wanted)
+    (each_weaker (BothHave (IsPairWithin nodes)) (λ given. AllOf (AsksNodes nodes) (arrow_way one given))
     (arrow_way_asks nodes one is) (splits wanted) (splits_have (IsPairWithin nodes) wanted within.0))) refused within.1)
 
 -- the questions of a row, but that of the labels of no cell, ask nodes below
 abbrev pub RowAsks : (nodes : ℕ) → Row → Type 0
-RowAsks nodes row = Each (λ cell. AsksNodes nodes cell.1.value) row.cells × Each (AsksNodes nodes) row.some
+RowAsks nodes row = AllOf (λ cell. AsksNodes nodes cell.1.value) row.cells × AllOf (AsksNodes nodes) row.some
 
 -- those of the row of some reasons do
-row_asks : (nodes : ℕ) (labels : List Name) (wanted : List RecordType) → Each (IsTypeWithin nodes) wanted
+row_asks : (nodes : ℕ) (labels : List Name) (wanted : List RecordType) → AllOf (IsTypeWithin nodes) wanted
     → (reasons : Reasons) → TypesAreWithin nodes reasons → RowAsks nodes (row_of labels wanted reasons)
 row_asks nodes labels wanted within reasons types = (
   each_of_map (λ label. (label, cell_at wanted reasons label)) (λ (cell : Name × Cell). AsksNodes nodes cell.1.value) labels
@@ -439,7 +439,7 @@ row_asks nodes labels wanted within reasons types = (
 
 -- and those of each row of a clause of records
 pub rows_ask : (nodes : ℕ) (wanted refused : List RecordType) → IsWithin nodes (Records wanted refused)
-    → Each (RowAsks nodes) (rows_of wanted refused)
+    → AllOf (RowAsks nodes) (rows_of wanted refused)
 rows_ask nodes wanted refused within =
     let labels = labels_of (wanted ++ refused) in
     each_of_map (row_of labels wanted) (RowAsks nodes) (reasons_of labels refused)

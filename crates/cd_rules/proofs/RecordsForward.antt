@@ -2,7 +2,7 @@
 use Rattle.std.proofs.Common.{◌≡◌, Bool, true, false, true≢false, List, Option, Some, None, ◌⊎◌, inl, inr, refl, sym, subst}
 use Rattle.cd_sets.specs.declared.question.Question.{Question}
 use Rattle.cd_syntax.specs.Name.{Name}
-use Rattle.cd_model.specs.Each.{Each, One}
+use Rattle.cd_model.specs.AllOf.{AllOf, AnyOf}
 use Rattle.cd_model.specs.Formula as formula
 use Rattle.cd_model.specs.Formula.{Field, field_of}
 use Rattle.cd_model.specs.Membership.{Answers, Labelled, asked, record_reader}
@@ -71,9 +71,9 @@ module _ (labelled : Labelled) (Fact : Question → Type 0) (has : (label : Name
 -- a record that is in each wanted type and outside each refused one lives in one of their rows
 pub records_forward : (labelled : Labelled) (Fact : Question → Type 0) → ((label : Name) → HasAt labelled Fact label)
     → (wanted refused : List RecordType)
-    → Each (λ type. record_reader labelled (formula.Record type.named type.rest) true) wanted
-    → Each (λ type. record_reader labelled (formula.Record type.named type.rest) false) refused
-    → One (IsLiving Fact) (rows_of wanted refused)
+    → AllOf (λ type. record_reader labelled (formula.Record type.named type.rest) true) wanted
+    → AllOf (λ type. record_reader labelled (formula.Record type.named type.rest) false) refused
+    → AnyOf (IsLiving Fact) (rows_of wanted refused)
 records_forward labelled Fact has wanted refused inside outside =
     one_weaker (IsInRow told at_labels) (IsLiving Fact) (row_lives labelled Fact has) (rows_of wanted refused)
     ((rows_exact told at_labels wanted refused).0 (

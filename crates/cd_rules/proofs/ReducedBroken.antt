@@ -3,7 +3,7 @@ use Rattle.std.proofs.Common.{List, [], ◌∷◌, map, inl, inr, refl, subst}
 use Rattle.cd_sets.specs.declared.node_id.NodeId.{NodeId}
 use Rattle.cd_sets.specs.declared.question.Question.{Question}
 use Rattle.cd_model.specs.BuiltIns.{ATOM, RECORD}
-use Rattle.cd_model.specs.Each.{One}
+use Rattle.cd_model.specs.AllOf.{AnyOf}
 use Rattle.cd_model.specs.Formula.{Graph}
 use Rattle.cd_rules.specs.Clauses.{Clause, Ints, Chars, Atoms, Pairs, Xmls, Records, Arrows, Pair, Triple}
 use Rattle.cd_rules.specs.Family.{IsCovered, BreaksNeed, Breaks}
@@ -19,7 +19,7 @@ use Rattle.cd_rules.proofs.SplitsOfKept.{ComesOn, splits_of_kept, ComesOnInThree
 module _ (family : List Question) where
   -- a way with a question that the family covers
   abbrev HasCovered : Way → Type 0
-  HasCovered way = One (λ question. IsCovered question family) way
+  HasCovered way = AnyOf (λ question. IsCovered question family) way
 
   -- a family covers the question that refuses more parts, where it covers the one that refuses some
   refuses_more : {X : Type 0} (part : X → NodeId) (wanted : List NodeId) (some all : List X) → AreOf some all

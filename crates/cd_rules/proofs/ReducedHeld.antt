@@ -4,7 +4,7 @@ use Rattle.cd_sets.specs.declared.node_id.NodeId.{NodeId}
 use Rattle.cd_model.specs.Thing as thing
 use Rattle.cd_model.specs.Thing.{Thing, IsAtom, IsRecord, IsElement, IsValue}
 use Rattle.cd_model.specs.BuiltIns.{built_ins, ATOM, RECORD}
-use Rattle.cd_model.specs.Each.{Each}
+use Rattle.cd_model.specs.AllOf.{AllOf}
 use Rattle.cd_model.specs.Formula.{Graph, IsGraph}
 use Rattle.cd_model.specs.Interfaces.{Interfaces}
 use Rattle.cd_model.specs.Kinds.{kind_of, APair, AnXml}
@@ -21,7 +21,7 @@ use Rattle.cd_rules.proofs.Things.{reader_of, answers_of}
 
 -- what is so of each that is kept, and of all that are apart, is so of each
 pub each_of_kept : {X : Type 0} (Apart fact : X → Type 0) → ((x : X) → Apart x → fact x) → (all kept : List X)
-    → LeavesOut Apart all kept → Each fact kept → Each fact all
+    → LeavesOut Apart all kept → AllOf fact kept → AllOf fact all
 each_of_kept Apart fact of_apart _ _ none each = each
 each_of_kept Apart fact of_apart _ _ (keeps x all kept rest) each =
     (each.0, each_of_kept Apart fact of_apart all kept rest each.1)
@@ -36,11 +36,11 @@ by_answer (inr out) never = out
 module _ (graph : Graph) where
   -- what is in some nodes is outside one that is apart from them
   abbrev IsOutsideApart : Answers → Type 0
-  IsOutsideApart of = (id : NodeId) (ids : List NodeId) → AreApart graph (id ∷ ids) → Each (λ id. of id true) ids → of id false
+  IsOutsideApart of = (id : NodeId) (ids : List NodeId) → AreApart graph (id ∷ ids) → AllOf (λ id. of id true) ids → of id false
 
   -- the same where one more node is asked before
   after : (of : Answers) → IsOutsideApart of → (before id : NodeId) (ids : List NodeId) → AreApart graph (before ∷ id ∷ ids)
-      → of before true → Each (λ id. of id true) ids → of id false
+      → of before true → AllOf (λ id. of id true) ids → of id false
   after of outside before id ids apart is each = outside id (before ∷ ids)
       (λ e element all. apart e element (all.1.0, (all.0, all.1.1))) (is, each)
 
@@ -48,7 +48,7 @@ module _ (graph : Graph) where
     abbrev AreIn : Pair → Type 0
     AreIn parts = first parts.0 true × second parts.1 true
 
-    pair_outside : Each AreIn wanted → (refused : Pair) → IsPairApart graph wanted refused
+    pair_outside : AllOf AreIn wanted → (refused : Pair) → IsPairApart graph wanted refused
         → first refused.0 false ⊎ second refused.1 false
     pair_outside inside refused (inl apart) = inl (of_first refused.0 (map (λ parts. parts.0) wanted) apart
         (each_of_map (λ (parts : Pair). parts.0) (λ id. first id true) wanted
@@ -72,7 +72,7 @@ module _ (graph : Graph) where
     abbrev AllAreIn : Triple → Type 0
     AllAreIn parts = tag parts.0 true × attributes parts.1 true × content parts.2 true
 
-    xml_outside : Each AllAreIn wanted → (refused : Triple) → IsXmlApart graph wanted refused
+    xml_outside : AllOf AllAreIn wanted → (refused : Triple) → IsXmlApart graph wanted refused
         → tag refused.0 false ⊎ attributes refused.1 false ⊎ content refused.2 false
     xml_outside inside refused (inl apart) =
         inl (after tag of_tag ATOM refused.0 (map (λ parts. parts.0) wanted) apart is_atom

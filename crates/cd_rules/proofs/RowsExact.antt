@@ -5,7 +5,7 @@ use Rattle.std.proofs.lemmas.Bool.{cases_Bool}
 use Rattle.std.proofs.lemmas.Slice.Eq.{bytes_eq-Decides}
 use Rattle.cd_sets.specs.declared.question.Question.{Question}
 use Rattle.cd_syntax.specs.Name.{Name}
-use Rattle.cd_model.specs.Each.{Each, One}
+use Rattle.cd_model.specs.AllOf.{AllOf, AnyOf}
 use Rattle.cd_model.specs.Formula as formula
 use Rattle.cd_model.specs.Membership.{Answers, Labelled, record_reader}
 use Rattle.cd_model.proofs.Labels.{IsOneOf}
@@ -23,7 +23,7 @@ use Rattle.cd_rules.proofs.ReasonsOf.{AreReasons, AreNamed, HasReason, reasons_o
 use Rattle.cd_rules.proofs.ReasonsOf.{refused_at, refused_elsewhere, reasons_back}
 
 -- what holds of each of these holds of a label that is one of them
-each_at : (Holds : Name → Type 0) (names : List Name) (label : Name) → Each Holds names → IsOneOf names label → Holds label
+each_at : (Holds : Name → Type 0) (names : List Name) (label : Name) → AllOf Holds names → IsOneOf names label → Holds label
 each_at Holds [] label each one = elim one [ ]
 each_at Holds (name ∷ names) label each (inl same) = subst Holds same each.0
 each_at Holds (name ∷ names) label each (inr later) = each_at Holds names label each.1 later
@@ -67,10 +67,10 @@ module _ {X : Type 0} (answers : X → Answers) (at : Name → Option X) (labels
 
   -- where the record is outside a type there is a reason, and back
   has_reason : (type : RecordType) → SaysNoMore labels type → (label : Name) × IsAs false label type
-      → One (IsReason type) (None ∷ map Some labels)
+      → AnyOf (IsReason type) (None ∷ map Some labels)
   has_reason type free outside = by_label (one_or_none labels outside.0)
     where
-      by_label : IsOneOf labels outside.0 ⊎ (IsOneOf labels outside.0 → ⊥) → One (IsReason type) (None ∷ map Some labels)
+      by_label : IsOneOf labels outside.0 ⊎ (IsOneOf labels outside.0 → ⊥) → AnyOf (IsReason type) (None ∷ map Some labels)
       by_label (inl one) = inr (one_of_map Some (IsReason type) labels
           (one_weaker (λ name. name ≡ outside.0) (λ name. IsAs false name type)
           (λ name same. subst (λ (name : Name). IsAs false name type) (sym same) outside.1) labels one))
@@ -80,7 +80,7 @@ module _ {X : Type 0} (answers : X → Answers) (at : Name → Option X) (labels
         subst (λ field. Says answers (at outside.0) field false) (free outside.0 none) outside.1,
       )
 
-  of_reason : (type : RecordType) → SaysNoMore labels type → One (IsReason type) (None ∷ map Some labels)
+  of_reason : (type : RecordType) → SaysNoMore labels type → AnyOf (IsReason type) (None ∷ map Some labels)
       → (label : Name) × IsAs false label type
   of_reason type free (inl is) = (
     is.0,
@@ -101,7 +101,7 @@ module _ {X : Type 0} (answers : X → Answers) (at : Name → Option X) (labels
       none (one_of_map (λ label. (label, cell_at wanted reasons label)) (λ cell. cell.0 ≡ label) labels one)
 
   -- what is at one of these labels is in the label's cell, where this is so of each cell
-  cell_in : (reasons : Reasons) → Each (λ cell. IsInCell answers (at cell.0) cell.1) (row_of labels wanted reasons).cells
+  cell_in : (reasons : Reasons) → AllOf (λ cell. IsInCell answers (at cell.0) cell.1) (row_of labels wanted reasons).cells
       → (label : Name) → IsOneOf labels label → IsInCell answers (at label) (cell_at wanted reasons label)
   cell_in reasons each label one = each_at (λ label. IsInCell answers (at label) (cell_at wanted reasons label)) labels
       label (map_of_each (λ label. (label, cell_at wanted reasons label)) (λ cell. IsInCell answers (at cell.0) cell.1)
@@ -113,32 +113,32 @@ module _ {X : Type 0} (answers : X → Answers) (at : Name → Option X) (labels
 
   module _ (unnamed : (label : Name) → (IsOneOf labels label → ⊥) → IsUnnamed wanted label) where
     -- at a label that is none of these the wanted types say what they say of labels that they do not name
-    as_rest : (label : Name) → (IsOneOf labels label → ⊥) → Each (IsAs true label) wanted
-        → Each (IsAsRest true label) wanted
+    as_rest : (label : Name) → (IsOneOf labels label → ⊥) → AllOf (IsAs true label) wanted
+        → AllOf (IsAsRest true label) wanted
     as_rest label none each = each_of_two (λ type. field_at type label ≡ free_field type) (IsAs true label)
         (IsAsRest true label) (λ type free is. subst (λ field. Says answers (at label) field true) free is) wanted
         (unnamed label none) each
 
-    as_types : (label : Name) → (IsOneOf labels label → ⊥) → Each (IsAsRest true label) wanted
-        → Each (IsAs true label) wanted
+    as_types : (label : Name) → (IsOneOf labels label → ⊥) → AllOf (IsAsRest true label) wanted
+        → AllOf (IsAs true label) wanted
     as_types label none each = each_of_two (λ type. field_at type label ≡ free_field type) (IsAsRest true label)
         (IsAs true label) (λ type free is. subst (λ field. Says answers (at label) field true) (sym free) is) wanted
         (unnamed label none) each
 
     -- nothing, or a value in all rests of the wanted types, is as these say
-    every_in : (what : Option X) → Each (λ type. Says answers what (free_field type) true) wanted → (reasons : Reasons)
+    every_in : (what : Option X) → AllOf (λ type. Says answers what (free_field type) true) wanted → (reasons : Reasons)
         → IsInCell answers what (record { absent = true; value = (row_of labels wanted reasons).every })
     every_in None each reasons = refl
     every_in (Some is) each reasons = value_in answers free_field wanted [] is each tt
 
     every_says : (what : Option X) (reasons : Reasons)
         → IsInCell answers what (record { absent = true; value = (row_of labels wanted reasons).every })
-        → Each (λ type. Says answers what (free_field type) true) wanted
+        → AllOf (λ type. Says answers what (free_field type) true) wanted
     every_says None reasons is = each_of_all (λ type. true ≡ true) (λ type. refl) wanted
     every_says (Some is) reasons asking = (value_says answers free_field wanted [] is asking).0
 
     -- a value that is also outside the rest of this type is not as the type says
-    some_in : (what : Option X) (type : RecordType) → Each (λ type. Says answers what (free_field type) true) wanted
+    some_in : (what : Option X) (type : RecordType) → AllOf (λ type. Says answers what (free_field type) true) wanted
         → Says answers what (free_field type) false
         → IsInCell answers what (record { absent = false; value = rest_question type })
     some_in None type each outside = absurd (true≢false outside)
@@ -151,7 +151,7 @@ module _ {X : Type 0} (answers : X → Answers) (at : Name → Option X) (labels
     some_says (Some is) type asking = (value_says answers free_field wanted (type ∷ []) is asking).1.0
 
     -- the record is in the row of reasons for which it is outside the refused types
-    into_row : ((label : Name) → Each (IsAs true label) wanted) → (reasons : Reasons) → AreReasons IsReason reasons
+    into_row : ((label : Name) → AllOf (IsAs true label) wanted) → (reasons : Reasons) → AreReasons IsReason reasons
         → IsInRow answers at (row_of labels wanted reasons)
     into_row inside reasons each = (
       cells,
@@ -164,7 +164,7 @@ module _ {X : Type 0} (answers : X → Answers) (at : Name → Option X) (labels
         Has : Question → Type 0
         Has = HasElsewhere answers at (row_of labels wanted reasons)
 
-        cells : Each (λ cell. IsInCell answers (at cell.0) cell.1) (row_of labels wanted reasons).cells
+        cells : AllOf (λ cell. IsInCell answers (at cell.0) cell.1) (row_of labels wanted reasons).cells
         cells = each_of_map (λ label. (label, cell_at wanted reasons label))
             (λ cell. IsInCell answers (at cell.0) cell.1) labels
             (each_of_all (λ label. IsInCell answers (at label) (cell_at wanted reasons label))
@@ -185,10 +185,10 @@ module _ {X : Type 0} (answers : X → Answers) (at : Name → Option X) (labels
 
     -- a record in the row of reasons is as the wanted types say, and outside the refused ones for these reasons
     wanted_in_row : (reasons : Reasons) → IsInRow answers at (row_of labels wanted reasons)
-        → (label : Name) → Each (IsAs true label) wanted
+        → (label : Name) → AllOf (IsAs true label) wanted
     wanted_in_row reasons is label = by_label (one_or_none labels label)
       where
-        by_label : IsOneOf labels label ⊎ (IsOneOf labels label → ⊥) → Each (IsAs true label) wanted
+        by_label : IsOneOf labels label ⊎ (IsOneOf labels label → ⊥) → AllOf (IsAs true label) wanted
         by_label (inl one) = (out_of_cell answers (λ type. field_at type label) wanted (types_at label reasons) (at label)
             (cell_in reasons is.0 label one)).0
         by_label (inr none) =
@@ -203,7 +203,7 @@ module _ {X : Type 0} (answers : X → Answers) (at : Name → Option X) (labels
         Has : Question → Type 0
         Has = HasElsewhere answers at (row_of labels wanted reasons)
 
-        at_labels : (label : Name) → IsOneOf labels label → Each (IsAs false label) (types_at label reasons)
+        at_labels : (label : Name) → IsOneOf labels label → AllOf (IsAs false label) (types_at label reasons)
         at_labels label one = (out_of_cell answers (λ type. field_at type label) wanted (types_at label reasons) (at label)
             (cell_in reasons is.0 label one)).1
 
@@ -222,7 +222,7 @@ unnamed_by_all types label none = by_both (named_or_unnamed types label)
 -- types that do not name labels which are none of these say no more of them
 say_no_more : (labels : List Name) (types : List RecordType)
     → ((label : Name) → (IsOneOf labels label → ⊥) → IsUnnamed types label)
-    → Each (SaysNoMore labels) types
+    → AllOf (SaysNoMore labels) types
 say_no_more labels [] unnamed = tt
 say_no_more labels (type ∷ types) unnamed =
     (λ label none. (unnamed label none).0, say_no_more labels types (λ label none. (unnamed label none).1))
@@ -230,8 +230,8 @@ say_no_more labels (type ∷ types) unnamed =
 module _ {X : Type 0} (answers : X → Answers) (at : Name → Option X) (wanted refused : List RecordType) where
   -- the record is in each wanted type and outside each refused one
   abbrev IsInTypes : Type 0
-  IsInTypes = Each (λ type. record_reader (labelled_by answers at) (formula.Record type.named type.rest) true) wanted
-      × Each (λ type. record_reader (labelled_by answers at) (formula.Record type.named type.rest) false) refused
+  IsInTypes = AllOf (λ type. record_reader (labelled_by answers at) (formula.Record type.named type.rest) true) wanted
+      × AllOf (λ type. record_reader (labelled_by answers at) (formula.Record type.named type.rest) false) refused
 
   abbrev labels : List Name
   labels = labels_of (wanted ++ refused)
@@ -239,31 +239,31 @@ module _ {X : Type 0} (answers : X → Answers) (at : Name → Option X) (wanted
   unnamed : (label : Name) → (IsOneOf labels label → ⊥) → IsUnnamed wanted label × IsUnnamed refused label
   unnamed label none = unnamed_parts wanted refused label (unnamed_by_all (wanted ++ refused) label none)
 
-  free : Each (SaysNoMore labels) refused
+  free : AllOf (SaysNoMore labels) refused
   free = say_no_more labels refused (λ label none. (unnamed label none).1)
 
   -- such a record is in one of the rows
-  into_rows : IsInTypes → One (IsInRow answers at) (rows_of wanted refused)
+  into_rows : IsInTypes → AnyOf (IsInRow answers at) (rows_of wanted refused)
   into_rows is = one_of_map (row_of labels wanted) (IsInRow answers at) (reasons_of labels refused)
       (one_weaker (AreReasons (IsReason answers at labels wanted))
       (λ reasons. IsInRow answers at (row_of labels wanted reasons))
       (into_row answers at labels wanted (λ label none. (unnamed label none).0) inside) (reasons_of labels refused)
       (reasons_of_each (IsReason answers at labels wanted) labels refused reasons))
     where
-      inside : (label : Name) → Each (IsAs answers at labels wanted true label) wanted
+      inside : (label : Name) → AllOf (IsAs answers at labels wanted true label) wanted
       inside label = each_weaker (λ type. (label : Name) → IsAs answers at labels wanted true label type)
           (IsAs answers at labels wanted true label) (λ type each. each label) wanted is.0
 
-      reasons : Each (λ type. One (IsReason answers at labels wanted type) (None ∷ map Some labels)) refused
+      reasons : AllOf (λ type. AnyOf (IsReason answers at labels wanted type) (None ∷ map Some labels)) refused
       reasons = each_of_two (SaysNoMore labels) (λ type. (label : Name) × IsAs answers at labels wanted false label type)
-          (λ type. One (IsReason answers at labels wanted type) (None ∷ map Some labels))
+          (λ type. AnyOf (IsReason answers at labels wanted type) (None ∷ map Some labels))
           (has_reason answers at labels wanted) refused free is.1
 
   -- and one in a row is such
-  out_of_rows : One (IsInRow answers at) (rows_of wanted refused) → IsInTypes
+  out_of_rows : AnyOf (IsInRow answers at) (rows_of wanted refused) → IsInTypes
   out_of_rows is = (
     one_leads InNamedRow (λ reasons both. inside reasons both.0) (reasons_of labels refused) rows,
-    each_of_two (SaysNoMore labels) (λ type. One (IsReason answers at labels wanted type) (None ∷ map Some labels))
+    each_of_two (SaysNoMore labels) (λ type. AnyOf (IsReason answers at labels wanted type) (None ∷ map Some labels))
         (λ type. (label : Name) × IsAs answers at labels wanted false label type)
         (of_reason answers at labels wanted) refused free
         (each_of_reasons (IsReason answers at labels wanted) labels refused
@@ -274,14 +274,14 @@ module _ {X : Type 0} (answers : X → Answers) (at : Name → Option X) (wanted
       InNamedRow : Reasons → Type 0
       InNamedRow reasons = IsInRow answers at (row_of labels wanted reasons) × AreNamed labels reasons
 
-      rows : One InNamedRow (reasons_of labels refused)
+      rows : AnyOf InNamedRow (reasons_of labels refused)
       rows = one_with_each (λ reasons. IsInRow answers at (row_of labels wanted reasons)) (AreNamed labels)
           (reasons_of labels refused)
           (map_of_one (row_of labels wanted) (IsInRow answers at) (reasons_of labels refused) is)
           (reasons_named labels refused)
 
       inside : (reasons : Reasons) → IsInRow answers at (row_of labels wanted reasons)
-          → Each (λ type. (label : Name) → IsAs answers at labels wanted true label type) wanted
+          → AllOf (λ type. (label : Name) → IsAs answers at labels wanted true label type) wanted
       inside reasons is = each_for_all (IsAs answers at labels wanted true) wanted
           (wanted_in_row answers at labels wanted (λ label none. (unnamed label none).0) reasons is)
 
@@ -290,5 +290,5 @@ module _ {X : Type 0} (answers : X → Answers) (at : Name → Option X) (wanted
       outside = refused_in_row answers at labels wanted (λ label none. (unnamed label none).0)
 
   -- a record is in each wanted type and outside each refused one just where it is in one of their rows
-  pub rows_exact : IsInTypes ↔ One (IsInRow answers at) (rows_of wanted refused)
+  pub rows_exact : IsInTypes ↔ AnyOf (IsInRow answers at) (rows_of wanted refused)
   rows_exact = (into_rows, out_of_rows)

@@ -2,7 +2,7 @@
 use Rattle.std.proofs.Common.{◌≡◌, ℕ, Bool, true, false, List, Option, Some, bytes_eq, if◌then◌else◌, ◌↔◌, refl, sym, subst}
 use Rattle.cd_syntax.specs.Name.{Name}
 use Rattle.cd_model.specs.Thing as thing
-use Rattle.cd_model.specs.Each.{One}
+use Rattle.cd_model.specs.AllOf.{AnyOf}
 use Rattle.cd_model.specs.Formula.{Graph, Field}
 use Rattle.cd_model.specs.Kinds.{ARecord}
 use Rattle.cd_model.specs.Membership.{Answers, Labelled, Mapping, either, record_reader}
@@ -24,7 +24,7 @@ module _ {X : Type 0} (answers : X → Answers) (at : Name → Option X) (wanted
   -- that a record is in the clause of these types just where it is in a row
   abbrev IsExact : Labelled → Type 0
   IsExact said = IsInClause ARecord (record_reader said) (Records wanted refused)
-      ↔ One (IsInRow answers at) (rows_of wanted refused)
+      ↔ AnyOf (IsInRow answers at) (rows_of wanted refused)
 
   -- it is so of a record that answers of each label what the value that it has there does
   exact_of : (said : Labelled)
@@ -48,6 +48,6 @@ module _ (graph : Graph) (closed : ℕ → Mapping) where
 
   pub record_exact : (wanted refused : List RecordType) (fields : thing.Fields)
       → IsInClause ARecord (reader_of graph closed (thing.Record fields)) (Records wanted refused)
-      ↔ One (IsInRow (answers_of graph closed) (thing_at fields)) (rows_of wanted refused)
+      ↔ AnyOf (IsInRow (answers_of graph closed) (thing_at fields)) (rows_of wanted refused)
   record_exact wanted refused fields = exact_of (answers_of graph closed) (thing_at fields) wanted refused
       (labelled_of graph closed fields) (thing_says fields)

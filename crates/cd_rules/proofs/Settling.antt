@@ -3,7 +3,7 @@ use Rattle.std.proofs.Common.{◌≡◌, true, false, List, [], ◌∷◌, ◌�
 use Rattle.std.proofs.lemmas.Bool.{cases_Bool}
 use Rattle.cd_sets.specs.declared.question.Question.{Question}
 use Rattle.cd_syntax.specs.Name.{Name}
-use Rattle.cd_model.specs.Each.{Each, One}
+use Rattle.cd_model.specs.AllOf.{AllOf, AnyOf}
 use Rattle.cd_rules.specs.Clauses.{Clause, Ints, Chars, Atoms, Pairs, Xmls, Records, Arrows}
 use Rattle.cd_rules.specs.Family.{IsCovered, BreaksNeed, BreaksRow, HasBrokenNeed, Breaks}
 use Rattle.cd_rules.specs.Members.{IsMet, IsLiving, HasAllNeeds, IsSupplied}
@@ -13,12 +13,12 @@ use Rattle.cd_rules.proofs.Ones.{each_weaker}
 use Rattle.cd_rules.specs.Settled.{IsSettled, AreSettled, HasSettledRow, HasSettledNeeds, IsSettledClause}
 
 -- each of a list has the one fact, or one of them has the other
-pub each_or_one : {X : Type 0} (fact other : X → Type 0) (xs : List X) → Each (λ x. fact x ⊎ other x) xs
-    → Each fact xs ⊎ One other xs
+pub each_or_one : {X : Type 0} (fact other : X → Type 0) (xs : List X) → AllOf (λ x. fact x ⊎ other x) xs
+    → AllOf fact xs ⊎ AnyOf other xs
 each_or_one fact other [] settled = inl tt
 each_or_one fact other (x ∷ xs) settled = by_first settled.0 (each_or_one fact other xs settled.1)
   where
-    by_first : fact x ⊎ other x → Each fact xs ⊎ One other xs → Each fact (x ∷ xs) ⊎ One other (x ∷ xs)
+    by_first : fact x ⊎ other x → AllOf fact xs ⊎ AnyOf other xs → AllOf fact (x ∷ xs) ⊎ AnyOf other (x ∷ xs)
     by_first (inr out) rest = inr (inl out)
     by_first (inl is) (inl each) = inl (is, each)
     by_first (inl is) (inr one) = inr (inr one)
@@ -29,17 +29,17 @@ turned (inr b) = inl b
 
 module _ (fact : Question → Type 0) (family : List Question) where
   abbrev HasOne : Way → Type 0
-  HasOne way = One (λ question. IsCovered question family) way
+  HasOne way = AnyOf (λ question. IsCovered question family) way
 
   -- a need is met, or broken
   need_settled : (need : Need) → AreSettled fact family need → IsMet fact need ⊎ BreaksNeed family need
-  need_settled need settled = turned (each_or_one HasOne (λ way. Each fact way) need
-      (each_weaker (λ way. Each (IsSettled fact family) way) (λ way. HasOne way ⊎ Each fact way)
+  need_settled need settled = turned (each_or_one HasOne (λ way. AllOf fact way) need
+      (each_weaker (λ way. AllOf (IsSettled fact family) way) (λ way. HasOne way ⊎ AllOf fact way)
       (λ way each. turned (each_or_one fact (λ question. IsCovered question family) way each)) need settled))
 
   -- all needs are met, or one is broken
-  needs_settled : (needs : List Need) → Each (AreSettled fact family) needs
-      → Each (IsMet fact) needs ⊎ One (BreaksNeed family) needs
+  needs_settled : (needs : List Need) → AllOf (AreSettled fact family) needs
+      → AllOf (IsMet fact) needs ⊎ AnyOf (BreaksNeed family) needs
   needs_settled needs settled = each_or_one (IsMet fact) (BreaksNeed family) needs
       (each_weaker (AreSettled fact family) (λ need. IsMet fact need ⊎ BreaksNeed family need) need_settled needs settled)
 
@@ -63,9 +63,9 @@ module _ (fact : Question → Type 0) (family : List Question) where
       cell_settled row.cells settled.0))
       (each_or_one fact (λ question. IsCovered question family) row.some settled.1)
     where
-      joined : Each (λ cell. (cell.1.absent ≡ true) ⊎ fact cell.1.value) row.cells
-          ⊎ One (λ cell. (cell.1.absent ≡ false) × IsCovered cell.1.value family) row.cells
-          → Each fact row.some ⊎ One (λ question. IsCovered question family) row.some
+      joined : AllOf (λ cell. (cell.1.absent ≡ true) ⊎ fact cell.1.value) row.cells
+          ⊎ AnyOf (λ cell. (cell.1.absent ≡ false) × IsCovered cell.1.value family) row.cells
+          → AllOf fact row.some ⊎ AnyOf (λ question. IsCovered question family) row.some
           → BreaksRow family row ⊎ IsLiving fact row
       joined (inr cell) some = inl (inl cell)
       joined (inl cells) (inr question) = inl (inr question)
@@ -74,7 +74,7 @@ module _ (fact : Question → Type 0) (family : List Question) where
   by_needs : (clause : Clause) → HasSettledNeeds fact family clause → HasAllNeeds fact clause ⊎ HasBrokenNeed family clause
   by_needs clause settled = with_needs (needs_settled settled.0 settled.2)
     where
-      with_needs : Each (IsMet fact) settled.0 ⊎ One (BreaksNeed family) settled.0
+      with_needs : AllOf (IsMet fact) settled.0 ⊎ AnyOf (BreaksNeed family) settled.0
           → HasAllNeeds fact clause ⊎ HasBrokenNeed family clause
       with_needs (inl met) = inl (settled.0, settled.1, met)
       with_needs (inr broken) = inr (settled.0, settled.1, broken)

@@ -1,6 +1,6 @@
 -- What is so of each way to give the kept ones of a list to sides is so of each way to give all, where it comes from sides to longer ones.
 use Rattle.std.proofs.Common.{List, ◌∷◌, ◌++◌, map}
-use Rattle.cd_model.specs.Each.{Each}
+use Rattle.cd_model.specs.AllOf.{AllOf}
 use Rattle.cd_model.proofs.Covered.{each_parts}
 use Rattle.cd_rules.specs.Needs.{splits, splits_in_three, to_one, to_other, to_first, to_middle, to_last}
 use Rattle.cd_rules.specs.Reduced.{LeavesOut, none, keeps, leaves}
@@ -33,7 +33,7 @@ module _ {X : Type 0} (fact : Sides X → Type 0) (comes : ComesOn fact) (x : X)
       comes sides (to_other x sides) (among_itself sides.0) (among_more x sides.1 sides.1 (among_itself sides.1))
 
 pub splits_of_kept : {X : Type 0} (Apart : X → Type 0) (all kept : List X) → LeavesOut Apart all kept
-    → (fact : Sides X → Type 0) → ComesOn fact → Each fact (splits kept) → Each fact (splits all)
+    → (fact : Sides X → Type 0) → ComesOn fact → AllOf fact (splits kept) → AllOf fact (splits all)
 splits_of_kept Apart _ _ none fact comes each = each
 splits_of_kept Apart _ _ (keeps x all kept rest) fact comes each =
     let sides = each_parts fact (map (to_one x) (splits kept)) (map (to_other x) (splits kept)) each in
@@ -85,9 +85,9 @@ module _ {X : Type 0} (fact : ThreeSides X → Type 0) (comes : ComesOnInThree f
 
 module _ {X : Type 0} (fact : ThreeSides X → Type 0) (x : X) where
   -- what is so where the one is added to each side is so of each way to give the one and the others
-  all_three : (others : List X) → Each (λ sides. fact (to_first x sides)) (splits_in_three others)
-      → Each (λ sides. fact (to_middle x sides)) (splits_in_three others)
-      → Each (λ sides. fact (to_last x sides)) (splits_in_three others) → Each fact (splits_in_three (x ∷ others))
+  all_three : (others : List X) → AllOf (λ sides. fact (to_first x sides)) (splits_in_three others)
+      → AllOf (λ sides. fact (to_middle x sides)) (splits_in_three others)
+      → AllOf (λ sides. fact (to_last x sides)) (splits_in_three others) → AllOf fact (splits_in_three (x ∷ others))
   all_three others firsts middles lasts = each_of_lists fact
       (map (to_first x) (splits_in_three others) ++ map (to_middle x) (splits_in_three others)) (map (to_last x) (splits_in_three others))
       (each_of_lists fact (map (to_first x) (splits_in_three others)) (map (to_middle x) (splits_in_three others))
@@ -96,9 +96,9 @@ module _ {X : Type 0} (fact : ThreeSides X → Type 0) (x : X) where
       (each_of_map (to_last x) fact (splits_in_three others) lasts)
 
   -- and back
-  of_three : (others : List X) → Each fact (splits_in_three (x ∷ others)) → Each (λ sides. fact (to_first x sides)) (splits_in_three others)
-      × Each (λ sides. fact (to_middle x sides)) (splits_in_three others)
-      × Each (λ sides. fact (to_last x sides)) (splits_in_three others)
+  of_three : (others : List X) → AllOf fact (splits_in_three (x ∷ others)) → AllOf (λ sides. fact (to_first x sides)) (splits_in_three others)
+      × AllOf (λ sides. fact (to_middle x sides)) (splits_in_three others)
+      × AllOf (λ sides. fact (to_last x sides)) (splits_in_three others)
   of_three others each =
       let sides = each_parts fact (map (to_first x) (splits_in_three others) ++ map (to_middle x) (splits_in_three others))
       (map (to_last x) (splits_in_three others)) each in
@@ -109,7 +109,7 @@ module _ {X : Type 0} (fact : ThreeSides X → Type 0) (x : X) where
       )
 
 pub splits_in_three_of_kept : {X : Type 0} (Apart : X → Type 0) (all kept : List X) → LeavesOut Apart all kept
-    → (fact : ThreeSides X → Type 0) → ComesOnInThree fact → Each fact (splits_in_three kept) → Each fact (splits_in_three all)
+    → (fact : ThreeSides X → Type 0) → ComesOnInThree fact → AllOf fact (splits_in_three kept) → AllOf fact (splits_in_three all)
 splits_in_three_of_kept Apart _ _ none fact comes each = each
 splits_in_three_of_kept Apart _ _ (keeps x all kept rest) fact comes each = let sides = of_three fact x kept each in
     all_three fact x all

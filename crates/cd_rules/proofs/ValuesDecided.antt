@@ -4,7 +4,7 @@ use Rattle.std.proofs.Common.{◌≡◌, ℕ, true, false, List, [], ◌∷◌, 
 use Rattle.std.proofs.lemmas.Bool.{cases_Bool, ltb-true, ltb-false}
 use Rattle.cd_sets.specs.declared.node_id.NodeId.{NodeId}
 use Rattle.cd_model.specs.BuiltIns.{built_ins}
-use Rattle.cd_model.specs.Each.{Each}
+use Rattle.cd_model.specs.AllOf.{AllOf}
 use Rattle.cd_model.specs.Formula.{Graph, IsGraph, nodes, at_formula, holds}
 use Rattle.cd_model.specs.Interfaces.{OfNodes, OfWritten, ArrowOf, ArrowsAgree, admits, value_in_node, value_reader}
 use Rattle.cd_model.specs.Membership.{mapping}
@@ -28,7 +28,7 @@ use Rattle.cd_rules.proofs.NumbersBeyond.{beyond}
 module _ (graph more : Graph) (begins : graph ≡ built_ins ++ more) (sound : IsGraph graph) where
   -- whether a need is met is known
   need_or_not : (need : Need) → HoldsOrNot (IsMet (HasElement graph) need)
-  need_or_not = one_or_not (Each (HasElement graph)) (each_or_not (HasElement graph) (has_or_not graph more begins sound))
+  need_or_not = one_or_not (AllOf (HasElement graph)) (each_or_not (HasElement graph) (has_or_not graph more begins sound))
 
   -- whether all functions that are in the arrows of an interface are in one more arrow
   module _ (interfaces : ℕ → List (ArrowOf NodeId)) (function : ℕ) (argument result : NodeId) where

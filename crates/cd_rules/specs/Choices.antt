@@ -1,8 +1,9 @@
--- The choices of a formula and of a question: the ways in which a thing can be in it, as lists of literals.
+-- The choices of a formula and of a question: the ways in which a thing can be in it, as lists of
+-- literals.
 use Rattle.std.specs.Prelude.{Bool, true, false, not, List, [], ◌∷◌, ◌++◌, map}
 use Rattle.cd_sets.specs.declared.node_id.NodeId.{NodeId}
 use Rattle.cd_sets.specs.declared.question.Question.{Question}
-use Rattle.cd_model.specs.Each.{Each}
+use Rattle.cd_model.specs.AllOf.{AllOf}
 use Rattle.cd_model.specs.Formula as formula
 use Rattle.cd_model.specs.Formula.{Formula, Formulas, NoFormula, AFormula, Graph, formula_at}
 use Rattle.cd_model.specs.Membership.{Reader}
@@ -44,7 +45,8 @@ abbrev mutual
   -- one choice of each of these, and a choice of one of them
   pub choices_of_each : Formulas → Bool → List Choice
   choices_of_each NoFormula wanted = always
-  choices_of_each (AFormula is rest) wanted = joined (choices is wanted) (choices_of_each rest wanted)
+  choices_of_each (AFormula is rest) wanted =
+      joined (choices is wanted) (choices_of_each rest wanted)
 
   pub choices_of_one : Formulas → Bool → List Choice
   choices_of_one NoFormula wanted = []
@@ -53,11 +55,13 @@ abbrev mutual
 -- one choice of each of these nodes
 abbrev pub choices_at : Graph → List NodeId → (wanted : Bool) → List Choice
 choices_at graph [] wanted = always
-choices_at graph (id ∷ ids) wanted = joined (choices (formula_at graph id) wanted) (choices_at graph ids wanted)
+choices_at graph (id ∷ ids) wanted =
+    joined (choices (formula_at graph id) wanted) (choices_at graph ids wanted)
 
 abbrev pub choices_of : Graph → Question → List Choice
-choices_of graph question = joined (choices_at graph question.pos true) (choices_at graph question.neg false)
+choices_of graph question =
+    joined (choices_at graph question.pos true) (choices_at graph question.neg false)
 
 -- a thing meets a choice where it answers as each literal asks
 abbrev pub Meets : Reader → Choice → Type 0
-Meets reader choice = Each (λ literal. reader literal.is literal.wanted) choice
+Meets reader choice = AllOf (λ literal. reader literal.is literal.wanted) choice

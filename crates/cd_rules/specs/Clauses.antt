@@ -6,10 +6,11 @@ use Rattle.cd_intervals.specs.Characters.{CharInterval}
 use Rattle.cd_intervals.specs.Atoms.{Atoms as AtomSet}
 use Rattle.cd_syntax.specs.Name.{Name}
 use Rattle.cd_sets.specs.declared.question.Question.{Question}
-use Rattle.cd_model.specs.Each.{Each, One}
+use Rattle.cd_model.specs.AllOf.{AllOf, AnyOf}
 use Rattle.cd_model.specs.Formula as formula
 use Rattle.cd_model.specs.Formula.{Graph, Formula, Field}
-use Rattle.cd_model.specs.Kinds.{Kind, AnInteger, ACharacter, AnAtom, APair, AnXml, ARecord, AFunction}
+use Rattle.cd_model.specs.Kinds.{Kind, AnInteger, ACharacter, AnAtom, APair, AnXml, ARecord}
+use Rattle.cd_model.specs.Kinds.{AFunction}
 use Rattle.cd_model.specs.Membership.{Reader}
 use Rattle.cd_rules.specs.Choices.{Choice, choices_of}
 
@@ -46,8 +47,9 @@ kind_of_formula (formula.Arrow argument result) = Some AFunction
 kind_of_formula is = None
 
 -- all wanted literals are of this kind
-abbrev pub AllOf : Kind → Choice → Type 0
-AllOf kind choice = Each (λ literal. literal.wanted ≡ true → kind_of_formula literal.is ≡ Some kind) choice
+abbrev pub AllOfKind : Kind → Choice → Type 0
+AllOfKind kind choice = AllOf
+    (λ literal. literal.wanted ≡ true → kind_of_formula literal.is ≡ Some kind) choice
 
 -- the parts of a formula, where it is of this kind
 abbrev pub integers_of : Formula → Option (List Interval)
@@ -86,11 +88,15 @@ one_more sign wanted x rest = rest
 
 abbrev pub parts_in : {X : Type 0} → (Formula → Option X) → (sign : Bool) → Choice → List X
 parts_in parts_of sign [] = []
-parts_in parts_of sign (literal ∷ rest) = one_more sign literal.wanted (parts_of literal.is) (parts_in parts_of sign rest)
+parts_in parts_of sign (literal ∷ rest) =
+    one_more sign literal.wanted (parts_of literal.is) (parts_in parts_of sign rest)
 
--- A choice has a clause of each kind to which all its wanted literals belong: its wanted and its refused literals of that kind
-abbrev pub IsOfParts : {X : Type 0} → Kind → (Formula → Option X) → Choice → (wanted refused : List X) → Type 0
-IsOfParts kind parts_of choice wanted refused = AllOf kind choice × (wanted ≡ parts_in parts_of true choice) × (refused ≡ parts_in parts_of false choice)
+-- A choice has a clause of each kind to which all its wanted literals belong: its wanted and its
+-- refused literals of that kind
+abbrev pub IsOfParts : {X : Type 0} → Kind → (Formula → Option X) → Choice
+    → (wanted refused : List X) → Type 0
+IsOfParts kind parts_of choice wanted refused = AllOfKind kind choice
+    × (wanted ≡ parts_in parts_of true choice) × (refused ≡ parts_in parts_of false choice)
 
 abbrev pub IsClauseOf : Choice → Clause → Type 0
 IsClauseOf choice (Ints wanted refused) = IsOfParts AnInteger integers_of choice wanted refused
@@ -103,19 +109,29 @@ IsClauseOf choice (Arrows wanted refused) = IsOfParts AFunction arrow_of choice 
 
 -- a question has the clauses of its choices
 abbrev pub IsClauseOfQuestion : Graph → Question → Clause → Type 0
-IsClauseOfQuestion graph question clause = One (λ choice. IsClauseOf choice clause) (choices_of graph question)
+IsClauseOfQuestion graph question clause =
+    AnyOf (λ choice. IsClauseOf choice clause) (choices_of graph question)
 
 -- a thing of a kind is in each wanted formula and outside each refused one
-abbrev pub IsInParts : {X : Type 0} → (kind of : Kind) → Reader → (X → Formula) → (wanted refused : List X) → Type 0
+abbrev pub IsInParts : {X : Type 0} → (kind of : Kind) → Reader → (X → Formula)
+    → (wanted refused : List X) → Type 0
 IsInParts kind of reader formula_of wanted refused = (kind ≡ of)
-    × Each (λ parts. reader (formula_of parts) true) wanted × Each (λ parts. reader (formula_of parts) false) refused
+    × AllOf (λ parts. reader (formula_of parts) true) wanted
+    × AllOf (λ parts. reader (formula_of parts) false) refused
 
 -- a thing of this kind, which reads formulas so, is in a clause
 abbrev pub IsInClause : Kind → Reader → Clause → Type 0
-IsInClause kind reader (Ints wanted refused) = IsInParts kind AnInteger reader formula.Ints wanted refused
-IsInClause kind reader (Chars wanted refused) = IsInParts kind ACharacter reader formula.Chars wanted refused
-IsInClause kind reader (Atoms wanted refused) = IsInParts kind AnAtom reader formula.Atoms wanted refused
-IsInClause kind reader (Pairs wanted refused) = IsInParts kind APair reader (λ parts. formula.Pair parts.0 parts.1) wanted refused
-IsInClause kind reader (Xmls wanted refused) = IsInParts kind AnXml reader (λ parts. formula.Xml parts.0 parts.1 parts.2) wanted refused
-IsInClause kind reader (Records wanted refused) = IsInParts kind ARecord reader (λ type. formula.Record type.named type.rest) wanted refused
-IsInClause kind reader (Arrows wanted refused) = IsInParts kind AFunction reader (λ parts. formula.Arrow parts.0 parts.1) wanted refused
+IsInClause kind reader (Ints wanted refused) =
+    IsInParts kind AnInteger reader formula.Ints wanted refused
+IsInClause kind reader (Chars wanted refused) =
+    IsInParts kind ACharacter reader formula.Chars wanted refused
+IsInClause kind reader (Atoms wanted refused) =
+    IsInParts kind AnAtom reader formula.Atoms wanted refused
+IsInClause kind reader (Pairs wanted refused) =
+    IsInParts kind APair reader (λ parts. formula.Pair parts.0 parts.1) wanted refused
+IsInClause kind reader (Xmls wanted refused) =
+    IsInParts kind AnXml reader (λ parts. formula.Xml parts.0 parts.1 parts.2) wanted refused
+IsInClause kind reader (Records wanted refused) =
+    IsInParts kind ARecord reader (λ type. formula.Record type.named type.rest) wanted refused
+IsInClause kind reader (Arrows wanted refused) =
+    IsInParts kind AFunction reader (λ parts. formula.Arrow parts.0 parts.1) wanted refused

@@ -2,7 +2,8 @@
 use Rattle.std.specs.Prelude.{ℕ, true, false, List, [], ◌∷◌, ◌++◌, map, codes}
 use Rattle.cd_sets.specs.declared.question.Question.{Question}
 use Rattle.cd_model.specs.BuiltIns.{built_ins, node, INT}
-use Rattle.cd_model.specs.Formula.{Graph, Formula, Ints, Chars, Pair as PairOf, And, Not, NoFormula, AFormula}
+use Rattle.cd_model.specs.Formula.{Graph, Formula, Ints, Chars, Pair as PairOf, And, Not, NoFormula}
+use Rattle.cd_model.specs.Formula.{AFormula}
 use Rattle.cd_rules.specs.Clauses.{Pair, RecordType}
 use Rattle.cd_rules.specs.Rows.{Row}
 
@@ -46,6 +47,7 @@ row_without_a value every some = record {
   some = some;
 }
 
--- a graph whose last node, 14, is that of the pairs of an integer and a pair of this node, without end
+-- a graph whose last node, 14, is that of the pairs of an integer and a pair of this node, without
+-- end
 abbrev pub endless : Graph
 endless = built_ins ++ PairOf INT (node 14) ∷ []

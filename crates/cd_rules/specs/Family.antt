@@ -1,49 +1,56 @@
--- Closed families: lists of questions, each of whose clauses is broken by questions that the list covers, so that none has a member.
+-- Closed families: lists of questions, each of whose clauses is broken by questions that the list
+-- covers, so that none has a member.
 use Rattle.std.specs.Prelude.{◌≡◌, ◌⊎◌, ℕ, ◌<◌, false, List}
 use Rattle.cd_sets.specs.declared.node_id.NodeId.{NodeId}
 use Rattle.cd_sets.specs.declared.question.Question.{Question}
-use Rattle.cd_model.specs.Each.{Each, One}
+use Rattle.cd_model.specs.AllOf.{AllOf, AnyOf}
 use Rattle.cd_model.specs.Formula.{Graph}
 use Rattle.cd_rules.specs.Clauses.{Clause, Records, IsClauseOfQuestion}
 use Rattle.cd_rules.specs.Needs.{Need, AreNeeds}
 use Rattle.cd_rules.specs.Rows.{Row, rows_of}
 
 abbrev pub IsOfFamily : Question → List Question → Type 0
-IsOfFamily question family = One (λ other. other ≡ question) family
+IsOfFamily question family = AnyOf (λ other. other ≡ question) family
 
--- A question asks no less than another: it wants each node that the other wants, and refuses each one that the other refuses. So what
--- is in it is in the other
+-- A question asks no less than another: it wants each node that the other wants, and refuses each
+-- one that the other refuses. So what is in it is in the other
 abbrev pub AreAmong : (some all : List NodeId) → Type 0
-AreAmong some all = Each (λ id. One (λ other. other ≡ id) all) some
+AreAmong some all = AllOf (λ id. AnyOf (λ other. other ≡ id) all) some
 
 abbrev pub AsksNoLess : Question → Question → Type 0
 AsksNoLess question other = AreAmong other.pos question.pos × AreAmong other.neg question.neg
 
 -- a family covers a question that asks no less than one of its questions
 abbrev pub IsCovered : Question → List Question → Type 0
-IsCovered question family = One (AsksNoLess question) family
+IsCovered question family = AnyOf (AsksNoLess question) family
 
 -- a need is broken where each of its ways has a question that the family covers
 abbrev pub BreaksNeed : List Question → Need → Type 0
-BreaksNeed family need = Each (λ way. One (λ question. IsCovered question family) way) need
+BreaksNeed family need = AllOf (λ way. AnyOf (λ question. IsCovered question family) way) need
 
--- a row is broken where a field has to be there and its question is covered, or a question of `some` is
+-- a row is broken where a field has to be there and its question is covered, or a question of
+-- `some` is
 abbrev pub BreaksRow : List Question → Row → Type 0
-BreaksRow family row = One (λ cell. (cell.1.absent ≡ false) × IsCovered cell.1.value family) row.cells
-    ⊎ One (λ question. IsCovered question family) row.some
+BreaksRow family row = AnyOf
+    (λ cell. (cell.1.absent ≡ false) × IsCovered cell.1.value family) row.cells
+    ⊎ AnyOf (λ question. IsCovered question family) row.some
 
 -- a clause is broken where one of its needs is; and a clause of records where each of its rows is
 abbrev pub HasBrokenNeed : List Question → Clause → Type 0
-HasBrokenNeed family clause = (needs : List Need) × AreNeeds clause needs × One (BreaksNeed family) needs
+HasBrokenNeed family clause = (needs : List Need) × AreNeeds clause needs
+    × AnyOf (BreaksNeed family) needs
 
 abbrev pub Breaks : List Question → Clause → Type 0
-Breaks family (Records wanted refused) = Each (BreaksRow family) (rows_of wanted refused)
+Breaks family (Records wanted refused) = AllOf (BreaksRow family) (rows_of wanted refused)
 Breaks family clause = HasBrokenNeed family clause
 
 -- a family is closed where it breaks each clause of each of its questions
 abbrev pub IsClosed : Graph → List Question → Type 0
-IsClosed graph family = Each (λ question. (clause : Clause) → IsClauseOfQuestion graph question clause → Breaks family clause) family
+IsClosed graph family = AllOf
+    (λ question. (clause : Clause) → IsClauseOfQuestion graph question clause
+    → Breaks family clause) family
 
 -- a question of nodes among so many
 abbrev pub AsksNodes : (nodes : ℕ) → Question → Type 0
-AsksNodes nodes question = Each (λ id. id.0 < nodes) question.pos × Each (λ id. id.0 < nodes) question.neg
+AsksNodes nodes question = AllOf (λ id. id.0 < nodes) question.pos
+    × AllOf (λ id. id.0 < nodes) question.neg

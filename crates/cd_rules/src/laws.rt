@@ -1,10 +1,11 @@
 //! Laws of the definitions in `specs/`. Each is the contract of a function that does nothing.
-ghost use Rattle.std.specs.Prelude.{ℕ, ◌≡◌, ◌++◌, ◌↔◌, ◌⊎◌, true, false, List, [], ◌∷◌, length, map};
+ghost use Rattle.std.specs.Prelude.{ℕ, ◌≡◌, ◌++◌, ◌↔◌, ◌⊎◌, true, false, List, [], ◌∷◌, length};
+ghost use Rattle.std.specs.Prelude.{map};
 ghost use Rattle.cd_sets.specs.declared.node_id.NodeId.{NodeId};
 ghost use Rattle.cd_sets.specs.declared.question.Question.{Question};
 ghost use Rattle.cd_model.specs.Thing as thing;
 ghost use Rattle.cd_model.specs.Thing.{Thing, IsElement, IsValue};
-ghost use Rattle.cd_model.specs.Each.{Each, One};
+ghost use Rattle.cd_model.specs.AllOf.{AllOf, AnyOf};
 ghost use Rattle.cd_model.specs.Formula.{Graph, IsGraph};
 ghost use Rattle.cd_model.specs.Membership.{asked, answers, reader, value_answers, value_reader};
 ghost use Rattle.cd_model.specs.Interfaces.{Interfaces, OfNodes, OfWritten, ArrowOf, ArrowsAgree};
@@ -13,76 +14,101 @@ ghost use Rattle.cd_model.specs.BuiltIns.{built_ins, node, ANY, INT, CHAR};
 ghost use Rattle.cd_rules.specs.Settled.{IsSettledClause};
 ghost use Rattle.cd_rules.specs.Examples as example;
 ghost use Rattle.cd_rules.specs.Examples.{asks, both};
-ghost use Rattle.cd_rules.specs.Needs.{set_of, splits, splits_in_three, pair_way, xml_way, arrow_way};
+ghost use Rattle.cd_rules.specs.Needs.{set_of, splits, splits_in_three, pair_way, xml_way};
+ghost use Rattle.cd_rules.specs.Needs.{arrow_way};
 ghost use Rattle.cd_rules.specs.Rows.{rows_of};
 ghost use Rattle.cd_rules.specs.InWay.{AreInWay};
 ghost use Rattle.cd_rules.specs.InRow.{thing_at, IsInRow};
 ghost use Rattle.cd_model.specs.Kinds.{kind_of, APair, AnXml, ARecord};
-ghost use Rattle.cd_rules.specs.Clauses.{Clause, Pair, Triple, RecordType, Pairs, Xmls, Records, IsClauseOfQuestion, IsInClause};
+ghost use Rattle.cd_rules.specs.Clauses.{Clause, Pair, Triple, RecordType, Pairs, Xmls, Records};
+ghost use Rattle.cd_rules.specs.Clauses.{IsClauseOfQuestion, IsInClause};
 ghost use Rattle.cd_rules.specs.Members.{HasElement, HasMember, IsSupplied, NamesLabels};
 ghost use Rattle.cd_rules.specs.Reduced.{IsReduced};
-ghost use Rattle.cd_rules.specs.Family.{IsOfFamily, IsCovered, BreaksRow, Breaks, IsClosed, AsksNodes};
+ghost use Rattle.cd_rules.specs.Family.{IsOfFamily, IsCovered, BreaksRow, Breaks, IsClosed};
+ghost use Rattle.cd_rules.specs.Family.{AsksNodes};
 ghost use Rattle.cd_rules.specs.Choices.{choices, choices_of, Meets};
 
 /// A question holds just what meets one of its choices.
 pub fn choices_are_exact()
     ensures elements { (graph : Graph) (question : Question) (e : Thing)
-        → asked (answers graph e) question true ↔ One (Meets (reader graph e)) (choices_of graph question) }
+        → asked (answers graph e) question true
+        ↔ AnyOf (Meets (reader graph e)) (choices_of graph question) }
     ensures values { (graph : Graph) (question : Question) (interfaces : Interfaces) (v : Thing)
-        → asked (value_answers graph interfaces v) question true ↔ One (Meets (value_reader graph interfaces v)) (choices_of graph question) }
+        → asked (value_answers graph interfaces v) question true
+        ↔ AnyOf (Meets (value_reader graph interfaces v)) (choices_of graph question) }
 {}
 
 /// A question holds just what is in one of its clauses.
 pub fn clauses_are_exact()
-    ensures elements { (graph : Graph) (question : Question) (e : Thing) → asked (answers graph e) question true
-        ↔ ((clause : Clause) × IsClauseOfQuestion graph question clause × IsInClause (kind_of e) (reader graph e) clause) }
-    ensures values { (graph : Graph) (question : Question) (interfaces : Interfaces) (v : Thing) → asked (value_answers graph interfaces v) question true
-        ↔ ((clause : Clause) × IsClauseOfQuestion graph question clause × IsInClause (kind_of v) (value_reader graph interfaces v) clause) }
+    ensures elements { (graph : Graph) (question : Question) (e : Thing)
+        → asked (answers graph e) question true
+        ↔ ((clause : Clause) × IsClauseOfQuestion graph question clause
+        × IsInClause (kind_of e) (reader graph e) clause) }
+    ensures values { (graph : Graph) (question : Question) (interfaces : Interfaces) (v : Thing)
+        → asked (value_answers graph interfaces v) question true
+        ↔ ((clause : Clause) × IsClauseOfQuestion graph question clause
+        × IsInClause (kind_of v) (value_reader graph interfaces v) clause) }
 {}
 
 /// A record is in a clause just where it is in one of the clause's rows.
 pub fn rows_are_exact()
     ensures elements { (graph : Graph) (wanted refused : List RecordType) (fields : thing.Fields)
         → IsInClause ARecord (reader graph (thing.Record fields)) (Records wanted refused)
-        ↔ One (IsInRow (answers graph) (thing_at fields)) (rows_of wanted refused) }
-    ensures values { (graph : Graph) (interfaces : Interfaces) (wanted refused : List RecordType) (fields : thing.Fields)
-        → IsInClause ARecord (value_reader graph interfaces (thing.Record fields)) (Records wanted refused)
-        ↔ One (IsInRow (value_answers graph interfaces) (thing_at fields)) (rows_of wanted refused) }
+        ↔ AnyOf (IsInRow (answers graph) (thing_at fields)) (rows_of wanted refused) }
+    ensures values { (graph : Graph) (interfaces : Interfaces) (wanted refused : List RecordType)
+        (fields : thing.Fields)
+        → IsInClause ARecord (value_reader graph interfaces (thing.Record fields))
+        (Records wanted refused)
+        ↔ AnyOf (IsInRow (value_answers graph interfaces) (thing_at fields))
+        (rows_of wanted refused) }
 {}
 
-/// No element is in a question that a closed family covers, nor is a value, whatever arrows of the graph its closures have.
+/// No element is in a question that a closed family covers, nor is a value, whatever arrows of the
+/// graph its closures have.
 pub fn closed_families_are_empty()
-    ensures elements { (graph more : Graph) (family : List Question) (question : Question) (e : Thing) → graph ≡ built_ins ++ more
-        → IsClosed graph family → IsCovered question family → IsElement e → asked (answers graph e) question true → ⊥ }
-    ensures values { (graph more : Graph) (family : List Question) (question : Question) (interfaces : Interfaces) (v : Thing) → graph ≡ built_ins ++ more
-        → IsClosed graph family → IsCovered question family → IsValue v → asked (value_answers graph interfaces v) question true → ⊥ }
+    ensures elements { (graph more : Graph) (family : List Question) (question : Question)
+        (e : Thing) → graph ≡ built_ins ++ more
+        → IsClosed graph family → IsCovered question family → IsElement e
+        → asked (answers graph e) question true → ⊥ }
+    ensures values { (graph more : Graph) (family : List Question) (question : Question)
+        (interfaces : Interfaces) (v : Thing) → graph ≡ built_ins ++ more
+        → IsClosed graph family → IsCovered question family → IsValue v
+        → asked (value_answers graph interfaces v) question true → ⊥ }
 {}
 
 /// A closed family whose questions ask nodes of a graph stays closed in each longer graph.
 pub fn closed_families_stay()
-    ensures { (graph more : Graph) (family : List Question) → Each (AsksNodes (length graph)) family → IsClosed graph family
+    ensures { (graph more : Graph) (family : List Question)
+        → AllOf (AsksNodes (length graph)) family → IsClosed graph family
         → IsClosed (graph ++ more) family }
 {}
 
-/// A clause has a member just where each of its needs has a way all of whose questions have elements, or, of records, where one
-/// of its rows lives: where each label may be absent or its question has an element, and each of the other questions has one.
+/// A clause has a member just where each of its needs has a way all of whose questions have
+/// elements, or, of records, where one of its rows lives: where each label may be absent or its
+/// question has an element, and each of the other questions has one.
 pub fn needs_are_exact()
-    ensures needed { (graph more : Graph) (clause : Clause) → graph ≡ built_ins ++ more → HasMember graph clause → IsSupplied (HasElement graph) clause }
-    ensures enough { (graph more : Graph) (clause : Clause) → graph ≡ built_ins ++ more → NamesLabels clause → IsSupplied (HasElement graph) clause
+    ensures needed { (graph more : Graph) (clause : Clause) → graph ≡ built_ins ++ more
+        → HasMember graph clause → IsSupplied (HasElement graph) clause }
+    ensures enough { (graph more : Graph) (clause : Clause) → graph ≡ built_ins ++ more
+        → NamesLabels clause → IsSupplied (HasElement graph) clause
         → HasMember graph clause }
 {}
 
 /// A family covers the questions of it.
 pub fn families_cover()
-    ensures { (family : List Question) (question : Question) → IsOfFamily question family → IsCovered question family }
+    ensures { (family : List Question) (question : Question) → IsOfFamily question family
+        → IsCovered question family }
 {}
 
 /// A clause holds the elements and the values that its reduced form holds, and is broken where that
 /// is.
 pub fn reduced_clauses()
-    ensures holds { (graph more : Graph) (clause reduced : Clause) (e : Thing) → graph ≡ built_ins ++ more → IsReduced graph clause reduced
-        → IsElement e → IsInClause (kind_of e) (reader graph e) reduced → IsInClause (kind_of e) (reader graph e) clause }
-    ensures holds_values { (graph more : Graph) (arrows : ℕ → List (ArrowOf NodeId)) (clause reduced : Clause) (v : Thing)
+    ensures holds { (graph more : Graph) (clause reduced : Clause) (e : Thing)
+        → graph ≡ built_ins ++ more → IsReduced graph clause reduced
+        → IsElement e → IsInClause (kind_of e) (reader graph e) reduced
+        → IsInClause (kind_of e) (reader graph e) clause }
+    ensures holds_values { (graph more : Graph) (arrows : ℕ → List (ArrowOf NodeId))
+        (clause reduced : Clause) (v : Thing)
         → graph ≡ built_ins ++ more → IsGraph graph → IsReduced graph clause reduced → IsValue v
         → IsInClause (kind_of v) (value_reader graph (OfNodes graph arrows) v) reduced
         → IsInClause (kind_of v) (value_reader graph (OfNodes graph arrows) v) clause }
@@ -94,20 +120,24 @@ pub fn reduced_clauses()
         → IsReduced graph clause reduced → IsValue v
         → IsInClause (kind_of v) (value_reader graph (OfWritten count others) v) reduced
         → IsInClause (kind_of v) (value_reader graph (OfWritten count others) v) clause }
-    ensures breaks { (graph : Graph) (family : List Question) (clause reduced : Clause) → IsReduced graph clause reduced
+    ensures breaks { (graph : Graph) (family : List Question) (clause reduced : Clause)
+        → IsReduced graph clause reduced
         → Breaks family reduced → Breaks family clause }
-    ensures labels { (graph : Graph) (clause reduced : Clause) → IsReduced graph clause reduced → NamesLabels clause → NamesLabels reduced }
+    ensures labels { (graph : Graph) (clause reduced : Clause) → IsReduced graph clause reduced
+        → NamesLabels clause → NamesLabels reduced }
 {}
 
-/// A clause all of whose questions have elements or are covered by a family has all that it needs, or is broken.
+/// A clause all of whose questions have elements or are covered by a family has all that it needs,
+/// or is broken.
 pub fn clauses_are_settled()
-    ensures { (graph : Graph) (family : List Question) (clause : Clause) → IsSettledClause (HasElement graph) family clause
+    ensures { (graph : Graph) (family : List Question) (clause : Clause)
+        → IsSettledClause (HasElement graph) family clause
         → IsSupplied (HasElement graph) clause ⊎ Breaks family clause }
 {}
 
 /// In a sound graph each question has an element or has none. Where it has none it has no value
-/// either, under any interfaces: so where a value is in some nodes and outside others, an element is
-/// too.
+/// either, under any interfaces: so where a value is in some nodes and outside others, an element
+/// is too.
 pub fn questions_are_decided()
     ensures decided { (graph more : Graph) (question : Question) → graph ≡ built_ins ++ more
         → IsGraph graph → HasElement graph question ⊎ (HasElement graph question → ⊥) }
@@ -121,8 +151,8 @@ pub fn questions_are_decided()
         → asked (value_answers graph interfaces v) question true → HasElement graph question }
 {}
 
-/// In a sound graph each value is in a node or outside it, where the arrows of functions are nodes of
-/// this graph, or written types that hold the same elements.
+/// In a sound graph each value is in a node or outside it, where the arrows of functions are nodes
+/// of this graph, or written types that hold the same elements.
 pub fn values_are_decided()
     ensures by_nodes { (graph more : Graph) (arrows : ℕ → List (ArrowOf NodeId)) (v : Thing)
         (id : NodeId)
@@ -142,49 +172,63 @@ pub fn values_are_decided()
 pub fn ways_are_exact()
     ensures pairs { (graph : Graph) (wanted refused : List Pair) (first second : Thing)
         → IsInClause APair (reader graph (thing.Pair first second)) (Pairs wanted refused)
-        ↔ One (AreInWay (map (answers graph) (first ∷ second ∷ [])))
+        ↔ AnyOf (AreInWay (map (answers graph) (first ∷ second ∷ [])))
         (map (pair_way wanted) (splits refused)) }
     ensures pair_values { (graph : Graph) (interfaces : Interfaces) (wanted refused : List Pair)
         (first second : Thing)
         → IsInClause APair (value_reader graph interfaces (thing.Pair first second))
         (Pairs wanted refused)
-        ↔ One (AreInWay (map (value_answers graph interfaces) (first ∷ second ∷ [])))
+        ↔ AnyOf (AreInWay (map (value_answers graph interfaces) (first ∷ second ∷ [])))
         (map (pair_way wanted) (splits refused)) }
     ensures xmls { (graph more : Graph) (wanted refused : List Triple)
         (tag attributes content : Thing)
         → graph ≡ built_ins ++ more → thing.IsAtom tag → thing.IsRecord attributes
         → IsInClause AnXml (reader graph (thing.Xml tag attributes content)) (Xmls wanted refused)
-        ↔ One (AreInWay (map (answers graph) (tag ∷ attributes ∷ content ∷ [])))
+        ↔ AnyOf (AreInWay (map (answers graph) (tag ∷ attributes ∷ content ∷ [])))
         (map (xml_way wanted) (splits_in_three refused)) }
     ensures xml_values { (graph more : Graph) (interfaces : Interfaces)
         (wanted refused : List Triple) (tag attributes content : Thing)
         → graph ≡ built_ins ++ more → thing.IsAtom tag → thing.IsRecord attributes
         → IsInClause AnXml (value_reader graph interfaces (thing.Xml tag attributes content))
         (Xmls wanted refused)
-        ↔ One (AreInWay (map (value_answers graph interfaces) (tag ∷ attributes ∷ content ∷ [])))
+        ↔ AnyOf (AreInWay (map (value_answers graph interfaces) (tag ∷ attributes ∷ content ∷ [])))
         (map (xml_way wanted) (splits_in_three refused)) }
 {}
 
 /// Choices, ways and rows of small cases.
 pub fn worked_examples()
     ensures sets { set_of (map node (3 ∷ 1 ∷ 3 ∷ [])) ≡ map node (1 ∷ 3 ∷ []) }
-    ensures choices { choices example.not_both true ≡ (record { wanted = false; is = example.integers } ∷ []) ∷ (record { wanted = false; is = example.characters } ∷ []) ∷ [] }
-    ensures both { choices example.not_both false ≡ (record { wanted = true; is = example.integers } ∷ record { wanted = true; is = example.characters } ∷ []) ∷ [] }
+    ensures choices { choices example.not_both true
+        ≡ (record { wanted = false; is = example.integers } ∷ [])
+        ∷ (record { wanted = false; is = example.characters } ∷ []) ∷ [] }
+    ensures both { choices example.not_both false
+        ≡ (record { wanted = true; is = example.integers }
+        ∷ record { wanted = true; is = example.characters } ∷ []) ∷ [] }
     ensures pairs { map (pair_way (both 14 15 ∷ [])) (splits (both 16 17 ∷ []))
-        ≡ (asks (14 ∷ []) (16 ∷ []) ∷ asks (15 ∷ []) [] ∷ []) ∷ (asks (14 ∷ []) [] ∷ asks (15 ∷ []) (17 ∷ []) ∷ []) ∷ [] }
-    ensures xml { map (xml_way []) (splits_in_three []) ≡ (asks (5 ∷ []) [] ∷ asks (10 ∷ []) [] ∷ asks [] [] ∷ []) ∷ [] }
+        ≡ (asks (14 ∷ []) (16 ∷ []) ∷ asks (15 ∷ []) [] ∷ [])
+        ∷ (asks (14 ∷ []) [] ∷ asks (15 ∷ []) (17 ∷ []) ∷ []) ∷ [] }
+    ensures xml { map (xml_way []) (splits_in_three [])
+        ≡ (asks (5 ∷ []) [] ∷ asks (10 ∷ []) [] ∷ asks [] [] ∷ []) ∷ [] }
     ensures arrows { map (arrow_way (both 20 21)) (splits (both 14 15 ∷ both 16 17 ∷ []))
-        ≡ (asks (20 ∷ []) (14 ∷ 16 ∷ []) ∷ []) ∷ (asks (20 ∷ []) (14 ∷ []) ∷ asks (17 ∷ []) (21 ∷ []) ∷ [])
-        ∷ (asks (20 ∷ []) (16 ∷ []) ∷ asks (15 ∷ []) (21 ∷ []) ∷ []) ∷ (asks (20 ∷ []) [] ∷ asks (15 ∷ 17 ∷ []) (21 ∷ []) ∷ []) ∷ [] }
+        ≡ (asks (20 ∷ []) (14 ∷ 16 ∷ []) ∷ [])
+        ∷ (asks (20 ∷ []) (14 ∷ []) ∷ asks (17 ∷ []) (21 ∷ []) ∷ [])
+        ∷ (asks (20 ∷ []) (16 ∷ []) ∷ asks (15 ∷ []) (21 ∷ []) ∷ [])
+        ∷ (asks (20 ∷ []) [] ∷ asks (15 ∷ 17 ∷ []) (21 ∷ []) ∷ []) ∷ [] }
     ensures no_arrow { map (arrow_way (both 20 21)) (splits []) ≡ (asks (20 ∷ []) [] ∷ []) ∷ [] }
     ensures rows { rows_of (example.with_a 14 1 ∷ []) (example.with_a 15 0 ∷ [])
         ≡ example.row_at_a (asks (14 ∷ []) []) (asks (1 ∷ []) []) (asks (1 ∷ []) (0 ∷ []) ∷ [])
         ∷ example.row_at_a (asks (14 ∷ []) (15 ∷ [])) (asks (1 ∷ []) []) [] ∷ [] }
     ensures covered { IsCovered (asks (1 ∷ 2 ∷ []) (3 ∷ 4 ∷ [])) (asks (1 ∷ []) (4 ∷ []) ∷ []) }
     ensures not_covered { IsCovered (asks (1 ∷ []) (3 ∷ [])) (asks (1 ∷ 2 ∷ []) (3 ∷ []) ∷ []) → ⊥ }
-    ensures has_to_be_there { BreaksRow (asks (14 ∷ []) [] ∷ []) (example.row_at_a (asks (14 ∷ []) []) (asks (1 ∷ []) []) []) }
-    ensures may_be_absent { BreaksRow (asks (14 ∷ []) [] ∷ []) (example.row_without_a (asks (14 ∷ []) []) (asks (1 ∷ []) []) []) → ⊥ }
-    ensures covered_elsewhere { BreaksRow (asks (1 ∷ []) (0 ∷ []) ∷ []) (example.row_without_a (asks (14 ∷ []) []) (asks (1 ∷ []) []) (asks (1 ∷ []) (0 ∷ []) ∷ [])) }
+    ensures has_to_be_there { BreaksRow (asks (14 ∷ []) [] ∷ [])
+        (example.row_at_a (asks (14 ∷ []) []) (asks (1 ∷ []) []) []) }
+    ensures may_be_absent { BreaksRow (asks (14 ∷ []) [] ∷ [])
+        (example.row_without_a (asks (14 ∷ []) []) (asks (1 ∷ []) []) []) → ⊥ }
+    ensures covered_elsewhere { BreaksRow (asks (1 ∷ []) (0 ∷ []) ∷ [])
+        (example.row_without_a (asks (14 ∷ []) []) (asks (1 ∷ []) [])
+        (asks (1 ∷ []) (0 ∷ []) ∷ [])) }
     ensures endless { IsClosed example.endless (asks (14 ∷ []) [] ∷ []) }
-    ensures reduced { (more : Graph) → IsReduced (built_ins ++ more) (Pairs ((INT, INT) ∷ []) ((CHAR, ANY) ∷ [])) (Pairs ((INT, INT) ∷ []) []) }
+    ensures reduced { (more : Graph)
+        → IsReduced (built_ins ++ more) (Pairs ((INT, INT) ∷ []) ((CHAR, ANY) ∷ []))
+        (Pairs ((INT, INT) ∷ []) []) }
 {}

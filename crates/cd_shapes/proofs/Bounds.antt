@@ -5,10 +5,10 @@ use Rattle.cd_sets.specs.declared.node_id.NodeId.{NodeId}
 use Rattle.cd_syntax.specs.Name.{Name}
 use Rattle.cd_syntax.specs.TypeTree.{Tree, Declarations}
 use Rattle.cd_syntax.specs.WellMade.{IsWellMade, AreWellMadeDeclarations}
-use Rattle.cd_model.specs.Each.{Each}
+use Rattle.cd_model.specs.AllOf.{AllOf}
 use Rattle.cd_shapes.specs.declared.place.Place.{Place}
 use Rattle.cd_shapes.specs.Reading.{AreBelow, IsPlace, AreShapes, AreSound}
-use Rattle.cd_shapes.specs.Walk.{State, walked, start_of, nowhere, Ran}
+use Rattle.cd_shapes.specs.Inner.Walk.{State, walked, start_of, nowhere, Ran}
 use Rattle.cd_shapes.proofs.BoundsOfStates.{total, IsBounded, place_on}
 use Rattle.cd_shapes.proofs.BoundsOfWalks.{tree_walked}
 use Rattle.cd_shapes.proofs.BoundsOfRuns.{IsRunning, runs}
@@ -28,7 +28,7 @@ all_sound : (nodes : ℕ) (start : State) (roots : List Place) (final : State)
 all_sound nodes start roots final running =
     let same = all_counted nodes start roots final running in
     record {
-      roots = subst (λ count. Each (IsPlace nodes count (length final.shapes)) roots) same running.walked.places;
+      roots = subst (λ count. AllOf (IsPlace nodes count (length final.shapes)) roots) same running.walked.places;
       shapes = subst (λ count. AreShapes nodes count 0 final.shapes) same running.walked.bounded.shapes;
     }
 

@@ -1,6 +1,6 @@
 -- Bounds of places and of shapes hold on where there are more names and more shapes.
 use Rattle.std.proofs.Common.{ℕ, ◌+◌, ◌≤◌, List, [], ◌∷◌, ◌++◌, length, arith, subst}
-use Rattle.cd_model.specs.Each.{Each}
+use Rattle.cd_model.specs.AllOf.{AllOf}
 use Rattle.cd_shapes.specs.declared.place.Place.{Place}
 use Rattle.cd_shapes.specs.declared.place.Place.TheVariants as place
 use Rattle.cd_shapes.specs.Shape.{Shape, Leaf, Pair, Xml, Record, Arrow, And, Or, Sequence}
@@ -8,7 +8,7 @@ use Rattle.cd_shapes.specs.Reading.{IsPlace, IsShape, AreShapes}
 
 -- what holds of each thing in a list, and makes another fact of it, gives the other fact of each
 pub each_more : {X : Type 0} (fact other : X → Type 0) (all : List X) → ((one : X) → fact one → other one)
-    → Each fact all → Each other all
+    → AllOf fact all → AllOf other all
 each_more fact other [] more each = tt
 each_more fact other (one ∷ rest) more each = (more one each.0, each_more fact other rest more each.1)
 
@@ -21,8 +21,8 @@ place_grows nodes names before more later (place.Shape number) named shaped is =
 
 -- places in anything that has places
 pub places_grow : {X : Type 0} (at : X → Place) (nodes names before more later : ℕ) (all : List X) → names ≤ more
-    → before ≤ later → Each (λ one. IsPlace nodes names before (at one)) all
-    → Each (λ one. IsPlace nodes more later (at one)) all
+    → before ≤ later → AllOf (λ one. IsPlace nodes names before (at one)) all
+    → AllOf (λ one. IsPlace nodes more later (at one)) all
 places_grow at nodes names before more later all named shaped each =
     each_more (λ one. IsPlace nodes names before (at one)) (λ one. IsPlace nodes more later (at one)) all
     (λ one is. place_grows nodes names before more later (at one) named shaped is) each

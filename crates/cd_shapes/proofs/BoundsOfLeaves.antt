@@ -4,14 +4,14 @@ use Rattle.std.specs.Prelude.{nat_le, int_le, if◌then◌else◌}
 use Rattle.std.specs.Option.{unwrap_or}
 use Rattle.cd_syntax.specs.Integer.{LEAST, GREATEST}
 use Rattle.cd_model.specs.BuiltIns.{EMPTY, NIL}
-use Rattle.cd_model.specs.Each.{Each}
+use Rattle.cd_model.specs.AllOf.{AllOf}
 use Rattle.cd_model.specs.Formula.{Formula, Ints, Chars, IsFormula}
 use Rattle.cd_shapes.specs.declared.place.Place.{Place}
 use Rattle.cd_shapes.specs.declared.place.Place.TheVariants as place
 use Rattle.cd_shapes.specs.Shape.{Leaf, Pair}
 use Rattle.cd_shapes.specs.Leaves.{integers, characters, Joint, Pairs, Arrows, joined}
 use Rattle.cd_shapes.specs.Reading.{IsPlace, IsShape}
-use Rattle.cd_shapes.specs.Walk.{State, Read, leaf, character_before, walked_text, joined_before, chained}
+use Rattle.cd_shapes.specs.Inner.Walk.{State, Read, leaf, character_before, walked_text, joined_before, chained}
 use Rattle.cd_shapes.proofs.BoundsOfStates.{IsBounded, IsWalked, walked_on, place_on, stays, push_walked, extends_on}
 
 -- a formula, if there is one, that names no node
@@ -75,7 +75,7 @@ module _ (nodes : ℕ) (enough : 14 ≤ nodes) where
 
   -- a chain of bounded places
   pub chain_walked : (joint : Joint) (places : List Place) (s : State) → IsBounded nodes s
-      → Each (IsPlace nodes s.names (length s.shapes)) places → IsWalked nodes s (chained joint places s)
+      → AllOf (IsPlace nodes s.names (length s.shapes)) places → IsWalked nodes s (chained joint places s)
   chain_walked joint [] s bounded each = nothing_walked s bounded
   chain_walked joint (one ∷ []) s bounded each = stays nodes s one bounded each.0
   chain_walked joint (first ∷ next ∷ rest) s bounded each =

@@ -7,17 +7,17 @@ use Rattle.cd_sets.specs.declared.node_id.NodeId.{NodeId}
 use Rattle.cd_syntax.specs.Name.{Name}
 use Rattle.cd_syntax.specs.TypeTree.{Declarations, NoDeclaration, ADeclaration}
 use Rattle.cd_syntax.specs.WellMade.{AreWellMadeDeclarations}
-use Rattle.cd_model.specs.Each.{Each}
+use Rattle.cd_model.specs.AllOf.{AllOf}
 use Rattle.cd_shapes.specs.declared.place.Place.{Place}
 use Rattle.cd_shapes.specs.Frames.{Frames, number_in}
 use Rattle.cd_shapes.specs.Reading.{AreBelow, IsPlace}
-use Rattle.cd_shapes.specs.Walk.{State, one_more, walked, walked_declared, walked_list, Ran}
-use Rattle.cd_shapes.specs.Walk as walk
+use Rattle.cd_shapes.specs.Inner.Walk.{State, one_more, walked, walked_declared, walked_list, Ran}
+use Rattle.cd_shapes.specs.Inner.Walk as walk
 use Rattle.cd_shapes.proofs.BoundsOfStates.{AllFit, number_of, total, total_both, IsBounded, AreWalked, extends_itself, fit_on, all_walked_on}
 use Rattle.cd_shapes.proofs.BoundsOfWalks.{itself, one_more_walked, tree_walked}
 
 -- what is so of each thing in a list is so of each that is left of it
-each_left : {X : Type 0} (fact : X → Type 0) (count : ℕ) (all : List X) → Each fact all → Each fact (drop count all)
+each_left : {X : Type 0} (fact : X → Type 0) (count : ℕ) (all : List X) → AllOf fact all → AllOf fact (drop count all)
 each_left fact zero all each = each
 each_left fact (suc count) [] each = tt
 each_left fact (suc count) (one ∷ rest) each = each_left fact count rest each.1
@@ -56,7 +56,7 @@ module _ (names : List (Name × NodeId)) (nodes : ℕ) (enough : 14 ≤ nodes)
   -- the trees of declarations in turn are bounded
   declared_walked : (frames : Frames) (declarations : Declarations) (made : List Place) (s : State)
       → AreWellMadeDeclarations declarations → AllFit s.names frames → IsBounded nodes s
-      → Each (IsPlace nodes s.names (length s.shapes)) made
+      → AllOf (IsPlace nodes s.names (length s.shapes)) made
       → AreWalked itself nodes s (walked_declared names frames declarations made s)
   declared_walked frames NoDeclaration made s well fit bounded each =
       record { bounded = bounded; extends = extends_itself s; places = each }
@@ -69,7 +69,7 @@ module _ (names : List (Name × NodeId)) (nodes : ℕ) (enough : 14 ≤ nodes)
 
   -- those of the innermost list
   list_walked : (frames : Frames) (made : List Place) (s : State) → AllFit s.names frames → IsBounded nodes s
-      → Each (IsPlace nodes s.names (length s.shapes)) made → AreWalked itself nodes s (walked_list names frames made s)
+      → AllOf (IsPlace nodes s.names (length s.shapes)) made → AreWalked itself nodes s (walked_list names frames made s)
   list_walked [] made s fit bounded each = record { bounded = bounded; extends = extends_itself s; places = each }
   list_walked (frame ∷ outer) made s fit bounded each =
       declared_walked (frame ∷ outer) frame.declarations made s fit.0.1 fit bounded each
@@ -81,7 +81,7 @@ module _ (names : List (Name × NodeId)) (nodes : ℕ) (enough : 14 ≤ nodes)
   step start done made s frames running there =
       let after = walked_list names frames made s in
       let left = left_from s.lists done frames there in
-      let fit = subst (Each (AllFit s.names)) left (each_left (AllFit s.names) done s.lists running.walked.bounded.lists) in
+      let fit = subst (AllOf (AllFit s.names)) left (each_left (AllFit s.names) done s.lists running.walked.bounded.lists) in
       let one = list_walked frames made s fit.0 running.walked.bounded running.walked.places in
       let within = slice_get_within s.lists done frames there in
       let later = drop-append-le (done + 1) s.lists one.extends.more (omega arith) in

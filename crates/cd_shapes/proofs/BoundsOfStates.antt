@@ -2,13 +2,13 @@
 use Rattle.std.proofs.Common.{◌≡◌, ℕ, ◌+◌, ◌≤◌, List, [], ◌∷◌, ◌++◌, length, arith, sym, subst, ap, ◌∙◌, refl, append_assoc, append-nil, length-append}
 use Rattle.cd_syntax.specs.TypeTree.{Declarations}
 use Rattle.cd_syntax.specs.WellMade.{AreWellMadeDeclarations}
-use Rattle.cd_model.specs.Each.{Each}
+use Rattle.cd_model.specs.AllOf.{AllOf}
 use Rattle.cd_model.proofs.Covered.{each_both}
 use Rattle.cd_shapes.specs.declared.place.Place.{Place}
 use Rattle.cd_shapes.specs.Shape.{Shape}
 use Rattle.cd_shapes.specs.Frames.{Frame, Frames, number_in}
 use Rattle.cd_shapes.specs.Reading.{IsPlace, IsShape, AreShapes}
-use Rattle.cd_shapes.specs.Walk.{State, entered, Read, pushed}
+use Rattle.cd_shapes.specs.Inner.Walk.{State, entered, Read, pushed}
 use Rattle.cd_shapes.proofs.BoundsGrow.{each_more, place_grows, places_grow, shapes_grow, shapes_push}
 
 -- a list's names are among so many, and its trees are well made; so with those round it
@@ -16,7 +16,7 @@ abbrev pub Fits : ℕ → Frame → Type 0
 Fits names frame = (frame.first + number_in frame.declarations ≤ names) × AreWellMadeDeclarations frame.declarations
 
 abbrev pub AllFit : ℕ → Frames → Type 0
-AllFit names frames = Each (Fits names) frames
+AllFit names frames = AllOf (Fits names) frames
 
 -- how many names the innermost list declares, and those of several lists
 abbrev pub number_of : Frames → ℕ
@@ -29,7 +29,7 @@ total (frames ∷ rest) = number_of frames + total rest
 
 -- the lists speak of the state's names, and each shape of nodes, of the state's names and of shapes before it
 pub record IsBounded (nodes : ℕ) (s : State) : Type 0 where
-  pub lists : Each (AllFit s.names) s.lists
+  pub lists : AllOf (AllFit s.names) s.lists
   pub shapes : AreShapes nodes s.names 0 s.shapes
 
 -- the one state has more lists and their names, and more shapes
@@ -49,7 +49,7 @@ pub record IsWalked (nodes : ℕ) (s : State) (read : Read) : Type 0 where
 pub record AreWalked {X : Type 0} (at : X → Place) (nodes : ℕ) (s : State) (all : List X × State) : Type 0 where
   pub bounded : IsBounded nodes all.1
   pub extends : Extends s all.1
-  pub places : Each (λ one. IsPlace nodes all.1.names (length all.1.shapes) (at one)) all.0
+  pub places : AllOf (λ one. IsPlace nodes all.1.names (length all.1.shapes) (at one)) all.0
 
 -- lists with more behind them have the names of both
 pub total_both : (left right : List Frames) → total (left ++ right) ≡ total left + total right
@@ -100,8 +100,8 @@ place_on nodes s after at extends =
 
 -- places in several things
 pub places_on : {X : Type 0} (at : X → Place) (nodes : ℕ) (s after : State) (all : List X) → Extends s after
-    → Each (λ one. IsPlace nodes s.names (length s.shapes) (at one)) all
-    → Each (λ one. IsPlace nodes after.names (length after.shapes) (at one)) all
+    → AllOf (λ one. IsPlace nodes s.names (length s.shapes) (at one)) all
+    → AllOf (λ one. IsPlace nodes after.names (length after.shapes) (at one)) all
 places_on at nodes s after all extends = places_grow at nodes s.names (length s.shapes)
     after.names (length after.shapes) all (names_grow s after extends) extends.shapes
 

@@ -6,7 +6,7 @@ use Rattle.cd_syntax.specs.TypeTree as type
 use Rattle.cd_syntax.specs.TypeTree.{Tree, tree, Kind, Trees, NoTree, ATree, Signs, NoSign, ASign, Fields, NoField, AField}
 use Rattle.cd_syntax.specs.WellMade.{IsWellMade, IsWellMadeKind, AreWellMade, AreWellMadeSigns, AreWellMadeFields, IsWellMadeRegular, IsWellMadeRegularKind, AreWellMadeRegulars}
 use Rattle.cd_model.specs.BuiltIns.{node_named}
-use Rattle.cd_model.specs.Each.{Each}
+use Rattle.cd_model.specs.AllOf.{AllOf}
 use Rattle.cd_model.specs.Written.{any_or_none}
 use Rattle.cd_model.proofs.Covered.{each_both}
 use Rattle.cd_regex.specs.Regular.{Regular, AsksBelow}
@@ -17,7 +17,7 @@ use Rattle.cd_shapes.specs.Shape.{Xml, Record, And, Or, Sequence}
 use Rattle.cd_shapes.specs.Frames.{Frames, place_of}
 use Rattle.cd_shapes.specs.Leaves.{integers, characters, atom, Joint, Pairs, Arrows, sorted}
 use Rattle.cd_shapes.specs.Reading.{AreBelow, IsPlace}
-use Rattle.cd_shapes.specs.Walk.{State, entered, Read, chained_all, united, signed_all, recorded, one_more, elements, ReadRegular, sequenced, walked, walked_kind, walked_trees, walked_signs, walked_fields, walked_regular, walked_regular_kind, walked_regulars}
+use Rattle.cd_shapes.specs.Inner.Walk.{State, entered, Read, chained_all, united, signed_all, recorded, one_more, elements, ReadRegular, sequenced, walked, walked_kind, walked_trees, walked_signs, walked_fields, walked_regular, walked_regular_kind, walked_regulars}
 use Rattle.cd_shapes.proofs.Rising.{sorted_keeps, sorted_rises}
 use Rattle.cd_shapes.proofs.BoundsOfStates.{AllFit, IsBounded, Extends, IsWalked, AreWalked, extends_itself, extends_on, fit_on, place_on, places_on, walked_on, all_walked_on, stays, push_walked, enters, fit_inside, enter_bounded}
 use Rattle.cd_shapes.proofs.BoundsOfNames.{node_bounded, name_bounded}
@@ -38,9 +38,9 @@ itself at = at
 -- one more place, which was walked after those that are there
 pub one_more_walked : {X : Type 0} (at : X → Place) (nodes : ℕ) (s after : State) (made : List X) (next : X)
     → Extends s after
-    → Each (λ one. IsPlace nodes s.names (length s.shapes) (at one)) made
+    → AllOf (λ one. IsPlace nodes s.names (length s.shapes) (at one)) made
     → IsPlace nodes after.names (length after.shapes) (at next)
-    → Each (λ one. IsPlace nodes after.names (length after.shapes) (at one)) (one_more made next)
+    → AllOf (λ one. IsPlace nodes after.names (length after.shapes) (at one)) (one_more made next)
 one_more_walked at nodes s after made next extends each is =
     each_both (λ one. IsPlace nodes after.names (length after.shapes) (at one)) made (next ∷ [])
     (places_on at nodes s after made extends each) (is, tt)
@@ -60,7 +60,7 @@ signed_walked nodes s all walked =
 
 -- those of fields, which are sorted
 recorded_walked : (nodes : ℕ) → 14 ≤ nodes → (s : State) (more : Bool) (all : List (Name × FieldPlace) × State)
-    → AreWalked of_field nodes s all → Each (λ field. IsLabel field.0) all.0 → IsWalked nodes s (recorded more all)
+    → AreWalked of_field nodes s all → AllOf (λ field. IsLabel field.0) all.0 → IsWalked nodes s (recorded more all)
 recorded_walked nodes enough s more all walked labels =
     walked_on nodes s all.1 (recorded more all) walked.extends
     (push_walked nodes all.1 (Record (sorted all.0) (node_named (any_or_none more))) walked.bounded (
@@ -98,8 +98,8 @@ module _ (names : List (Name × NodeId)) (nodes : ℕ) (enough : 14 ≤ nodes)
     (named : AreBelow nodes names) where
   -- fields have the labels that are written
   labels_walked : (frames : Frames) (fields : Fields) (made : List (Name × FieldPlace)) (s : State)
-      → AreWellMadeFields fields → Each (λ field. IsLabel field.0) made
-      → Each (λ field. IsLabel field.0) (walked_fields names frames fields made s).0
+      → AreWellMadeFields fields → AllOf (λ field. IsLabel field.0) made
+      → AllOf (λ field. IsLabel field.0) (walked_fields names frames fields made s).0
   labels_walked frames NoField made s well labels = labels
   labels_walked frames (AField label at optional is rest) made s well labels =
       let read = walked names frames is s in
@@ -175,7 +175,7 @@ module _ (names : List (Name × NodeId)) (nodes : ℕ) (enough : 14 ≤ nodes)
     -- trees in turn, after places that were made
     trees_walked : (frames : Frames) (trees : Trees) (made : List Place) (s : State) → AreWellMade trees
         → AllFit s.names frames
-        → IsBounded nodes s → Each (IsPlace nodes s.names (length s.shapes)) made
+        → IsBounded nodes s → AllOf (IsPlace nodes s.names (length s.shapes)) made
         → AreWalked itself nodes s (walked_trees names frames trees made s)
     trees_walked frames NoTree made s well fit bounded each =
         record { bounded = bounded; extends = extends_itself s; places = each }
@@ -188,7 +188,7 @@ module _ (names : List (Name × NodeId)) (nodes : ℕ) (enough : 14 ≤ nodes)
 
     -- trees after signs
     signs_walked : (frames : Frames) (signs : Signs) (made : List (Bool × Place)) (s : State) → AreWellMadeSigns signs
-        → AllFit s.names frames → IsBounded nodes s → Each (λ sign. IsPlace nodes s.names (length s.shapes) sign.1) made
+        → AllFit s.names frames → IsBounded nodes s → AllOf (λ sign. IsPlace nodes s.names (length s.shapes) sign.1) made
         → AreWalked of_sign nodes s (walked_signs names frames signs made s)
     signs_walked frames NoSign made s well fit bounded each =
         record { bounded = bounded; extends = extends_itself s; places = each }
@@ -203,7 +203,7 @@ module _ (names : List (Name × NodeId)) (nodes : ℕ) (enough : 14 ≤ nodes)
     -- trees of fields
     fields_walked : (frames : Frames) (fields : Fields) (made : List (Name × FieldPlace)) (s : State)
         → AreWellMadeFields fields → AllFit s.names frames → IsBounded nodes s
-        → Each (λ field. IsPlace nodes s.names (length s.shapes) field.1.place) made
+        → AllOf (λ field. IsPlace nodes s.names (length s.shapes) field.1.place) made
         → AreWalked of_field nodes s (walked_fields names frames fields made s)
     fields_walked frames NoField made s well fit bounded each =
         record { bounded = bounded; extends = extends_itself s; places = each }
@@ -217,7 +217,7 @@ module _ (names : List (Name × NodeId)) (nodes : ℕ) (enough : 14 ≤ nodes)
 
     -- the places of the items of an expression, after places that were made
     regular_walked : (frames : Frames) (is : type.Regular) (places : List Place) (s : State) → IsWellMadeRegular is
-        → AllFit s.names frames → IsBounded nodes s → Each (IsPlace nodes s.names (length s.shapes)) places
+        → AllFit s.names frames → IsBounded nodes s → AllOf (IsPlace nodes s.names (length s.shapes)) places
         → AreWalked itself nodes s
         ((walked_regular names frames is places s).1, (walked_regular names frames is places s).2)
     regular_walked frames (type.regular span kind) places s well fit bounded each =
@@ -225,7 +225,7 @@ module _ (names : List (Name × NodeId)) (nodes : ℕ) (enough : 14 ≤ nodes)
 
     regular_kind_walked : (frames : Frames) (kind : type.RegularKind) (places : List Place) (s : State)
         → IsWellMadeRegularKind kind
-        → AllFit s.names frames → IsBounded nodes s → Each (IsPlace nodes s.names (length s.shapes)) places
+        → AllFit s.names frames → IsBounded nodes s → AllOf (IsPlace nodes s.names (length s.shapes)) places
         → AreWalked itself nodes s
         ((walked_regular_kind names frames kind places s).1, (walked_regular_kind names frames kind places s).2)
     regular_kind_walked frames type.Nothing places s well fit bounded each =
@@ -248,7 +248,7 @@ module _ (names : List (Name × NodeId)) (nodes : ℕ) (enough : 14 ≤ nodes)
 
     regulars_walked : (frames : Frames) (all : type.Regulars) (made : List Regular) (places : List Place) (s : State)
         → AreWellMadeRegulars all
-        → AllFit s.names frames → IsBounded nodes s → Each (IsPlace nodes s.names (length s.shapes)) places
+        → AllFit s.names frames → IsBounded nodes s → AllOf (IsPlace nodes s.names (length s.shapes)) places
         → AreWalked itself nodes s
         ((walked_regulars names frames all made places s).1, (walked_regulars names frames all made places s).2)
     regulars_walked frames type.NoRegular made places s well fit bounded each =

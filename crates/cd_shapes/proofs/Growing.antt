@@ -5,7 +5,7 @@ use Rattle.cd_sets.specs.declared.node_id.NodeId.{NodeId}
 use Rattle.cd_syntax.specs.Name.{Name}
 use Rattle.cd_syntax.specs.TypeTree as type
 use Rattle.cd_syntax.specs.TypeTree.{Tree, tree, Kind, Trees, NoTree, ATree, Signs, NoSign, ASign, Fields, NoField, AField, Declarations, NoDeclaration, ADeclaration}
-use Rattle.cd_model.specs.Each.{One}
+use Rattle.cd_model.specs.AllOf.{AnyOf}
 use Rattle.cd_model.specs.Formula.{Formula}
 use Rattle.cd_regex.specs.Regular.{Regular}
 use Rattle.cd_shapes.specs.declared.place.Place.{Place}
@@ -13,12 +13,12 @@ use Rattle.cd_shapes.specs.declared.place.FieldPlace.{FieldPlace}
 use Rattle.cd_shapes.specs.Shape.{Shape}
 use Rattle.cd_shapes.specs.Frames.{Frames}
 use Rattle.cd_shapes.specs.Leaves.{characters, Joint, Pairs, Arrows}
-use Rattle.cd_shapes.specs.Walk.{State, entered, pushed, leaf, walked_text, chained, one_more, walked, walked_kind, walked_trees, walked_signs, walked_fields, walked_regular, walked_regular_kind, walked_regulars, walked_declared}
+use Rattle.cd_shapes.specs.Inner.Walk.{State, entered, pushed, leaf, walked_text, chained, one_more, walked, walked_kind, walked_trees, walked_signs, walked_fields, walked_regular, walked_regular_kind, walked_regulars, walked_declared}
 use Rattle.cd_shapes.proofs.ListFacts.{one_before, get_before}
 
 -- the lists and the shapes of the first are those of the second, and more may follow
 pub record Grows (s t : State) : Type 0 where
-  pub met : (frames : Frames) → One (λ met. met ≡ frames) s.lists → One (λ met. met ≡ frames) t.lists
+  pub met : (frames : Frames) → AnyOf (λ met. met ≡ frames) s.lists → AnyOf (λ met. met ≡ frames) t.lists
   pub shapes : (n : ℕ) (shape : Shape) → slice_get s.shapes n ≡ Some shape → slice_get t.shapes n ≡ Some shape
 
 -- a state keeps what it has

@@ -11,7 +11,7 @@ use Rattle.cd_shapes.specs.declared.place.FieldPlace.{FieldPlace}
 use Rattle.cd_shapes.specs.Shape.{Shape}
 use Rattle.cd_shapes.specs.Frames.{Frames}
 use Rattle.cd_shapes.specs.Leaves.{characters, Joint, Pairs, Arrows}
-use Rattle.cd_shapes.specs.Walk.{State}
+use Rattle.cd_shapes.specs.Inner.Walk.{State}
 use Rattle.cd_shapes.specs.Shaped.{IsAt, HasLeaf, ShapedText, Shaped, ShapedKind, ShapedChain, ShapedEach, ShapedSigns, ShapedFields, ShapedRegular, ShapedRegularKind, ShapedRegulars}
 use Rattle.cd_shapes.proofs.Growing.{Grows}
 use Rattle.cd_shapes.proofs.PlacesKept.{AreKept, same_places}

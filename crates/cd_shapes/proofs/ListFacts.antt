@@ -1,16 +1,16 @@
 -- What stands in a list that goes on, and at which place.
 use Rattle.std.proofs.Common.{◌≡◌, ℕ, zero, suc, inl, inr, List, [], ◌∷◌, ◌++◌, length, Some, refl, ap, subst}
 use Rattle.std.specs.List.{slice_get}
-use Rattle.cd_model.specs.Each.{Each, One}
+use Rattle.cd_model.specs.AllOf.{AllOf, AnyOf}
 
 -- what one of a list has, one has of the list and more
-pub one_before : {X : Type 0} (fact : X → Type 0) (xs ys : List X) → One fact xs → One fact (xs ++ ys)
+pub one_before : {X : Type 0} (fact : X → Type 0) (xs ys : List X) → AnyOf fact xs → AnyOf fact (xs ++ ys)
 one_before fact [] ys is = elim is [ ]
 one_before fact (x ∷ xs) ys (inl here) = inl here
 one_before fact (x ∷ xs) ys (inr later) = inr (one_before fact xs ys later)
 
 -- the last of a list is one of it
-pub one_last : {X : Type 0} (x : X) (xs : List X) → One (λ y. y ≡ x) (xs ++ x ∷ [])
+pub one_last : {X : Type 0} (x : X) (xs : List X) → AnyOf (λ y. y ≡ x) (xs ++ x ∷ [])
 one_last x [] = inl refl
 one_last x (y ∷ xs) = inr (one_last x xs)
 
@@ -33,7 +33,7 @@ next_is x [] (y ∷ ys) is = (ys, cc)
 next_is x (z ∷ xs) ys is = next_is x xs ys is
 
 -- what stands between two lists is one of all
-pub one_between : {X : Type 0} (x : X) (xs ys : List X) → One (λ y. y ≡ x) (xs ++ x ∷ ys)
+pub one_between : {X : Type 0} (x : X) (xs ys : List X) → AnyOf (λ y. y ≡ x) (xs ++ x ∷ ys)
 one_between x [] ys = inl refl
 one_between x (y ∷ xs) ys = inr (one_between x xs ys)
 
@@ -43,21 +43,21 @@ moved x [] ys zs = refl
 moved x (y ∷ xs) ys zs = ap (λ rest. y ∷ rest) (moved x xs ys zs)
 
 -- a weaker fact of each
-pub each_weaker : {X : Type 0} (first second : X → Type 0) → ((x : X) → first x → second x) → (xs : List X) → Each first xs
-    → Each second xs
+pub each_weaker : {X : Type 0} (first second : X → Type 0) → ((x : X) → first x → second x) → (xs : List X) → AllOf first xs
+    → AllOf second xs
 each_weaker first second weaker [] each = tt
 each_weaker first second weaker (x ∷ xs) each = (weaker x each.0, each_weaker first second weaker xs each.1)
 
 -- each of a list is one of it
-pub each_is_one : {X : Type 0} (xs : List X) → Each (λ x. One (λ y. y ≡ x) xs) xs
+pub each_is_one : {X : Type 0} (xs : List X) → AllOf (λ x. AnyOf (λ y. y ≡ x) xs) xs
 each_is_one [] = tt
 each_is_one (x ∷ xs) = (
   inl refl,
-  each_weaker (λ y. One (λ z. z ≡ y) xs) (λ y. One (λ z. z ≡ y) (x ∷ xs)) (λ y is. inr is) xs (each_is_one xs),
+  each_weaker (λ y. AnyOf (λ z. z ≡ y) xs) (λ y. AnyOf (λ z. z ≡ y) (x ∷ xs)) (λ y is. inr is) xs (each_is_one xs),
 )
 
 -- a fact of each is one of what stands there
-pub each_has : {X : Type 0} (fact : X → Type 0) (x : X) (xs : List X) → Each fact xs → One (λ y. y ≡ x) xs → fact x
+pub each_has : {X : Type 0} (fact : X → Type 0) (x : X) (xs : List X) → AllOf fact xs → AnyOf (λ y. y ≡ x) xs → fact x
 each_has fact x [] each is = elim is [ ]
 each_has fact x (y ∷ xs) each (inl equal) = subst (λ y. fact y) equal each.0
 each_has fact x (y ∷ xs) each (inr later) = each_has fact x xs each.1 later

@@ -10,7 +10,7 @@ use Rattle.cd_shapes.specs.declared.place.Place.{Place}
 use Rattle.cd_shapes.specs.declared.place.FieldPlace.{FieldPlace}
 use Rattle.cd_shapes.specs.Frames.{Frames}
 use Rattle.cd_shapes.specs.Leaves.{integers, characters, Joint, Pairs, Arrows as ArrowsOf}
-use Rattle.cd_shapes.specs.Walk.{State, leaf, walked_text, chained, entered, one_more, walked, walked_kind, walked_trees, walked_signs, walked_fields, walked_regular, walked_regular_kind, walked_regulars, walked_declared, walked_list}
+use Rattle.cd_shapes.specs.Inner.Walk.{State, leaf, walked_text, chained, entered, one_more, walked, walked_kind, walked_trees, walked_signs, walked_fields, walked_regular, walked_regular_kind, walked_regulars, walked_declared, walked_list}
 
 abbrev pub met : State → ℕ
 met s = length s.lists

@@ -5,7 +5,7 @@ use Rattle.cd_sets.specs.declared.node_id.NodeId.{NodeId}
 use Rattle.cd_syntax.specs.Name.{Name}
 use Rattle.cd_syntax.specs.TypeTree as type
 use Rattle.cd_syntax.specs.TypeTree.{Tree, tree, Kind, Trees, NoTree, ATree, Signs, NoSign, ASign, Fields, NoField, AField, Declarations, NoDeclaration, ADeclaration}
-use Rattle.cd_model.specs.Each.{Each}
+use Rattle.cd_model.specs.AllOf.{AllOf}
 use Rattle.cd_model.specs.Formula.{Formula}
 use Rattle.cd_model.specs.Scope.{Scope, Declared, names_in, names_in_kind, names_in_trees, names_in_signs, names_in_fields, names_in_regular, names_in_regular_kind, names_in_regulars, names_declared, names_over}
 use Rattle.cd_model.proofs.Covered.{each_parts, each_both}
@@ -16,7 +16,7 @@ use Rattle.cd_shapes.specs.Shape.{Shape}
 use Rattle.cd_shapes.specs.Frames.{Frame, Frames, scope_of, number_in}
 use Rattle.cd_shapes.specs.Leaves.{characters, Joint, Pairs, Arrows}
 use Rattle.cd_shapes.specs.Reading.{AreMet}
-use Rattle.cd_shapes.specs.Walk.{State, entered, pushed, leaf, walked_text, chained, one_more, walked, walked_kind, walked_trees, walked_signs, walked_fields, walked_regular, walked_regular_kind, walked_regulars, walked_declared}
+use Rattle.cd_shapes.specs.Inner.Walk.{State, entered, pushed, leaf, walked_text, chained, one_more, walked, walked_kind, walked_trees, walked_signs, walked_fields, walked_regular, walked_regular_kind, walked_regulars, walked_declared}
 use Rattle.cd_shapes.proofs.ListFacts.{one_before, one_last}
 
 -- these lists have numbers that follow one another from the first on to the last, and those round them are among all
@@ -58,14 +58,14 @@ numbered_both all number ((frame ∷ outer) ∷ rest) middle more last first sec
 module _ (base : Scope) (Fact : Declared → Type 0) where
   -- the names that a list sees have the fact
   abbrev pub Seen : Frames → Type 0
-  Seen frames = Each Fact (names_over (scope_of base frames))
+  Seen frames = AllOf Fact (names_over (scope_of base frames))
 
   -- from one state to the next such lists are met
   pub record Meets (s t : State) : Type 0 where
     pub more : List Frames
     pub lists : t.lists ≡ s.lists ++ more
     pub numbered : Numbered t.lists s.names more t.names
-    pub seen : Each (λ frames. Seen frames) more
+    pub seen : AllOf (λ frames. Seen frames) more
 
   -- what was met stays met
   pub still_met : (s t : State) → Meets s t → (frames : Frames) → AreMet s.lists frames → AreMet t.lists frames
@@ -134,11 +134,11 @@ module _ (base : Scope) (Fact : Declared → Type 0) where
     mutual
       -- a tree under lists that were met, all of whose names have the fact, and what trees are made of
       pub walked_meets : (frames : Frames) (is : Tree) (s : State) → AreMet s.lists frames → Seen frames
-          → Each Fact (names_in (scope_of base frames) is) → Meets s (walked names frames is s).1
+          → AllOf Fact (names_in (scope_of base frames) is) → Meets s (walked names frames is s).1
       walked_meets frames (tree span kind) s met seen each = kind_meets frames kind s met seen each
 
       pub kind_meets : (frames : Frames) (kind : Kind) (s : State) → AreMet s.lists frames → Seen frames
-          → Each Fact (names_in_kind (scope_of base frames) kind) → Meets s (walked_kind names frames kind s).1
+          → AllOf Fact (names_in_kind (scope_of base frames) kind) → Meets s (walked_kind names frames kind s).1
       kind_meets frames (type.Builtin name) s met seen each = stays s s refl refl
       kind_meets frames (type.Ints low high) s met seen each = leaf_meets _ s
       kind_meets frames (type.Chars low high) s met seen each = leaf_meets _ s
@@ -201,7 +201,7 @@ module _ (base : Scope) (Fact : Declared → Type 0) where
       kind_meets frames (type.Default name constant) s met seen each = stays s s refl refl
 
       pub trees_meet : (frames : Frames) (trees : Trees) (made : List Place) (s : State) → AreMet s.lists frames
-          → Seen frames → Each Fact (names_in_trees (scope_of base frames) trees)
+          → Seen frames → AllOf Fact (names_in_trees (scope_of base frames) trees)
           → Meets s (walked_trees names frames trees made s).1
       trees_meet frames NoTree made s met seen each = stays s s refl refl
       trees_meet frames (ATree first rest) made s met seen each =
@@ -213,7 +213,7 @@ module _ (base : Scope) (Fact : Declared → Type 0) where
           (still_met s one.1 first_meets frames met) seen parts.1)
 
       pub signs_meet : (frames : Frames) (signs : Signs) (made : List (Bool × Place)) (s : State) → AreMet s.lists frames
-          → Seen frames → Each Fact (names_in_signs (scope_of base frames) signs)
+          → Seen frames → AllOf Fact (names_in_signs (scope_of base frames) signs)
           → Meets s (walked_signs names frames signs made s).1
       signs_meet frames NoSign made s met seen each = stays s s refl refl
       signs_meet frames (ASign kept is rest) made s met seen each =
@@ -225,7 +225,7 @@ module _ (base : Scope) (Fact : Declared → Type 0) where
           (still_met s one.1 first_meets frames met) seen parts.1)
 
       pub fields_meet : (frames : Frames) (fields : Fields) (made : List (Name × FieldPlace)) (s : State)
-          → AreMet s.lists frames → Seen frames → Each Fact (names_in_fields (scope_of base frames) fields)
+          → AreMet s.lists frames → Seen frames → AllOf Fact (names_in_fields (scope_of base frames) fields)
           → Meets s (walked_fields names frames fields made s).1
       fields_meet frames NoField made s met seen each = stays s s refl refl
       fields_meet frames (AField label at optional is rest) made s met seen each =
@@ -238,12 +238,12 @@ module _ (base : Scope) (Fact : Declared → Type 0) where
           (still_met s one.1 first_meets frames met) seen parts.1)
 
       pub regular_meets : (frames : Frames) (is : type.Regular) (places : List Place) (s : State) → AreMet s.lists frames
-          → Seen frames → Each Fact (names_in_regular (scope_of base frames) is)
+          → Seen frames → AllOf Fact (names_in_regular (scope_of base frames) is)
           → Meets s (walked_regular names frames is places s).2
       regular_meets frames (type.regular span kind) places s met seen each = regular_kind_meets frames kind places s met seen each
 
       pub regular_kind_meets : (frames : Frames) (kind : type.RegularKind) (places : List Place) (s : State)
-          → AreMet s.lists frames → Seen frames → Each Fact (names_in_regular_kind (scope_of base frames) kind)
+          → AreMet s.lists frames → Seen frames → AllOf Fact (names_in_regular_kind (scope_of base frames) kind)
           → Meets s (walked_regular_kind names frames kind places s).2
       regular_kind_meets frames type.Nothing places s met seen each = stays s s refl refl
       regular_kind_meets frames (type.Item is) places s met seen each = walked_meets frames is s met seen each
@@ -253,7 +253,7 @@ module _ (base : Scope) (Fact : Declared → Type 0) where
       regular_kind_meets frames (type.Capture name is) places s met seen each = stays s s refl refl
 
       pub regulars_meet : (frames : Frames) (all : type.Regulars) (made : List Regular) (places : List Place) (s : State)
-          → AreMet s.lists frames → Seen frames → Each Fact (names_in_regulars (scope_of base frames) all)
+          → AreMet s.lists frames → Seen frames → AllOf Fact (names_in_regulars (scope_of base frames) all)
           → Meets s (walked_regulars names frames all made places s).2
       regulars_meet frames type.NoRegular made places s met seen each = stays s s refl refl
       regulars_meet frames (type.ARegular first rest) made places s met seen each =
@@ -266,7 +266,7 @@ module _ (base : Scope) (Fact : Declared → Type 0) where
 
     -- the trees of a list of declarations, whose names all have the fact
     pub declared_meets : (frames : Frames) (declarations : Declarations) (made : List Place) (s : State)
-        → AreMet s.lists frames → Seen frames → Each Fact (names_declared (scope_of base frames) declarations)
+        → AreMet s.lists frames → Seen frames → AllOf Fact (names_declared (scope_of base frames) declarations)
         → Meets s (walked_declared names frames declarations made s).1
     declared_meets frames NoDeclaration made s met seen each = stays s s refl refl
     declared_meets frames (ADeclaration name at is rest) made s met seen each =

@@ -7,7 +7,7 @@ use Rattle.cd_syntax.specs.TypeTree.{Regular, regular, RegularKind, Nothing, Ite
 use Rattle.cd_regex.specs.Regular as node
 use Rattle.cd_shapes.specs.declared.place.Place.{Place}
 use Rattle.cd_shapes.specs.Frames.{Frames}
-use Rattle.cd_shapes.specs.Walk.{State, one_more, walked, walked_regular, walked_regular_kind, walked_regulars}
+use Rattle.cd_shapes.specs.Inner.Walk.{State, one_more, walked, walked_regular, walked_regular_kind, walked_regulars}
 use Rattle.cd_shapes.proofs.ListFacts.{get_before}
 
 -- each place of the first list has its number in the second too

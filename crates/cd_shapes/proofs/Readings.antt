@@ -5,15 +5,15 @@ use Rattle.std.proofs.lemmas.List.{append-nil, length_push, nil_from_length}
 use Rattle.cd_sets.specs.declared.node_id.NodeId.{NodeId}
 use Rattle.cd_syntax.specs.Name.{Name}
 use Rattle.cd_syntax.specs.TypeTree.{Tree, Declarations}
-use Rattle.cd_model.specs.Each.{Each, One}
+use Rattle.cd_model.specs.AllOf.{AllOf, AnyOf}
 use Rattle.cd_model.specs.Scope.{Scope, Declared, names_in, names_declared, names_over, names_seen}
 use Rattle.cd_model.proofs.Covered.{each_parts, each_both}
 use Rattle.cd_shapes.specs.declared.place.Place.{Place}
 use Rattle.cd_shapes.specs.Frames.{Frames, scope_of, number_in}
 use Rattle.cd_shapes.specs.Shaped.{Shaped}
 use Rattle.cd_shapes.specs.Reading.{AreSeen, IsReading, base_lists}
-use Rattle.cd_shapes.specs.Walk.{State, walked, walked_declared, walked_list, start_of, nowhere, Ran}
-use Rattle.cd_shapes.specs.Walk as walk
+use Rattle.cd_shapes.specs.Inner.Walk.{State, walked, walked_declared, walked_list, start_of, nowhere, Ran}
+use Rattle.cd_shapes.specs.Inner.Walk as walk
 use Rattle.cd_shapes.proofs.ListFacts.{next_is, one_between, moved, each_is_one, each_has}
 use Rattle.cd_shapes.proofs.Growing.{Grows, same, then, declared_grows}
 use Rattle.cd_shapes.proofs.KeptShapes.{shaped_kept}
@@ -42,13 +42,13 @@ module _ (names : List (Name × NodeId)) where
       number : length before ≡ done
       rooted : Rooted names s.lists (tables_of made s) 0 before (length made)
       left : Numbered s.lists (length made) after s.names
-      seen : Each (λ frames. Seen base Fact frames) s.lists
+      seen : AllOf (λ frames. Seen base Fact frames) s.lists
       more : List Frames
       grown : s.lists ≡ start.lists ++ more
 
     -- before any list is walked over
     start_well : (start : State) → Numbered start.lists 0 start.lists start.names
-        → Each (λ frames. Seen base Fact frames) start.lists → Well start 0 [] start
+        → AllOf (λ frames. Seen base Fact frames) start.lists → Well start 0 [] start
     start_well start numbered seen = record {
       before = [];
       after = start.lists;
@@ -73,9 +73,9 @@ module _ (names : List (Name × NodeId)) where
           let all = walked_declared names frames frame.declarations made s in
           let lists : s.lists ≡ well.before ++ frames ∷ rest =
           well.lists ∙ ap (λ after. well.before ++ after) after in
-          let is_met = subst (λ lists. One (λ met. met ≡ frames) lists) (sym lists) (one_between frames well.before rest) in
+          let is_met = subst (λ lists. AnyOf (λ met. met ≡ frames) lists) (sym lists) (one_between frames well.before rest) in
           let seen = (each_parts (λ frames. Seen base Fact frames) well.before (frames ∷ rest)
-          (subst (λ lists. Each (λ frames. Seen base Fact frames) lists) lists well.seen)).1.0 in
+          (subst (λ lists. AllOf (λ frames. Seen base Fact frames) lists) lists well.seen)).1.0 in
           let others = names_over (scope_of base outer) in
           let declared = (each_parts Fact (names_declared scope frame.declarations) others seen).0 in
           let meets = declared_meets base Fact names frames frame.declarations made s (is_met, left.1) seen declared in
@@ -96,7 +96,7 @@ module _ (names : List (Name × NodeId)) where
                 (length all.0) kept (left.0, at.roots, met, sym at.number);
             left = numbered_both all.1.lists (length all.0) rest s.names meets.more all.1.names
                 (subst (λ number. Numbered all.1.lists number rest s.names) (sym at.number) numbered) meets.numbered;
-            seen = subst (λ lists. Each (λ frames. Seen base Fact frames) lists) (sym meets.lists)
+            seen = subst (λ lists. AllOf (λ frames. Seen base Fact frames) lists) (sym meets.lists)
                 (each_both (λ frames. Seen base Fact frames) s.lists meets.more well.seen meets.seen);
             more = well.more ++ meets.more;
             grown = meets.lists ∙ ap (λ lists. lists ++ meets.more) well.grown
@@ -115,7 +115,7 @@ module _ (names : List (Name × NodeId)) where
 
     -- after any number of lists
     ran_well : (start : State) → Numbered start.lists 0 start.lists start.names
-        → Each (λ frames. Seen base Fact frames) start.lists
+        → AllOf (λ frames. Seen base Fact frames) start.lists
         → (done : ℕ) (made : List Place) (s : State) → Ran names start done made s → Well start done made s
     ran_well start numbered seen _ _ _ walk.Ran.none = start_well start numbered seen
     ran_well start numbered seen _ _ _ (walk.Ran.next done made s frames ran there) =
@@ -133,27 +133,27 @@ module _ (names : List (Name × NodeId)) where
 
 -- names that are all among some are seen
 are_seen : (base : Scope) (seen : List Declared) (lists : List Frames)
-    → Each (λ frames. Seen base (λ is. One (λ name. name ≡ is) seen) frames) lists → AreSeen base seen lists
+    → AllOf (λ frames. Seen base (λ is. AnyOf (λ name. name ≡ is) seen) frames) lists → AreSeen base seen lists
 are_seen base seen [] each = tt
 are_seen base seen (frames ∷ lists) each = (
-  λ is one. each_has (λ is. One (λ name. name ≡ is) seen) is (names_over (scope_of base frames)) each.0 one,
+  λ is one. each_has (λ is. AnyOf (λ name. name ≡ is) seen) is (names_over (scope_of base frames)) each.0 one,
   are_seen base seen lists each.1,
 )
 
 -- from a state whose lists are numbered and seen
 module _ (names : List (Name × NodeId)) (base : Scope) (seen : List Declared) (start : State)
     (numbered : Numbered start.lists 0 start.lists start.names)
-    (known : Each (λ frames. Seen base (λ is. One (λ name. name ≡ is) seen) frames) start.lists)
+    (known : AllOf (λ frames. Seen base (λ is. AnyOf (λ name. name ≡ is) seen) frames) start.lists)
     (roots : List Place) (final : State) (ran : Ran names start (length final.lists) roots final) where
   -- after all of its lists
-  well : Well names base (λ is. One (λ name. name ≡ is) seen) start (length final.lists) roots final
-  well = ran_well names base (λ is. One (λ name. name ≡ is) seen) start numbered known (length final.lists) roots final ran
+  well : Well names base (λ is. AnyOf (λ name. name ≡ is) seen) start (length final.lists) roots final
+  well = ran_well names base (λ is. AnyOf (λ name. name ≡ is) seen) start numbered known (length final.lists) roots final ran
 
   -- the tables are those of a reading
   ran_read : IsReading names base seen final.lists (record { roots = roots; shapes = final.shapes })
   ran_read = record {
     roots = have_roots names final.lists (tables_of roots final) 0 final.lists
-        (all_rooted names base (λ is. One (λ name. name ≡ is) seen) start roots final well);
+        (all_rooted names base (λ is. AnyOf (λ name. name ≡ is) seen) start roots final well);
     are_seen = are_seen base seen final.lists well.seen;
   }
 
@@ -170,7 +170,7 @@ declarations_lists declarations roots final ran =
     let seen = names_over (declarations ∷ []) in
     let start = start_of declarations in
     let numbered : Numbered start.lists 0 start.lists start.names = (refl, tt, omega arith) in
-    let known : Each (λ frames. Seen [] (λ is. One (λ name. name ≡ is) seen) frames) start.lists = (each_is_one seen, tt) in
+    let known : AllOf (λ frames. Seen [] (λ is. AnyOf (λ name. name ≡ is) seen) frames) start.lists = (each_is_one seen, tt) in
     let met = ran_lists [] [] seen start numbered known roots final ran in
     (met.0, met.1, ran_read [] [] seen start numbered known roots final ran)
 
@@ -205,9 +205,9 @@ tree_read names is roots final ran =
         let start = (walked names [] is nowhere).1 in
         let seen = names_seen base is in
         let all = each_is_one seen in
-        let parts = each_parts (λ is. One (λ name. name ≡ is) seen) (names_in base is) (names_over base) all in
-        let meets = walked_meets base (λ is. One (λ name. name ≡ is) seen) names [] is nowhere tt parts.1 parts.0 in
+        let parts = each_parts (λ is. AnyOf (λ name. name ≡ is) seen) (names_in base is) (names_over base) all in
+        let meets = walked_meets base (λ is. AnyOf (λ name. name ≡ is) seen) names [] is nowhere tt parts.1 parts.0 in
         ran_read names base seen start
         (subst (λ lists. Numbered start.lists 0 lists start.names) (sym meets.lists) meets.numbered)
-        (subst (λ lists. Each (λ frames. Seen base (λ is. One (λ name. name ≡ is) seen) frames) lists) (sym meets.lists)
+        (subst (λ lists. AllOf (λ frames. Seen base (λ is. AnyOf (λ name. name ≡ is) seen) frames) lists) (sym meets.lists)
         meets.seen) roots final ran

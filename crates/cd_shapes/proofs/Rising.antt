@@ -7,7 +7,7 @@ use Rattle.std.specs.declared.cmp.Ordering.TheVariants.{Less, Equal, Greater}
 use Rattle.std.proofs.lemmas.Cmp.{nat_list_cmp_total}
 use Rattle.cd_syntax.specs.Name.{Name, IsLabel}
 use Rattle.cd_syntax.specs.Name.{IsAbove}
-use Rattle.cd_model.specs.Each.{Each}
+use Rattle.cd_model.specs.AllOf.{AllOf}
 use Rattle.cd_shapes.specs.declared.place.FieldPlace.{FieldPlace}
 use Rattle.cd_shapes.specs.Leaves.{by_order, inserted, sorted_after, sorted}
 use Rattle.cd_shapes.specs.Reading.{AreRising}
@@ -15,14 +15,14 @@ use Rattle.cd_shapes.specs.Reading.{AreRising}
 -- what holds of each of some fields and of one more holds of each where that one stands among them
 by_order_keeps : (fact : Name × FieldPlace → Type 0) (order : Ordering) (field other : Name × FieldPlace)
     (rest later : List (Name × FieldPlace))
-    → fact field → Each fact (other ∷ rest) → Each fact later → Each fact (by_order order field other rest later)
+    → fact field → AllOf fact (other ∷ rest) → AllOf fact later → AllOf fact (by_order order field other rest later)
 by_order_keeps fact Less field other rest later one all on = (one, all)
 by_order_keeps fact Equal field other rest later one all on = all
 by_order_keeps fact Greater field other rest later one all on = (all.0, on)
 
 -- so it does of one field among others, by the order of their labels
 inserted_keeps : (fact : Name × FieldPlace → Type 0) (field : Name × FieldPlace) (fields : List (Name × FieldPlace))
-    → fact field → Each fact fields → Each fact (inserted field fields)
+    → fact field → AllOf fact fields → AllOf fact (inserted field fields)
 inserted_keeps fact field [] one all = (one, tt)
 inserted_keeps fact field (other ∷ rest) one all =
     by_order_keeps fact (slice_cmp nat_cmp field.0 other.0) field other rest (inserted field rest) one all
@@ -30,14 +30,14 @@ inserted_keeps fact field (other ∷ rest) one all =
 
 -- and of several that are put among others in turn
 sorted_after_keeps : (fact : Name × FieldPlace → Type 0) (made fields : List (Name × FieldPlace))
-    → Each fact made → Each fact fields → Each fact (sorted_after made fields)
+    → AllOf fact made → AllOf fact fields → AllOf fact (sorted_after made fields)
 sorted_after_keeps fact made [] all more = all
 sorted_after_keeps fact made (field ∷ rest) all more =
     sorted_after_keeps fact (inserted field made) rest (inserted_keeps fact field made more.0 all) more.1
 
 -- what holds of each field holds of each where they are sorted
 pub sorted_keeps : (fact : Name × FieldPlace → Type 0) (fields : List (Name × FieldPlace))
-    → Each fact fields → Each fact (sorted fields)
+    → AllOf fact fields → AllOf fact (sorted fields)
 sorted_keeps fact fields all = sorted_after_keeps fact [] fields tt all
 
 -- labels still rise where one more field was put among them
@@ -61,13 +61,13 @@ inserted_rises before field (other ∷ rest) label above rising =
     (λ higher. inserted_rises (Some other.0) field rest label higher rising.2)
 
 -- and where several are put among others in turn
-sorted_after_rises : (made fields : List (Name × FieldPlace)) → AreRising None made → Each (λ field. IsLabel field.0) fields
+sorted_after_rises : (made fields : List (Name × FieldPlace)) → AreRising None made → AllOf (λ field. IsLabel field.0) fields
     → AreRising None (sorted_after made fields)
 sorted_after_rises made [] rising labels = rising
 sorted_after_rises made (field ∷ rest) rising labels =
     sorted_after_rises (inserted field made) rest (inserted_rises None field made labels.0 tt rising) labels.1
 
 -- labels rise where fields are sorted
-pub sorted_rises : (fields : List (Name × FieldPlace)) → Each (λ field. IsLabel field.0) fields
+pub sorted_rises : (fields : List (Name × FieldPlace)) → AllOf (λ field. IsLabel field.0) fields
     → AreRising None (sorted fields)
 sorted_rises fields labels = sorted_after_rises [] fields tt labels

@@ -9,7 +9,7 @@ use Rattle.cd_shapes.specs.declared.place.Place.{Place}
 use Rattle.cd_shapes.specs.Frames.{Frames, number_in}
 use Rattle.cd_shapes.specs.Shaped.{Tables}
 use Rattle.cd_shapes.specs.Reading.{AreMet, AreRoots, HaveRoots}
-use Rattle.cd_shapes.specs.Walk.{State, one_more, walked, walked_declared}
+use Rattle.cd_shapes.specs.Inner.Walk.{State, one_more, walked, walked_declared}
 use Rattle.cd_shapes.proofs.ListFacts.{get_before, get_next}
 use Rattle.cd_shapes.proofs.Growing.{Grows, declared_grows}
 use Rattle.cd_shapes.proofs.KeptShapes.{shaped_kept}

@@ -6,7 +6,7 @@ use Rattle.cd_sets.specs.declared.node_id.NodeId.{NodeId}
 use Rattle.cd_syntax.specs.Name.{Name}
 use Rattle.cd_shapes.specs.declared.place.Place.{Place}
 use Rattle.cd_shapes.specs.Frames.{Frames}
-use Rattle.cd_shapes.specs.Walk.{State, walked_list, Ran, next}
+use Rattle.cd_shapes.specs.Inner.Walk.{State, walked_list, Ran, next}
 use Rattle.cd_shapes.proofs.ListsGrow.{list_grows}
 
 -- where nothing stands at a place the list has ended

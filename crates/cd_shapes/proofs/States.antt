@@ -2,7 +2,7 @@
 use Rattle.std.proofs.Common.{◌≡◌, ap₂, ℕ, List}
 use Rattle.cd_shapes.specs.Frames.{Frames}
 use Rattle.cd_shapes.specs.Shape.{Shape}
-use Rattle.cd_shapes.specs.Walk.{State}
+use Rattle.cd_shapes.specs.Inner.Walk.{State}
 
 abbrev pub state_of : List Frames → ℕ → List Shape → State
 state_of lists names shapes = record { lists = lists; names = names; shapes = shapes }

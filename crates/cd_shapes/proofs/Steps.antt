@@ -12,8 +12,8 @@ use Rattle.cd_shapes.specs.declared.place.FieldPlace.{FieldPlace}
 use Rattle.cd_shapes.specs.declared.state.Joint.{Joint as CodeJoint}
 use Rattle.cd_shapes.specs.declared.state.Joint.TheVariants as joint
 use Rattle.cd_shapes.specs.Frames.{Frames}
-use Rattle.cd_shapes.specs.PlainState.{plain_joint, chain_of}
-use Rattle.cd_shapes.specs.Walk.{State, Read, one_more, chained_all, walked, walked_kind, walked_trees, walked_signs, walked_fields, walked_declared}
+use Rattle.cd_shapes.specs.Inner.PlainState.{plain_joint, chain_of}
+use Rattle.cd_shapes.specs.Inner.Walk.{State, Read, one_more, chained_all, walked, walked_kind, walked_trees, walked_signs, walked_fields, walked_declared}
 
 module _ (names : List (Name × NodeId)) (frames : Frames) where
   -- what the first tree gives goes after what was made

@@ -9,7 +9,7 @@ use Rattle.cd_shapes.specs.declared.place.Place.{Place}
 use Rattle.cd_shapes.specs.Frames.{Frames}
 use Rattle.cd_shapes.specs.Shape.{Shape}
 use Rattle.cd_shapes.specs.Shaped.{Tables, Shaped}
-use Rattle.cd_shapes.specs.Walk.{State, walked, start_of, nowhere, Ran}
+use Rattle.cd_shapes.specs.Inner.Walk.{State, walked, start_of, nowhere, Ran}
 use Rattle.cd_shapes.specs.Reading.{IsReading, AreSound, AreBelow, IsPlace, base_lists}
 use Rattle.cd_shapes.proofs.Bounds.{declarations_sound, tree_sound}
 use Rattle.cd_shapes.proofs.Readings.{declarations_read, tree_read}

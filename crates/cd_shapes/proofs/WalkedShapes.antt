@@ -14,7 +14,7 @@ use Rattle.cd_shapes.specs.declared.place.FieldPlace.{FieldPlace}
 use Rattle.cd_shapes.specs.Shape.{Shape, Leaf, Pair, Xml, Record, And, Or, Sequence}
 use Rattle.cd_shapes.specs.Frames.{Frames}
 use Rattle.cd_shapes.specs.Leaves.{characters, Joint, Pairs, Arrows, joined, sorted}
-use Rattle.cd_shapes.specs.Walk.{State, entered, pushed, leaf, walked_text, chained, one_more, walked, walked_kind, walked_trees, walked_signs, walked_fields, walked_regular, walked_regular_kind, walked_regulars}
+use Rattle.cd_shapes.specs.Inner.Walk.{State, entered, pushed, leaf, walked_text, chained, one_more, walked, walked_kind, walked_trees, walked_signs, walked_fields, walked_regular, walked_regular_kind, walked_regulars}
 use Rattle.cd_shapes.specs.Shaped.{IsAt, HasLeaf, ShapedText, Shaped, ShapedKind, ShapedChain, ShapedEach, ShapedSigns, ShapedFields, ShapedRegular, ShapedRegularKind, ShapedRegulars}
 use Rattle.cd_shapes.proofs.ListFacts.{get_next, one_last}
 use Rattle.cd_shapes.proofs.Growing.{then, pushed_grows, leaf_grows, chained_grows, walked_grows, trees_grow, signs_grow, fields_grow, regulars_grow}

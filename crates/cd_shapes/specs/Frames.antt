@@ -1,5 +1,6 @@
 -- The lists of declarations that a tree stands under, and where the names are that it sees.
-use Rattle.std.specs.Prelude.{ℕ, ◌+◌, List, [], ◌∷◌, ◌++◌, map, Option, Some, None, bytes_eq, if◌then◌else◌}
+use Rattle.std.specs.Prelude.{ℕ, ◌+◌, List, [], ◌∷◌, ◌++◌, map, Option, Some, None, bytes_eq}
+use Rattle.std.specs.Prelude.{if◌then◌else◌}
 use Rattle.std.specs.Option.{option_map}
 use Rattle.cd_sets.specs.declared.node_id.NodeId.{NodeId}
 use Rattle.cd_syntax.specs.Name.{Name}
@@ -26,7 +27,8 @@ scope_of base frames = map (λ frame. frame.declarations) frames ++ base
 -- the place of a name in a list
 abbrev pub index_in : Declarations → Name → Option ℕ
 index_in NoDeclaration name = None
-index_in (ADeclaration other at is rest) name = if bytes_eq other name then Some 0 else option_map (λ index. index + 1) (index_in rest name)
+index_in (ADeclaration other at is rest) name =
+    if bytes_eq other name then Some 0 else option_map (λ index. index + 1) (index_in rest name)
 
 -- a name that no list declares has the node that it was given, and one without a node holds nothing
 abbrev pub given : Option NodeId → Place
@@ -40,7 +42,8 @@ declared_or first None outer = outer
 -- where the type of a name is found: in the innermost list that declares it
 abbrev pub place_of : List (Name × NodeId) → Frames → Name → Place
 place_of names [] name = given (node_of names name)
-place_of names (frame ∷ outer) name = declared_or frame.first (index_in frame.declarations name) (place_of names outer name)
+place_of names (frame ∷ outer) name =
+    declared_or frame.first (index_in frame.declarations name) (place_of names outer name)
 
 -- how many names a list declares
 abbrev pub number_in : Declarations → ℕ

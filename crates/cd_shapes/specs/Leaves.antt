@@ -1,5 +1,6 @@
 -- Shapes that are made of trees and of places alone.
-use Rattle.std.specs.Prelude.{ℕ, ℤ, List, [], ◌∷◌, Option, Some, None, int_le, nat_le, if◌then◌else◌}
+use Rattle.std.specs.Prelude.{ℕ, ℤ, List, [], ◌∷◌, Option, Some, None, int_le, nat_le}
+use Rattle.std.specs.Prelude.{if◌then◌else◌}
 use Rattle.std.specs.Option.{unwrap_or}
 use Rattle.std.specs.Ordering.{nat_cmp}
 use Rattle.std.specs.Cmp.Lexicographic.{slice_cmp}
@@ -16,10 +17,12 @@ use Rattle.cd_shapes.specs.Shape.{Shape, Pair, Arrow}
 -- the integers, and the characters, from a low one to a high one, if there are such
 abbrev pub integers : Option ℤ → Option ℤ → Option Formula
 integers low high = if int_le (unwrap_or low LEAST) (unwrap_or high GREATEST)
-    then Some (Ints (record { low = unwrap_or low LEAST; high = unwrap_or high GREATEST } ∷ [])) else None
+    then Some
+    (Ints (record { low = unwrap_or low LEAST; high = unwrap_or high GREATEST } ∷ [])) else None
 
 abbrev pub characters : ℕ → ℕ → Option Formula
-characters low high = if nat_le low high then Some (Chars (record { low = low; high = high } ∷ [])) else None
+characters low high = if nat_le low high then Some
+    (Chars (record { low = low; high = high } ∷ [])) else None
 
 -- this atom alone
 abbrev pub atom : Name → Formula
@@ -35,17 +38,20 @@ joined Pairs first second = Pair first second
 joined Arrows first second = Arrow first second
 
 -- a field among fields whose labels rise; one whose label stands there is left out
-abbrev pub by_order : Ordering → Name × FieldPlace → Name × FieldPlace → List (Name × FieldPlace) → List (Name × FieldPlace) → List (Name × FieldPlace)
+abbrev pub by_order : Ordering → Name × FieldPlace → Name × FieldPlace → List (Name × FieldPlace)
+    → List (Name × FieldPlace) → List (Name × FieldPlace)
 by_order Less field other rest later = field ∷ other ∷ rest
 by_order Equal field other rest later = other ∷ rest
 by_order Greater field other rest later = other ∷ later
 
 abbrev pub inserted : Name × FieldPlace → List (Name × FieldPlace) → List (Name × FieldPlace)
 inserted field [] = field ∷ []
-inserted field (other ∷ rest) = by_order (slice_cmp nat_cmp field.0 other.0) field other rest (inserted field rest)
+inserted field (other ∷ rest) =
+    by_order (slice_cmp nat_cmp field.0 other.0) field other rest (inserted field rest)
 
 -- after these, whose labels rise, the fields one by one
-abbrev pub sorted_after : List (Name × FieldPlace) → List (Name × FieldPlace) → List (Name × FieldPlace)
+abbrev pub sorted_after : List (Name × FieldPlace) → List (Name × FieldPlace)
+    → List (Name × FieldPlace)
 sorted_after sorted [] = sorted
 sorted_after sorted (field ∷ rest) = sorted_after (inserted field sorted) rest
 

@@ -3,8 +3,7 @@ pub mod Shape
 pub mod Frames
 pub mod Leaves
 pub mod Repeated
-pub mod Walk
 pub mod Shaped
 pub mod Reading
 pub mod PlainTables
-pub mod PlainState
+pub mod Inner

@@ -5,4 +5,7 @@ use Rattle.cd_shapes.specs.Shaped.{Tables}
 use Rattle.cd_shapes.specs.declared.tables.Tables.{Tables as CodeTables}
 
 abbrev pub plain_tables : CodeTables → Tables
-plain_tables tables = record { roots = tables.roots.items; shapes = map plain_shape tables.shapes.items }
+plain_tables tables = record {
+  roots = tables.roots.items;
+  shapes = map plain_shape tables.shapes.items;
+}

@@ -22,7 +22,7 @@ pub(crate) struct Frame<'t> {
 
 impl<'t> Frame<'t> {
     ghost use Rattle.cd_shapes.specs.Frames.{index_in as index_in_list};
-    ghost use Rattle.cd_shapes.specs.PlainState.{plain_frame};
+    ghost use Rattle.cd_shapes.specs.Inner.PlainState.{plain_frame};
 
     /// This list, whose first name has this number.
     pub(crate) fn of(
@@ -31,7 +31,11 @@ impl<'t> Frame<'t> {
         first: usize,
     ) -> Result<Frame<'t>, AllocError>
         requires { AreWellMadeDeclarations (plain_declarations declarations.now) }
-        ensures { IfOk result (λ frame. plain_frame frame ≡ record { declarations = plain_declarations declarations.now; first = first }) }
+        ensures { IfOk result (λ frame.
+            plain_frame frame ≡ record {
+              declarations = plain_declarations declarations.now;
+              first = first;
+            }) }
     {
         let names = declared_names(alloc, declarations)?;
         let names = Rc::new(alloc, names)?;

@@ -3,7 +3,8 @@ ghost use Rattle.std.specs.Prelude.{◌≡◌, IfOk};
 ghost use Rattle.std.specs.Option.{option_map};
 ghost use Rattle.cd_syntax.specs.Name.{IsLabel};
 ghost use Rattle.cd_graph.specs.PlainFormula.{plain};
-ghost use Rattle.cd_shapes.specs.Leaves.{integers as integers_between, characters as characters_between, atom as atom_named};
+ghost use Rattle.cd_shapes.specs.Leaves.{integers as integers_between};
+ghost use Rattle.cd_shapes.specs.Leaves.{characters as characters_between, atom as atom_named};
 
 use cd_graph::Formula;
 use cd_intervals::atom_set::AtomSet;
@@ -12,7 +13,8 @@ use cd_intervals::int_set::IntSet;
 use cd_syntax::name::Name;
 use std::alloc::{AllocError, Global};
 
-/// The integers between two bounds, if there are such. A bound that is not there is the least or the greatest integer.
+/// The integers between two bounds, if there are such. A bound that is not there is the least or
+/// the greatest integer.
 pub(crate) fn integers(
     alloc: Global,
     low: Option<i128>,

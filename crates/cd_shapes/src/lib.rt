@@ -1,4 +1,5 @@
-//! Written types as a table of shapes: each shape is a row of its own, which names the places of its parts.
+//! Written types as a table of shapes: each shape is a row of its own, which names the places of
+//! its parts.
 #![tactic(auto)]
 
 mod compare;

@@ -2,8 +2,8 @@
 ghost use Rattle.std.specs.Prelude.{◌≡◌, IfOk, OnOk, length};
 ghost use Rattle.cd_syntax.specs.PlainTree.{plain_declarations};
 ghost use Rattle.cd_syntax.specs.WellMade.{AreWellMadeDeclarations};
-ghost use Rattle.cd_shapes.specs.Walk.{walked_declared, walked_list, Ran};
-ghost use Rattle.cd_shapes.specs.PlainState.{plain_frames, plain_state};
+ghost use Rattle.cd_shapes.specs.Inner.Walk.{walked_declared, walked_list, Ran};
+ghost use Rattle.cd_shapes.specs.Inner.PlainState.{plain_frames, plain_state};
 
 use crate::frame::Frame;
 use crate::given::Given;
@@ -13,7 +13,8 @@ use crate::walk::walk;
 use cd_syntax::type_tree::Declarations;
 use std::alloc::{AllocError, Global};
 
-// Walks over a list of declarations under these lists, and puts the places of their types after those that are there.
+// Walks over a list of declarations under these lists, and puts the places of their types after
+// those that are there.
 fn walk_declared<'t>(
     alloc: Global,
     names: &Given<'_>,
@@ -24,7 +25,8 @@ fn walk_declared<'t>(
 ) -> Result<(), AllocError>
     requires { AreWellMadeDeclarations (plain_declarations declarations.now) }
     ensures { OnOk result ((roots.new.items, plain_state state.new)
-        ≡ walked_declared names.now (plain_frames frames.now) (plain_declarations declarations.now) roots.old.items (plain_state state.old)) }
+        ≡ walked_declared names.now (plain_frames frames.now)
+        (plain_declarations declarations.now) roots.old.items (plain_state state.old)) }
 {
     for declaration in declarations.items() {
         roots.push(walk(alloc, names, &declaration.tree, frames, state)?)?;
@@ -49,14 +51,16 @@ fn walk_list<'t>(
     }
 }
 
-/// Walks over the lists that were met, in turn, also those that are met meanwhile, and gives the place of the type of each
-/// name.
+/// Walks over the lists that were met, in turn, also those that are met meanwhile, and gives the
+/// place of the type of each name.
 pub(crate) fn walk_lists<'t>(
     alloc: Global,
     names: &Given<'_>,
     state: &mut State<'t>,
 ) -> Result<Vec<Place>, AllocError>
-    ensures { IfOk result (λ roots. Ran names.now (plain_state state.old) (length (plain_state state.new).lists) roots.items (plain_state state.new)) }
+    ensures { IfOk result (λ roots.
+        Ran names.now (plain_state state.old) (length (plain_state state.new).lists) roots.items
+        (plain_state state.new)) }
 {
     let mut roots = Vec::new(alloc);
     for list in 0..usize::MAX {

@@ -1,7 +1,7 @@
 //! Where the types of names are found.
 ghost use Rattle.std.specs.Prelude.{◌≡◌};
 ghost use Rattle.cd_shapes.specs.Frames.{place_of as place_in_frames, given as given_place};
-ghost use Rattle.cd_shapes.specs.PlainState.{plain_frames};
+ghost use Rattle.cd_shapes.specs.Inner.PlainState.{plain_frames};
 
 use crate::frame::Frame;
 use crate::given::Given;
@@ -10,7 +10,8 @@ use cd_graph::built_in::EMPTY;
 use cd_sets::node_id::NodeId;
 use cd_syntax::name::Name;
 
-// The place of a name that no list declares: the node that it was given. Without one it holds nothing.
+// The place of a name that no list declares: the node that it was given. Without one it holds
+// nothing.
 fn given(node: Option<NodeId>) -> Place
     ensures { result ≡ given_place node }
 {

@@ -1,6 +1,6 @@
 //! The lists of declarations that a tree stands under, from the innermost.
 ghost use Rattle.std.specs.Prelude.{◌≡◌, ◌∷◌, ◌++◌, IfOk, OnOk};
-ghost use Rattle.cd_shapes.specs.PlainState.{plain_frame, plain_frames};
+ghost use Rattle.cd_shapes.specs.Inner.PlainState.{plain_frame, plain_frames};
 
 use crate::frame::Frame;
 use std::alloc::{AllocError, Global};
@@ -11,7 +11,8 @@ pub(crate) fn under<'t>(
     frame: Frame<'t>,
     outer: &[Frame<'t>],
 ) -> Result<Vec<Frame<'t>>, AllocError>
-    ensures { IfOk result (λ frames. plain_frames frames.items ≡ plain_frame frame.entry ∷ plain_frames outer.now) }
+    ensures { IfOk result (λ frames.
+        plain_frames frames.items ≡ plain_frame frame.entry ∷ plain_frames outer.now) }
 {
     let mut frames = Vec::new(alloc);
     frames.push(frame)?;
@@ -21,7 +22,8 @@ pub(crate) fn under<'t>(
 
 /// Adds the lists after those that are there.
 pub(crate) fn add_all<'t>(frames: &mut Vec<Frame<'t>>, more: &[Frame<'t>]) -> Result<(), AllocError>
-    ensures { OnOk result (plain_frames frames.new.items ≡ plain_frames frames.old.items ++ plain_frames more.now) }
+    ensures { OnOk result (plain_frames frames.new.items
+        ≡ plain_frames frames.old.items ++ plain_frames more.now) }
 {
     for frame in more {
         frames.push(frame.copy()?)?;

@@ -2,11 +2,13 @@
 ghost use Rattle.std.specs.Prelude.{◌≡◌, IfOk, []};
 ghost use Rattle.cd_syntax.specs.TypeTree.{Sequence};
 ghost use Rattle.cd_syntax.specs.PlainTree.{plain_regular, plain_regular_kind, plain_regulars};
-ghost use Rattle.cd_syntax.specs.WellMade.{IsWellMadeRegular, IsWellMadeRegularKind, AreWellMadeRegulars};
+ghost use Rattle.cd_syntax.specs.WellMade.{IsWellMadeRegular, IsWellMadeRegularKind};
+ghost use Rattle.cd_syntax.specs.WellMade.{AreWellMadeRegulars};
 ghost use Rattle.cd_regex.specs.PlainRegular.{plain as plain_reg, plain_list as plain_regs};
-ghost use Rattle.cd_shapes.specs.Walk.{walked_kind, walked_regular, walked_regular_kind, walked_regulars, numbered};
+ghost use Rattle.cd_shapes.specs.Inner.Walk.{walked_kind, walked_regular, walked_regular_kind};
+ghost use Rattle.cd_shapes.specs.Inner.Walk.{walked_regulars, numbered};
 ghost use Rattle.cd_shapes.specs.Repeated.{repeated as repeated_plain};
-ghost use Rattle.cd_shapes.specs.PlainState.{plain_frames, plain_state};
+ghost use Rattle.cd_shapes.specs.Inner.PlainState.{plain_frames, plain_state};
 
 use crate::frame::Frame;
 use crate::given::Given;
@@ -30,14 +32,16 @@ pub(crate) fn walk_sequence<'t>(
 ) -> Result<Place, AllocError>
     requires { IsWellMadeRegular (plain_regular expression.now) }
     ensures { IfOk result (λ place. (place, plain_state state.new)
-        ≡ walked_kind names.now (plain_frames frames.now) (Sequence (plain_regular expression.now)) (plain_state state.old)) }
+        ≡ walked_kind names.now (plain_frames frames.now) (Sequence (plain_regular expression.now))
+        (plain_state state.old)) }
 {
     let mut places = Vec::new(alloc);
     let regular = walk_regular(alloc, names, expression, frames, &mut places, state)?;
     state.push(Shape::Sequence(regular, places))
 }
 
-// An expression over the numbers of places. Those of its items are put after the places that are there.
+// An expression over the numbers of places. Those of its items are put after the places that are
+// there.
 #[cycle(walk)]
 fn walk_regular<'t>(
     alloc: Global,
@@ -49,7 +53,8 @@ fn walk_regular<'t>(
 ) -> Result<Reg, AllocError>
     requires { IsWellMadeRegular (plain_regular expression.now) }
     ensures { IfOk result (λ regular. (plain_reg regular, places.new.items, plain_state state.new)
-        ≡ walked_regular names.now (plain_frames frames.now) (plain_regular expression.now) places.old.items (plain_state state.old)) }
+        ≡ walked_regular names.now (plain_frames frames.now)
+        (plain_regular expression.now) places.old.items (plain_state state.old)) }
 {
     walk_regular_kind(alloc, names, &expression.kind, frames, places, state)
 }
@@ -66,7 +71,8 @@ fn walk_regular_kind<'t>(
 ) -> Result<Reg, AllocError>
     requires { IsWellMadeRegularKind (plain_regular_kind kind.now) }
     ensures { IfOk result (λ regular. (plain_reg regular, places.new.items, plain_state state.new)
-        ≡ walked_regular_kind names.now (plain_frames frames.now) (plain_regular_kind kind.now) places.old.items (plain_state state.old)) }
+        ≡ walked_regular_kind names.now (plain_frames frames.now)
+        (plain_regular_kind kind.now) places.old.items (plain_state state.old)) }
 {
     match kind {
         RegKind::Nothing => Ok(Reg::nothing()),
@@ -103,7 +109,8 @@ fn walk_regulars<'t>(
 ) -> Result<Regs, AllocError>
     requires { AreWellMadeRegulars (plain_regulars all.now) }
     ensures { IfOk result (λ made. (plain_regs made, places.new.items, plain_state state.new)
-        ≡ walked_regulars names.now (plain_frames frames.now) (plain_regulars all.now) [] places.old.items (plain_state state.old)) }
+        ≡ walked_regulars names.now (plain_frames frames.now) (plain_regulars all.now)
+        [] places.old.items (plain_state state.old)) }
 {
     let mut made = Vec::new(alloc);
     for expression in all.items() {
@@ -114,7 +121,8 @@ fn walk_regulars<'t>(
 
 // Puts the place of an item after those that are there, and gives the item of its number.
 fn put_item(place: Place, places: &mut Vec<Place>) -> Result<Reg, AllocError>
-    ensures { IfOk result (λ item. (plain_reg item, places.new.items) ≡ numbered places.old.items place) }
+    ensures { IfOk result (λ item. (plain_reg item, places.new.items)
+        ≡ numbered places.old.items place) }
 {
     let number = places.len();
     places.push(place)?;

@@ -13,7 +13,8 @@ pub enum Shape {
     Pair(Place, Place),
     /// The XML elements of a tag, attributes and a content.
     Xml(Place, Place, Place),
-    /// The records with these fields, whose labels rise strictly, and at each other label nothing or what is in the node.
+    /// The records with these fields, whose labels rise strictly, and at each other label nothing
+    /// or what is in the node.
     Record(Vec<(Name, FieldPlace)>, NodeId),
     /// The functions from one type to another.
     Arrow(Place, Place),

@@ -2,7 +2,7 @@
 ghost use Rattle.std.specs.Prelude.{◌≡◌, ◌≤◌, length, IfOk, OnOk};
 ghost use Rattle.std.specs.Option.{IfSome};
 ghost use Rattle.cd_shapes.specs.Leaves.{inserted, sorted};
-ghost use Rattle.cd_shapes.specs.PlainState.{put};
+ghost use Rattle.cd_shapes.specs.Inner.PlainState.{put};
 
 use crate::compare::compare;
 use crate::place::FieldPlace;

@@ -6,8 +6,9 @@ ghost use Rattle.cd_graph.specs.PlainFormula.{plain};
 ghost use Rattle.cd_syntax.specs.PlainTree.{plain_declarations};
 ghost use Rattle.cd_shapes.specs.Shape.{plain_shape};
 ghost use Rattle.cd_shapes.specs.Leaves.{joined};
-ghost use Rattle.cd_shapes.specs.Walk.{nowhere, pushed, leaf as leaf_of, entered, chained, walked_text, character_before, recorded};
-ghost use Rattle.cd_shapes.specs.PlainState.{plain_frames, plain_joint, plain_state};
+ghost use Rattle.cd_shapes.specs.Inner.Walk.{nowhere, pushed, leaf as leaf_of, entered, chained};
+ghost use Rattle.cd_shapes.specs.Inner.Walk.{walked_text, character_before, recorded};
+ghost use Rattle.cd_shapes.specs.Inner.PlainState.{plain_frames, plain_joint, plain_state};
 
 use crate::compare::characters_of;
 use crate::frame::Frame;
@@ -30,7 +31,8 @@ pub(crate) enum Joint {
     Arrows,
 }
 
-/// The lists of declarations that were met, each with those round it, the number of their names, and the shapes.
+/// The lists of declarations that were met, each with those round it, the number of their names,
+/// and the shapes.
 #[derive(Drop)]
 pub(crate) struct State<'t> {
     pub(crate) lists: Vec<Vec<Frame<'t>>>,
@@ -63,7 +65,9 @@ impl<'t> State<'t> {
         alloc: Global,
         number: usize,
     ) -> Result<Option<Vec<Frame<'t>>>, AllocError>
-        ensures { IfOk result (λ list. option_map (λ list. plain_frames list.items) list ≡ slice_get (plain_state self.now).lists number) }
+        ensures { IfOk result (λ list.
+            option_map (λ list. plain_frames list.items) list
+            ≡ slice_get (plain_state self.now).lists number) }
     {
         let Some(frames) = self.lists.get(number) else {
             return Ok(None);
@@ -75,7 +79,8 @@ impl<'t> State<'t> {
 
     /// Puts a shape after those that are there, and gives its place.
     pub(crate) fn push(&mut self, shape: Shape) -> Result<Place, AllocError>
-        ensures { IfOk result (λ place. (place, plain_state self.new) ≡ pushed (plain_shape shape) (plain_state self.old)) }
+        ensures { IfOk result (λ place. (place, plain_state self.new)
+            ≡ pushed (plain_shape shape) (plain_state self.old)) }
     {
         let number = self.shapes.len();
         self.shapes.push(shape)?;
@@ -84,7 +89,8 @@ impl<'t> State<'t> {
 
     /// The place of a formula, if there is one, else of what holds nothing.
     pub(crate) fn leaf(&mut self, formula: Option<Formula>) -> Result<Place, AllocError>
-        ensures { IfOk result (λ place. (place, plain_state self.new) ≡ leaf_of (option_map plain formula) (plain_state self.old)) }
+        ensures { IfOk result (λ place. (place, plain_state self.new)
+            ≡ leaf_of (option_map plain formula) (plain_state self.old)) }
     {
         match formula {
             Some(formula) => self.push(Shape::Leaf(formula)),
@@ -92,15 +98,17 @@ impl<'t> State<'t> {
         }
     }
 
-    /// Enters a list of declarations with those round it, and counts its names. More names than a number counts are answered
-    /// with want of memory.
+    /// Enters a list of declarations with those round it, and counts its names. More names than a
+    /// number counts are answered with want of memory.
     pub(crate) fn enter(
         &mut self,
         alloc: Global,
         frames: &[Frame<'t>],
         declarations: &Declarations,
     ) -> Result<(), AllocError>
-        ensures { OnOk result (plain_state self.new ≡ entered (plain_frames frames.now) (plain_declarations declarations.now) (plain_state self.old)) }
+        ensures { OnOk result (plain_state self.new
+            ≡ entered (plain_frames frames.now) (plain_declarations declarations.now)
+            (plain_state self.old)) }
     {
         let Some(names) = self.names.checked_add(declarations.items().len()) else {
             return Err(AllocError);
@@ -114,7 +122,8 @@ impl<'t> State<'t> {
 
     // Puts a pair or a function of these two places.
     fn join(&mut self, joint: Joint, first: Place, second: Place) -> Result<Place, AllocError>
-        ensures { IfOk result (λ place. (place, plain_state self.new) ≡ pushed (joined (plain_joint joint) first second) (plain_state self.old)) }
+        ensures { IfOk result (λ place. (place, plain_state self.new)
+            ≡ pushed (joined (plain_joint joint) first second) (plain_state self.old)) }
     {
         match joint {
             Joint::Pairs => self.push(Shape::Pair(first, second)),
@@ -124,7 +133,8 @@ impl<'t> State<'t> {
 
     /// A chain of these places, nested to the right. One of no places holds nothing.
     pub(crate) fn chain(&mut self, joint: Joint, places: &[Place]) -> Result<Place, AllocError>
-        ensures { IfOk result (λ place. (place, plain_state self.new) ≡ chained (plain_joint joint) places.now (plain_state self.old)) }
+        ensures { IfOk result (λ place. (place, plain_state self.new)
+            ≡ chained (plain_joint joint) places.now (plain_state self.old)) }
     {
         let mut index = places.len();
         if index == 0 {
@@ -141,7 +151,8 @@ impl<'t> State<'t> {
 
     /// A text as pairs of its characters, nested to the right, which end in the atom `nil`.
     pub(crate) fn text(&mut self, alloc: Global, text: &Name) -> Result<Place, AllocError>
-        ensures { IfOk result (λ place. (place, plain_state self.new) ≡ walked_text text.now (plain_state self.old)) }
+        ensures { IfOk result (λ place. (place, plain_state self.new)
+            ≡ walked_text text.now (plain_state self.old)) }
     {
         let text = characters_of(alloc, text)?;
         let mut index = text.len();
@@ -155,7 +166,8 @@ impl<'t> State<'t> {
 
     // A character before the rest of its text.
     fn character(&mut self, alloc: Global, c: char, rest: Place) -> Result<Place, AllocError>
-        ensures { IfOk result (λ place. (place, plain_state self.new) ≡ character_before c (rest, plain_state self.old)) }
+        ensures { IfOk result (λ place. (place, plain_state self.new)
+            ≡ character_before c (rest, plain_state self.old)) }
     {
         let first = self.leaf(characters(alloc, c, c)?)?;
         self.push(Shape::Pair(first, rest))
@@ -168,7 +180,8 @@ impl<'t> State<'t> {
         fields: Vec<(Name, FieldPlace)>,
         more: bool,
     ) -> Result<Place, AllocError>
-        ensures { IfOk result (λ place. (place, plain_state self.new) ≡ recorded more (fields.items, plain_state self.old)) }
+        ensures { IfOk result (λ place. (place, plain_state self.new)
+            ≡ recorded more (fields.items, plain_state self.old)) }
     {
         let rest = if more {
             BuiltinName::Any

@@ -1,10 +1,14 @@
 //! The walk over a tree, which makes its shapes.
 ghost use Rattle.std.specs.Prelude.{◌≡◌, IfOk, [], ◌∷◌, true};
 ghost use Rattle.cd_syntax.specs.TypeTree.{Meet, Xml, Where};
-ghost use Rattle.cd_syntax.specs.PlainTree.{plain, plain_kind, plain_trees, plain_signs, plain_fields, plain_declarations};
-ghost use Rattle.cd_syntax.specs.WellMade.{IsWellMade, IsWellMadeKind, AreWellMade, AreWellMadeSigns, AreWellMadeFields, AreWellMadeDeclarations};
-ghost use Rattle.cd_shapes.specs.Walk.{walked, walked_kind, walked_trees, walked_signs, walked_fields};
-ghost use Rattle.cd_shapes.specs.PlainState.{plain_frames, plain_state, chain_of};
+ghost use Rattle.cd_syntax.specs.PlainTree.{plain, plain_kind, plain_trees, plain_signs};
+ghost use Rattle.cd_syntax.specs.PlainTree.{plain_fields, plain_declarations};
+ghost use Rattle.cd_syntax.specs.WellMade.{IsWellMade, IsWellMadeKind, AreWellMade};
+ghost use Rattle.cd_syntax.specs.WellMade.{AreWellMadeSigns, AreWellMadeFields};
+ghost use Rattle.cd_syntax.specs.WellMade.{AreWellMadeDeclarations};
+ghost use Rattle.cd_shapes.specs.Inner.Walk.{walked, walked_kind, walked_trees, walked_signs};
+ghost use Rattle.cd_shapes.specs.Inner.Walk.{walked_fields};
+ghost use Rattle.cd_shapes.specs.Inner.PlainState.{plain_frames, plain_state, chain_of};
 
 use crate::frame::Frame;
 use crate::given::Given;
@@ -30,7 +34,8 @@ pub(crate) fn walk<'t>(
     state: &mut State<'t>,
 ) -> Result<Place, AllocError>
     requires { IsWellMade (plain tree.now) }
-    ensures { IfOk result (λ place. (place, plain_state state.new) ≡ walked names.now (plain_frames frames.now) (plain tree.now) (plain_state state.old)) }
+    ensures { IfOk result (λ place. (place, plain_state state.new)
+        ≡ walked names.now (plain_frames frames.now) (plain tree.now) (plain_state state.old)) }
 {
     walk_kind(alloc, names, &tree.kind, frames, state)
 }
@@ -45,7 +50,9 @@ fn walk_kind<'t>(
     state: &mut State<'t>,
 ) -> Result<Place, AllocError>
     requires { IsWellMadeKind (plain_kind kind.now) }
-    ensures { IfOk result (λ place. (place, plain_state state.new) ≡ walked_kind names.now (plain_frames frames.now) (plain_kind kind.now) (plain_state state.old)) }
+    ensures { IfOk result (λ place. (place, plain_state state.new)
+        ≡ walked_kind names.now (plain_frames frames.now) (plain_kind kind.now)
+        (plain_state state.old)) }
 {
     match kind {
         TreeKind::Builtin(name) => Ok(Place::Node(node_of(*name))),
@@ -88,7 +95,9 @@ fn walk_chain<'t>(
     state: &mut State<'t>,
 ) -> Result<Place, AllocError>
     requires { AreWellMade (plain_trees trees.now) }
-    ensures { IfOk result (λ place. (place, plain_state state.new) ≡ walked_kind names.now (plain_frames frames.now) (chain_of joint (plain_trees trees.now)) (plain_state state.old)) }
+    ensures { IfOk result (λ place. (place, plain_state state.new)
+        ≡ walked_kind names.now (plain_frames frames.now) (chain_of joint (plain_trees trees.now))
+        (plain_state state.old)) }
 {
     if trees.items().len() < 2 {
         return Ok(Place::Node(EMPTY));
@@ -107,7 +116,9 @@ fn walk_trees<'t>(
     state: &mut State<'t>,
 ) -> Result<Vec<Place>, AllocError>
     requires { AreWellMade (plain_trees trees.now) }
-    ensures { IfOk result (λ made. (made.items, plain_state state.new) ≡ walked_trees names.now (plain_frames frames.now) (plain_trees trees.now) [] (plain_state state.old)) }
+    ensures { IfOk result (λ made. (made.items, plain_state state.new)
+        ≡ walked_trees names.now (plain_frames frames.now) (plain_trees trees.now) []
+        (plain_state state.old)) }
 {
     let mut made = Vec::new(alloc);
     for tree in trees.items() {
@@ -129,7 +140,8 @@ fn walk_meet<'t>(
     requires first { IsWellMade (plain first.now) }
     requires signs { AreWellMadeSigns (plain_signs signs.now) }
     ensures { IfOk result (λ place. (place, plain_state state.new)
-        ≡ walked_kind names.now (plain_frames frames.now) (Meet (plain first.now) (plain_signs signs.now)) (plain_state state.old)) }
+        ≡ walked_kind names.now (plain_frames frames.now)
+        (Meet (plain first.now) (plain_signs signs.now)) (plain_state state.old)) }
 {
     let first = walk(alloc, names, first, frames, state)?;
     let signs = walk_signs(alloc, names, first, signs, frames, state)?;
@@ -147,7 +159,9 @@ fn walk_signs<'t>(
     state: &mut State<'t>,
 ) -> Result<Vec<(bool, Place)>, AllocError>
     requires { AreWellMadeSigns (plain_signs signs.now) }
-    ensures { IfOk result (λ made. (made.items, plain_state state.new) ≡ walked_signs names.now (plain_frames frames.now) (plain_signs signs.now) ((true, first) ∷ []) (plain_state state.old)) }
+    ensures { IfOk result (λ made. (made.items, plain_state state.new)
+        ≡ walked_signs names.now (plain_frames frames.now) (plain_signs signs.now)
+        ((true, first) ∷ []) (plain_state state.old)) }
 {
     let mut made = Vec::new(alloc);
     made.push((true, first))?;
@@ -172,7 +186,8 @@ fn walk_xml<'t>(
     requires attributes { IsWellMade (plain attributes.now) }
     requires content { IsWellMade (plain content.now) }
     ensures { IfOk result (λ place. (place, plain_state state.new)
-        ≡ walked_kind names.now (plain_frames frames.now) (Xml (plain tag.now) (plain attributes.now) (plain content.now)) (plain_state state.old)) }
+        ≡ walked_kind names.now (plain_frames frames.now)
+        (Xml (plain tag.now) (plain attributes.now) (plain content.now)) (plain_state state.old)) }
 {
     let tag = walk(alloc, names, tag, frames, state)?;
     let attributes = walk(alloc, names, attributes, frames, state)?;
@@ -180,7 +195,8 @@ fn walk_xml<'t>(
     state.push(Shape::Xml(tag, attributes, content))
 }
 
-// The fields of a record type in the order in which they are written, with the places of their trees.
+// The fields of a record type in the order in which they are written, with the places of their
+// trees.
 #[cycle(walk)]
 fn walk_fields<'t>(
     alloc: Global,
@@ -190,7 +206,9 @@ fn walk_fields<'t>(
     state: &mut State<'t>,
 ) -> Result<Vec<(Name, FieldPlace)>, AllocError>
     requires { AreWellMadeFields (plain_fields fields.now) }
-    ensures { IfOk result (λ made. (made.items, plain_state state.new) ≡ walked_fields names.now (plain_frames frames.now) (plain_fields fields.now) [] (plain_state state.old)) }
+    ensures { IfOk result (λ made. (made.items, plain_state state.new)
+        ≡ walked_fields names.now (plain_frames frames.now) (plain_fields fields.now) []
+        (plain_state state.old)) }
 {
     let mut made = Vec::new(alloc);
     for field in fields.items() {
@@ -201,7 +219,8 @@ fn walk_fields<'t>(
     Ok(made)
 }
 
-// A tree under its own declarations. Their trees are not walked over here, but with the lists that were met.
+// A tree under its own declarations. Their trees are not walked over here, but with the lists that
+// were met.
 #[cycle(walk)]
 fn walk_where<'t>(
     alloc: Global,
@@ -213,7 +232,9 @@ fn walk_where<'t>(
 ) -> Result<Place, AllocError>
     requires body { IsWellMade (plain body.now) }
     requires declarations { AreWellMadeDeclarations (plain_declarations declarations.now) }
-    ensures { IfOk result (λ place. (place, plain_state state.new) ≡ walked_kind names.now (plain_frames outer.now) (Where (plain body.now) (plain_declarations declarations.now)) (plain_state state.old)) }
+    ensures { IfOk result (λ place. (place, plain_state state.new)
+        ≡ walked_kind names.now (plain_frames outer.now)
+        (Where (plain body.now) (plain_declarations declarations.now)) (plain_state state.old)) }
 {
     let frame = Frame::of(alloc, declarations, state.names)?;
     let frames = under(alloc, frame, outer)?;

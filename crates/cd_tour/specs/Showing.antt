@@ -31,7 +31,8 @@ pub record IsAnswered (words : List Bytes) (before after : World) (status : Stat
 
 -- what stands after an answer: its status, what it means, and an empty line
 abbrev pub ending : Status → Bytes → Bytes
-ending status meaning = codes "status " ++ (decimal (status_number status) ++ (codes "\n" ++ (meaning ++ codes "\n\n")))
+ending status meaning = codes "status "
+    ++ (decimal (status_number status) ++ (codes "\n" ++ (meaning ++ codes "\n\n")))
 
 -- the query was shown: its words, an answer to them, and the answer's status and meaning
 pub record IsShown (query : Query) (before after : World) : Type 0 where
@@ -39,10 +40,12 @@ pub record IsShown (query : Query) (before after : World) : Type 0 where
   pub met : Met before.files after.files disk
   pub reply : Reply
   pub answer : Answer (words_of query) disk reply
-  pub out : Appends before.out.told after.out.told (command_line (words_of query) ++ (reply.out ++ ending reply.status (meaning_of query)))
+  pub out : Appends before.out.told after.out.told
+      (command_line (words_of query) ++ (reply.out ++ ending reply.status (meaning_of query)))
   pub err : Appends before.err.told after.err.told reply.err
 
 -- the queries were shown one after the other
 abbrev pub AreShown : List Query → World → World → Type 0
 AreShown [] before after = after ≡ before
-AreShown (query ∷ queries) before after = (between : World) × IsShown query before between × AreShown queries between after
+AreShown (query ∷ queries) before after = (between : World) × IsShown query before between
+    × AreShown queries between after

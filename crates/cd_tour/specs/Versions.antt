@@ -4,7 +4,8 @@ use Rattle.cd_base.specs.FilesState.{IsFrontOf}
 use Rattle.cd_driver.specs.Answer.{LARGEST}
 use Rattle.cd_driver.specs.Command.{Bytes}
 
--- the one file holds the text of the first version, and then that of the second, where these are told
+-- the one file holds the text of the first version, and then that of the second, where these are
+-- told
 pub record HoldsBoth (told : Bytes → Option Bytes) (files : List (Bytes × Bytes)) : Type 0 where
   pub first : Bytes
   pub second : Bytes

@@ -7,7 +7,8 @@ use std::alloc::{AllocError, Global};
 
 /// The line that gives the words to the program.
 pub(crate) fn command_line(alloc: Global, words: &[&str]) -> Result<String, AllocError>
-    ensures { IfOk result (λ line. string_bytes line ≡ command_line (map (λ word. word.now) words.now)) }
+    ensures { IfOk result (λ line.
+        string_bytes line ≡ command_line (map (λ word. word.now) words.now)) }
 {
     let mut line = String::from_str(alloc, "cduce")?;
     for word in words {

@@ -9,7 +9,8 @@ use std::alloc::{AllocError, Global};
 // As many bytes as a file of declarations may have.
 const MOST: usize = 16_777_216;
 
-/// A file with the declarations of both versions, as `cat schema.cd schema2.cd >schemas.cd` makes it.
+/// A file with the declarations of both versions, as `cat schema.cd schema2.cd >schemas.cd` makes
+/// it.
 pub(crate) fn both_versions<F: Files>(
     alloc: Global,
     files: &mut F,

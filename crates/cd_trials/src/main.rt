@@ -24,8 +24,9 @@
 //! | `failing_puts` | the puts that fail, on output and on errors, and how many bytes each keeps |
 //! | `times` | how often each part between `«` and `»` is repeated, in all texts of the row |
 //!
-//! A row of `places` has a `text`, a byte `at` which it is looked at, and the `line` and `column` of that byte.
-//! A pair of `within` should be answered yes, and one of `apart` no with any element that is right.
+//! A row of `places` has a `text`, a byte `at` which it is looked at, and the `line` and `column`
+//! of that byte. A pair of `within` should be answered yes, and one of `apart` no with any element
+//! that is right.
 #![tactic(auto)]
 
 mod answer;

@@ -16,8 +16,9 @@ pub(crate) fn within_differs(
     differs(alloc, types, first, second, 0, "yes\n")
 }
 
-/// How the answer differs from no and an element of the first type outside the second, if it does. The
-/// program is asked whether it is one, but not if a function is in it: that can't be written as a type.
+/// How the answer differs from no and an element of the first type outside the second, if it does.
+/// The program is asked whether it is one, but not if a function is in it: that can't be written as
+/// a type.
 pub(crate) fn apart_differs(
     alloc: Global,
     types: &str,

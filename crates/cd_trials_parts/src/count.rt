@@ -28,7 +28,8 @@ struct Counts {
     differ: usize,
 }
 
-/// Goes over all rows, prints those that differ and then how many there are, and says whether none differs.
+/// Goes over all rows, prints those that differ and then how many there are, and says whether none
+/// differs.
 pub(crate) fn count<F: Files, S: Sink>(
     alloc: Global,
     files: &mut F,
@@ -82,8 +83,8 @@ fn count_tables<F: Files, S: Sink>(
     Ok(())
 }
 
-// Puts a row to its call, and prints it where what came is not what was wanted. A row with a key that its table does not have
-// differs too.
+// Puts a row to its call, and prints it where what came is not what was wanted. A row with a key
+// that its table does not have differs too.
 fn differs<F: Files, S: Sink>(
     alloc: Global,
     table: &str,

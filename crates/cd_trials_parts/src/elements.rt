@@ -4,7 +4,8 @@ use cd_elements::{ElementId, Elements, Pairs, Parts, Shape};
 use cd_empty::Verdict;
 use std::alloc::{AllocError, Global};
 
-/// The length of the text of so many pairs, one in the other, to the right or to the left, and how it begins.
+/// The length of the text of so many pairs, one in the other, to the right or to the left, and how
+/// it begins.
 pub(crate) fn deep(alloc: Global, side: &str, count: usize) -> Result<String, AllocError> {
     let mut elements = Elements::new(alloc);
     let mut last = elements.make(Shape::Int(1))?;

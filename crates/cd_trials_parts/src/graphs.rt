@@ -25,7 +25,8 @@ fn members(formulas: &[Formula]) -> usize {
     count
 }
 
-/// How many parts the formula has of what a text asks, and whether it is seen that no element is in all nodes that it wants.
+/// How many parts the formula has of what a text asks, and whether it is seen that no element is in
+/// all nodes that it wants.
 pub(crate) fn formula(alloc: Global, session: &Session, of: &str, depth: usize) -> Option<String> {
     let question = session.question(alloc, of)?;
     let parts = parts(session.world.graph(), &question)?;

@@ -1,4 +1,5 @@
-//! Rows of data on the calls below the top one. Each row that differs is printed, and at last how many there are.
+//! Rows of data on the calls below the top one. Each row that differs is printed, and at last how
+//! many there are.
 #![tactic(auto)]
 
 mod answer;

@@ -5,8 +5,9 @@ use cd_empty::Verdict;
 use std::alloc::Global;
 use toml::Value;
 
-/// The questions of a row that are answered otherwise than they say, each as `empty: A & B \ C`. One world answers those in `asks`
-/// before `more` types are put in, and those in `then` after it; another one all after it, from the last to the first.
+/// The questions of a row that are answered otherwise than they say, each as `empty: A & B \ C`.
+/// One world answers those in `asks` before `more` types are put in, and those in `then` after it;
+/// another one all after it, from the last to the first.
 pub(crate) fn otherwise(alloc: Global, row: &Value) -> Option<String> {
     let mut otherwise = String::new(alloc);
     in_order(alloc, row, &mut *session(alloc, row)?, &mut otherwise)?;

@@ -45,7 +45,8 @@ fn push_read<F: Files>(
     }
 }
 
-/// What reads of files in memory give, the files each as `name:text`, of which the second read fails.
+/// What reads of files in memory give, the files each as `name:text`, of which the second read
+/// fails.
 pub(crate) fn memory_reads(alloc: Global, held: &str, words: &str) -> Result<String, AllocError> {
     let mut files = MemoryFiles::new(alloc, files_of(alloc, held)?, vec![in alloc; 2]?);
     reads(alloc, &mut files, words)

@@ -4,7 +4,8 @@ use cd_elements::{ElementId, Elements};
 use cd_empty::Verdict;
 use std::alloc::Global;
 
-/// `empty` where what a text asks has no element. Else `inhabited`, where asking again confirms the element, which is told if not.
+/// `empty` where what a text asks has no element. Else `inhabited`, where asking again confirms the
+/// element, which is told if not.
 pub(crate) fn verdict(alloc: Global, types: &str, of: &str) -> Option<String> {
     let told = told(alloc, types, of)?;
     let element = told.as_str();
@@ -44,8 +45,8 @@ fn element_text(alloc: Global, elements: &Elements, id: ElementId) -> Option<Str
     String::from_str(alloc, elements.text(id).ok()?.as_str()).ok()
 }
 
-// Whether an element is in each node that a text wants and outside each that it refuses. No type is a function alone, so
-// elements with functions are not asked again.
+// Whether an element is in each node that a text wants and outside each that it refuses. No type is
+// a function alone, so elements with functions are not asked again.
 fn is_confirmed(alloc: Global, types: &str, of: &str, element: &str) -> Option<bool> {
     if element.contains("fun{") {
         return Some(true);

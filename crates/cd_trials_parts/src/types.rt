@@ -26,7 +26,8 @@ pub(crate) fn declarations_of(alloc: Global, text: &str) -> Result<String, Alloc
     }
 }
 
-/// The type that begins with a token of the text in a place that is so deep, and the token after it.
+/// The type that begins with a token of the text in a place that is so deep, and the token after
+/// it.
 pub(crate) fn front(
     alloc: Global,
     text: &str,

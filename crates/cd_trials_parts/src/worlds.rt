@@ -5,7 +5,7 @@ ghost use Rattle.cd_syntax.specs.PlainTree.{plain_declarations};
 ghost use Rattle.cd_syntax.specs.WellMade.{AreWellMadeDeclarations};
 ghost use Rattle.cd_names.specs.Faults.{Fault, IsFaultOfList};
 ghost use Rattle.cd_rules.specs.Family.{AsksNodes};
-ghost use Rattle.cd_model.specs.Each.{Each};
+ghost use Rattle.cd_model.specs.AllOf.{AllOf};
 
 use cd_empty::{Verdict, World};
 use cd_lex::lex;
@@ -20,9 +20,11 @@ use std::alloc::{AllocError, Global};
 
 /// The declarations that a text is, if it is some and their names are sound.
 pub(crate) fn declarations(alloc: Global, text: &str) -> Option<Declarations>
-    ensures well_made { IfSome result (λ declared. AreWellMadeDeclarations (plain_declarations declared)) }
+    ensures well_made { IfSome result
+        (λ declared. AreWellMadeDeclarations (plain_declarations declared)) }
     ensures sound { IfSome result (λ declared. (fault : Fault)
-        → IsFaultOfList [] (plain_declarations declared ∷ []) (plain_declarations declared) fault → ⊥) }
+        → IsFaultOfList [] (plain_declarations declared ∷ []) (plain_declarations declared) fault
+        → ⊥) }
 {
     let Ok(tokens) = lex(alloc, text) else {
         return None;
@@ -122,7 +124,7 @@ fn add(question: &mut Question, wanted: bool, id: NodeId) -> Option<()> {
 
 // Whether the numbers are below this one.
 fn are_below(ids: &[NodeId], count: usize) -> bool
-    ensures { OnTrue result (Each (λ id. id.0 < count) ids.now) }
+    ensures { OnTrue result (AllOf (λ id. id.0 < count) ids.now) }
 {
     for id in ids {
         if id.0 >= count {

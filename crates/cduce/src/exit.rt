@@ -15,8 +15,8 @@ use std::io;
 use std::io::ErrorKind;
 use std::process::ExitCode;
 
-/// Does what the words ask, and gives what the process exits with. Words that are not UTF-8 have no listed form, as
-/// no words have none.
+/// Does what the words ask, and gives what the process exits with. Words that are not UTF-8 have no
+/// listed form, as no words have none.
 pub(crate) fn exit_on<F: Files, S: Sink>(
     alloc: Global,
     words: io::Result<Vec<String>>,

@@ -3,8 +3,8 @@ use Rattle.std.proofs.lemmas.List.{length-map}
 use Rattle.cd_syntax.specs.TypeTree.{signs_of, fields_of}
 use Rattle.cd_syntax.specs.PlainTree.{plain, plain_signed, plain_field}
 use Rattle.cd_syntax.specs.WellMade.{AreWellMade, AreWellMadeSigns, AreWellMadeFields, AreWellMadeRegulars}
-use Rattle.cd_shapes.specs.Walk.{chained, chained_all, walked_signs, walked_fields}
-use Rattle.cd_shapes.specs.PlainState.{plain_frames, plain_joint, plain_state}
+use Rattle.cd_shapes.specs.Inner.Walk.{chained, chained_all, walked_signs, walked_fields}
+use Rattle.cd_shapes.specs.Inner.PlainState.{plain_frames, plain_joint, plain_state}
 use Rattle.cd_shapes.proofs.Sizes.{trees_fall, signs_fall, fields_fall, regulars_fall}
 use Rattle.cd_shapes.proofs.Steps.{short_chain, long_chain, signs_more, fields_more}
 use Rattle.cd_shapes.proofs.Views.{signed_is, field_is, at_item}

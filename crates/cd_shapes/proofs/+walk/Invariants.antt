@@ -2,8 +2,8 @@ use Rattle.std.proofs.Common.{◌≡◌, ◌+◌, [], ◌∷◌, true, map, drop
 use Rattle.cd_syntax.specs.TypeTree.{trees_of, signs_of, fields_of, regulars_of}
 use Rattle.cd_syntax.specs.PlainTree.{plain, plain_kind, plain_trees, plain_signed, plain_signs, plain_field, plain_fields, plain_declarations, plain_regular, plain_regular_kind, plain_regulars}
 use Rattle.cd_regex.specs.PlainRegular.{plain as plain_reg}
-use Rattle.cd_shapes.specs.Walk.{walked_trees, walked_signs, walked_fields, walked_regulars}
-use Rattle.cd_shapes.specs.PlainState.{plain_frames, plain_state}
+use Rattle.cd_shapes.specs.Inner.Walk.{walked_trees, walked_signs, walked_fields, walked_regulars}
+use Rattle.cd_shapes.specs.Inner.PlainState.{plain_frames, plain_state}
 use Rattle.cd_shapes.proofs.Sizes.{size, size_kind, size_trees, size_signs, size_fields, size_declarations, size_regular, size_regular_kind, size_regulars}
 use Rattle.cd_shapes.proofs.+walk.Given as goal
 

@@ -1,8 +1,8 @@
 use Rattle.std.proofs.Common.{rules, ◌∙◌, length, sym, subst}
-use Rattle.cd_model.specs.Each.{Each}
+use Rattle.cd_model.specs.AllOf.{AllOf}
 use Rattle.cd_normal.specs.declared.clause.Clause.TheVariants as code
 use Rattle.cd_graph.specs.Nodes.{nodes}
-use Rattle.cd_apart.specs.Emptiness.{IsEmpty, ArePairsApart, AreXmlsApart}
+use Rattle.cd_apart.specs.Inner.Emptiness.{IsEmpty, ArePairsApart, AreXmlsApart}
 use Rattle.cd_apart.proofs.Emptying.{empty_by_pairs, empty_by_xmls}
 use Rattle.cd_apart.proofs.HeldByOne.{apart_by_clauses}
 use Rattle.cd_apart.proofs.PartsBelow.{IsBelow, firsts_below, seconds_below, tags_below, attributes_below, contents_below, built_ins_below}
@@ -14,41 +14,41 @@ pub are_apart-returns : goal.are_apart-returns
 are_apart-returns t c =
     let graph = nodes c.args.graph.now in
     if_true c.are_all_empty.result
-    (λ (empty : Each (IsEmpty graph) c.as_slice.result.now). apart_by_clauses graph c.args.ids.now c.in_ok-clauses.clauses.items
-    c.in_ok-clauses.ensures.held (subst (Each (IsEmpty graph)) c.as_slice.ensures.value empty)) c.are_all_empty.ensures
+    (λ (empty : AllOf (IsEmpty graph) c.as_slice.result.now). apart_by_clauses graph c.args.ids.now c.in_ok-clauses.clauses.items
+    c.in_ok-clauses.ensures.held (subst (AllOf (IsEmpty graph)) c.as_slice.ensures.value empty)) c.are_all_empty.ensures
 
 -- the parts are nodes of the graph
 pub are_pairs_apart-are_apart-requires : goal.are_pairs_apart-are_apart-requires
 are_pairs_apart-are_apart-requires t c =
-    let below : Each (IsBelow (length (nodes c.args.graph.now))) c.as_slice.result.now =
+    let below : AllOf (IsBelow (length (nodes c.args.graph.now))) c.as_slice.result.now =
     firsts_below (length (nodes c.args.graph.now)) c.args.pairs.now c.requires c.as_slice.result.now
     (c.as_slice.ensures.value ∙ c.in_ok-firsts.ensures) in
     search (rules, below, c.decreases)
 
 pub are_pairs_apart-are_apart-requires-2 : goal.are_pairs_apart-are_apart-requires-2
 are_pairs_apart-are_apart-requires-2 t c =
-    let below : Each (IsBelow (length (nodes c.args.graph.now))) c.as_slice-2.result.now =
+    let below : AllOf (IsBelow (length (nodes c.args.graph.now))) c.as_slice-2.result.now =
     seconds_below (length (nodes c.args.graph.now)) c.args.pairs.now c.requires c.as_slice-2.result.now
     (c.as_slice-2.ensures.value ∙ c.in_ok-seconds.ensures) in
     search (rules, below, c.decreases)
 
 pub are_xmls_apart-are_apart-requires : goal.are_xmls_apart-are_apart-requires
 are_xmls_apart-are_apart-requires t c =
-    let below : Each (IsBelow (length (nodes c.args.graph.now))) c.as_slice.result.now =
+    let below : AllOf (IsBelow (length (nodes c.args.graph.now))) c.as_slice.result.now =
     tags_below (length (nodes c.args.graph.now)) (built_ins_below (nodes c.args.graph.now) c.len-built_in.ensures.built_in)
     c.args.xmls.now c.requires c.as_slice.result.now (c.as_slice.ensures.value ∙ c.in_ok-tags.ensures) in
     search (rules, below, c.decreases)
 
 pub are_xmls_apart-are_apart-requires-2 : goal.are_xmls_apart-are_apart-requires-2
 are_xmls_apart-are_apart-requires-2 t c =
-    let below : Each (IsBelow (length (nodes c.args.graph.now))) c.as_slice-2.result.now =
+    let below : AllOf (IsBelow (length (nodes c.args.graph.now))) c.as_slice-2.result.now =
     contents_below (length (nodes c.args.graph.now)) c.args.xmls.now c.requires c.as_slice-2.result.now
     (c.as_slice-2.ensures.value ∙ c.in_ok-contents.ensures) in
     search (rules, below, c.decreases)
 
 pub are_xmls_apart-are_apart-requires-3 : goal.are_xmls_apart-are_apart-requires-3
 are_xmls_apart-are_apart-requires-3 t c =
-    let below : Each (IsBelow (length (nodes c.args.graph.now))) c.as_slice-3.result.now =
+    let below : AllOf (IsBelow (length (nodes c.args.graph.now))) c.as_slice-3.result.now =
     attributes_below (length (nodes c.args.graph.now)) (built_ins_below (nodes c.args.graph.now) c.len-built_in.ensures.built_in)
     c.args.xmls.now c.requires c.as_slice-3.result.now (c.as_slice-3.ensures.value ∙ c.in_ok-attributes.ensures) in
     search (rules, below, c.decreases)

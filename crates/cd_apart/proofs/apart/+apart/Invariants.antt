@@ -1,7 +1,7 @@
 use Rattle.std.proofs.Common.{◌+◌, ◌*◌, take}
-use Rattle.cd_model.specs.Each.{Each}
+use Rattle.cd_model.specs.AllOf.{AllOf}
 use Rattle.cd_graph.specs.Nodes.{nodes}
-use Rattle.cd_apart.specs.Emptiness.{IsEmpty}
+use Rattle.cd_apart.specs.Inner.Emptiness.{IsEmpty}
 use Rattle.cd_apart.proofs.apart.+apart.Given as goal
 
 -- each step to the parts goes less deep
@@ -22,4 +22,4 @@ decreases-are_xmls_apart l = 4 * l.depth
 
 -- the first clauses are empty
 abbrev pub invariant-are_all_empty-loop-clause : goal.invariant-are_all_empty-loop-clause
-invariant-are_all_empty-loop-clause l = Each (IsEmpty (nodes l.graph)) (take l.clause-index l.clauses)
+invariant-are_all_empty-loop-clause l = AllOf (IsEmpty (nodes l.graph)) (take l.clause-index l.clauses)

@@ -1,7 +1,7 @@
 use Rattle.std.proofs.Common.{◌<◌, true, [], length, sym, subst}
 use Rattle.std.proofs.lemmas.Result.{IfOk-weaker}
 use Rattle.cd_sets.specs.declared.question.Question.{Question}
-use Rattle.cd_model.specs.Each.{Each}
+use Rattle.cd_model.specs.AllOf.{AllOf}
 use Rattle.cd_model.specs.Membership.{answers, asked}
 use Rattle.cd_graph.specs.Nodes.{nodes}
 use Rattle.cd_rules.specs.Clauses as rules
@@ -18,7 +18,7 @@ use Rattle.cd_apart.proofs.asking.clauses_of_all.Goals as goal
 pub clauses-requires-clause-pos : goal.clauses-requires-clause-pos
 clauses-requires-clause-pos c =
     let nodes_below = length (nodes c.args.graph.now) in
-    subst (λ (question : Question). Each (λ id. id.0 < nodes_below) question.pos) (sym c.in_ok-asked.ensures)
+    subst (λ (question : Question). AllOf (λ id. id.0 < nodes_below) question.pos) (sym c.in_ok-asked.ensures)
     (each_of_set (λ id. id.0 < nodes_below) c.args.ids.now c.requires)
 
 pub returns-clause-within : goal.returns-clause-within

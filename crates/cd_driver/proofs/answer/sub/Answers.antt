@@ -2,9 +2,9 @@ use Rattle.std.proofs.Common.{refl, sym, subst, ◌≡◌}
 use Rattle.std.specs.Prelude.{codes}
 use Rattle.cd_syntax.specs.PlainTree.{plain, plain_declarations}
 use Rattle.cd_driver.specs.Reply.{refusal}
-use Rattle.cd_driver.specs.Refusal.{against}
+use Rattle.cd_driver.specs.Inner.Refusal.{against}
 use Rattle.cd_driver.specs.Texts.{type_of}
-use Rattle.cd_driver.specs.Comparing.{IsSound}
+use Rattle.cd_driver.specs.Inner.Comparing.{IsSound}
 use Rattle.cd_driver.specs.Answer.{SubAnswer, first_refused, second_refused}
 use Rattle.cd_driver.proofs.Answering.{replies, compared}
 use Rattle.cd_driver.proofs.TextReading.{reads_sound}

@@ -1,6 +1,6 @@
 use Rattle.cd_syntax.specs.PlainTree.{plain_declarations}
 use Rattle.cd_driver.specs.Reply.{refusal}
-use Rattle.cd_driver.specs.Refusal.{against}
+use Rattle.cd_driver.specs.Inner.Refusal.{against}
 use Rattle.cd_driver.specs.Answer.{Disk, HasText, SubTypesAnswer, file_refused, refused}
 use Rattle.cd_driver.proofs.Answering.{replies, on_file}
 use Rattle.cd_driver.proofs.TextReading.{declares_sound}

@@ -4,7 +4,7 @@ use Rattle.cd_base.specs.declared.status.Status.TheVariants.{Done, No}
 use Rattle.cd_model.specs.Canonical.{canonical}
 use Rattle.cd_elements.specs.Table.{element_at}
 use Rattle.cd_empty.specs.Seen.{graph_of, table_of}
-use Rattle.cd_driver.specs.Comparing.{ComparesNodes, within}
+use Rattle.cd_driver.specs.Inner.Comparing.{ComparesNodes, within}
 use Rattle.cd_driver.specs.Message.{reply_of}
 use Rattle.cd_driver.specs.Reply.{says}
 use Rattle.cd_driver.proofs.Answering.{replies}

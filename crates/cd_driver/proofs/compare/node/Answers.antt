@@ -1,6 +1,6 @@
 use Rattle.std.proofs.Common.{◌+◌, length, sym, subst}
 use Rattle.cd_syntax.specs.PlainTree.{plain}
-use Rattle.cd_model.specs.Each.{Each}
+use Rattle.cd_model.specs.AllOf.{AllOf}
 use Rattle.cd_model.specs.Formula.{IsFormula, IsGraph}
 use Rattle.cd_graph.specs.Nodes.{nodes}
 use Rattle.cd_graph.specs.PlainFormula.{plain_list}
@@ -35,5 +35,5 @@ pub returns-clause-graph : goal.returns-clause-graph
 returns-clause-graph g c =
     let old = graph_of c.args.world.now in
     let batch = plain_list c.in_ok-batch.batch.formulas in
-    let are = subst (λ graph. Each (IsFormula (length graph + length batch)) batch) c.graph.ensures c.in_ok-batch.ensures.formulas in
+    let are = subst (λ graph. AllOf (IsFormula (length graph + length batch)) batch) c.graph.ensures c.in_ok-batch.ensures.formulas in
     subst IsGraph (sym c.in_ok-extend.ensures.added) (longer_graph old batch c.requires.0 are)

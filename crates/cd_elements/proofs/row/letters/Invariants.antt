@@ -1,8 +1,8 @@
 use Rattle.std.proofs.Common.{◌≡◌, ◌++◌, map, drop}
 use Rattle.std.specs.Option.{option_map}
 use Rattle.cd_elements.specs.Elements.{table}
-use Rattle.cd_elements.specs.Tasks.{part_in}
-use Rattle.cd_elements.specs.Looks.{letters_of}
+use Rattle.cd_elements.specs.Inner.Tasks.{part_in}
+use Rattle.cd_elements.specs.Inner.Looks.{letters_of}
 use Rattle.cd_elements.proofs.row.letters.Given as goal
 
 -- the characters so far, and those of the parts that are left, are those of all

@@ -2,7 +2,7 @@ use Rattle.std.proofs.Common.{◌≡◌, ◌++◌, map, length}
 use Rattle.cd_model.specs.Canonical.{written}
 use Rattle.cd_elements.specs.Elements.{table}
 use Rattle.cd_elements.specs.Table.{element_at}
-use Rattle.cd_elements.specs.Tasks.{part_in}
+use Rattle.cd_elements.specs.Inner.Tasks.{part_in}
 use Rattle.cd_elements.proofs.row.row_of.Given as goal
 
 -- the first parts so far, and what stands along the right of the next element, are all of the row

@@ -1,7 +1,7 @@
 use Rattle.std.proofs.Common.{List, refl, arith}
 use Rattle.cd_model.specs.Thing.{Thing}
 use Rattle.cd_elements.specs.declared.task.Mark.TheVariants.{Comma}
-use Rattle.cd_elements.specs.Tasks.{text_in}
+use Rattle.cd_elements.specs.Inner.Tasks.{text_in}
 use Rattle.cd_elements.proofs.WholeRows.{put_after}
 use Rattle.cd_elements.proofs.rows.push_elements.Goals as goal
 

@@ -1,7 +1,7 @@
 use Rattle.std.proofs.Common.{◌≤◌, map, drop, length}
 use Rattle.cd_elements.specs.declared.task.Mark.TheVariants.{Comma}
-use Rattle.cd_elements.specs.Tasks.{text_in, Puts}
-use Rattle.cd_elements.specs.Rows.{each_after}
+use Rattle.cd_elements.specs.Inner.Tasks.{text_in, Puts}
+use Rattle.cd_elements.specs.Inner.Rows.{each_after}
 use Rattle.cd_elements.proofs.rows.push_elements.Given as goal
 
 -- those from the index on are put before what was left

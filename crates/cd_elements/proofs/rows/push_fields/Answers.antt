@@ -1,6 +1,6 @@
 use Rattle.std.proofs.Common.{List, arith}
 use Rattle.cd_model.specs.Thing.{Thing}
-use Rattle.cd_elements.specs.Rows.{part_text_in}
+use Rattle.cd_elements.specs.Inner.Rows.{part_text_in}
 use Rattle.cd_elements.proofs.WholeRows.{put_after}
 use Rattle.cd_elements.proofs.rows.push_fields.Goals as goal
 

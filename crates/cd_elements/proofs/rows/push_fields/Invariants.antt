@@ -1,6 +1,6 @@
 use Rattle.std.proofs.Common.{◌≤◌, map, drop, length}
-use Rattle.cd_elements.specs.Tasks.{Puts}
-use Rattle.cd_elements.specs.Rows.{each_after, part_text_in}
+use Rattle.cd_elements.specs.Inner.Tasks.{Puts}
+use Rattle.cd_elements.specs.Inner.Rows.{each_after, part_text_in}
 use Rattle.cd_elements.proofs.rows.push_fields.Given as goal
 
 -- those from the index on are put before what was left

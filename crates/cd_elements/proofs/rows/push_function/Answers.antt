@@ -2,7 +2,7 @@ use Rattle.std.proofs.Common.{refl}
 use Rattle.std.specs.Prelude.{None, codes}
 use Rattle.std.proofs.lemmas.Result.{on_ok_weaker}
 use Rattle.cd_elements.specs.declared.task.Mark.TheVariants.{Semicolon}
-use Rattle.cd_elements.specs.Rows.{pair_text_in}
+use Rattle.cd_elements.specs.Inner.Rows.{pair_text_in}
 use Rattle.cd_elements.proofs.WholeRows.{row_closed}
 use Rattle.cd_elements.proofs.rows.push_function.Goals as goal
 

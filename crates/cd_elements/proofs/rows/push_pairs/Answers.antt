@@ -1,7 +1,7 @@
 use Rattle.std.proofs.Common.{List, None, refl, arith}
 use Rattle.cd_model.specs.Thing.{Thing}
 use Rattle.cd_elements.specs.declared.task.Mark.TheVariants.{Semicolon}
-use Rattle.cd_elements.specs.Rows.{pair_text_in}
+use Rattle.cd_elements.specs.Inner.Rows.{pair_text_in}
 use Rattle.cd_elements.proofs.WholeRows.{put_after}
 use Rattle.cd_elements.proofs.rows.push_pairs.Goals as goal
 

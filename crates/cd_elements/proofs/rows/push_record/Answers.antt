@@ -1,7 +1,7 @@
 use Rattle.std.specs.Prelude.{codes}
 use Rattle.std.proofs.lemmas.Result.{on_ok_weaker}
 use Rattle.cd_elements.specs.declared.task.Mark.TheVariants.{Semicolon}
-use Rattle.cd_elements.specs.Rows.{part_text_in}
+use Rattle.cd_elements.specs.Inner.Rows.{part_text_in}
 use Rattle.cd_elements.proofs.WholeRows.{row_closed}
 use Rattle.cd_elements.proofs.rows.push_record.Goals as goal
 

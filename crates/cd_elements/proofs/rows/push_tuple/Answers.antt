@@ -2,7 +2,7 @@ use Rattle.std.proofs.Common.{◌++◌, refl}
 use Rattle.std.specs.Prelude.{codes}
 use Rattle.std.proofs.lemmas.Result.{on_ok_weaker}
 use Rattle.cd_elements.specs.declared.task.Mark.TheVariants.{Comma}
-use Rattle.cd_elements.specs.Tasks.{text_in}
+use Rattle.cd_elements.specs.Inner.Tasks.{text_in}
 use Rattle.cd_elements.proofs.WholeRows.{row_closed, ended, with_end}
 use Rattle.cd_elements.proofs.rows.push_tuple.Goals as goal
 

@@ -1,7 +1,7 @@
 use Rattle.std.proofs.Common.{◌∙◌, sym, map, drop, arith}
 use Rattle.cd_model.specs.Canonical.{pieces_of}
 use Rattle.cd_elements.specs.Elements.{table}
-use Rattle.cd_elements.specs.Tasks.{part_in}
+use Rattle.cd_elements.specs.Inner.Tasks.{part_in}
 use Rattle.cd_elements.proofs.Joining.{drop_before}
 use Rattle.cd_elements.proofs.Sequences.{edge_with, parts_with}
 use Rattle.cd_elements.proofs.sequence.push_sequence.Goals as goal

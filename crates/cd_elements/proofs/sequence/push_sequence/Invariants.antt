@@ -2,8 +2,8 @@ use Rattle.std.proofs.Common.{◌≡◌, ◌≤◌, ◌++◌, map, drop, length}
 use Rattle.std.specs.Prelude.{codes}
 use Rattle.cd_model.specs.Canonical.{pieces_of}
 use Rattle.cd_elements.specs.Elements.{table}
-use Rattle.cd_elements.specs.Tasks.{tasks_text, part_in}
-use Rattle.cd_elements.specs.Sequences.{opening, edge_of, pieces_text}
+use Rattle.cd_elements.specs.Inner.Tasks.{tasks_text, part_in}
+use Rattle.cd_elements.specs.Inner.Sequences.{opening, edge_of, pieces_text}
 use Rattle.cd_elements.proofs.sequence.push_sequence.Given as goal
 
 -- the parts from the index on are put, but for a quote before them

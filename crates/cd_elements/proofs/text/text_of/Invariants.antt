@@ -1,6 +1,6 @@
 use Rattle.std.proofs.Common.{◌≡◌, ◌++◌, length}
 use Rattle.cd_elements.specs.Elements.{table}
-use Rattle.cd_elements.specs.Tasks.{tasks_text, text_in}
+use Rattle.cd_elements.specs.Inner.Tasks.{tasks_text, text_in}
 use Rattle.cd_elements.proofs.text.text_of.Given as goal
 
 -- what is written and what is left are the whole text

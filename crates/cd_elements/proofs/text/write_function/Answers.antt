@@ -3,7 +3,7 @@ use Rattle.std.specs.Prelude.{codes}
 use Rattle.std.proofs.lemmas.Result.{on_ok_weaker}
 use Rattle.cd_model.specs.Canonical.{Text, joined}
 use Rattle.cd_elements.specs.Elements.{table}
-use Rattle.cd_elements.specs.Rows.{function_rest}
+use Rattle.cd_elements.specs.Inner.Rows.{function_rest}
 use Rattle.cd_elements.proofs.Looks.{pairs_written}
 use Rattle.cd_elements.proofs.Marks.{function_characters}
 use Rattle.cd_elements.proofs.Writes.{begun}

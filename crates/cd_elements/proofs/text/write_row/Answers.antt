@@ -3,8 +3,8 @@ use Rattle.std.specs.Prelude.{codes}
 use Rattle.std.proofs.lemmas.Result.{on_ok_weaker}
 use Rattle.cd_model.specs.Canonical.{Text, Row, joined, row_text}
 use Rattle.cd_elements.specs.Elements.{table}
-use Rattle.cd_elements.specs.Tasks.{text_in}
-use Rattle.cd_elements.specs.Rows.{tuple_rest}
+use Rattle.cd_elements.specs.Inner.Tasks.{text_in}
+use Rattle.cd_elements.specs.Inner.Rows.{tuple_rest}
 use Rattle.cd_elements.proofs.Looks.{parts_written}
 use Rattle.cd_elements.proofs.Writes.{begun}
 use Rattle.cd_elements.proofs.text.write_row.Goals as goal

@@ -4,8 +4,8 @@ use Rattle.std.proofs.lemmas.List.{length-map}
 use Rattle.std.proofs.lemmas.Result.{on_ok_weaker}
 use Rattle.cd_model.specs.Canonical.{double_quoted}
 use Rattle.cd_elements.specs.Elements.{table}
-use Rattle.cd_elements.specs.Tasks.{part_in}
-use Rattle.cd_elements.specs.Rows.{sequence_rest}
+use Rattle.cd_elements.specs.Inner.Tasks.{part_in}
+use Rattle.cd_elements.specs.Inner.Rows.{sequence_rest}
 use Rattle.cd_elements.proofs.Letters.{letters_alone, not_all_letters}
 use Rattle.cd_elements.proofs.Writes.{begun, all_written}
 use Rattle.cd_elements.proofs.text.write_sequence.Goals as goal

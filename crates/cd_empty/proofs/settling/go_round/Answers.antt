@@ -2,7 +2,7 @@
 use Rattle.std.proofs.Common.{◌≡◌, [], sym, ℕ, ◌<◌, ◌≤◌, ◌+◌, ◌-◌, length, map, subst, rules, arith}
 use Rattle.std.proofs.lemmas.List.{append-nil}
 use Rattle.cd_elements.specs.Elements.{table}
-use Rattle.cd_empty.specs.Rounds.{IsSoFar}
+use Rattle.cd_empty.specs.Inner.Rounds.{IsSoFar}
 use Rattle.cd_empty.proofs.settling.go_round.Goals as goal
 use Rattle.cd_empty.proofs.GoingRound.{is_place, is_end, case_at, numbers_here, within_here, fit_here, round_at_start, round_at_end}
 use Rattle.cd_empty.proofs.GoingRound.{further_unmarked, further_on, so_far_on}

@@ -1,7 +1,7 @@
 -- The marks go further, and so far fewer questions are without one or nothing could be made.
 use Rattle.std.proofs.Common.{◌≤◌, length, map}
 use Rattle.cd_elements.specs.Elements.{table}
-use Rattle.cd_empty.specs.Rounds.{IsFurther, IsSoFar}
+use Rattle.cd_empty.specs.Inner.Rounds.{IsFurther, IsSoFar}
 use Rattle.cd_empty.proofs.settling.go_round.Given as goal
 
 abbrev pub invariant-loop-left : goal.invariant-loop-left

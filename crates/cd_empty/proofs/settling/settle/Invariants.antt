@@ -1,7 +1,7 @@
 -- Rounds lead further, and each leaves fewer questions without a mark.
 use Rattle.std.proofs.Common.{map}
 use Rattle.cd_elements.specs.Elements.{table}
-use Rattle.cd_empty.specs.Rounds.{IsFurther, count_unmarked}
+use Rattle.cd_empty.specs.Inner.Rounds.{IsFurther, count_unmarked}
 use Rattle.cd_empty.proofs.settling.settle.Given as goal
 
 abbrev pub invariant-rounds : goal.invariant-rounds

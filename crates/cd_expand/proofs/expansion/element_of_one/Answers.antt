@@ -1,4 +1,4 @@
-use Rattle.cd_expand.specs.Basic.{IsIn}
+use Rattle.cd_expand.specs.Inner.Basic.{IsIn}
 use Rattle.cd_expand.proofs.FirstOfList.{one_at}
 use Rattle.cd_expand.proofs.expansion.element_of_one.Goals as goal
 

@@ -1,7 +1,7 @@
 use Rattle.std.proofs.Common.{subst}
 use Rattle.cd_graph.specs.Nodes.{nodes}
-use Rattle.cd_model.specs.Each.{Each, One}
-use Rattle.cd_expand.specs.Basic.{IsNoSet, IsIn}
+use Rattle.cd_model.specs.AllOf.{AllOf, AnyOf}
+use Rattle.cd_expand.specs.Inner.Basic.{IsNoSet, IsIn}
 use Rattle.cd_expand.proofs.ClausesAsk.{added_asks, all_in_graph}
 use Rattle.cd_expand.proofs.Expanding.{are_told, element_told, needs_told, needs_cover}
 use Rattle.cd_expand.proofs.expansion.expand.Goals as goal
@@ -14,7 +14,7 @@ returns-in-Some-clause-exact c =
     let clauses = c.in_ok-clauses.clauses.items in
     let told = are_told graph question clauses c.in_ok-clauses.ensures.sound c.in_ok-clauses.ensures.complete in
     element_told graph question clauses told c.in-Some.shape
-    (subst (One (λ clause. IsIn clause c.in-Some.shape)) c.as_slice.ensures.value (rw c.in-Some.is at c.in_ok-shape.ensures))
+    (subst (AnyOf (λ clause. IsIn clause c.in-Some.shape)) c.as_slice.ensures.value (rw c.in-Some.is at c.in_ok-shape.ensures))
 
 -- the clauses are of the graph
 pub needs_of_each-requires : goal.needs_of_each-requires
@@ -53,7 +53,7 @@ returns-in_ok-needs-in-None-clause-exact c =
     let all = c.in_ok-needs-in-None.needs.items in
     let names = c.in_ok-needs-in-None.ensures.names in
     let told = are_told graph question clauses c.in_ok-clauses.ensures.sound c.in_ok-clauses.ensures.complete in
-    let none = subst (Each IsNoSet) c.as_slice.ensures.value (rw c.in-None.is at c.in_ok-shape.ensures) in (
+    let none = subst (AllOf IsNoSet) c.as_slice.ensures.value (rw c.in-None.is at c.in_ok-shape.ensures) in (
       needs_told graph c.len-sound.ensures.sound question clauses told asked all names,
       needs_cover graph question clauses told none asked all names,
     )

@@ -1,5 +1,5 @@
 use Rattle.cd_graph.specs.Nodes.{nodes}
-use Rattle.cd_expand.specs.Within.{StandsInGraph}
+use Rattle.cd_expand.specs.Inner.Within.{StandsInGraph}
 use Rattle.cd_expand.proofs.Adding.{adds_none}
 use Rattle.cd_expand.proofs.ClausesAsk.{reduced_adds}
 use Rattle.cd_expand.proofs.expansion.needs_of_one.Goals as goal

@@ -1,6 +1,6 @@
 use Rattle.std.proofs.Common.{subst}
 use Rattle.cd_rules.specs.Family.{AsksNodes}
-use Rattle.cd_expand.specs.Added.{Adds}
+use Rattle.cd_expand.specs.Inner.Added.{Adds}
 use Rattle.cd_expand.proofs.Adding.{adds_none, adds_one}
 use Rattle.cd_expand.proofs.numbering.number.Goals as goal
 

@@ -1,5 +1,5 @@
 use Rattle.std.proofs.Common.{ℕ}
-use Rattle.cd_model.specs.Each.{Each}
+use Rattle.cd_model.specs.AllOf.{AllOf}
 use Rattle.cd_rules.specs.Family.{AsksNodes}
 use Rattle.cd_rules.specs.Needs.{Way}
 use Rattle.cd_expand.specs.Named.{NamesWay}
@@ -9,7 +9,7 @@ use Rattle.cd_expand.proofs.numbering.number_need.Goals as goal
 
 -- what is asked where a way is numbered
 abbrev Asks : ℕ → Way → Type 0
-Asks nodes = Each (AsksNodes nodes)
+Asks nodes = AllOf (AsksNodes nodes)
 
 pub loop-way-init : goal.loop-way-init
 loop-way-init c =

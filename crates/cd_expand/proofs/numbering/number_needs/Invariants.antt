@@ -1,4 +1,4 @@
-use Rattle.cd_expand.specs.Numbered.{NeedAsks, NamesWays}
+use Rattle.cd_expand.specs.Inner.Numbered.{NeedAsks, NamesWays}
 use Rattle.cd_expand.proofs.SoFar.{SoFar}
 use Rattle.cd_expand.proofs.numbering.number_needs.Given as goal
 

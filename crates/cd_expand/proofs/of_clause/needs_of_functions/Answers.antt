@@ -3,7 +3,7 @@ use Rattle.std.specs.declared.alloc.Global.{Global}
 use Rattle.std.specs.declared.vec.Vec.{Vec}
 use Rattle.cd_sets.specs.declared.question.Questions.{Questions}
 use Rattle.cd_rules.specs.Needs.{arrow_way, splits}
-use Rattle.cd_expand.specs.OfClauses.{ArrowsAsk}
+use Rattle.cd_expand.specs.Inner.OfClauses.{ArrowsAsk}
 use Rattle.cd_expand.proofs.Adding.{adds_none}
 use Rattle.cd_expand.proofs.PlainNeeds.{needs_added, needs_named}
 use Rattle.cd_expand.proofs.of_clause.needs_of_functions.Goals as goal

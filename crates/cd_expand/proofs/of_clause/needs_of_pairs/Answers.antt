@@ -1,6 +1,6 @@
 use Rattle.std.proofs.Common.{◌∙◌, map}
 use Rattle.cd_rules.specs.Needs.{pair_way, splits}
-use Rattle.cd_expand.specs.OfClauses.{PairsAsk}
+use Rattle.cd_expand.specs.Inner.OfClauses.{PairsAsk}
 use Rattle.cd_expand.proofs.Adding.{adds_none}
 use Rattle.cd_expand.proofs.PlainNeeds.{need_added}
 use Rattle.cd_expand.proofs.of_clause.needs_of_pairs.Goals as goal

@@ -1,7 +1,7 @@
 use Rattle.std.proofs.Common.{ap, map, ◌∙◌}
 use Rattle.cd_rules.specs.Rows.{rows_of}
 use Rattle.cd_records.specs.RecordTypes.{record_types, plain_row}
-use Rattle.cd_expand.specs.OfClauses.{RecordsAsk}
+use Rattle.cd_expand.specs.Inner.OfClauses.{RecordsAsk}
 use Rattle.cd_expand.proofs.Adding.{adds_none}
 use Rattle.cd_expand.proofs.PlainNeeds.{rows_added, rows_named}
 use Rattle.cd_expand.proofs.of_clause.needs_of_records.Goals as goal

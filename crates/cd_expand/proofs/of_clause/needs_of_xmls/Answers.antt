@@ -1,6 +1,6 @@
 use Rattle.std.proofs.Common.{◌∙◌, map}
 use Rattle.cd_rules.specs.Needs.{xml_way, splits_in_three}
-use Rattle.cd_expand.specs.OfClauses.{XmlsAsk}
+use Rattle.cd_expand.specs.Inner.OfClauses.{XmlsAsk}
 use Rattle.cd_expand.proofs.Adding.{adds_none}
 use Rattle.cd_expand.proofs.PlainNeeds.{need_added}
 use Rattle.cd_expand.proofs.of_clause.needs_of_xmls.Goals as goal

@@ -1,4 +1,4 @@
-use Rattle.cd_expand.specs.Numbered.{FieldAsks}
+use Rattle.cd_expand.specs.Inner.Numbered.{FieldAsks}
 use Rattle.cd_expand.proofs.Adding.{adds_none}
 use Rattle.cd_expand.proofs.rows.number_cell.Goals as goal
 

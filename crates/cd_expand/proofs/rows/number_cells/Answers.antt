@@ -1,4 +1,4 @@
-use Rattle.cd_expand.specs.Numbered.{FieldAsks, NamesField}
+use Rattle.cd_expand.specs.Inner.Numbered.{FieldAsks, NamesField}
 use Rattle.cd_expand.proofs.Naming.{field_stays}
 use Rattle.cd_expand.proofs.SoFar.{none_so_far, more_added, one_more}
 use Rattle.cd_expand.proofs.rows.number_cells.Goals as goal

@@ -1,4 +1,4 @@
-use Rattle.cd_expand.specs.Numbered.{FieldAsks, NamesField}
+use Rattle.cd_expand.specs.Inner.Numbered.{FieldAsks, NamesField}
 use Rattle.cd_expand.proofs.SoFar.{SoFar}
 use Rattle.cd_expand.proofs.rows.number_cells.Given as goal
 

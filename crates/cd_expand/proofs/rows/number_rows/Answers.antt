@@ -1,4 +1,4 @@
-use Rattle.cd_expand.specs.Numbered.{RowAsks, NamesRowOf}
+use Rattle.cd_expand.specs.Inner.Numbered.{RowAsks, NamesRowOf}
 use Rattle.cd_expand.proofs.Naming.{row_of_stays}
 use Rattle.cd_expand.proofs.SoFar.{none_so_far, more_added, one_more}
 use Rattle.cd_expand.proofs.rows.number_rows.Goals as goal

@@ -1,4 +1,4 @@
-use Rattle.cd_expand.specs.Numbered.{RowAsks, NamesRowOf}
+use Rattle.cd_expand.specs.Inner.Numbered.{RowAsks, NamesRowOf}
 use Rattle.cd_expand.proofs.SoFar.{SoFar}
 use Rattle.cd_expand.proofs.rows.number_rows.Given as goal
 

@@ -1,5 +1,5 @@
 use Rattle.std.proofs.Common.{◌≡◌, [], map, drop}
-use Rattle.cd_members.specs.Shapes.{pairs_after}
+use Rattle.cd_members.specs.Inner.Shapes.{pairs_after}
 use Rattle.cd_members.proofs.function.function.Given as goal
 
 -- the pairs of what is left, after these, are those of all

@@ -1,5 +1,5 @@
 use Rattle.std.proofs.Common.{◌≡◌, drop}
-use Rattle.cd_members.specs.Living.{marks_after, marks_of}
+use Rattle.cd_members.specs.Inner.Living.{marks_after, marks_of}
 use Rattle.cd_members.proofs.living.all_of.Given as goal
 
 -- those of what is left, after these, are those of the way

@@ -1,5 +1,5 @@
 use Rattle.std.proofs.Common.{◌≡◌, drop}
-use Rattle.cd_members.specs.Living.{living}
+use Rattle.cd_members.specs.Inner.Living.{living}
 use Rattle.cd_members.proofs.living.living.Given as goal
 
 -- the first one is among what is left

@@ -1,5 +1,5 @@
 use Rattle.std.proofs.Common.{◌≡◌, [], drop}
-use Rattle.cd_members.specs.Shapes.{with_cells}
+use Rattle.cd_members.specs.Inner.Shapes.{with_cells}
 use Rattle.cd_members.proofs.record.of_cells.Given as goal
 
 -- those of what is left, put among these, are those of all

@@ -1,5 +1,5 @@
 use Rattle.std.proofs.Common.{◌≡◌, drop}
-use Rattle.cd_members.specs.Shapes.{parts_of_one}
+use Rattle.cd_members.specs.Inner.Shapes.{parts_of_one}
 use Rattle.cd_members.proofs.record.record.Given as goal
 
 -- the first one is among what is left

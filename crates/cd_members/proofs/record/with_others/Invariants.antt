@@ -1,5 +1,5 @@
 use Rattle.std.proofs.Common.{◌≡◌, drop}
-use Rattle.cd_members.specs.Shapes.{with_others}
+use Rattle.cd_members.specs.Inner.Shapes.{with_others}
 use Rattle.cd_members.proofs.record.with_others.Given as goal
 
 -- those of what is left, put among these from this label on, are those of all

@@ -1,5 +1,5 @@
 use Rattle.cd_syntax.specs.PlainTree.{plain_declarations}
-use Rattle.cd_names.specs.PlainFound.{plain_found}
+use Rattle.cd_names.specs.Inner.PlainFound.{plain_found}
 use Rattle.cd_names.proofs.Checking.{declared_ok, declared_err}
 use Rattle.cd_names.proofs.check.check_declarations.Goals as goal
 

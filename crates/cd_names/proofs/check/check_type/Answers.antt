@@ -1,5 +1,5 @@
 use Rattle.cd_syntax.specs.PlainTree.{plain, plain_declarations}
-use Rattle.cd_names.specs.PlainFound.{plain_found}
+use Rattle.cd_names.specs.Inner.PlainFound.{plain_found}
 use Rattle.cd_names.proofs.Checking.{type_ok, type_err}
 use Rattle.cd_names.proofs.check.check_type.Goals as goal
 

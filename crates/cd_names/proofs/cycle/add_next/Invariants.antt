@@ -1,6 +1,6 @@
 use Rattle.std.proofs.Common.{◌≡◌, map, drop}
-use Rattle.cd_names.specs.Cycles.{with_next}
-use Rattle.cd_names.specs.PlainFound.{plain_id, plain_link}
+use Rattle.cd_names.specs.Inner.Cycles.{with_next}
+use Rattle.cd_names.specs.Inner.PlainFound.{plain_id, plain_link}
 use Rattle.cd_names.proofs.cycle.add_next.Given as goal
 
 abbrev pub invariant-loop-link : goal.invariant-loop-link

@@ -1,6 +1,6 @@
 use Rattle.std.proofs.Common.{◌≡◌, map, drop}
-use Rattle.cd_names.specs.Cycles.{is_held}
-use Rattle.cd_names.specs.PlainFound.{plain_id}
+use Rattle.cd_names.specs.Inner.Cycles.{is_held}
+use Rattle.cd_names.specs.Inner.PlainFound.{plain_id}
 use Rattle.cd_names.proofs.cycle.holds.Given as goal
 
 abbrev pub invariant-loop-other : goal.invariant-loop-other

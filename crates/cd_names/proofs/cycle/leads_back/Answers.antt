@@ -1,5 +1,5 @@
 use Rattle.std.proofs.Common.{map, is_some, sym, ap, ◌∙◌}
-use Rattle.cd_names.specs.PlainFound.{plain_id, plain_link}
+use Rattle.cd_names.specs.Inner.PlainFound.{plain_id, plain_link}
 use Rattle.cd_names.proofs.Falling.{with_rank_not_cyclic}
 use Rattle.cd_names.proofs.cycle.leads_back.Goals as goal
 

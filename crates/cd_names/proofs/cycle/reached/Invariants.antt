@@ -1,6 +1,6 @@
 use Rattle.std.proofs.Common.{◌≡◌, map}
-use Rattle.cd_names.specs.Cycles.{reached_after}
-use Rattle.cd_names.specs.PlainFound.{plain_id, plain_link}
+use Rattle.cd_names.specs.Inner.Cycles.{reached_after}
+use Rattle.cd_names.specs.Inner.PlainFound.{plain_id, plain_link}
 use Rattle.cd_names.proofs.cycle.reached.Given as goal
 
 abbrev pub invariant-loop-index : goal.invariant-loop-index

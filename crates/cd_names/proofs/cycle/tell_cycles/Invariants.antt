@@ -1,6 +1,6 @@
 use Rattle.std.proofs.Common.{◌≡◌, map, drop}
-use Rattle.cd_names.specs.Cycles.{cycles_told}
-use Rattle.cd_names.specs.PlainFound.{plain_told, plain_link}
+use Rattle.cd_names.specs.Inner.Cycles.{cycles_told}
+use Rattle.cd_names.specs.Inner.PlainFound.{plain_told, plain_link}
 use Rattle.cd_names.proofs.cycle.tell_cycles.Given as goal
 
 abbrev pub invariant-loop-link : goal.invariant-loop-link

@@ -1,7 +1,7 @@
 use Rattle.std.proofs.Common.{◌≡◌, map, drop, None}
 use Rattle.std.specs.Option.{option_map}
-use Rattle.cd_names.specs.Cycles.{least_from}
-use Rattle.cd_names.specs.PlainFound.{plain_told}
+use Rattle.cd_names.specs.Inner.Cycles.{least_from}
+use Rattle.cd_names.specs.Inner.PlainFound.{plain_told}
 use Rattle.cd_names.proofs.least.least.Given as goal
 
 abbrev pub invariant-loop-fault : goal.invariant-loop-fault

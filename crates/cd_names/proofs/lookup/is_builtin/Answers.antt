@@ -1,5 +1,5 @@
 use Rattle.std.proofs.Common.{◌∙◌, ap}
-use Rattle.cd_names.specs.BuiltinNames.{is_among as is_one_of, is_builtin as is_builtin_name}
+use Rattle.cd_names.specs.Inner.BuiltinNames.{is_among as is_one_of, is_builtin as is_builtin_name}
 use Rattle.cd_names.proofs.lookup.is_builtin.Goals as goal
 
 pub returns : goal.returns

@@ -1,5 +1,5 @@
 use Rattle.std.proofs.Common.{◌≡◌, map, drop}
-use Rattle.cd_names.specs.BuiltinNames.{is_among as is_one_of}
+use Rattle.cd_names.specs.Inner.BuiltinNames.{is_among as is_one_of}
 use Rattle.cd_names.proofs.lookup.is_spelled_among.Given as goal
 
 abbrev pub invariant-loop-other : goal.invariant-loop-other

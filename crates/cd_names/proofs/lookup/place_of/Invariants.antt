@@ -1,6 +1,6 @@
 use Rattle.std.proofs.Common.{◌≡◌, drop}
-use Rattle.cd_names.specs.Walk.{place_of as place_in_frames}
-use Rattle.cd_names.specs.PlainFound.{plain_frames}
+use Rattle.cd_names.specs.Inner.Walk.{place_of as place_in_frames}
+use Rattle.cd_names.specs.Inner.PlainFound.{plain_frames}
 use Rattle.cd_names.proofs.lookup.place_of.Given as goal
 
 abbrev pub invariant-loop-frame : goal.invariant-loop-frame

@@ -1,8 +1,8 @@
 use Rattle.std.proofs.Common.{◌+◌, map, drop, sym, ◌∙◌, rules}
 use Rattle.cd_syntax.specs.TypeTree.{signs_of, fields_of, declarations_of}
 use Rattle.cd_syntax.specs.PlainTree.{plain, plain_signed, plain_field, plain_declaration}
-use Rattle.cd_names.specs.Walk.{innermost, walked_signs, walked_fields, walked_declared}
-use Rattle.cd_names.specs.PlainFound.{plain_frames, plain_start, plain_found}
+use Rattle.cd_names.specs.Inner.Walk.{innermost, walked_signs, walked_fields, walked_declared}
+use Rattle.cd_names.specs.Inner.PlainFound.{plain_frames, plain_start, plain_found}
 use Rattle.cd_names.proofs.Sizes.{trees_fall, signs_fall, fields_fall, declarations_fall, regulars_fall}
 use Rattle.cd_names.proofs.Declaring.{declared_more}
 use Rattle.cd_names.proofs.Views.{signed_tree, field_tree, declaration_is, at_item}

@@ -1,8 +1,8 @@
 use Rattle.std.proofs.Common.{◌≡◌, ◌+◌, [], map, drop, suc}
 use Rattle.cd_syntax.specs.TypeTree.{trees_of, signs_of, fields_of, declarations_of, regulars_of}
 use Rattle.cd_syntax.specs.PlainTree.{plain, plain_kind, plain_trees, plain_signed, plain_signs, plain_field, plain_fields, plain_declaration, plain_declarations, plain_regular, plain_regular_kind, plain_regulars}
-use Rattle.cd_names.specs.Walk.{innermost, walked_trees, walked_signs, walked_fields, walked_declared, walked_regulars}
-use Rattle.cd_names.specs.PlainFound.{plain_frames, plain_start, plain_found}
+use Rattle.cd_names.specs.Inner.Walk.{innermost, walked_trees, walked_signs, walked_fields, walked_declared, walked_regulars}
+use Rattle.cd_names.specs.Inner.PlainFound.{plain_frames, plain_start, plain_found}
 use Rattle.cd_names.proofs.Sizes.{size, size_kind, size_trees, size_signs, size_fields, size_declarations, size_regular, size_regular_kind, size_regulars}
 use Rattle.cd_names.proofs.walk.+walk.Given as goal
 

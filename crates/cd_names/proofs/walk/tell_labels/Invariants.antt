@@ -1,8 +1,8 @@
 use Rattle.std.proofs.Common.{◌≡◌, [], map, drop}
 use Rattle.cd_syntax.specs.TypeTree.{fields_of}
 use Rattle.cd_syntax.specs.PlainTree.{plain_field, plain_fields}
-use Rattle.cd_names.specs.Walk.{labelled}
-use Rattle.cd_names.specs.PlainFound.{plain_found}
+use Rattle.cd_names.specs.Inner.Walk.{labelled}
+use Rattle.cd_names.specs.Inner.PlainFound.{plain_found}
 use Rattle.cd_names.proofs.walk.tell_labels.Given as goal
 
 -- to go on from here gives what the whole gives from the start

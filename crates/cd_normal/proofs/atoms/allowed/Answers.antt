@@ -1,8 +1,8 @@
 use Rattle.std.proofs.Common.{◌&&◌, ap, sym, ◌∙◌, arith}
 use Rattle.cd_intervals.specs.Atoms as atoms
 use Rattle.cd_rules.specs.Clauses.{atoms_of}
-use Rattle.cd_normal.specs.PlainChoice.{plain_literal, plain_choice}
-use Rattle.cd_normal.specs.ClausesOfChoices.{in_part, in_parts}
+use Rattle.cd_normal.specs.Inner.PlainChoice.{plain_literal, plain_choice}
+use Rattle.cd_normal.specs.Inner.ClausesOfChoices.{in_part, in_parts}
 use Rattle.cd_normal.proofs.Lists.{from_item}
 use Rattle.cd_normal.proofs.atoms.allowed.Goals as goal
 

@@ -2,8 +2,8 @@ use Rattle.std.proofs.Common.{◌≡◌, ◌≤◌, drop, length}
 use Rattle.cd_intervals.specs.Atoms.{holds}
 use Rattle.cd_syntax.specs.Name.{Name}
 use Rattle.cd_rules.specs.Clauses.{atoms_of}
-use Rattle.cd_normal.specs.PlainChoice.{plain_choice}
-use Rattle.cd_normal.specs.ClausesOfChoices.{in_parts}
+use Rattle.cd_normal.specs.Inner.PlainChoice.{plain_choice}
+use Rattle.cd_normal.specs.Inner.ClausesOfChoices.{in_parts}
 use Rattle.cd_normal.proofs.atoms.allowed.Given as goal
 
 -- the set is what the literals from the index on allow

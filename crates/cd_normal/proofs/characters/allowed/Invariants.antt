@@ -2,8 +2,8 @@ use Rattle.std.proofs.Common.{◌≡◌, ◌≤◌, ℕ, drop, length}
 use Rattle.std.specs.Char.{IsScalar}
 use Rattle.cd_intervals.specs.Characters.{holds_character}
 use Rattle.cd_rules.specs.Clauses.{characters_of}
-use Rattle.cd_normal.specs.PlainChoice.{plain_choice}
-use Rattle.cd_normal.specs.ClausesOfChoices.{in_parts}
+use Rattle.cd_normal.specs.Inner.PlainChoice.{plain_choice}
+use Rattle.cd_normal.specs.Inner.ClausesOfChoices.{in_parts}
 use Rattle.cd_normal.proofs.characters.allowed.Given as goal
 
 -- the set is what the literals from the index on allow

@@ -1,7 +1,7 @@
 use Rattle.std.proofs.Common.{rules, ◌-◌, ◌∙◌, map, ap, arith}
 use Rattle.cd_model.specs.Formula.{formulas_of}
 use Rattle.cd_graph.specs.PlainFormula.{plain}
-use Rattle.cd_normal.specs.KeptChoices.{kept_of_each}
+use Rattle.cd_normal.specs.Inner.KeptChoices.{kept_of_each}
 use Rattle.cd_normal.proofs.Lists.{all_left}
 use Rattle.cd_normal.proofs.Sizes.{items_fall}
 use Rattle.cd_normal.proofs.choice.+choices.Goals as goal

@@ -1,8 +1,8 @@
 use Rattle.std.proofs.Common.{◌≡◌, ◌≤◌, map, drop, length}
 use Rattle.cd_model.specs.Formula.{formulas_of}
 use Rattle.cd_graph.specs.PlainFormula.{plain, plain_formulas}
-use Rattle.cd_normal.specs.PlainChoice.{plain_choices}
-use Rattle.cd_normal.specs.KeptChoices.{kept_of_each, kept_of_one}
+use Rattle.cd_normal.specs.Inner.PlainChoice.{plain_choices}
+use Rattle.cd_normal.specs.Inner.KeptChoices.{kept_of_each, kept_of_one}
 use Rattle.cd_normal.proofs.Sizes.{size, size_list}
 use Rattle.cd_normal.proofs.choice.+choices.Given as goal
 

@@ -1,7 +1,7 @@
 use Rattle.std.proofs.Common.{◌≡◌, ◌≤◌, drop, length}
 use Rattle.cd_graph.specs.Nodes.{nodes}
-use Rattle.cd_normal.specs.PlainChoice.{plain_choices}
-use Rattle.cd_normal.specs.KeptChoices.{kept_at}
+use Rattle.cd_normal.specs.Inner.PlainChoice.{plain_choices}
+use Rattle.cd_normal.specs.Inner.KeptChoices.{kept_at}
 use Rattle.cd_normal.proofs.choice.choices_at.Given as goal
 
 -- the choices are those of the nodes from the index on

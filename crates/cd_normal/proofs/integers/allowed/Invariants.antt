@@ -2,8 +2,8 @@ use Rattle.std.proofs.Common.{◌≡◌, ◌≤◌, ℤ, drop, length}
 use Rattle.cd_intervals.specs.Interval.{holds}
 use Rattle.cd_syntax.specs.Integer.{IsInteger}
 use Rattle.cd_rules.specs.Clauses.{integers_of}
-use Rattle.cd_normal.specs.PlainChoice.{plain_choice}
-use Rattle.cd_normal.specs.ClausesOfChoices.{in_parts}
+use Rattle.cd_normal.specs.Inner.PlainChoice.{plain_choice}
+use Rattle.cd_normal.specs.Inner.ClausesOfChoices.{in_parts}
 use Rattle.cd_normal.proofs.integers.allowed.Given as goal
 
 -- the set is what the literals from the index on allow

@@ -1,4 +1,4 @@
-use Rattle.cd_normal.specs.PlainChoice.{plain_choice}
+use Rattle.cd_normal.specs.Inner.PlainChoice.{plain_choice}
 use Rattle.cd_normal.specs.declared.clause.Clause.TheVariants as code
 use Rattle.cd_normal.proofs.HeldByParts.{integers_stand}
 use Rattle.cd_normal.proofs.integers.clause_of_integers.Goals as goal

@@ -1,6 +1,6 @@
 use Rattle.std.proofs.Common.{◌≡◌, ◌++◌, drop}
-use Rattle.cd_normal.specs.PlainChoice.{plain_choice, plain_choices}
-use Rattle.cd_normal.specs.KeptChoices.{kept_with}
+use Rattle.cd_normal.specs.Inner.PlainChoice.{plain_choice, plain_choices}
+use Rattle.cd_normal.specs.Inner.KeptChoices.{kept_with}
 use Rattle.cd_normal.proofs.joining.add_joined.Given as goal
 
 -- the choices so far, and those with the others that are left, are all

@@ -1,6 +1,6 @@
 use Rattle.std.proofs.Common.{◌≡◌, ◌++◌, drop}
-use Rattle.cd_normal.specs.PlainChoice.{plain_choices}
-use Rattle.cd_normal.specs.KeptChoices.{kept_joined}
+use Rattle.cd_normal.specs.Inner.PlainChoice.{plain_choices}
+use Rattle.cd_normal.specs.Inner.KeptChoices.{kept_joined}
 use Rattle.cd_normal.proofs.joining.joined.Given as goal
 
 -- the choices so far, and those of the choices that are left, are all

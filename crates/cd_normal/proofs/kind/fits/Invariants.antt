@@ -1,6 +1,6 @@
 use Rattle.std.proofs.Common.{◌≡◌, drop}
-use Rattle.cd_normal.specs.PlainChoice.{plain_choice}
-use Rattle.cd_normal.specs.KindsOfChoices.{fits}
+use Rattle.cd_normal.specs.Inner.PlainChoice.{plain_choice}
+use Rattle.cd_normal.specs.Inner.KindsOfChoices.{fits}
 use Rattle.cd_normal.proofs.kind.fits.Given as goal
 
 -- the choice is of the kind where the literals that are left are

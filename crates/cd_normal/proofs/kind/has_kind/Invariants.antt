@@ -1,6 +1,6 @@
 use Rattle.std.proofs.Common.{◌≡◌, drop}
-use Rattle.cd_normal.specs.PlainChoice.{plain_choice}
-use Rattle.cd_normal.specs.KindsOfChoices.{fits_one, has_kind}
+use Rattle.cd_normal.specs.Inner.PlainChoice.{plain_choice}
+use Rattle.cd_normal.specs.Inner.KindsOfChoices.{fits_one, has_kind}
 use Rattle.cd_normal.proofs.kind.has_kind.Given as goal
 
 -- the choice is of one of the kinds where it is of one of those that are left

@@ -1,8 +1,8 @@
 use Rattle.std.proofs.Common.{◌-◌, drop, ap, ◌∙◌, subst, arith}
 use Rattle.cd_graph.specs.Nodes.{nodes}
 use Rattle.cd_rules.specs.Clauses.{IsClauseOf}
-use Rattle.cd_normal.specs.PlainChoice.{plain_choice, plain_choices}
-use Rattle.cd_normal.specs.ClausesOfChoices.{Told}
+use Rattle.cd_normal.specs.Inner.PlainChoice.{plain_choice, plain_choices}
+use Rattle.cd_normal.specs.Inner.ClausesOfChoices.{Told}
 use Rattle.cd_normal.proofs.Lists.{from_item}
 use Rattle.cd_normal.proofs.Telling.{told_next}
 use Rattle.cd_normal.proofs.ToldOfQuestion.{told_of_all}

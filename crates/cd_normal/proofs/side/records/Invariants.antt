@@ -1,7 +1,7 @@
 use Rattle.std.proofs.Common.{◌≡◌, ◌++◌, drop, map}
 use Rattle.cd_rules.specs.Clauses.{parts_in, record_of}
 use Rattle.cd_normal.specs.Standing.{record_type}
-use Rattle.cd_normal.specs.PlainChoice.{plain_choice}
+use Rattle.cd_normal.specs.Inner.PlainChoice.{plain_choice}
 use Rattle.cd_normal.proofs.side.records.Given as goal
 
 -- the parts so far, and those of the literals that are left, are all

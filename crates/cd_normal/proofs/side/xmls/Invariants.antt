@@ -1,6 +1,6 @@
 use Rattle.std.proofs.Common.{◌≡◌, ◌++◌, drop}
 use Rattle.cd_rules.specs.Clauses.{parts_in, xml_of}
-use Rattle.cd_normal.specs.PlainChoice.{plain_choice}
+use Rattle.cd_normal.specs.Inner.PlainChoice.{plain_choice}
 use Rattle.cd_normal.proofs.side.xmls.Given as goal
 
 -- the parts so far, and those of the literals that are left, are all

@@ -1,8 +1,8 @@
 use Rattle.std.proofs.Common.{◌-◌, drop, get_or, ◌∙◌, arith}
 use Rattle.std.specs.Option.{option_to_list}
 use Rattle.cd_normal.specs.declared.kind.Kind.TheVariants.{Integer}
-use Rattle.cd_normal.specs.PlainChoice.{plain_choice}
-use Rattle.cd_normal.specs.ClausesOfChoices.{IsOfKind}
+use Rattle.cd_normal.specs.Inner.PlainChoice.{plain_choice}
+use Rattle.cd_normal.specs.Inner.ClausesOfChoices.{IsOfKind}
 use Rattle.cd_normal.proofs.Lists.{from_item_or, all_left}
 use Rattle.cd_normal.proofs.Telling.{told_next}
 use Rattle.cd_normal.proofs.ToldOfQuestion.{told_of_choice}

@@ -1,7 +1,7 @@
 use Rattle.std.proofs.Common.{◌≡◌, ◌++◌, [], ◌∷◌, map, drop}
 use Rattle.cd_rules.specs.Needs.{question}
 use Rattle.cd_rules.specs.Rows.{types_elsewhere}
-use Rattle.cd_records.specs.PlainReasons.{plain_reasons}
+use Rattle.cd_records.specs.Inner.PlainReasons.{plain_reasons}
 use Rattle.cd_records.proofs.split.somewhere.Given as goal
 
 -- the questions so far, and those of the types that are left, are all

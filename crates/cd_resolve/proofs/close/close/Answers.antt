@@ -7,7 +7,7 @@ use Rattle.cd_shapes.specs.Reading.{AreSound}
 use Rattle.cd_shapes.specs.PlainTables.{plain_tables}
 use Rattle.cd_shapes.specs.declared.tables.Tables.{Tables}
 use Rattle.cd_resolve.specs.declared.counts.Counts.{Counts}
-use Rattle.cd_resolve.specs.Making.{Counted}
+use Rattle.cd_resolve.specs.Inner.Making.{Counted}
 use Rattle.cd_resolve.proofs.Closed.{is_closed}
 use Rattle.cd_resolve.proofs.ClosedSequences.{leaves_counted, leaves_placed, leaves_end, AllClose, all_close}
 use Rattle.cd_resolve.proofs.close.close.Goals as goal

@@ -1,9 +1,9 @@
 use Rattle.std.proofs.Common.{◌≡◌, ◌+◌, ◌<◌, ℕ, List, map, length, sym, subst, ap, ◌∙◌, arith, Vec, Global}
 use Rattle.std.proofs.lemmas.List.{length-map}
-use Rattle.cd_model.specs.Each.{Each}
+use Rattle.cd_model.specs.AllOf.{AllOf}
 use Rattle.cd_order.specs.Order.{AreRows, Ends, IsOrder}
 use Rattle.cd_shapes.specs.PlainTables.{plain_tables}
-use Rattle.cd_resolve.specs.Links.{links}
+use Rattle.cd_resolve.specs.Inner.Links.{links}
 use Rattle.cd_resolve.proofs.Closed.{are_rows, links_length, counts_are, known_follows, known_each}
 use Rattle.cd_resolve.proofs.close.formulas_of.Goals as goal
 
@@ -33,9 +33,9 @@ order-requires-clause-ends c =
 -- numbers of an order are below the number of all
 known : (slice rows : List (Vec ℕ Global)) (all : List (List ℕ)) (order numbers_left : List ℕ) (size : ℕ)
     → numbers slice ≡ all → length all ≡ size → IsOrder (numbers slice) order → numbers_left ≡ order
-    → Each (λ number. number < size) numbers_left
+    → AllOf (λ number. number < size) numbers_left
 known slice rows all order numbers_left size same long is left =
-    subst (Each (λ number. number < size)) (sym left)
+    subst (AllOf (λ number. number < size)) (sym left)
     (known_each (λ number. number < size) order
     (known_follows (λ number. number < length (numbers slice)) (λ number. number < size)
     (λ number below. omega (arith, ap length same)) order is.known))

@@ -1,7 +1,7 @@
 use Rattle.std.proofs.Common.{◌≡◌, ◌++◌, map, drop}
 use Rattle.cd_graph.specs.Nodes.{nodes}
 use Rattle.cd_graph.specs.PlainFormula.{plain}
-use Rattle.cd_resolve.specs.Making.{so_far}
+use Rattle.cd_resolve.specs.Inner.Making.{so_far}
 use Rattle.cd_resolve.proofs.make.copies.Given as goal
 
 -- the copies so far and those of the places that are left are all

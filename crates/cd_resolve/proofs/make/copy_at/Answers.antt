@@ -4,7 +4,7 @@ use Rattle.cd_graph.specs.Nodes.{nodes}
 use Rattle.cd_graph.specs.PlainFormula.{plain}
 use Rattle.cd_shapes.specs.declared.place.Place.{Place}
 use Rattle.cd_shapes.specs.Reading.{IsPlace}
-use Rattle.cd_resolve.specs.Making.{so_far}
+use Rattle.cd_resolve.specs.Inner.Making.{so_far}
 use Rattle.cd_resolve.proofs.Filling.{formula_read}
 use Rattle.cd_resolve.proofs.make.copy_at.Goals as goal
 

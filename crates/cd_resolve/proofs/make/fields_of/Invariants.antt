@@ -1,6 +1,6 @@
 use Rattle.std.proofs.Common.{◌≡◌, ◌++◌, map, drop}
 use Rattle.cd_graph.specs.PlainFormula.{plain_named}
-use Rattle.cd_resolve.specs.Closing.{field_at, node_at}
+use Rattle.cd_resolve.specs.Inner.Closing.{field_at, node_at}
 use Rattle.cd_resolve.proofs.make.fields_of.Given as goal
 
 -- the fields so far and those that are left are all

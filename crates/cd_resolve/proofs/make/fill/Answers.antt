@@ -4,7 +4,7 @@ use Rattle.cd_graph.specs.Nodes.{nodes}
 use Rattle.cd_graph.specs.declared.formula.Formula.{Formula as CodeFormula}
 use Rattle.cd_graph.specs.PlainFormula.{plain}
 use Rattle.cd_shapes.specs.PlainTables.{plain_tables}
-use Rattle.cd_resolve.specs.Making.{items, of_number, filled}
+use Rattle.cd_resolve.specs.Inner.Making.{items, of_number, filled}
 use Rattle.cd_resolve.proofs.Filling.{one_step}
 use Rattle.cd_resolve.proofs.make.fill.Goals as goal
 

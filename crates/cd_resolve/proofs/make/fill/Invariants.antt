@@ -2,7 +2,7 @@ use Rattle.std.proofs.Common.{◌≡◌, ◌+◌, map, drop, length}
 use Rattle.cd_graph.specs.Nodes.{nodes}
 use Rattle.cd_graph.specs.PlainFormula.{plain}
 use Rattle.cd_shapes.specs.PlainTables.{plain_tables}
-use Rattle.cd_resolve.specs.Making.{items, filled}
+use Rattle.cd_resolve.specs.Inner.Making.{items, filled}
 use Rattle.cd_resolve.proofs.make.fill.Given as goal
 
 -- what is left of the order fills these formulas up to those that the whole makes

@@ -5,7 +5,7 @@ use Rattle.cd_graph.specs.Nodes.{nodes}
 use Rattle.cd_graph.specs.PlainFormula.{plain}
 use Rattle.cd_shapes.specs.Shape.{plain_shape}
 use Rattle.cd_shapes.specs.PlainTables.{plain_tables}
-use Rattle.cd_resolve.specs.Making.{IsPlaced, of_found}
+use Rattle.cd_resolve.specs.Inner.Making.{IsPlaced, of_found}
 use Rattle.cd_resolve.proofs.Places.{each_made, placed_shapes}
 use Rattle.cd_resolve.proofs.Filling.{root_at, shape_after, shape_read}
 use Rattle.cd_resolve.proofs.make.formula_of_number.Goals as goal

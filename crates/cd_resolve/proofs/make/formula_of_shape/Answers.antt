@@ -1,7 +1,7 @@
 use Rattle.std.proofs.Common.{◌≡◌, Bool, List, map, sym, subst, ap, ◌∙◌}
 use Rattle.std.proofs.lemmas.Result.{IfOk-weaker}
 use Rattle.cd_syntax.specs.Name.{Name}
-use Rattle.cd_model.specs.Each.{Each}
+use Rattle.cd_model.specs.AllOf.{AllOf}
 use Rattle.cd_model.specs.Formula as formula
 use Rattle.cd_model.specs.Formula.{Formula, formulas_of}
 use Rattle.cd_graph.specs.Nodes.{nodes}
@@ -11,8 +11,8 @@ use Rattle.cd_shapes.specs.declared.place.FieldPlace.{FieldPlace}
 use Rattle.cd_shapes.specs.declared.shape.Shape.{Shape}
 use Rattle.cd_shapes.specs.Shape.{plain_shape}
 use Rattle.cd_shapes.specs.Reading.{IsPlace}
-use Rattle.cd_resolve.specs.Closing.{node_at, field_at, signed, made}
-use Rattle.cd_resolve.specs.Making.{IsPlaced, so_far}
+use Rattle.cd_resolve.specs.Inner.Closing.{node_at, field_at, signed, made}
+use Rattle.cd_resolve.specs.Inner.Making.{IsPlaced, so_far}
 use Rattle.cd_resolve.proofs.make.formula_of_shape.Goals as goal
 
 pub returns-in-Record : goal.returns-in-Record
@@ -41,7 +41,7 @@ returns-in_ok-signed_copies-in-And c =
 pub signed_copies-requires-clause-signs : goal.signed_copies-requires-clause-signs
 signed_copies-requires-clause-signs c =
     let counts = c.args.counts in
-    subst (Each (λ (sign : Bool × Place). IsPlace counts.nodes counts.names counts.shapes sign.1))
+    subst (AllOf (λ (sign : Bool × Place). IsPlace counts.nodes counts.names counts.shapes sign.1))
     (sym c.as_slice-in-And.ensures.value)
     (subst (λ (shape : Shape). IsPlaced counts.nodes counts.names counts.shapes (plain_shape shape)) c.in-And.is
     c.requires.shape)

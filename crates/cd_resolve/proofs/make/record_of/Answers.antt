@@ -1,7 +1,7 @@
 use Rattle.std.proofs.Common.{None, List, sym, subst}
 use Rattle.cd_syntax.specs.Name.{Name}
 use Rattle.cd_model.specs.Formula.{AreRisingLabels, Field}
-use Rattle.cd_resolve.specs.Closing.{node_at}
+use Rattle.cd_resolve.specs.Inner.Closing.{node_at}
 use Rattle.cd_resolve.proofs.Places.{labels_rise}
 use Rattle.cd_resolve.proofs.make.record_of.Goals as goal
 

@@ -1,8 +1,8 @@
 use Rattle.std.proofs.Common.{◌≡◌, ◌++◌, map, drop}
 use Rattle.cd_graph.specs.Nodes.{nodes}
 use Rattle.cd_graph.specs.PlainFormula.{plain}
-use Rattle.cd_resolve.specs.Closing.{signed}
-use Rattle.cd_resolve.specs.Making.{so_far}
+use Rattle.cd_resolve.specs.Inner.Closing.{signed}
+use Rattle.cd_resolve.specs.Inner.Making.{so_far}
 use Rattle.cd_resolve.proofs.make.signed_copies.Given as goal
 
 -- the copies so far and those of the places that are left are all

@@ -1,19 +1,19 @@
 use Rattle.std.proofs.Common.{◌≡◌, ◌++◌, ℕ, List, map, sym, subst, ap, ◌∙◌, Vec, Global}
 use Rattle.std.proofs.lemmas.List.{map-append}
-use Rattle.cd_model.specs.Each.{Each}
+use Rattle.cd_model.specs.AllOf.{AllOf}
 use Rattle.cd_shapes.specs.declared.place.Place.{Place}
 use Rattle.cd_shapes.specs.declared.shape.Shape.{Shape}
 use Rattle.cd_shapes.specs.Shape.{plain_shape}
 use Rattle.cd_shapes.specs.PlainTables.{plain_tables}
-use Rattle.cd_resolve.specs.Links.{numbers_at, numbers_under}
-use Rattle.cd_resolve.specs.Making.{IsPlaced}
+use Rattle.cd_resolve.specs.Inner.Links.{numbers_at, numbers_under}
+use Rattle.cd_resolve.specs.Inner.Making.{IsPlaced}
 use Rattle.cd_resolve.proofs.Places.{placed_shapes}
 use Rattle.cd_resolve.proofs.rows.link_rows.Goals as goal
 
 pub shape_rows-requires-clause-shapes : goal.shape_rows-requires-clause-shapes
 shape_rows-requires-clause-shapes c =
     let counts = c.args.counts in
-    subst (λ (shapes : List Shape). Each (IsPlaced counts.nodes counts.names counts.shapes) (map plain_shape shapes))
+    subst (λ (shapes : List Shape). AllOf (IsPlaced counts.nodes counts.names counts.shapes) (map plain_shape shapes))
     (sym c.as_slice-2.ensures.value)
     (placed_shapes counts (plain_tables c.args.tables.now) c.requires.placed c.requires.counted)
 

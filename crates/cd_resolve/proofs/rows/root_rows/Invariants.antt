@@ -1,5 +1,5 @@
 use Rattle.std.proofs.Common.{◌≡◌, ◌++◌, map, drop}
-use Rattle.cd_resolve.specs.Links.{numbers_at}
+use Rattle.cd_resolve.specs.Inner.Links.{numbers_at}
 use Rattle.cd_resolve.proofs.rows.root_rows.Given as goal
 
 -- the rows so far and those of the names that are left are all

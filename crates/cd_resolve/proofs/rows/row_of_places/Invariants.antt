@@ -1,5 +1,5 @@
 use Rattle.std.proofs.Common.{◌≡◌, ◌++◌, drop}
-use Rattle.cd_resolve.specs.Links.{numbers_of}
+use Rattle.cd_resolve.specs.Inner.Links.{numbers_of}
 use Rattle.cd_resolve.proofs.rows.row_of_places.Given as goal
 
 -- the numbers so far and those of the places that are left are all

@@ -1,6 +1,6 @@
 use Rattle.std.proofs.Common.{arith}
 use Rattle.cd_shapes.specs.Shape.{plain_shape}
-use Rattle.cd_resolve.specs.Making.{IsPlaced}
+use Rattle.cd_resolve.specs.Inner.Making.{IsPlaced}
 use Rattle.cd_resolve.proofs.Places.{each_made}
 use Rattle.cd_resolve.proofs.rows.shape_rows.Goals as goal
 

@@ -1,6 +1,6 @@
 use Rattle.std.proofs.Common.{◌≡◌, ◌++◌, map, drop}
 use Rattle.cd_shapes.specs.Shape.{plain_shape}
-use Rattle.cd_resolve.specs.Links.{numbers_under}
+use Rattle.cd_resolve.specs.Inner.Links.{numbers_under}
 use Rattle.cd_resolve.proofs.rows.shape_rows.Given as goal
 
 -- the rows so far and those of the shapes that are left are all

@@ -4,8 +4,8 @@ use Rattle.cd_graph.specs.PlainFormula.{plain}
 use Rattle.cd_regex.specs.PlainRegular.{plain as plain_regular}
 use Rattle.cd_shapes.specs.declared.shape.Shape.{Shape}
 use Rattle.cd_shapes.specs.Shape.{Leaf, plain_shape}
-use Rattle.cd_resolve.specs.Batches.{HaveLeaves}
-use Rattle.cd_resolve.specs.Closing.{node_at}
+use Rattle.cd_resolve.specs.Inner.Batches.{HaveLeaves}
+use Rattle.cd_resolve.specs.Inner.Closing.{node_at}
 use Rattle.cd_resolve.proofs.LeafRows.{one_kept, one_leaf}
 use Rattle.cd_resolve.proofs.sequences.as_leaf.Goals as goal
 

@@ -1,5 +1,5 @@
 use Rattle.std.proofs.Common.{◌≡◌, ◌++◌, map, drop}
-use Rattle.cd_resolve.specs.Closing.{node_at}
+use Rattle.cd_resolve.specs.Inner.Closing.{node_at}
 use Rattle.cd_resolve.proofs.sequences.nodes_of.Given as goal
 
 -- the nodes so far and those of the places that are left are all

@@ -9,8 +9,8 @@ use Rattle.cd_shapes.specs.declared.shape.Shape.{Shape}
 use Rattle.cd_shapes.specs.Shape.{plain_shape}
 use Rattle.cd_shapes.specs.PlainTables.{plain_tables}
 use Rattle.cd_shapes.specs.Reading.{IsShape}
-use Rattle.cd_resolve.specs.Batches.{HaveLeaves, none}
-use Rattle.cd_resolve.specs.Closing.{node_at}
+use Rattle.cd_resolve.specs.Inner.Batches.{HaveLeaves, none}
+use Rattle.cd_resolve.specs.Inner.Closing.{node_at}
 use Rattle.cd_resolve.proofs.LeafRows.{one_more, next_has}
 use Rattle.cd_resolve.proofs.Places.{sound_shapes}
 use Rattle.cd_resolve.proofs.sequences.with_leaves.Goals as goal

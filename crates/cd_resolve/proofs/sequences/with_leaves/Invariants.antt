@@ -2,8 +2,8 @@ use Rattle.std.proofs.Common.{◌≡◌, ◌+◌, ◌++◌, map, length}
 use Rattle.std.specs.Vec.Iter.{into_iter_items, into_iter_len}
 use Rattle.cd_graph.specs.PlainFormula.{plain}
 use Rattle.cd_shapes.specs.Shape.{plain_shape}
-use Rattle.cd_resolve.specs.Batches.{HaveLeaves}
-use Rattle.cd_resolve.specs.Closing.{node_at}
+use Rattle.cd_resolve.specs.Inner.Batches.{HaveLeaves}
+use Rattle.cd_resolve.specs.Inner.Closing.{node_at}
 use Rattle.cd_resolve.proofs.sequences.with_leaves.Given as goal
 
 -- the shapes so far have their leaves

@@ -3,7 +3,7 @@ use Rattle.cd_syntax.specs.PlainTree.{plain_declarations}
 use Rattle.cd_graph.specs.PlainFormula.{plain_list}
 use Rattle.cd_model.specs.BuiltIns.{built_ins}
 use Rattle.cd_shapes.specs.PlainTables.{plain_tables}
-use Rattle.cd_resolve.specs.Closing.{AgreesWith}
+use Rattle.cd_resolve.specs.Inner.Closing.{AgreesWith}
 use Rattle.cd_resolve.specs.Named.{AreNamed}
 use Rattle.cd_resolve.proofs.Resolving.{declarations_end, declarations_stand, begins_agree}
 use Rattle.cd_resolve.proofs.types.resolve.Goals as goal

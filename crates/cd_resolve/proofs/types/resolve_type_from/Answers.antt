@@ -5,7 +5,7 @@ use Rattle.cd_graph.specs.PlainFormula.{plain_list}
 use Rattle.cd_graph.specs.Nodes.{nodes}
 use Rattle.cd_shapes.specs.Shape.{plain_shape}
 use Rattle.cd_shapes.specs.PlainTables.{plain_tables}
-use Rattle.cd_resolve.specs.Closing.{node_at}
+use Rattle.cd_resolve.specs.Inner.Closing.{node_at}
 use Rattle.cd_resolve.proofs.Resolving.{place_counted, type_ends, type_stands, begins_agree, begins_with}
 use Rattle.cd_resolve.proofs.types.resolve_type_from.Goals as goal
 

@@ -2,8 +2,8 @@ use Rattle.std.proofs.Common.{◌+◌, map, drop, sym, subst, ◌∙◌}
 use Rattle.cd_syntax.specs.TypeTree.{declarations_of}
 use Rattle.cd_syntax.specs.PlainTree.{plain, plain_declaration}
 use Rattle.cd_syntax.specs.WellMade.{IsWellMade, AreWellMadeDeclarations}
-use Rattle.cd_shapes.specs.Walk.{walked_declared}
-use Rattle.cd_shapes.specs.PlainState.{plain_frames, plain_state}
+use Rattle.cd_shapes.specs.Inner.Walk.{walked_declared}
+use Rattle.cd_shapes.specs.Inner.PlainState.{plain_frames, plain_state}
 use Rattle.cd_shapes.proofs.Steps.{declared_more}
 use Rattle.cd_shapes.proofs.Views.{declaration_is, at_item}
 use Rattle.cd_shapes.proofs.WellMadeItems.{declaration_made}

@@ -1,8 +1,8 @@
 use Rattle.std.proofs.Common.{◌≡◌, map, drop}
 use Rattle.cd_syntax.specs.TypeTree.{declarations_of}
 use Rattle.cd_syntax.specs.PlainTree.{plain_declaration, plain_declarations}
-use Rattle.cd_shapes.specs.Walk.{walked_declared}
-use Rattle.cd_shapes.specs.PlainState.{plain_frames, plain_state}
+use Rattle.cd_shapes.specs.Inner.Walk.{walked_declared}
+use Rattle.cd_shapes.specs.Inner.PlainState.{plain_frames, plain_state}
 use Rattle.cd_shapes.proofs.lists.walk_declared.Given as goal
 
 -- to go on from here gives what the whole gives from the start

@@ -1,8 +1,8 @@
 use Rattle.std.proofs.Common.{◌∙◌, sym, ap, subst, [], arith}
 use Rattle.std.proofs.lemmas.List.{length-map}
 use Rattle.std.specs.Option.{option_map}
-use Rattle.cd_shapes.specs.Walk.{Ran, none, walked_list}
-use Rattle.cd_shapes.specs.PlainState.{plain_frames, plain_state}
+use Rattle.cd_shapes.specs.Inner.Walk.{Ran, none, walked_list}
+use Rattle.cd_shapes.specs.Inner.PlainState.{plain_frames, plain_state}
 use Rattle.cd_shapes.proofs.Runs.{ran_next, ran_all, ran_to_end}
 use Rattle.cd_shapes.proofs.lists.walk_lists.Goals as goal
 use Rattle.cd_shapes.proofs.lists.walk_lists.Goals.{else-loop-list-test, then-loop-list-test+in_ok-frames+in_default}

@@ -1,6 +1,6 @@
 use Rattle.std.proofs.Common.{◌≤◌, length}
-use Rattle.cd_shapes.specs.Walk.{Ran}
-use Rattle.cd_shapes.specs.PlainState.{plain_state}
+use Rattle.cd_shapes.specs.Inner.Walk.{Ran}
+use Rattle.cd_shapes.specs.Inner.PlainState.{plain_state}
 use Rattle.cd_shapes.proofs.lists.walk_lists.Given as goal
 
 -- the first lists, so many, were walked over

@@ -1,6 +1,6 @@
 use Rattle.std.proofs.Common.{◌≡◌, drop}
 use Rattle.cd_shapes.specs.Frames.{place_of as place_in_frames}
-use Rattle.cd_shapes.specs.PlainState.{plain_frames}
+use Rattle.cd_shapes.specs.Inner.PlainState.{plain_frames}
 use Rattle.cd_shapes.proofs.lookup.place_of.Given as goal
 
 abbrev pub invariant-loop-frame : goal.invariant-loop-frame

@@ -1,7 +1,7 @@
 use Rattle.std.proofs.Common.{◌∙◌, sym, ap, subst, [], length}
 use Rattle.cd_syntax.specs.PlainTree.{plain}
-use Rattle.cd_shapes.specs.Walk.{Read, Ran, walked}
-use Rattle.cd_shapes.specs.PlainState.{plain_state}
+use Rattle.cd_shapes.specs.Inner.Walk.{Read, Ran, walked}
+use Rattle.cd_shapes.specs.Inner.PlainState.{plain_state}
 use Rattle.cd_shapes.proofs.read.ran_given.Goals as goal
 
 -- the walk over the tree begins with nothing, and the walk over the lists where it ends

@@ -1,5 +1,5 @@
 use Rattle.std.proofs.Common.{◌≡◌, ◌++◌, drop}
-use Rattle.cd_shapes.specs.PlainState.{plain_frames}
+use Rattle.cd_shapes.specs.Inner.PlainState.{plain_frames}
 use Rattle.cd_shapes.proofs.scope.add_all.Given as goal
 
 -- those that are there, and then those that are left, are all

@@ -1,7 +1,7 @@
 use Rattle.std.proofs.Common.{◌≡◌, ◌++◌, map, drop}
 use Rattle.cd_graph.specs.Nodes.{nodes}
 use Rattle.cd_graph.specs.PlainFormula.{plain}
-use Rattle.cd_graph.specs.Questions.{outside}
+use Rattle.cd_graph.specs.Inner.Questions.{outside}
 use Rattle.cd_graph.proofs.graph.Graph.complements.Given as goal
 
 -- the complements so far and those of the nodes that are left are all

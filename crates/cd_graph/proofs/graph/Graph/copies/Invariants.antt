@@ -1,7 +1,7 @@
 use Rattle.std.proofs.Common.{◌≡◌, ◌++◌, map, drop}
 use Rattle.cd_graph.specs.Nodes.{nodes}
 use Rattle.cd_graph.specs.PlainFormula.{plain}
-use Rattle.cd_graph.specs.Questions.{inside}
+use Rattle.cd_graph.specs.Inner.Questions.{inside}
 use Rattle.cd_graph.proofs.graph.Graph.copies.Given as goal
 
 -- the copies so far and those of the nodes that are left are all

@@ -1,6 +1,6 @@
 use Rattle.std.proofs.Common.{◌≡◌, map, drop}
-use Rattle.cd_names.specs.Ranks.{all_fall}
-use Rattle.cd_names.specs.PlainFound.{plain_link}
+use Rattle.cd_names.specs.Inner.Ranks.{all_fall}
+use Rattle.cd_names.specs.Inner.PlainFound.{plain_link}
 use Rattle.cd_names.proofs.ranks.Ranks.all_fall.Given as goal
 
 abbrev pub invariant-loop-link : goal.invariant-loop-link

@@ -1,5 +1,5 @@
 use Rattle.std.proofs.Common.{map}
-use Rattle.cd_names.specs.PlainFound.{plain_link}
+use Rattle.cd_names.specs.Inner.PlainFound.{plain_link}
 use Rattle.cd_names.proofs.Falling.{none_fall}
 use Rattle.cd_names.proofs.ranks.Ranks.of.Goals as goal
 

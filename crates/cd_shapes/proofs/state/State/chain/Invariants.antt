@@ -1,6 +1,6 @@
 use Rattle.std.proofs.Common.{◌≡◌, ◌<◌, length, drop}
-use Rattle.cd_shapes.specs.Walk.{chained}
-use Rattle.cd_shapes.specs.PlainState.{plain_joint, plain_state}
+use Rattle.cd_shapes.specs.Inner.Walk.{chained}
+use Rattle.cd_shapes.specs.Inner.PlainState.{plain_joint, plain_state}
 use Rattle.cd_shapes.proofs.state.State.chain.Given as goal
 
 -- the chain of the places from the index on is made

@@ -2,7 +2,7 @@ use Rattle.std.proofs.Common.{◌∙◌, ◌+◌, sym, ap, map, ◌∷◌, [], �
 use Rattle.std.proofs.lemmas.List.{map_push, length-map}
 use Rattle.cd_syntax.specs.PlainTree.{plain_declaration}
 use Rattle.cd_shapes.specs.Frames.{number_in}
-use Rattle.cd_shapes.specs.PlainState.{plain_frames}
+use Rattle.cd_shapes.specs.Inner.PlainState.{plain_frames}
 use Rattle.cd_shapes.proofs.Counting.{number_is}
 use Rattle.cd_shapes.proofs.States.{same_state}
 use Rattle.cd_shapes.proofs.state.State.enter.Goals as goal

@@ -1,6 +1,6 @@
 use Rattle.std.proofs.Common.{◌≡◌, ◌≤◌, length, drop}
-use Rattle.cd_shapes.specs.Walk.{walked_text}
-use Rattle.cd_shapes.specs.PlainState.{plain_state}
+use Rattle.cd_shapes.specs.Inner.Walk.{walked_text}
+use Rattle.cd_shapes.specs.Inner.PlainState.{plain_state}
 use Rattle.cd_shapes.proofs.state.State.text.Given as goal
 
 -- the text of the characters from the index on is made

@@ -1,0 +1,27 @@
+-- What the code makes of words.
+use Rattle.std.specs.Prelude.{◌≡◌, ℕ, List}
+use Rattle.cd_driver.specs.declared.request.Request.{Request}
+use Rattle.cd_driver.specs.declared.request.Request.TheVariants.{Sub as AsksSub}
+use Rattle.cd_driver.specs.declared.request.Request.TheVariants.{SubTypes as AsksSubTypes}
+use Rattle.cd_driver.specs.declared.request.Request.TheVariants.{NotBuilt as AsksNotBuilt}
+use Rattle.cd_driver.specs.Command.{Bytes, Command, Sub, SubTypes, IsNumeral, IsSize, Give, name_of}
+use Rattle.cd_driver.specs.Answer.{CommandIsNotBuilt}
+
+-- the words give a command with this first word that isn't built
+abbrev pub GiveNotBuilt : List Bytes → Bytes → Type 0
+GiveNotBuilt words name = (command : Command) × Give words command × CommandIsNotBuilt command
+    × (name ≡ name_of command)
+
+-- the words give the command that the request stands for
+abbrev pub StandsFor : List Bytes → Request → Type 0
+StandsFor words (AsksSub first second) = Give words (Sub first.now second.now)
+StandsFor words (AsksSubTypes file first second) =
+    Give words (SubTypes file.now first.now second.now)
+StandsFor words (AsksNotBuilt name) = GiveNotBuilt words name.now
+
+-- the word is a number of units, or a size
+abbrev pub WritesUnits : Bytes → Type 0
+WritesUnits word = (units : ℕ) × IsNumeral 18 word units
+
+abbrev pub WritesSize : Bytes → Type 0
+WritesSize word = (size : ℕ) × IsSize word size
