@@ -1,11 +1,11 @@
 -- Where no element and no value is in one node and outside another, each that is in the one is in the other.
-use Rattle.std.proofs.Common.{◌≡◌, ℕ, true, false, List, [], ◌∷◌, ◌++◌, ◌⊎◌, inl, inr, refl, subst}
+use Rattle.std.proofs.Common.{◌≡◌, true, false, List, [], ◌∷◌, ◌++◌, ◌⊎◌, inl, inr, refl, subst}
 use Rattle.cd_sets.specs.declared.node_id.NodeId.{NodeId}
 use Rattle.cd_sets.specs.declared.question.Question.{Question}
-use Rattle.cd_model.specs.Thing.{Thing, IsElement, IsValue}
+use Rattle.cd_model.specs.Thing.{Thing, IsElement}
 use Rattle.cd_model.specs.BuiltIns.{built_ins}
-use Rattle.cd_model.specs.Formula.{Graph, IsGraph}
-use Rattle.cd_model.specs.Interfaces.{ArrowOf, OfNodes}
+use Rattle.cd_model.specs.Formula.{Graph}
+use Rattle.cd_model.specs.Interfaces.{OfNodes}
 use Rattle.cd_model.specs.Membership.{Answers, answers, value_answers, asked}
 use Rattle.cd_model.proofs.DecidedAtNodes.{in_or_outside}
 use Rattle.cd_rules.specs.Needs.{question}

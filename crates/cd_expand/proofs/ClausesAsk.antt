@@ -1,5 +1,5 @@
 -- What the clauses of a question need asks nodes of the graph.
-use Rattle.std.proofs.Common.{◌≡◌, ℕ, ◌≤◌, List, ◌++◌, length, sym, ap, ◌∙◌, subst, arith, length-append}
+use Rattle.std.proofs.Common.{◌≡◌, ℕ, ◌≤◌, List, ◌++◌, length, sym, subst}
 use Rattle.cd_sets.specs.declared.question.Question.{Question}
 use Rattle.cd_model.specs.BuiltIns.{built_ins}
 use Rattle.cd_model.specs.AllOf.{AllOf}
@@ -17,6 +17,7 @@ use Rattle.cd_expand.specs.Inner.Within.{StandsInGraph}
 use Rattle.cd_rules.specs.Within.{IsWithin}
 use Rattle.cd_expand.proofs.Adding.{adds_for}
 use Rattle.cd_expand.proofs.Expanding.{IsToldOf, AreTold}
+use Rattle.cd_rules.proofs.NumbersBeyond.{has_built_ins}
 use Rattle.cd_rules.proofs.PartsAsk.{clause_is_within, pair_ways_ask, xml_ways_ask, arrow_ways_ask, rows_ask}
 use Rattle.cd_expand.proofs.Reducing.{AreReduced, kept_in_graph}
 
@@ -55,10 +56,7 @@ pub all_in_graph : (graph : Graph) → IsGraph graph → (more : Graph) × (grap
     → (clauses : List Clause) → AreTold graph question clauses
     → AllOf (StandsInGraph (length graph)) clauses
 all_in_graph graph sound begins question clauses told = each_weaker (IsToldOf graph question) (StandsInGraph (length graph))
-    (λ clause of. (least, of.0, of.2, clause_is_within graph sound question of.0 of.1)) clauses told.sound
-  where
-    least : 14 ≤ length graph
-    least = let long = ap length begins.1 ∙ length-append built_ins begins.0 in omega arith
+    (λ clause of. (has_built_ins graph begins.0 begins.1, of.0, of.2, clause_is_within graph sound question of.0 of.1)) clauses told.sound
 
 -- and so each question that is added asks nodes of the graph
 pub added_asks : (graph : Graph) → IsGraph graph → (more : Graph) × (graph ≡ built_ins ++ more) → (question : Question)

@@ -246,7 +246,7 @@ module _ {X : Type 0} (has : X → Type 0) where
 
 module _ (nodes : ℕ) where
   -- a node among so many
-  abbrev IsBelow : NodeId → Type 0
+  abbrev pub IsBelow : NodeId → Type 0
   IsBelow id = id.0 < nodes
 
   -- a question of nodes below asks them
@@ -259,11 +259,11 @@ module _ (nodes : ℕ) where
   parts_below part has leads xs each = each_of_map part IsBelow xs (each_weaker has (λ x. IsBelow (part x)) leads xs each)
 
   -- the first parts of pairs
-  firsts_below : (pairs : List Pair) → AllOf (IsPairWithin nodes) pairs → AllOf IsBelow (map (λ parts. parts.0) pairs)
+  pub firsts_below : (pairs : List Pair) → AllOf (IsPairWithin nodes) pairs → AllOf IsBelow (map (λ parts. parts.0) pairs)
   firsts_below = parts_below (λ (parts : Pair). parts.0) (IsPairWithin nodes) (λ parts both. both.0)
 
   -- the second parts of pairs
-  seconds_below : (pairs : List Pair) → AllOf (IsPairWithin nodes) pairs → AllOf IsBelow (map (λ parts. parts.1) pairs)
+  pub seconds_below : (pairs : List Pair) → AllOf (IsPairWithin nodes) pairs → AllOf IsBelow (map (λ parts. parts.1) pairs)
   seconds_below = parts_below (λ (parts : Pair). parts.1) (IsPairWithin nodes) (λ parts both. both.1)
 
   -- the way of a clause of pairs, for what its parts are given
@@ -280,15 +280,15 @@ module _ (nodes : ℕ) where
   )
 
   -- the tags of XML elements
-  tags_below : (xmls : List Triple) → AllOf (IsXmlWithin nodes) xmls → AllOf IsBelow (map (λ parts. parts.0) xmls)
+  pub tags_below : (xmls : List Triple) → AllOf (IsXmlWithin nodes) xmls → AllOf IsBelow (map (λ parts. parts.0) xmls)
   tags_below = parts_below (λ (parts : Triple). parts.0) (IsXmlWithin nodes) (λ parts all. all.0)
 
   -- their attributes
-  attributes_below : (xmls : List Triple) → AllOf (IsXmlWithin nodes) xmls → AllOf IsBelow (map (λ parts. parts.1) xmls)
+  pub attributes_below : (xmls : List Triple) → AllOf (IsXmlWithin nodes) xmls → AllOf IsBelow (map (λ parts. parts.1) xmls)
   attributes_below = parts_below (λ (parts : Triple). parts.1) (IsXmlWithin nodes) (λ parts all. all.1)
 
   -- their content
-  contents_below : (xmls : List Triple) → AllOf (IsXmlWithin nodes) xmls → AllOf IsBelow (map (λ parts. parts.2) xmls)
+  pub contents_below : (xmls : List Triple) → AllOf (IsXmlWithin nodes) xmls → AllOf IsBelow (map (λ parts. parts.2) xmls)
   contents_below = parts_below (λ (parts : Triple). parts.2) (IsXmlWithin nodes) (λ parts all. all.2)
 
   -- the way of a clause of XML elements; it asks for an atom and for a record besides

@@ -5,7 +5,9 @@ use Rattle.cd_graph.specs.Nodes.{nodes}
 use Rattle.cd_apart.specs.Inner.Emptiness.{IsEmpty, ArePairsApart, AreXmlsApart}
 use Rattle.cd_apart.proofs.Emptying.{empty_by_pairs, empty_by_xmls}
 use Rattle.cd_apart.proofs.HeldByOne.{apart_by_clauses}
-use Rattle.cd_apart.proofs.PartsBelow.{IsBelow, firsts_below, seconds_below, tags_below, attributes_below, contents_below, built_ins_below}
+use Rattle.cd_rules.proofs.NumbersBeyond.{has_built_ins}
+use Rattle.cd_rules.proofs.PartsAsk.{IsBelow}
+use Rattle.cd_apart.proofs.PartsBelow.{firsts_below, seconds_below, tags_below, attributes_below, contents_below}
 use Rattle.cd_apart.proofs.SeenEmpty.{if_true, empty_where}
 use Rattle.cd_apart.proofs.apart.+apart.Goals as goal
 
@@ -35,7 +37,7 @@ are_pairs_apart-are_apart-requires-2 t c =
 pub are_xmls_apart-are_apart-requires : goal.are_xmls_apart-are_apart-requires
 are_xmls_apart-are_apart-requires t c =
     let below : AllOf (IsBelow (length (nodes c.args.graph.now))) c.as_slice.result.now =
-    tags_below (length (nodes c.args.graph.now)) (built_ins_below (nodes c.args.graph.now) c.len-built_in.ensures.built_in)
+    tags_below (length (nodes c.args.graph.now)) (has_built_ins (nodes c.args.graph.now) c.len-built_in.ensures.built_in.0 c.len-built_in.ensures.built_in.1)
     c.args.xmls.now c.requires c.as_slice.result.now (c.as_slice.ensures.value ∙ c.in_ok-tags.ensures) in
     search (rules, below, c.decreases)
 
@@ -49,7 +51,7 @@ are_xmls_apart-are_apart-requires-2 t c =
 pub are_xmls_apart-are_apart-requires-3 : goal.are_xmls_apart-are_apart-requires-3
 are_xmls_apart-are_apart-requires-3 t c =
     let below : AllOf (IsBelow (length (nodes c.args.graph.now))) c.as_slice-3.result.now =
-    attributes_below (length (nodes c.args.graph.now)) (built_ins_below (nodes c.args.graph.now) c.len-built_in.ensures.built_in)
+    attributes_below (length (nodes c.args.graph.now)) (has_built_ins (nodes c.args.graph.now) c.len-built_in.ensures.built_in.0 c.len-built_in.ensures.built_in.1)
     c.args.xmls.now c.requires c.as_slice-3.result.now (c.as_slice-3.ensures.value ∙ c.in_ok-attributes.ensures) in
     search (rules, below, c.decreases)
 

@@ -16,7 +16,7 @@ resolve_type-requires g c =
     let declared = c.requires.1.0 in
     let sound = c.requires.1.1.1 in
     let graph = nodes c.graph.result.now in
-    let named = subst (λ graph. AreNamed graph g.list c.args.names.now) (sym c.graph.ensures) c.requires.1.1.0 in (
+    let named = subst (λ graph. AreNamed graph g.list c.args.names.now) (sym c.graph.ensures.graph) c.requires.1.1.0 in (
       sound.well_made,
       (
         declared.sound,
@@ -35,5 +35,5 @@ pub returns-clause-graph : goal.returns-clause-graph
 returns-clause-graph g c =
     let old = graph_of c.args.world.now in
     let batch = plain_list c.in_ok-batch.batch.formulas in
-    let are = subst (λ graph. AllOf (IsFormula (length graph + length batch)) batch) c.graph.ensures c.in_ok-batch.ensures.formulas in
+    let are = subst (λ graph. AllOf (IsFormula (length graph + length batch)) batch) c.graph.ensures.graph c.in_ok-batch.ensures.formulas in
     subst IsGraph (sym c.in_ok-extend.ensures.added) (longer_graph old batch c.requires.0 are)
