@@ -2,17 +2,17 @@
 use Rattle.std.proofs.Common.{◌≡◌, ℕ, zero, suc, ◌<◌, ◌⊎◌, inl, inr, List, [], ◌∷◌, ◌++◌, length, Some, None, sym, subst, take, append_assoc, arith}
 use Rattle.std.proofs.lemmas.List.{append-nil}
 use Rattle.std.specs.List.{slice_get}
-use Rattle.cd_order.specs.Order.{Each, IsOneOf, row, ComeAfter}
+use Rattle.cd_order.specs.Order.{AllOf, IsOneOf, row, ComeAfter}
 
 -- what holds of each of a list holds of one of it
-pub each_at : (Fact : ℕ → Type 0) (list : List ℕ) (number : ℕ) → Each Fact list → IsOneOf number list → Fact number
+pub each_at : (Fact : ℕ → Type 0) (list : List ℕ) (number : ℕ) → AllOf Fact list → IsOneOf number list → Fact number
 each_at Fact [] number each is = elim is [ ]
 each_at Fact (other ∷ rest) number each (inl same) = subst Fact same each.0
 each_at Fact (other ∷ rest) number each (inr on) = each_at Fact rest number each.1 on
 
 -- a fact that follows from that of each
-pub each_weaker : (Fact Other : ℕ → Type 0) (list : List ℕ) → ((number : ℕ) → Fact number → Other number) → Each Fact list
-    → Each Other list
+pub each_weaker : (Fact Other : ℕ → Type 0) (list : List ℕ) → ((number : ℕ) → Fact number → Other number) → AllOf Fact list
+    → AllOf Other list
 each_weaker Fact Other [] weaker each = tt
 each_weaker Fact Other (number ∷ rest) weaker each = (
   weaker number each.0,
@@ -20,14 +20,14 @@ each_weaker Fact Other (number ∷ rest) weaker each = (
 )
 
 -- of each of a list and of one more
-pub each_more : (Fact : ℕ → Type 0) (list : List ℕ) (number : ℕ) → Each Fact list → Fact number
-    → Each Fact (list ++ number ∷ [])
+pub each_more : (Fact : ℕ → Type 0) (list : List ℕ) (number : ℕ) → AllOf Fact list → Fact number
+    → AllOf Fact (list ++ number ∷ [])
 each_more Fact [] number each fact = (fact, tt)
 each_more Fact (other ∷ rest) number each fact = (each.0, each_more Fact rest number each.1 fact)
 
 -- of each at the front, and of the next
 pub each_taken : (Fact : ℕ → Type 0) (list : List ℕ) (place number : ℕ) → slice_get list place ≡ Some number
-    → Each Fact (take place list) → Fact number → Each Fact (take (suc place) list)
+    → AllOf Fact (take place list) → Fact number → AllOf Fact (take (suc place) list)
 each_taken Fact [] place number at each fact = absurd cc
 each_taken Fact (other ∷ rest) zero number at each fact = let same : number ≡ other = cc in (subst Fact same fact, tt)
 each_taken Fact (other ∷ rest) (suc place) number at each fact = (
@@ -37,7 +37,7 @@ each_taken Fact (other ∷ rest) (suc place) number at each fact = (
 
 -- of each at the front, where that is all
 pub each_to_end : (Fact : ℕ → Type 0) (list : List ℕ) (place : ℕ) → slice_get list place ≡ None
-    → Each Fact (take place list) → Each Fact list
+    → AllOf Fact (take place list) → AllOf Fact list
 each_to_end Fact [] place at each = tt
 each_to_end Fact (other ∷ rest) zero at each = absurd cc
 each_to_end Fact (other ∷ rest) (suc place) at each = (each.0, each_to_end Fact rest place at each.1)
@@ -79,7 +79,7 @@ one_of_more (other ∷ rest) last number (inr on) = by (one_of_more rest last nu
 
 -- a new number comes after the others, where those that it leads to are among them
 pub come_after_more : (links : List (List ℕ)) (before order : List ℕ) (number : ℕ) → ComeAfter links before order
-    → (IsOneOf number (before ++ order) → ⊥) → Each (λ next. IsOneOf next (before ++ order)) (row links number)
+    → (IsOneOf number (before ++ order) → ⊥) → AllOf (λ next. IsOneOf next (before ++ order)) (row links number)
     → ComeAfter links before (order ++ number ∷ [])
 come_after_more links before [] number after new each = (
   rw append-nil at new,
@@ -92,5 +92,5 @@ come_after_more links before (first ∷ rest) number after new each =
       after.1,
       come_after_more links (before ++ first ∷ []) rest number after.2
           (subst (λ (all : List ℕ). IsOneOf number all → ⊥) (sym same) new)
-          (subst (λ (all : List ℕ). Each (λ next. IsOneOf next all) (row links number)) (sym same) each),
+          (subst (λ (all : List ℕ). AllOf (λ next. IsOneOf next all) (row links number)) (sym same) each),
     )

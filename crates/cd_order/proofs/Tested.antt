@@ -2,12 +2,12 @@
 use Rattle.std.proofs.Common.{◌≡◌, ℕ, zero, suc, ◌<◌, ◌⊎◌, inl, inr, Bool, true, List, [], ◌∷◌, length, arith}
 use Rattle.std.specs.Prelude.{nat_lt}
 use Rattle.std.proofs.lemmas.Bool.{and_parts, ltb-true}
-use Rattle.cd_order.specs.Order.{Each, row, AreRows, IsShort, Ends}
+use Rattle.cd_order.specs.Order.{AllOf, row, AreRows, IsShort, Ends}
 use Rattle.cd_order.specs.Inner.Tested.{all_of, are_rows, is_short, are_short, can_be_ordered}
 
 -- what a test shows of each, where each passes it
 each_of : (test : ℕ → Bool) (Fact : ℕ → Type 0) (list : List ℕ) → ((number : ℕ) → test number ≡ true → Fact number)
-    → all_of test list ≡ true → Each Fact list
+    → all_of test list ≡ true → AllOf Fact list
 each_of test Fact [] shows is = tt
 each_of test Fact (number ∷ rest) shows is =
     let both = and_parts (test number) (all_of test rest) is in
@@ -15,7 +15,7 @@ each_of test Fact (number ∷ rest) shows is =
 
 -- each row has what all rows were tested for
 rows_are : (count : ℕ) (links : List (List ℕ)) → are_rows count links ≡ true → (number : ℕ)
-    → Each (λ next. next < count) (row links number)
+    → AllOf (λ next. next < count) (row links number)
 rows_are count [] is number = tt
 rows_are count (one ∷ rest) is zero =
     each_of (λ next. nat_lt next count) (λ next. next < count) one (λ next less. ltb-true next count less)

@@ -5,9 +5,9 @@ use Rattle.std.specs.List.{slice_get}
 use Rattle.std.specs.Option.{unwrap_or}
 
 -- a fact of each of a list, and of one of it
-abbrev pub Each : (ℕ → Type 0) → List ℕ → Type 0
-Each Fact [] = Unit {0}
-Each Fact (number ∷ rest) = Fact number × Each Fact rest
+abbrev pub AllOf : (ℕ → Type 0) → List ℕ → Type 0
+AllOf Fact [] = Unit {0}
+AllOf Fact (number ∷ rest) = Fact number × AllOf Fact rest
 
 abbrev pub IsOneOf : ℕ → List ℕ → Type 0
 IsOneOf number [] = ⊥
@@ -19,12 +19,12 @@ row links number = unwrap_or (slice_get links number) []
 
 -- each number that is led to has a row
 abbrev pub AreRows : List (List ℕ) → Type 0
-AreRows links = (number : ℕ) → Each (λ next. next < length links) (row links number)
+AreRows links = (number : ℕ) → AllOf (λ next. next < length links) (row links number)
 
 -- no way from a number is as long as this, counted in numbers
 abbrev pub IsShort : List (List ℕ) → (most : ℕ) → ℕ → Type 0
 IsShort links zero number = ⊥
-IsShort links (suc most) number = Each (IsShort links most) (row links number)
+IsShort links (suc most) number = AllOf (IsShort links most) (row links number)
 
 -- all ways from a number end
 abbrev pub Ends : List (List ℕ) → ℕ → Type 0
@@ -34,11 +34,11 @@ Ends links number = (most : ℕ) × IsShort links most number
 abbrev pub ComeAfter : List (List ℕ) → (before order : List ℕ) → Type 0
 ComeAfter links before [] = Unit {0}
 ComeAfter links before (number ∷ rest) = (IsOneOf number before → ⊥)
-    × Each (λ next. IsOneOf next before) (row links number)
+    × AllOf (λ next. IsOneOf next before) (row links number)
     × ComeAfter links (before ++ number ∷ []) rest
 
 -- an order of all numbers that have rows
 pub record IsOrder (links : List (List ℕ)) (order : List ℕ) : Type 0 where
-  pub known : Each (λ number. number < length links) order
+  pub known : AllOf (λ number. number < length links) order
   pub all : (number : ℕ) → number < length links → IsOneOf number order
   pub after : ComeAfter links [] order

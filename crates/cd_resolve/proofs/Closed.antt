@@ -23,42 +23,42 @@ use Rattle.cd_resolve.proofs.SoundParts.{IsItem, items_placed, LeafIn, items_in,
 use Rattle.cd_resolve.proofs.Settling.{Under, made_same, numbers_in, rows_are_links, all_settled, filled_length}
 
 -- a fact of each of both is one of each
-each_of_both : (fact : ℕ → Type 0) (first later : List ℕ) → order.Each fact first → order.Each fact later
-    → order.Each fact (first ++ later)
+each_of_both : (fact : ℕ → Type 0) (first later : List ℕ) → order.AllOf fact first → order.AllOf fact later
+    → order.AllOf fact (first ++ later)
 each_of_both fact [] later each more = more
 each_of_both fact (one ∷ first) later each more = (each.0, each_of_both fact first later each.1 more)
 
-pub known_follows : (fact other : ℕ → Type 0) → ((one : ℕ) → fact one → other one) → (list : List ℕ) → order.Each fact list
-    → order.Each other list
+pub known_follows : (fact other : ℕ → Type 0) → ((one : ℕ) → fact one → other one) → (list : List ℕ) → order.AllOf fact list
+    → order.AllOf other list
 known_follows fact other follows [] each = tt
 known_follows fact other follows (one ∷ rest) each = (follows one each.0, known_follows fact other follows rest each.1)
 
 -- the same of numbers in the words of the model
-pub known_each : (fact : ℕ → Type 0) (list : List ℕ) → order.Each fact list → AllOf fact list
+pub known_each : (fact : ℕ → Type 0) (list : List ℕ) → order.AllOf fact list → AllOf fact list
 known_each fact [] each = tt
 known_each fact (one ∷ rest) each = (each.0, known_each fact rest each.1)
 
 module _ (nodes names shapes : ℕ) where
   place_below : (at : Place) → IsPlace nodes names shapes at
-      → order.Each (λ next. next < names + shapes) (numbers_at names at)
+      → order.AllOf (λ next. next < names + shapes) (numbers_at names at)
   place_below (place.Node id) is = tt
   place_below (place.Declared list index) is = (omega arith, tt)
   place_below (place.Shape number) is = (omega arith, tt)
 
   places_below : (places : List Place) → AllOf (IsPlace nodes names shapes) places
-      → order.Each (λ next. next < names + shapes) (numbers_of names places)
+      → order.AllOf (λ next. next < names + shapes) (numbers_of names places)
   places_below [] are = tt
   places_below (at ∷ places) are = each_of_both (λ next. next < names + shapes) (numbers_at names at)
       (numbers_of names places) (place_below at are.0) (places_below places are.1)
 
   signs_below : (signs : List (Bool × Place)) → AllOf (λ (sign : Bool × Place). IsPlace nodes names shapes sign.1) signs
-      → order.Each (λ next. next < names + shapes) (numbers_of names (map (λ sign. sign.1) signs))
+      → order.AllOf (λ next. next < names + shapes) (numbers_of names (map (λ sign. sign.1) signs))
   signs_below [] are = tt
   signs_below (sign ∷ signs) are = each_of_both (λ next. next < names + shapes) (numbers_at names sign.1)
       (numbers_of names (map (λ sign. sign.1) signs)) (place_below sign.1 are.0) (signs_below signs are.1)
 
   shape_below : (shape : Shape) → IsPlaced nodes names shapes shape
-      → order.Each (λ next. next < names + shapes) (numbers_under names shape)
+      → order.AllOf (λ next. next < names + shapes) (numbers_under names shape)
   shape_below (Leaf is) shape = tt
   shape_below (Pair first second) shape = tt
   shape_below (Xml tag attributes content) shape = tt
@@ -69,7 +69,7 @@ module _ (nodes names shapes : ℕ) where
   shape_below (Sequence regular places) shape = tt
 
   row_below : (all : List Item) (number : ℕ) → AllOf (IsItem nodes names shapes) all
-      → order.Each (λ next. next < names + shapes) (row (map (numbers_in names) all) number)
+      → order.AllOf (λ next. next < names + shapes) (row (map (numbers_in names) all) number)
   row_below [] number are = tt
   row_below (Root at ∷ all) zero are = place_below at are.0
   row_below (Made shape ∷ all) zero are = shape_below shape are.0
@@ -96,7 +96,7 @@ pub are_rows : (counts : Counts) (tables : Tables) → ArePlaced counts.nodes ta
 are_rows counts tables placed counted number =
     known_follows (λ next. next < counts.names + counts.shapes) (λ next. next < length (links tables))
     (λ next below. omega (arith, links_length tables, counts_are counts tables counted)) (row (links tables) number)
-    (subst (λ (rows : List (List ℕ)). order.Each (λ next. next < counts.names + counts.shapes) (row rows number))
+    (subst (λ (rows : List (List ℕ)). order.AllOf (λ next. next < counts.names + counts.shapes) (row rows number))
     (ap (λ (names : ℕ). map (numbers_in names) (items tables)) counted.names ∙ rows_are_links tables)
     (row_below counts.nodes counts.names counts.shapes (items tables) number (items_placed counts tables placed counted)))
 

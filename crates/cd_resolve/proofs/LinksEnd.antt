@@ -72,7 +72,7 @@ module _ (tables : Tables) (nodes : ℕ) (sound : AreSound nodes tables)
           → Ends (links tables) (length tables.roots + number)
       by_shape None there earlier = absurd (is_there tables.shapes number less there)
       by_shape (Some shape) there earlier = ends_by_row (links tables) (length tables.roots + number)
-          (subst (order.Each (Ends (links tables))) (sym (row_of_shape tables number shape there))
+          (subst (order.AllOf (Ends (links tables))) (sym (row_of_shape tables number shape there))
           (each_under nodes (length tables.roots) number (Ends (links tables)) named
           (λ next less'. earlier next (omega arith) (omega arith)) shape
           (subst (λ at. IsShape nodes (length tables.roots) at shape) (omega arith)

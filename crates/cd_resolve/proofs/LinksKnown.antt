@@ -1,7 +1,7 @@
 -- What tables lead to has rows.
 use Rattle.std.proofs.Common.{◌≡◌, ℕ, zero, suc, ◌+◌, ◌<◌, ◌≤◌, Bool, List, [], ◌∷◌, ◌++◌, map, length, sym, subst, arith}
 use Rattle.std.proofs.lemmas.List.{length-append, length-map}
-use Rattle.cd_model.specs.Each as model
+use Rattle.cd_model.specs.AllOf as model
 use Rattle.cd_model.proofs.Covered.{each_both}
 use Rattle.cd_order.specs.Order.{AllOf, row, AreRows}
 use Rattle.cd_shapes.specs.declared.place.Place.{Place}
@@ -32,13 +32,13 @@ module _ (nodes names before : ℕ) (Fact : ℕ → Type 0) (named : (number : �
   each_at (place.Shape number) is = (shaped number is, tt)
 
   -- at some places
-  each_of : (places : List Place) → model.Each (IsPlace nodes names before) places → AllOf Fact (numbers_of names places)
+  each_of : (places : List Place) → model.AllOf (IsPlace nodes names before) places → AllOf Fact (numbers_of names places)
   each_of [] each = tt
   each_of (at ∷ places) each =
       each_of_both Fact (numbers_at names at) (numbers_of names places) (each_at at each.0) (each_of places each.1)
 
   -- at places after signs
-  each_signed : (signs : List (Bool × Place)) → model.Each (λ sign. IsPlace nodes names before sign.1) signs
+  each_signed : (signs : List (Bool × Place)) → model.AllOf (λ sign. IsPlace nodes names before sign.1) signs
       → AllOf Fact (numbers_of names (map (λ sign. sign.1) signs))
   each_signed [] each = tt
   each_signed (sign ∷ signs) each =
@@ -62,8 +62,8 @@ AllBelow most numbers = AllOf (λ next. next < most) numbers
 
 module _ (nodes names shapes : ℕ) where
   -- those that names lead to
-  below_roots : (roots : List Place) → model.Each (IsPlace nodes names shapes) roots
-      → model.Each (AllBelow (names + shapes)) (map (numbers_at names) roots)
+  below_roots : (roots : List Place) → model.AllOf (IsPlace nodes names shapes) roots
+      → model.AllOf (AllBelow (names + shapes)) (map (numbers_at names) roots)
   below_roots [] each = tt
   below_roots (root ∷ roots) each = (
     each_at nodes names shapes (λ next. next < names + shapes)
@@ -73,7 +73,7 @@ module _ (nodes names shapes : ℕ) where
 
   -- and those that shapes lead to
   below_shapes : (before : ℕ) (all : List Shape) → before + length all ≤ shapes → AreShapes nodes names before all
-      → model.Each (AllBelow (names + shapes)) (map (numbers_under names) all)
+      → model.AllOf (AllBelow (names + shapes)) (map (numbers_under names) all)
   below_shapes before [] fits are = tt
   below_shapes before (shape ∷ all) fits are = (
     each_under nodes names before (λ next. next < names + shapes)
@@ -82,7 +82,7 @@ module _ (nodes names shapes : ℕ) where
   )
 
 -- what holds of each row, and of no numbers, holds of the row of any number
-row_has : (Fact : List ℕ → Type 0) (rows : List (List ℕ)) (number : ℕ) → model.Each Fact rows
+row_has : (Fact : List ℕ → Type 0) (rows : List (List ℕ)) (number : ℕ) → model.AllOf Fact rows
     → Fact [] → Fact (row rows number)
 row_has Fact [] number each none = none
 row_has Fact (first ∷ rows) zero each none = each.0
@@ -92,7 +92,7 @@ row_has Fact (first ∷ rows) (suc number) each none = row_has Fact rows number 
 pub all_known : (nodes : ℕ) (tables : Tables) → AreSound nodes tables → AreRows (links tables)
 all_known nodes tables sound number =
     row_has (AllBelow (length (links tables))) (links tables) number
-    (subst (λ most. model.Each (AllBelow most) (links tables)) (sym (as_many tables))
+    (subst (λ most. model.AllOf (AllBelow most) (links tables)) (sym (as_many tables))
     (each_both (AllBelow (size_of tables)) (map (numbers_at names) tables.roots) (map (numbers_under names) tables.shapes)
     (below_roots nodes names (length tables.shapes) tables.roots sound.roots)
     (below_shapes nodes names (length tables.shapes) 0 tables.shapes (omega arith) sound.shapes)))

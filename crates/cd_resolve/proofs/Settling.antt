@@ -95,7 +95,7 @@ one_of_both number last (other ∷ first) (inr one) = further (one_of_both numbe
     further (inr is) = inr is
 
 -- a fact of each is one of each that is one of them
-each_one : (fact : ℕ → Type 0) (list : List ℕ) (number : ℕ) → order.Each fact list → IsOneOf number list → fact number
+each_one : (fact : ℕ → Type 0) (list : List ℕ) (number : ℕ) → order.AllOf fact list → IsOneOf number list → fact number
 each_one fact [] number each one = absurd one
 each_one fact (other ∷ rest) number each (inl here) = subst fact here each.0
 each_one fact (other ∷ rest) number each (inr one) = each_one fact rest number each.1 one
@@ -177,7 +177,7 @@ module _ (old : Graph) (first names : ℕ) where
     -- one more number is settled
     module _ (done : List ℕ) (number : ℕ) (formulas : List Formula) (settled : Settled done formulas)
         (new : IsOneOf number done → ⊥)
-        (known : order.Each (λ next. IsOneOf next done) (row (map (numbers_in names) all) number))
+        (known : order.AllOf (λ next. IsOneOf next done) (row (map (numbers_in names) all) number))
         (below : number < length formulas) where
       kept : (other : ℕ) → IsOneOf other done
           → formula_at formulas (node other)
@@ -216,7 +216,7 @@ module _ (old : Graph) (first names : ℕ) where
       }
 
     settles : (done left : List ℕ) (formulas : List Formula) → ComeAfter (map (numbers_in names) all) done left
-        → order.Each (λ number. number < length formulas) left → Settled done formulas
+        → order.AllOf (λ number. number < length formulas) left → Settled done formulas
         → Settled (done ++ left) (filled old first names all left formulas)
     settles done [] formulas after known settled = rw append-nil settled
     settles done (number ∷ left) formulas after known settled =
@@ -228,7 +228,7 @@ module _ (old : Graph) (first names : ℕ) where
 
     -- after all numbers of an order each has its formula
     pub all_settled : (left : List ℕ) (formulas : List Formula) → ComeAfter (map (numbers_in names) all) [] left
-        → order.Each (λ number. number < length formulas) left → (number : ℕ) → IsOneOf number left
+        → order.AllOf (λ number. number < length formulas) left → (number : ℕ) → IsOneOf number left
         → formula_at (filled old first names all left formulas) (node number)
         ≡ of_number old first names all (filled old first names all left formulas) number
     all_settled left formulas after known number one =

@@ -2,7 +2,7 @@
 use Rattle.std.specs.Prelude.{◌≡◌, ℕ, ◌+◌, ◌-◌, ◌<◌, Bool, true, false, List, [], ◌∷◌, length, ◌⊎◌}
 use Rattle.std.specs.Prelude.{take, slice_index_or}
 use Rattle.cd_order.specs.declared.search.Frame.{Frame}
-use Rattle.cd_order.specs.Order.{Each, IsOneOf, row, IsShort, ComeAfter}
+use Rattle.cd_order.specs.Order.{AllOf, IsOneOf, row, IsShort, ComeAfter}
 
 -- the number is seen
 abbrev pub IsSeen : List Bool → ℕ → Type 0
@@ -30,7 +30,7 @@ abbrev pub AreOpen : List (List ℕ) → List Bool → List ℕ → List Frame �
 AreOpen links seen order [] = Unit {0}
 AreOpen links seen order (frame ∷ rest) = (frame.number < length links) × IsSeen seen frame.number
     × (IsOneOf frame.number order → ⊥)
-    × Each (λ next. IsOneOf next order) (take frame.looked (row links frame.number))
+    × AllOf (λ next. IsOneOf next order) (take frame.looked (row links frame.number))
     × AllLead links rest frame.number × AreOpen links seen order rest
 
 -- what was seen is still seen
@@ -45,8 +45,8 @@ pub record AllSeen (seen : List Bool) (count : ℕ) : Type 0 where
 pub record IsSound (links : List (List ℕ)) (seen : List Bool) (frames : List Frame)
     (order : List ℕ) : Type 0 where
   pub sized : length seen ≡ length links
-  pub known : Each (λ number. number < length links) order
-  pub put_seen : Each (IsSeen seen) order
+  pub known : AllOf (λ number. number < length links) order
+  pub put_seen : AllOf (IsSeen seen) order
   pub seen_found : (number : ℕ) → IsSeen seen number → IsOneOf number order ⊎ IsOpen number frames
   pub after : ComeAfter links [] order
   pub are_open : AreOpen links seen order frames
