@@ -1,1 +1,2 @@
 pub mod FindingIsRight
+pub mod UnknownParts
