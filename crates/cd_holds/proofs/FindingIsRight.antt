@@ -19,7 +19,7 @@ use Rattle.cd_holds.specs.declared.finding.Finding.{Finding}
 use Rattle.cd_holds.specs.declared.finding.Finding.TheVariants.{Known, Unknown}
 use Rattle.cd_holds.specs.Finding.{both, one_of, opposite, part_at, look, look_by, finding_at_field, finding_at_labels}
 use Rattle.cd_holds.specs.Finding.{finding_at_result, finding_at_pairs, finding_of, finding_of_all, finding_of_any}
-use Rattle.cd_holds.specs.Finding.{IsRight, Justifies}
+use Rattle.cd_holds.specs.Finding.{IsKnowledge, Justifies}
 
 -- facts of both, and of one of both
 abbrev Both : (one other : Bool → Type 0) → Bool → Type 0
@@ -76,7 +76,7 @@ one_right : (one other : List Name) (label : Name) → IsOneOf other label → I
 one_right [] other label is = is
 one_right (name ∷ one) other label is = inr (one_right one other label is)
 
-module _ (graph : Graph) (table : List Thing) (known : ElementId → NodeId → Option Bool) (right : IsRight graph table known) where
+module _ (graph : Graph) (table : List Thing) (known : ElementId → NodeId → Option Bool) (right : IsKnowledge graph table known) where
   look_justified : (id : ElementId) (node : NodeId) → Justifies (answers graph (element_at table id) node) (look known id node)
   look_justified id node = by_known (known id node) (right id node)
     where

@@ -1,6 +1,6 @@
 -- What is known of elements and nodes.
-use Rattle.std.specs.Prelude.{◌≡◌, ◌<◌, ◌&&◌, Bool, List, [], ◌∷◌, Option, Some, None, length, nat_eq}
-use Rattle.std.specs.Prelude.{if◌then◌else◌}
+use Rattle.std.specs.Prelude.{◌<◌, ◌&&◌, Bool, List, Option, length, nat_eq}
+use Rattle.std.specs.Map.{lookup}
 use Rattle.cd_sets.specs.declared.node_id.NodeId.{NodeId}
 use Rattle.cd_model.specs.Thing.{Thing}
 use Rattle.cd_model.specs.AllOf.{AllOf}
@@ -14,12 +14,13 @@ use Rattle.cd_holds.specs.declared.membership.Membership.{Membership}
 abbrev pub Fact : Type 0
 Fact = Membership × Bool
 
--- the first fact of an element and a node
+-- the question whether this element is in this node
+abbrev pub is_of : ElementId → NodeId → Membership → Bool
+is_of id node other = nat_eq id.0 other.id.0 && nat_eq node.0 other.node.0
+
+-- what the first fact of an element and a node says
 abbrev pub known : List Fact → ElementId → NodeId → Option Bool
-known [] id node = None
-known (fact ∷ facts) id node =
-    if nat_eq id.0 fact.0.id.0 && nat_eq node.0 fact.0.node.0 then Some fact.1
-    else known facts id node
+known facts id node = lookup (is_of id node) facts
 
 -- a membership names an element of the table and a node of the graph
 abbrev pub IsNamed : Graph → List Thing → Membership → Type 0

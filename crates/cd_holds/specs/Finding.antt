@@ -90,23 +90,11 @@ module _ (known : ElementId → NodeId → Option Bool) where
     finding_of_any shape (AFormula is rest) = one_of (finding_of shape is) (finding_of_any shape rest)
 
 -- what is known is right
-abbrev pub IsRight : Graph → List Thing → (ElementId → NodeId → Option Bool) → Type 0
-IsRight graph table known = (id : ElementId) (node : NodeId) (answer : Bool) → known id node ≡ Some answer
+abbrev pub IsKnowledge : Graph → List Thing → (ElementId → NodeId → Option Bool) → Type 0
+IsKnowledge graph table known = (id : ElementId) (node : NodeId) (answer : Bool) → known id node ≡ Some answer
     → answers graph (element_at table id) node answer
 
 -- what is finding_of has a fact
 abbrev pub Justifies : (Bool → Type 0) → Finding → Type 0
 Justifies fact (Known answer) = fact answer
 Justifies fact (Unknown id node) = Unit {0}
-
--- a part of a shape
-abbrev pub IsResultOf : ElementId → Option ElementId → Type 0
-IsResultOf id None = ⊥
-IsResultOf id (Some result) = result ≡ id
-
-abbrev pub IsPart : ElementId → Shape → Type 0
-IsPart id (Pair first second) = (first ≡ id) ⊎ (second ≡ id)
-IsPart id (Xml tag attributes content) = (tag ≡ id) ⊎ (attributes ≡ id) ⊎ (content ≡ id)
-IsPart id (Record parts) = AnyOf (λ part. part.1 ≡ id) parts
-IsPart id (Fun pairs) = AnyOf (λ pair. (pair.0 ≡ id) ⊎ IsResultOf id pair.1) pairs
-IsPart id _ = ⊥

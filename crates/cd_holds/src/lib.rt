@@ -1,5 +1,10 @@
 //! Whether elements of a table are in nodes of a graph.
 #![tactic(auto)]
 
+pub mod facts;
 pub mod finding;
 pub mod membership;
+
+pub use facts::Facts;
+pub use finding::Finding;
+pub use membership::Membership;
