@@ -1,2 +1,3 @@
 pub mod FindingIsRight
 pub mod UnknownParts
+mod Labels

@@ -4,7 +4,7 @@ use Rattle.cd_sets.specs.declared.node_id.NodeId.{NodeId}
 use Rattle.cd_intervals.specs.Interval as integers
 use Rattle.cd_intervals.specs.Characters.{holds_character}
 use Rattle.cd_intervals.specs.Atoms as atoms
-use Rattle.cd_syntax.specs.Name.{Name}
+use Rattle.cd_syntax.specs.Name.{Name, IsLabel}
 use Rattle.cd_model.specs.Thing.{Thing}
 use Rattle.cd_model.specs.AllOf.{AnyOf}
 use Rattle.cd_model.specs.Formula as formula
@@ -98,3 +98,8 @@ IsKnowledge graph table known = (id : ElementId) (node : NodeId) (answer : Bool)
 abbrev pub Justifies : (Bool → Type 0) → Finding → Type 0
 Justifies fact (Known answer) = fact answer
 Justifies fact (Unknown id node) = Unit {0}
+
+-- the name of an atom is a label
+abbrev pub HasLabel : Shape → Type 0
+HasLabel (Atom name) = IsLabel name
+HasLabel _ = Unit {0}

@@ -3,7 +3,9 @@
 
 pub mod facts;
 pub mod finding;
+mod formula;
 pub mod membership;
+mod parts;
 
 pub use facts::Facts;
 pub use finding::Finding;
