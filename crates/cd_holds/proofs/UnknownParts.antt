@@ -13,30 +13,30 @@ use Rattle.cd_holds.specs.declared.finding.Finding.{Finding}
 use Rattle.cd_holds.specs.declared.finding.Finding.TheVariants.{Known, Unknown}
 use Rattle.cd_holds.specs.Finding.{both, one_of, opposite, part_at, look, look_by, finding_at_field, finding_at_labels}
 use Rattle.cd_holds.specs.Finding.{finding_at_result, finding_at_pairs, finding_of, finding_of_all, finding_of_any}
+use Rattle.cd_holds.specs.Finding.{AsksPart}
 
 module _ (known : ElementId → NodeId → Option Bool) (bound size : ℕ) where
-  abbrev pub AsksPart : Finding → Type 0
-  AsksPart (Known answer) = Unit {0}
-  AsksPart (Unknown id node) = (id.0 < bound) × (node.0 < size) × (known id node ≡ None)
+  abbrev Asks : Finding → Type 0
+  Asks = AsksPart known bound size
 
-  both_ask : (first second : Finding) → AsksPart first → AsksPart second → AsksPart (both first second)
+  both_ask : (first second : Finding) → Asks first → Asks second → Asks (both first second)
   both_ask (Known true) second is so = so
   both_ask (Known false) second is so = tt
   both_ask (Unknown id node) second is so = is
 
-  one_asks : (first second : Finding) → AsksPart first → AsksPart second → AsksPart (one_of first second)
+  one_asks : (first second : Finding) → Asks first → Asks second → Asks (one_of first second)
   one_asks (Known true) second is so = tt
   one_asks (Known false) second is so = so
   one_asks (Unknown id node) second is so = is
 
-  opposite_asks : (first : Finding) → AsksPart first → AsksPart (opposite first)
+  opposite_asks : (first : Finding) → Asks first → Asks (opposite first)
   opposite_asks (Known answer) is = tt
   opposite_asks (Unknown id node) is = is
 
-  look_asks : (id : ElementId) (node : NodeId) → id.0 < bound → node.0 < size → AsksPart (look known id node)
+  look_asks : (id : ElementId) (node : NodeId) → id.0 < bound → node.0 < size → Asks (look known id node)
   look_asks id node below within = by_known (known id node) refl
     where
-      by_known : (is : Option Bool) → known id node ≡ is → AsksPart (look_by known is id node)
+      by_known : (is : Option Bool) → known id node ≡ is → Asks (look_by known is id node)
       by_known (Some answer) same = tt
       by_known None same = (below, within, same)
 
@@ -55,19 +55,19 @@ module _ (known : ElementId → NodeId → Option Bool) (bound size : ℕ) where
 
   field_asks : (parts : List (Name × ElementId)) (label : Name) (field : Field) → AllOf (λ part. part.1.0 < bound) parts
       → field.type.0 < size
-      → AsksPart (finding_at_field known (part_at parts label) field)
+      → Asks (finding_at_field known (part_at parts label) field)
   field_asks [] label field below within = tt
   field_asks (part ∷ parts) label field below within =
       by_test (bytes_eq part.0 label) (field_asks parts label field below.1 within)
     where
-      by_test : (test : Bool) → AsksPart (finding_at_field known (part_at parts label) field)
-          → AsksPart (finding_at_field known (if test then Some part.1 else part_at parts label) field)
+      by_test : (test : Bool) → Asks (finding_at_field known (part_at parts label) field)
+          → Asks (finding_at_field known (if test then Some part.1 else part_at parts label) field)
       by_test true later = look_asks part.1 field.type below.0 within
       by_test false later = later
 
   labels_ask : (parts : List (Name × ElementId)) (named : List (Name × Field)) (rest : NodeId) (labels : List Name)
       → AllOf (λ part. part.1.0 < bound) parts → AllOf (λ field. field.1.type.0 < size) named → rest.0 < size
-      → AsksPart (finding_at_labels known parts named rest labels)
+      → Asks (finding_at_labels known parts named rest labels)
   labels_ask parts named rest [] below within last = tt
   labels_ask parts named rest (label ∷ labels) below within last =
       both_ask (finding_at_field known (part_at parts label) (field_of named rest label))
@@ -76,13 +76,13 @@ module _ (known : ElementId → NodeId → Option Bool) (bound size : ℕ) where
       (labels_ask parts named rest labels below within last)
 
   result_asks : (to : Option ElementId) (node : NodeId) → IsResultBelow bound to → node.0 < size
-      → AsksPart (finding_at_result known to node)
+      → Asks (finding_at_result known to node)
   result_asks None node below within = tt
   result_asks (Some to) node below within = look_asks to node below within
 
   pairs_ask : (pairs : List (ElementId × Option ElementId)) (argument result : NodeId)
       → AllOf (λ pair. (pair.0.0 < bound) × IsResultBelow bound pair.1) pairs → argument.0 < size → result.0 < size
-      → AsksPart (finding_at_pairs known pairs argument result)
+      → Asks (finding_at_pairs known pairs argument result)
   pairs_ask [] argument result below one other = tt
   pairs_ask (pair ∷ pairs) argument result below one other =
       both_ask (one_of (opposite (look known pair.0 argument)) (finding_at_result known pair.1 result))
@@ -93,7 +93,7 @@ module _ (known : ElementId → NodeId → Option Bool) (bound size : ℕ) where
 
   mutual
     pub finding_asks : (shape : Shape) (is : Formula) → ArePartsBelow bound shape → IsFormula size is
-        → AsksPart (finding_of known shape is)
+        → Asks (finding_of known shape is)
     finding_asks shape formula.Nothing below within = tt
     finding_asks shape formula.Everything below within = tt
     finding_asks shape (formula.And formulas) below within = all_ask shape formulas below within
@@ -118,13 +118,13 @@ module _ (known : ElementId → NodeId → Option Bool) (bound size : ℕ) where
     finding_asks _ _ below within = tt
 
     all_ask : (shape : Shape) (formulas : Formulas) → ArePartsBelow bound shape → AreFormulas size formulas
-        → AsksPart (finding_of_all known shape formulas)
+        → Asks (finding_of_all known shape formulas)
     all_ask shape NoFormula below within = tt
     all_ask shape (AFormula is rest) below within = both_ask (finding_of known shape is) (finding_of_all known shape rest)
         (finding_asks shape is below within.0) (all_ask shape rest below within.1)
 
     any_asks : (shape : Shape) (formulas : Formulas) → ArePartsBelow bound shape → AreFormulas size formulas
-        → AsksPart (finding_of_any known shape formulas)
+        → Asks (finding_of_any known shape formulas)
     any_asks shape NoFormula below within = tt
     any_asks shape (AFormula is rest) below within = one_asks (finding_of known shape is) (finding_of_any known shape rest)
         (finding_asks shape is below within.0) (any_asks shape rest below within.1)

@@ -1,5 +1,6 @@
 -- Whether an element of a table is in a formula, finding_of by what is known of its parts, or the first part and node of which nothing is known.
-use Rattle.std.specs.Prelude.{◌≡◌, Bool, true, false, not, ◌⊎◌, ◌++◌, List, [], ◌∷◌, Option, Some, None, map, bytes_eq, if◌then◌else◌}
+use Rattle.std.specs.Prelude.{◌≡◌, ℕ, ◌<◌, Bool, true, false, not, ◌++◌, List, [], ◌∷◌, Option, Some}
+use Rattle.std.specs.Prelude.{None, map, bytes_eq, if◌then◌else◌}
 use Rattle.cd_sets.specs.declared.node_id.NodeId.{NodeId}
 use Rattle.cd_intervals.specs.Interval as integers
 use Rattle.cd_intervals.specs.Characters.{holds_character}
@@ -103,3 +104,10 @@ Justifies fact (Unknown id node) = Unit {0}
 abbrev pub HasLabel : Shape → Type 0
 HasLabel (Atom name) = IsLabel name
 HasLabel _ = Unit {0}
+
+-- what has to be known first is not known, and is of a part, whose number is below the bound, at a
+-- node of the graph, which has so many
+abbrev pub AsksPart : (ElementId → NodeId → Option Bool) → (bound size : ℕ) → Finding → Type 0
+AsksPart known bound size (Known answer) = Unit {0}
+AsksPart known bound size (Unknown id node) =
+    (id.0 < bound) × (node.0 < size) × (known id node ≡ None)

@@ -1,8 +1,14 @@
-ghost use Rattle.std.specs.Prelude.{◌≡◌, ◌<◌, ◌^◌, ◌∷◌, ◌++◌, [], None, length, OnOk, OnErr};
-ghost use Rattle.cd_holds.specs.Facts.{known};
+ghost use Rattle.std.specs.Prelude.{◌≡◌, ◌<◌, ◌^◌, ◌∷◌, ◌++◌, [], None, length, IfOk, OnOk, OnErr};
+ghost use Rattle.cd_graph.specs.Nodes.{nodes};
+ghost use Rattle.cd_model.specs.Membership.{answers};
+ghost use Rattle.cd_elements.specs.Elements.{table};
+ghost use Rattle.cd_elements.specs.Table.{element_at};
+ghost use Rattle.cd_holds.specs.Facts.{known, AreRight};
 
 use crate::membership::Membership;
-use cd_elements::ElementId;
+use crate::search::find_out;
+use cd_elements::{ElementId, Elements};
+use cd_graph::Graph;
 use cd_sets::node_id::NodeId;
 use indexmap::IndexMap;
 use std::alloc::{AllocError, Global};
@@ -31,6 +37,28 @@ impl Facts {
         Facts {
             answers: IndexMap::new(alloc),
         }
+    }
+
+    /// Whether an element is in a node. What is found out on the way is known from then on, also
+    /// where memory runs out.
+    pub fn is_in(
+        &mut self,
+        graph: &Graph,
+        elements: &Elements,
+        id: ElementId,
+        node: NodeId,
+    ) -> Result<bool, AllocError>
+        requires id { id.0 < length (table elements.now) }
+        requires node { node.0 < length (nodes graph.now) }
+        requires right { AreRight (nodes graph.now) (table elements.now) self.old }
+        ensures answer { let all = table elements.now in
+            IfOk result (answers (nodes graph.now) (element_at all id) node) }
+        ensures right { AreRight (nodes graph.now) (table elements.now) self.new }
+    {
+        if let Some(answer) = self.get(id, node) {
+            return Ok(answer);
+        }
+        find_out(self, graph, elements, Membership { id, node })
     }
 
     // Whether an element is in a node, if it is known.

@@ -6,6 +6,7 @@ pub mod finding;
 mod formula;
 pub mod membership;
 mod parts;
+mod search;
 
 pub use facts::Facts;
 pub use finding::Finding;
