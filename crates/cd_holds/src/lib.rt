@@ -4,6 +4,7 @@
 pub mod facts;
 pub mod finding;
 mod formula;
+pub mod laws;
 pub mod membership;
 mod parts;
 mod search;
