@@ -15,8 +15,10 @@ use Rattle.cd_elements.specs.declared.shape.Shape.{Shape}
 use Rattle.cd_elements.specs.Table.{element_at, element_by}
 use Rattle.cd_holds.specs.declared.finding.Finding.{Finding}
 use Rattle.cd_holds.specs.declared.membership.Membership.{Membership}
-use Rattle.cd_holds.specs.Facts.{Fact, is_of, known, IsRight, AreRight}
-use Rattle.cd_holds.specs.Finding.{IsKnowledge, Justifies, finding_of}
+use Rattle.cd_holds.specs.Facts.{Fact, IsRight, AreRight}
+use Rattle.cd_holds.specs.Inner.Known.{is_of, known}
+use Rattle.cd_holds.specs.Inner.Finding.{Justifies, finding_of}
+use Rattle.cd_holds.specs.Inner.Known.{IsKnowledge}
 use Rattle.cd_holds.proofs.FindingIsRight.{finding_right}
 
 -- numbers that are equal are of one element, and of one node

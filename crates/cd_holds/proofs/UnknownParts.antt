@@ -11,9 +11,9 @@ use Rattle.cd_elements.specs.declared.shape.Shape.TheVariants.{Int, Char, Atom, 
 use Rattle.cd_elements.specs.Table.{ArePartsBelow, IsResultBelow}
 use Rattle.cd_holds.specs.declared.finding.Finding.{Finding}
 use Rattle.cd_holds.specs.declared.finding.Finding.TheVariants.{Known, Unknown}
-use Rattle.cd_holds.specs.Finding.{both, one_of, opposite, part_at, look, look_by, finding_at_field, finding_at_labels}
-use Rattle.cd_holds.specs.Finding.{finding_at_result, finding_at_pairs, finding_of, finding_of_all, finding_of_any}
-use Rattle.cd_holds.specs.Finding.{AsksPart}
+use Rattle.cd_holds.specs.Inner.Finding.{both, one_of, opposite, part_at, look, look_by, finding_at_field, finding_at_labels}
+use Rattle.cd_holds.specs.Inner.Finding.{finding_at_result, finding_at_pairs, finding_of, finding_of_all, finding_of_any}
+use Rattle.cd_holds.specs.Inner.Finding.{AsksPart}
 
 module _ (known : ElementId → NodeId → Option Bool) (bound size : ℕ) where
   abbrev Asks : Finding → Type 0

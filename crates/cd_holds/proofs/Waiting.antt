@@ -2,7 +2,8 @@
 use Rattle.std.proofs.Common.{◌≡◌, ◌<◌, ◌≤◌, ◌+◌, ◌*◌, ◌-◌, ℕ, suc, Bool, List, [], ◌∷◌, ◌++◌, None, ap, refl, arith}
 use Rattle.std.proofs.Math.Nat.{suc-mul}
 use Rattle.cd_holds.specs.declared.membership.Membership.{Membership}
-use Rattle.cd_holds.specs.Facts.{Fact, known}
+use Rattle.cd_holds.specs.Facts.{Fact}
+use Rattle.cd_holds.specs.Inner.Known.{known}
 use Rattle.cd_holds.proofs.FactsKept.{still_unknown}
 
 -- each is below the one before it, and the first below a bound
@@ -34,9 +35,12 @@ pub falls_back : (facts : List Fact) (size bound : ℕ) (waiting : List Membersh
     → Fall (facts ++ (last, answer) ∷ []) size bound waiting
 falls_back facts size bound [] last answer fall = tt
 falls_back facts size bound (asked ∷ waiting) last answer fall =
-    let below = (last_falls facts size asked.id.0 waiting last fall.3).0 in
-    (fall.0, fall.1, still_unknown facts last answer asked.id asked.node below fall.2,
-    falls_back facts size asked.id.0 waiting last answer fall.3)
+    let below = (last_falls facts size asked.id.0 waiting last fall.3).0 in (
+      fall.0,
+      fall.1,
+      still_unknown facts last answer asked.id asked.node below fall.2,
+      falls_back facts size asked.id.0 waiting last answer fall.3,
+    )
 
 -- the one that was asked first
 abbrev pub asked_first : List Membership → Membership → Membership

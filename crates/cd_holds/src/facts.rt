@@ -3,7 +3,8 @@ ghost use Rattle.cd_graph.specs.Nodes.{nodes};
 ghost use Rattle.cd_model.specs.Membership.{answers};
 ghost use Rattle.cd_elements.specs.Elements.{table};
 ghost use Rattle.cd_elements.specs.Table.{element_at};
-ghost use Rattle.cd_holds.specs.Facts.{known, AreRight};
+ghost use Rattle.cd_holds.specs.Facts.{AreRight};
+ghost use Rattle.cd_holds.specs.Inner.Known.{known};
 
 use crate::membership::Membership;
 use crate::search::find_out;

@@ -1,19 +1,19 @@
 //! What follows from what is known.
 ghost use Rattle.std.specs.Prelude.{◌≡◌};
-ghost use Rattle.cd_holds.specs.Finding.{look as look_of, both as both_of, one_of as one_of_both};
-ghost use Rattle.cd_holds.specs.Finding.{opposite as opposite_of, finding_at_result};
-ghost use Rattle.cd_holds.specs.Facts.{known};
+ghost use Rattle.cd_holds.specs.Inner.Finding.{look as look_of, both as both_of, one_of as one_of_both};
+ghost use Rattle.cd_holds.specs.Inner.Finding.{opposite as opposite_of, finding_at_result};
+ghost use Rattle.cd_holds.specs.Inner.Known.{known};
 
 use crate::facts::Facts;
 use cd_elements::ElementId;
 use cd_sets::node_id::NodeId;
 
-/// Whether an element is in a formula, as far as it follows from what is known.
+// Whether an element is in a formula, as far as it follows from what is known.
 #[derive(Clone, Copy)]
-pub enum Finding {
-    /// It is in the formula, or it isn't.
+pub(crate) enum Finding {
+    // It is in the formula, or it is not.
     Known(bool),
-    /// That has to be known first: whether this element is in this node.
+    // Whether this element is in this node has to be known first.
     Unknown(ElementId, NodeId),
 }
 

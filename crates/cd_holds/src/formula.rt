@@ -4,9 +4,10 @@ ghost use Rattle.cd_intervals.specs.Atoms as atoms;
 ghost use Rattle.cd_syntax.specs.Name.{IsLabel};
 ghost use Rattle.cd_graph.specs.PlainFormula.{plain, plain_formulas};
 ghost use Rattle.cd_model.specs.Formula as formula;
-ghost use Rattle.cd_holds.specs.Finding.{HasLabel, finding_of as finding, finding_of_all};
-ghost use Rattle.cd_holds.specs.Finding.{finding_of_any};
-ghost use Rattle.cd_holds.specs.Facts.{Fact, known};
+ghost use Rattle.cd_holds.specs.Inner.Finding.{HasLabel, finding_of as finding, finding_of_all};
+ghost use Rattle.cd_holds.specs.Inner.Finding.{finding_of_any};
+ghost use Rattle.cd_holds.specs.Facts.{Fact};
+ghost use Rattle.cd_holds.specs.Inner.Known.{known};
 
 use crate::facts::Facts;
 use crate::finding::{Finding, opposite};

@@ -2,7 +2,7 @@
 #![tactic(auto)]
 
 pub mod facts;
-pub mod finding;
+mod finding;
 mod formula;
 pub mod laws;
 pub mod membership;
@@ -10,5 +10,4 @@ mod parts;
 mod search;
 
 pub use facts::Facts;
-pub use finding::Finding;
 pub use membership::Membership;

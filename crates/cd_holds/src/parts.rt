@@ -1,11 +1,12 @@
 //! Whether an element is in a formula that speaks of its parts.
-ghost use Rattle.std.specs.Prelude.{◌≡◌, map, ◌++◌};
+ghost use Rattle.std.specs.Prelude.{◌≡◌, map};
 ghost use Rattle.cd_graph.specs.PlainFormula.{plain_named, plain_field};
 ghost use Rattle.cd_model.specs.Types.{field_of};
 ghost use Rattle.cd_model.specs.Formula as formula;
-ghost use Rattle.cd_holds.specs.Finding.{finding_of, finding_at_pairs, finding_at_labels, finding_at_field};
-ghost use Rattle.cd_holds.specs.Finding.{part_at as part_of};
-ghost use Rattle.cd_holds.specs.Facts.{known};
+ghost use Rattle.cd_holds.specs.Inner.Finding.{finding_of, finding_at_pairs};
+ghost use Rattle.cd_holds.specs.Inner.Finding.{finding_at_labels, finding_at_field, labels};
+ghost use Rattle.cd_holds.specs.Inner.Finding.{part_at as part_of};
+ghost use Rattle.cd_holds.specs.Inner.Known.{known};
 
 use crate::facts::Facts;
 use crate::finding::{Finding, both, look, look_at_result, one_of, opposite};
@@ -89,9 +90,12 @@ pub(crate) fn at_record(facts: &Facts, shape: &Shape, fields: &Fields) -> Findin
 fn at_fields(facts: &Facts, parts: &[(Name, ElementId)], fields: &Fields) -> Finding
     ensures { let named = plain_named fields.now.named in
         result ≡ finding_at_labels (known facts.now) parts.now named fields.now.rest
-        (map (λ field. field.0) named ++ map (λ part. part.0) parts.now) }
+        (labels named parts.now) }
 {
-    both(at_named(facts, parts, fields), at_parts(facts, parts, fields))
+    both(
+        at_named(facts, parts, fields),
+        at_parts(facts, parts, fields),
+    )
 }
 
 // Whether a record is as a record type says of the labels that the type names.
@@ -127,12 +131,7 @@ fn at_parts(facts: &Facts, parts: &[(Name, ElementId)], fields: &Fields) -> Find
 }
 
 // Whether a record is as a record type says of one label.
-fn at_label(
-    facts: &Facts,
-    parts: &[(Name, ElementId)],
-    fields: &Fields,
-    label: &Name,
-) -> Finding
+fn at_label(facts: &Facts, parts: &[(Name, ElementId)], fields: &Fields, label: &Name) -> Finding
     ensures { result ≡ finding_at_field (known facts.now) (part_of parts.now label.now)
         (field_of (plain_named fields.now.named) fields.now.rest label.now) }
 {

@@ -4,8 +4,9 @@ ghost use Rattle.cd_graph.specs.Nodes.{nodes};
 ghost use Rattle.cd_model.specs.Membership.{answers};
 ghost use Rattle.cd_elements.specs.Elements.{table};
 ghost use Rattle.cd_elements.specs.Table.{element_at};
-ghost use Rattle.cd_holds.specs.Facts.{known, AreRight, IsNamed};
-ghost use Rattle.cd_holds.specs.Finding.{Justifies, AsksPart};
+ghost use Rattle.cd_holds.specs.Facts.{AreRight, IsNamed};
+ghost use Rattle.cd_holds.specs.Inner.Known.{known};
+ghost use Rattle.cd_holds.specs.Inner.Finding.{Justifies, AsksPart};
 
 use crate::facts::Facts;
 use crate::finding::Finding;

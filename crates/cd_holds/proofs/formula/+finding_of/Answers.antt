@@ -1,8 +1,8 @@
 use Rattle.std.proofs.Common.{rules, ◌∙◌, ap, sym}
 use Rattle.cd_graph.specs.PlainFormula.{plain}
 use Rattle.cd_graph.proofs.Reading.{plain_ints, plain_chars, plain_atoms}
-use Rattle.cd_holds.specs.Facts.{known}
-use Rattle.cd_holds.specs.Finding.{finding_of}
+use Rattle.cd_holds.specs.Inner.Known.{known}
+use Rattle.cd_holds.specs.Inner.Finding.{finding_of}
 use Rattle.cd_graph.proofs.Sizes.{items_fall}
 use Rattle.cd_holds.proofs.formula.+finding_of.Goals as goal
 

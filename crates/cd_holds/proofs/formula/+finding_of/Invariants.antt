@@ -1,8 +1,8 @@
 use Rattle.std.proofs.Common.{◌≡◌, map, drop}
 use Rattle.cd_model.specs.Formula.{formulas_of}
 use Rattle.cd_graph.specs.PlainFormula.{plain, plain_formulas}
-use Rattle.cd_holds.specs.Facts.{known}
-use Rattle.cd_holds.specs.Finding.{finding_of_all, finding_of_any}
+use Rattle.cd_holds.specs.Inner.Known.{known}
+use Rattle.cd_holds.specs.Inner.Finding.{finding_of_all, finding_of_any}
 use Rattle.cd_graph.proofs.Sizes.{size, size_list}
 use Rattle.cd_holds.proofs.formula.+finding_of.Given as goal
 

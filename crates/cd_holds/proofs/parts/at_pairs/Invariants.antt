@@ -1,6 +1,6 @@
 use Rattle.std.proofs.Common.{◌≡◌, drop}
-use Rattle.cd_holds.specs.Facts.{known}
-use Rattle.cd_holds.specs.Finding.{finding_at_pairs}
+use Rattle.cd_holds.specs.Inner.Known.{known}
+use Rattle.cd_holds.specs.Inner.Finding.{finding_at_pairs}
 use Rattle.cd_holds.proofs.parts.at_pairs.Given as goal
 
 -- it depends on the pairs that are left

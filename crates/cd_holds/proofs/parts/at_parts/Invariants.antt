@@ -1,7 +1,7 @@
 use Rattle.std.proofs.Common.{◌≡◌, drop, map}
 use Rattle.cd_graph.specs.PlainFormula.{plain_named}
-use Rattle.cd_holds.specs.Facts.{known}
-use Rattle.cd_holds.specs.Finding.{finding_at_labels}
+use Rattle.cd_holds.specs.Inner.Known.{known}
+use Rattle.cd_holds.specs.Inner.Finding.{finding_at_labels}
 use Rattle.cd_holds.proofs.parts.at_parts.Given as goal
 
 -- it depends on the parts that are left

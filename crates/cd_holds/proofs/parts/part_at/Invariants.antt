@@ -1,5 +1,5 @@
 use Rattle.std.proofs.Common.{◌≡◌, drop}
-use Rattle.cd_holds.specs.Finding.{part_at}
+use Rattle.cd_holds.specs.Inner.Finding.{part_at}
 use Rattle.cd_holds.proofs.parts.part_at.Given as goal
 
 -- what is left has at the label what all parts have

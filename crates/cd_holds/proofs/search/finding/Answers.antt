@@ -2,8 +2,8 @@ use Rattle.std.proofs.Common.{length, sym, subst}
 use Rattle.cd_graph.specs.Nodes.{nodes}
 use Rattle.cd_graph.specs.PlainFormula.{plain}
 use Rattle.cd_elements.specs.Elements.{table}
-use Rattle.cd_holds.specs.Facts.{known}
-use Rattle.cd_holds.specs.Finding.{AsksPart}
+use Rattle.cd_holds.specs.Inner.Known.{known}
+use Rattle.cd_holds.specs.Inner.Finding.{AsksPart}
 use Rattle.cd_holds.proofs.FactsKept.{found_right}
 use Rattle.cd_holds.proofs.UnknownParts.{finding_asks}
 use Rattle.cd_holds.proofs.search.finding.Goals as goal

@@ -1,5 +1,6 @@
 use Rattle.std.proofs.Common.{◌≡◌, ◌∷◌, ◌++◌, [], List, None, ◌∙◌, sym, subst}
-use Rattle.cd_holds.specs.Facts.{Fact, known}
+use Rattle.cd_holds.specs.Facts.{Fact}
+use Rattle.cd_holds.specs.Inner.Known.{known}
 use Rattle.indexmap.proofs.CallerLemmas.{insert_entry-new}
 use Rattle.cd_holds.proofs.facts.Facts.add.Goals as goal
 
