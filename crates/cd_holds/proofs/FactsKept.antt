@@ -1,6 +1,6 @@
 -- Facts that are right make what is known right, also with one fact more, and over more elements and nodes.
-use Rattle.std.proofs.Common.{◌≡◌, ◌<◌, ℕ, Bool, true, false, ◌&&◌, List, [], ◌∷◌, ◌++◌, Option, Some, None, length, nat_eq, if◌then◌else◌}
-use Rattle.std.proofs.Common.{inl, inr, ◌⊎◌, refl, sym, subst, ◌∙◌, arith, length-append}
+use Rattle.std.proofs.Common.{◌≡◌, ◌<◌, Bool, true, false, List, [], ◌∷◌, ◌++◌, Some, None, nat_eq, if◌then◌else◌}
+use Rattle.std.proofs.Common.{inl, inr, ◌⊎◌, refl, sym, subst, arith, length-append}
 use Rattle.std.proofs.lemmas.Bool.{cases_Bool, and_parts}
 use Rattle.std.proofs.lemmas.Bool.Decides.{nat_tests}
 use Rattle.std.proofs.lemmas.List.{get_or_append_left}

@@ -1,5 +1,5 @@
 -- What is found of an element is right where what is known of its parts is.
-use Rattle.std.proofs.Common.{◌≡◌, Bool, true, false, not, ◌⊎◌, ◌++◌, List, [], ◌∷◌, Option, Some, None, map, bytes_eq}
+use Rattle.std.proofs.Common.{◌≡◌, Bool, true, false, not, ◌⊎◌, List, [], ◌∷◌, Option, Some, None, map, bytes_eq}
 use Rattle.std.proofs.Common.{if◌then◌else◌, inl, inr, refl, ap, subst}
 use Rattle.std.proofs.lemmas.Bool.{cases_Bool}
 use Rattle.std.proofs.lemmas.Slice.Eq.{bytes_eq-Decides}
@@ -8,7 +8,7 @@ use Rattle.cd_syntax.specs.Name.{Name}
 use Rattle.cd_model.specs.Thing.{Thing}
 use Rattle.cd_model.specs.Formula as formula
 use Rattle.cd_model.specs.Formula.{Formula, Formulas, NoFormula, AFormula, Field, Graph, field_of}
-use Rattle.cd_model.specs.Membership.{answers, holds, each_holds, one_holds, reader, labelled, mapping, record_reader}
+use Rattle.cd_model.specs.Membership.{answers, holds, reader, labelled, mapping, record_reader}
 use Rattle.cd_model.specs.Membership.{either}
 use Rattle.cd_model.proofs.Labels.{IsOneOf, names_of}
 use Rattle.cd_rules.proofs.LabelsNamed.{named_or_free}

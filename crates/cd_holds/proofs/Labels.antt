@@ -6,7 +6,7 @@ use Rattle.cd_syntax.specs.Name.{Name}
 use Rattle.cd_model.specs.Formula.{Field, field_of}
 use Rattle.cd_elements.specs.declared.shape.ElementId.{ElementId}
 use Rattle.cd_holds.specs.declared.finding.Finding.{Finding}
-use Rattle.cd_holds.specs.declared.finding.Finding.TheVariants.{Known, Unknown}
+use Rattle.cd_holds.specs.declared.finding.Finding.TheVariants.{Known}
 use Rattle.cd_holds.specs.Inner.Finding.{both, part_at, finding_at_field, finding_at_labels}
 
 first_part : (part : Name × ElementId) (parts : List (Name × ElementId)) (label : Name) → bytes_eq part.0 label ≡ true

@@ -1,7 +1,8 @@
 //! What follows from what is known.
 ghost use Rattle.std.specs.Prelude.{◌≡◌};
-ghost use Rattle.cd_holds.specs.Inner.Finding.{look as look_of, both as both_of, one_of as one_of_both};
-ghost use Rattle.cd_holds.specs.Inner.Finding.{opposite as opposite_of, finding_at_result};
+ghost use Rattle.cd_holds.specs.Inner.Finding.{look as look_of, both as both_of};
+ghost use Rattle.cd_holds.specs.Inner.Finding.{one_of as one_of_both, opposite as opposite_of};
+ghost use Rattle.cd_holds.specs.Inner.Finding.{finding_at_result};
 ghost use Rattle.cd_holds.specs.Inner.Known.{known};
 
 use crate::facts::Facts;
