@@ -1,6 +1,6 @@
 -- Facts that are right make what is known right, also with one fact more, and over more elements and nodes.
 use Rattle.std.proofs.Common.{◌≡◌, ◌<◌, Bool, true, false, List, [], ◌∷◌, ◌++◌, Some, None, nat_eq, if◌then◌else◌}
-use Rattle.std.proofs.Common.{inl, inr, ◌⊎◌, refl, sym, subst, arith, length-append}
+use Rattle.std.proofs.Common.{inl, inr, ◌⊎◌, refl, sym, subst, ap, ◌∙◌, arith, length-append, append-nil, append_assoc}
 use Rattle.std.proofs.lemmas.Bool.{cases_Bool, and_parts}
 use Rattle.std.proofs.lemmas.Bool.Decides.{nat_tests}
 use Rattle.std.proofs.lemmas.List.{get_or_append_left}
@@ -15,7 +15,7 @@ use Rattle.cd_elements.specs.declared.shape.Shape.{Shape}
 use Rattle.cd_elements.specs.Table.{element_at, element_by}
 use Rattle.cd_holds.specs.declared.finding.Finding.{Finding}
 use Rattle.cd_holds.specs.declared.membership.Membership.{Membership}
-use Rattle.cd_holds.specs.Facts.{Fact, IsRight, AreRight}
+use Rattle.cd_holds.specs.Facts.{Fact, IsRight, AreRight, Grows}
 use Rattle.cd_holds.specs.Inner.Known.{is_of, known}
 use Rattle.cd_holds.specs.Inner.Finding.{Justifies, finding_of}
 use Rattle.cd_holds.specs.Inner.Known.{IsKnowledge}
@@ -98,3 +98,13 @@ found_right graph table facts id node shape form finding right element formula f
     (subst (λ (form : Formula). Justifies (holds (reader graph (element_by table shape)) form) finding) formula
     (subst (Justifies (holds (reader graph (element_by table shape)) form)) (sym found)
     (finding_right graph table (known facts) (facts_are_knowledge graph table facts right) shape form)))
+
+-- facts that are as they were, and with one more at their end
+pub none_added : (facts : List Fact) → Grows facts facts
+none_added facts = ([], sym (append-nil facts))
+
+pub one_added : (old facts new : List Fact) (fact : Fact) → Grows old facts → new ≡ facts ++ fact ∷ [] → Grows old new
+one_added old facts new fact grows added = (
+  grows.0 ++ fact ∷ [],
+  added ∙ ap (λ facts. facts ++ fact ∷ []) grows.1 ∙ append_assoc old grows.0 (fact ∷ []),
+)

@@ -1,5 +1,5 @@
 -- Facts on whether elements of a table are in nodes of a graph.
-use Rattle.std.specs.Prelude.{◌<◌, Bool, List, length}
+use Rattle.std.specs.Prelude.{◌≡◌, ◌<◌, ◌++◌, Bool, List, length}
 use Rattle.cd_model.specs.Thing.{Thing}
 use Rattle.cd_model.specs.AllOf.{AllOf}
 use Rattle.cd_model.specs.Formula.{Graph}
@@ -22,3 +22,7 @@ IsRight graph table fact = IsNamed graph table fact.0
 
 abbrev pub AreRight : Graph → List Thing → List Fact → Type 0
 AreRight graph table facts = AllOf (IsRight graph table) facts
+
+-- facts are only added
+abbrev pub Grows : (old new : List Fact) → Type 0
+Grows old new = (more : List Fact) × (new ≡ old ++ more)

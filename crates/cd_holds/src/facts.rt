@@ -3,7 +3,7 @@ ghost use Rattle.cd_graph.specs.Nodes.{nodes};
 ghost use Rattle.cd_model.specs.Membership.{answers};
 ghost use Rattle.cd_elements.specs.Elements.{table};
 ghost use Rattle.cd_elements.specs.Table.{element_at};
-ghost use Rattle.cd_holds.specs.Facts.{AreRight};
+ghost use Rattle.cd_holds.specs.Facts.{AreRight, Grows};
 ghost use Rattle.cd_holds.specs.Inner.Known.{known};
 
 use crate::membership::Membership;
@@ -40,7 +40,7 @@ impl Facts {
         }
     }
 
-    /// Whether an element is in a node. What is found out on the way is known from then on, also
+    /// Whether an element is in a node. What is found out on the way is added to the facts, also
     /// where memory runs out.
     pub fn is_in(
         &mut self,
@@ -55,6 +55,7 @@ impl Facts {
         ensures answer { let all = table elements.now in
             IfOk result (answers (nodes graph.now) (element_at all id) node) }
         ensures right { AreRight (nodes graph.now) (table elements.now) self.new }
+        ensures grows { Grows self.old self.new }
     {
         if let Some(answer) = self.get(id, node) {
             return Ok(answer);

@@ -4,7 +4,7 @@ ghost use Rattle.cd_graph.specs.Nodes.{nodes};
 ghost use Rattle.cd_model.specs.Membership.{answers};
 ghost use Rattle.cd_elements.specs.Elements.{table};
 ghost use Rattle.cd_elements.specs.Table.{element_at};
-ghost use Rattle.cd_holds.specs.Facts.{AreRight, IsNamed};
+ghost use Rattle.cd_holds.specs.Facts.{AreRight, Grows, IsNamed};
 ghost use Rattle.cd_holds.specs.Inner.Known.{known};
 ghost use Rattle.cd_holds.specs.Inner.Finding.{Justifies, AsksPart};
 
@@ -30,6 +30,7 @@ pub(crate) fn find_out(
     ensures answer { let all = table elements.now in
         IfOk result (answers (nodes graph.now) (element_at all asked.id) asked.node) }
     ensures right { AreRight (nodes graph.now) (table elements.now) facts.new }
+    ensures grows { Grows facts.old facts.new }
 {
     let mut waiting = Vec::new(facts.allocator());
     let mut current = asked;

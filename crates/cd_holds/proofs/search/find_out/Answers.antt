@@ -4,7 +4,7 @@ use Rattle.cd_graph.specs.Nodes.{nodes}
 use Rattle.cd_elements.specs.Elements.{table}
 use Rattle.cd_holds.specs.declared.membership.Membership.{Membership}
 use Rattle.cd_holds.specs.Facts.{Fact, AreRight}
-use Rattle.cd_holds.proofs.FactsKept.{right_more}
+use Rattle.cd_holds.proofs.FactsKept.{right_more, one_added}
 use Rattle.cd_holds.proofs.Waiting.{Fall, asked_first, steps_left, last_falls, falls_further, falls_back, first_stays, fewer_steps}
 use Rattle.cd_holds.proofs.search.find_out.Goals as goal
 
@@ -37,6 +37,8 @@ loop-answer-preserved-in-Some c =
       subst (AreRight (nodes c.args.graph.now) (table c.args.elements.now)) added
           (right_more (nodes c.args.graph.now) (table c.args.elements.now) c.loop-answer.facts (current, c.in-Known.answer)
           c.loop-answer.invariant.2 ((last.0, last.1), c.in-Known.ensures.right)),
+      one_added c.args.facts.now c.loop-answer.facts c.add.new.self (current, c.in-Known.answer) c.loop-answer.invariant.3
+          c.in_ok-add-in-Known.ensures.added,
     )
 
 -- one fact more is known
@@ -71,4 +73,5 @@ loop-answer-preserved c =
           (falls_further c.loop-answer.facts size count waiting current part c.loop-answer.invariant.0 asks.0 asks.1 asks.2),
       ap (λ waiting. asked_first waiting part) pushed ∙ first_stays waiting current part ∙ c.loop-answer.invariant.1,
       c.loop-answer.invariant.2,
+      c.loop-answer.invariant.3,
     )
