@@ -12,7 +12,7 @@ use Rattle.cd_elements.specs.declared.shape.Shape.{Shape}
 use Rattle.cd_elements.specs.declared.shape.Shape.TheVariants.{Int, Char, Atom, Pair, Xml, Record, Fun}
 use Rattle.cd_elements.specs.Parts.{AreRisingLabels}
 use Rattle.cd_elements.specs.Table.{element_at, fields_of, pair_before, result_at, pairs_of, element_by, Names, IsResult}
-use Rattle.cd_elements.specs.Table.{IsShape, elements_from}
+use Rattle.cd_elements.specs.Table.{IsShape, ArePartsBelow, IsResultBelow, elements_from}
 use Rattle.cd_elements.specs.Sound.{IsRanged, AreShapes}
 
 -- more shapes after some
@@ -105,9 +105,28 @@ grows table (shape ∷ shapes) =
     let rest = grows (table ++ one ∷ []) shapes in
     (one ∷ rest.0, rest.1 ∙ append_assoc table (one ∷ []) rest.0)
 
--- the shape of each number is one of the table, and stands for the element there
+-- the parts of a shape of a table are in it
+result_below : (table : List Thing) (id : Option ElementId) → IsResult table id → IsResultBelow (length table) id
+result_below table None is = tt
+result_below table (Some id) is = is
+
+pairs_below : (table : List Thing) (pairs : List (ElementId × Option ElementId))
+    → AllOf (λ pair. Names table pair.0 × IsResult table pair.1) pairs
+    → AllOf (λ pair. (pair.0.0 < length table) × IsResultBelow (length table) pair.1) pairs
+pairs_below table [] are = tt
+pairs_below table (pair ∷ pairs) are = ((are.0.0, result_below table pair.1 are.0.1), pairs_below table pairs are.1)
+
+parts_below : (table : List Thing) (shape : Shape) → IsShape table shape → ArePartsBelow (length table) shape
+parts_below table (Pair first second) is = is
+parts_below table (Xml tag attributes content) is = (is.0, is.1, is.2)
+parts_below table (Record parts) is = is.1
+parts_below table (Fun pairs) is = pairs_below table pairs is
+parts_below table _ is = tt
+
+-- the shape of each number is one of the table, and stands for the element there, and its parts stand before it
 pub record IsShapeAt (table : List Thing) (shape : Shape) (index : ℕ) : Type 0 where
   pub sound : IsShape table shape
+  pub before : ArePartsBelow index shape
   pub element : element_by table shape ≡ get_or table index (thing.Atom [])
 
 pub shape_at : (table : List Thing) (shapes : List Shape) (index : ℕ) (default : Shape) → AreShapes table shapes
@@ -122,6 +141,7 @@ shape_at table (shape ∷ shapes) zero default are lt =
     let at : length table ≡ length table + 0 = omega arith in
     subst (λ after. IsShapeAt after shape (length table + 0)) (sym whole) record {
       sound = shape_grown table (one ∷ more.0) shape are.0;
+      before = subst (λ place. ArePartsBelow place shape) at (parts_below table shape are.0);
       element = element_grown table (one ∷ more.0) shape are.0
           ∙ sym (get_or_at table one more.0 (thing.Atom []) (length table + 0) at);
     }

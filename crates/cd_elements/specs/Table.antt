@@ -1,5 +1,6 @@
 -- What a shape stands for in a table of elements.
-use Rattle.std.specs.Prelude.{◌<◌, List, [], ◌∷◌, ◌++◌, Option, Some, None, length, slice_index_or}
+use Rattle.std.specs.Prelude.{ℕ, ◌<◌, List, [], ◌∷◌, ◌++◌, Option, Some, None, length}
+use Rattle.std.specs.Prelude.{slice_index_or}
 use Rattle.cd_model.specs.AllOf.{AllOf}
 use Rattle.cd_syntax.specs.Name.{Name, IsLabel}
 use Rattle.cd_model.specs.Thing as thing
@@ -65,6 +66,20 @@ IsShape table (Xml tag attributes content) =
     × IsRecord (element_at table attributes)
 IsShape table (Record parts) = HasLabels parts × AllOf (λ part. Names table part.1) parts
 IsShape table (Fun pairs) = AllOf (λ pair. Names table pair.0 × IsResult table pair.1) pairs
+
+-- the parts of a shape have numbers below this one
+abbrev pub IsResultBelow : ℕ → Option ElementId → Type 0
+IsResultBelow bound None = Unit {0}
+IsResultBelow bound (Some id) = id.0 < bound
+
+abbrev pub ArePartsBelow : ℕ → Shape → Type 0
+ArePartsBelow bound (Pair first second) = (first.0 < bound) × (second.0 < bound)
+ArePartsBelow bound (Xml tag attributes content) =
+    (tag.0 < bound) × (attributes.0 < bound) × (content.0 < bound)
+ArePartsBelow bound (Record parts) = AllOf (λ part. part.1.0 < bound) parts
+ArePartsBelow bound (Fun pairs) =
+    AllOf (λ pair. (pair.0.0 < bound) × IsResultBelow bound pair.1) pairs
+ArePartsBelow bound _ = Unit {0}
 
 -- the table after more shapes, each over the elements before it
 abbrev pub elements_from : List Thing → List Shape → List Thing

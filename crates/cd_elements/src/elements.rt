@@ -21,7 +21,7 @@ impl Elements {
     ghost use Rattle.cd_model.specs.Canonical.{canonical};
     ghost use Rattle.cd_model.specs.AllOf.{AllOf};
     ghost use Rattle.cd_model.specs.Thing.{Atom, IsElement};
-    ghost use Rattle.cd_elements.specs.Table.{IsShape, element_at, element_by};
+    ghost use Rattle.cd_elements.specs.Table.{ArePartsBelow, IsShape, element_at, element_by};
     ghost use Rattle.cd_elements.specs.Elements.{table};
 
     /// The table without elements.
@@ -60,6 +60,7 @@ impl Elements {
         requires { id.0 < length (table self.now) }
         ensures element { element_by (table self.now) result.now ≡ element_at (table self.now) id }
         ensures sound { IsShape (table self.now) result.now }
+        ensures before { ArePartsBelow id.0 result.now }
     {
         &self.shapes[id.0]
     }

@@ -6,3 +6,4 @@ pub mod Members
 pub mod Labels
 mod FieldAt
 mod SameNames
+pub mod Sizes

@@ -14,3 +14,7 @@ returns-clause-element c =
 pub returns-clause-sound : goal.returns-clause-sound
 returns-clause-sound c =
     (shape_read c.args.self.now.shapes.items _ _ c.args.self.now.sound c.requires c.index.ensures).sound
+
+pub returns-clause-before : goal.returns-clause-before
+returns-clause-before c =
+    (shape_read c.args.self.now.shapes.items _ _ c.args.self.now.sound c.requires c.index.ensures).before

@@ -1,0 +1,5 @@
+pub mod FindingIsRight
+pub mod UnknownParts
+mod Labels
+pub mod FactsKept
+mod Waiting

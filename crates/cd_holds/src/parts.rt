@@ -1,0 +1,161 @@
+//! Whether an element is in a formula that speaks of its parts.
+ghost use Rattle.std.specs.Prelude.{◌≡◌, map};
+ghost use Rattle.cd_graph.specs.PlainFormula.{plain_named, plain_field};
+ghost use Rattle.cd_model.specs.Types.{field_of};
+ghost use Rattle.cd_model.specs.Formula as formula;
+ghost use Rattle.cd_holds.specs.Inner.Finding.{finding_of, finding_at_pairs};
+ghost use Rattle.cd_holds.specs.Inner.Finding.{finding_at_labels, finding_at_field, labels};
+ghost use Rattle.cd_holds.specs.Inner.Finding.{part_at as part_of};
+ghost use Rattle.cd_holds.specs.Inner.Known.{known};
+
+use crate::facts::Facts;
+use crate::finding::{Finding, both, look, look_at_result, one_of, opposite};
+use cd_elements::{ElementId, Shape};
+use cd_graph::fields::{Field, Fields, is_same};
+use cd_sets::node_id::NodeId;
+use cd_syntax::name::Name;
+
+// Whether it is a pair of what is in these nodes.
+pub(crate) fn at_pair(facts: &Facts, shape: &Shape, one: NodeId, other: NodeId) -> Finding
+    ensures { result ≡ finding_of (known facts.now) shape.now (formula.Pair one other) }
+{
+    match shape {
+        Shape::Pair(first, second) => both(look(facts, *first, one), look(facts, *second, other)),
+        _ => Finding::Known(false),
+    }
+}
+
+// Whether it is an XML element of what is in these nodes.
+pub(crate) fn at_xml(
+    facts: &Facts,
+    shape: &Shape,
+    one: NodeId,
+    other: NodeId,
+    last: NodeId,
+) -> Finding
+    ensures { result ≡ finding_of (known facts.now) shape.now (formula.Xml one other last) }
+{
+    match shape {
+        Shape::Xml(tag, attributes, content) => {
+            let inside = both(look(facts, *attributes, other), look(facts, *content, last));
+            both(look(facts, *tag, one), inside)
+        }
+        _ => Finding::Known(false),
+    }
+}
+
+// Whether it is a function that maps the one node into the other.
+pub(crate) fn at_arrow(facts: &Facts, shape: &Shape, argument: NodeId, mapped: NodeId) -> Finding
+    ensures { result ≡ finding_of (known facts.now) shape.now (formula.Arrow argument mapped) }
+{
+    match shape {
+        Shape::Fun(pairs) => at_pairs(facts, pairs.items(), argument, mapped),
+        _ => Finding::Known(false),
+    }
+}
+
+// Whether each of these pairs maps the one node into the other.
+fn at_pairs(
+    facts: &Facts,
+    pairs: &[(ElementId, Option<ElementId>)],
+    argument: NodeId,
+    mapped: NodeId,
+) -> Finding
+    ensures { result ≡ finding_at_pairs (known facts.now) pairs.now argument mapped }
+{
+    for pair in pairs {
+        let outside = opposite(look(facts, pair.0, argument));
+        match one_of(outside, look_at_result(facts, pair.1, mapped)) {
+            Finding::Known(true) => {}
+            Finding::Known(false) => return Finding::Known(false),
+            Finding::Unknown(id, node) => return Finding::Unknown(id, node),
+        }
+    }
+    Finding::Known(true)
+}
+
+// Whether it is a record as a record type says.
+pub(crate) fn at_record(facts: &Facts, shape: &Shape, fields: &Fields) -> Finding
+    ensures { result ≡ finding_of (known facts.now) shape.now
+        (formula.Record (plain_named fields.now.named) fields.now.rest) }
+{
+    match shape {
+        Shape::Record(parts) => at_fields(facts, parts.items(), fields),
+        _ => Finding::Known(false),
+    }
+}
+
+// Whether a record is as a record type says of each label: those that one of both has are enough.
+#[tactic(auto, using(crate::proofs::Labels::labels_in_turn))]
+fn at_fields(facts: &Facts, parts: &[(Name, ElementId)], fields: &Fields) -> Finding
+    ensures { let named = plain_named fields.now.named in
+        result ≡ finding_at_labels (known facts.now) parts.now named fields.now.rest
+        (labels named parts.now) }
+{
+    both(
+        at_named(facts, parts, fields),
+        at_parts(facts, parts, fields),
+    )
+}
+
+// Whether a record is as a record type says of the labels that the type names.
+fn at_named(facts: &Facts, parts: &[(Name, ElementId)], fields: &Fields) -> Finding
+    ensures { let named = plain_named fields.now.named in
+        result ≡ finding_at_labels (known facts.now) parts.now named fields.now.rest
+        (map (λ field. field.0) named) }
+{
+    for (label, _) in fields.named.items() {
+        match at_label(facts, parts, fields, label) {
+            Finding::Known(true) => {}
+            Finding::Known(false) => return Finding::Known(false),
+            Finding::Unknown(id, node) => return Finding::Unknown(id, node),
+        }
+    }
+    Finding::Known(true)
+}
+
+// Whether a record is as a record type says of the labels that the record has.
+fn at_parts(facts: &Facts, parts: &[(Name, ElementId)], fields: &Fields) -> Finding
+    ensures { let named = plain_named fields.now.named in
+        result ≡ finding_at_labels (known facts.now) parts.now named fields.now.rest
+        (map (λ part. part.0) parts.now) }
+{
+    for (label, _) in parts {
+        match at_label(facts, parts, fields, label) {
+            Finding::Known(true) => {}
+            Finding::Known(false) => return Finding::Known(false),
+            Finding::Unknown(id, node) => return Finding::Unknown(id, node),
+        }
+    }
+    Finding::Known(true)
+}
+
+// Whether a record is as a record type says of one label.
+fn at_label(facts: &Facts, parts: &[(Name, ElementId)], fields: &Fields, label: &Name) -> Finding
+    ensures { result ≡ finding_at_field (known facts.now) (part_of parts.now label.now)
+        (field_of (plain_named fields.now.named) fields.now.rest label.now) }
+{
+    at_field(facts, part_at(parts, label), &fields.at(label))
+}
+
+// Whether what is at a label, if anything is, is as a field says.
+fn at_field(facts: &Facts, part: Option<ElementId>, field: &Field) -> Finding
+    ensures { result ≡ finding_at_field (known facts.now) part (plain_field field.now) }
+{
+    match part {
+        Some(id) => look(facts, id, field.node),
+        None => Finding::Known(field.optional),
+    }
+}
+
+// What is at a label.
+fn part_at(parts: &[(Name, ElementId)], label: &Name) -> Option<ElementId>
+    ensures { result ≡ part_of parts.now label.now }
+{
+    for (name, id) in parts {
+        if is_same(name, label) {
+            return Some(*id);
+        }
+    }
+    None
+}
