@@ -1,9 +1,5 @@
-mod WhatTestsTell
 mod Sizes
-mod HeldByParts
 mod Lists
-mod Telling
-mod ClausesByKind
-mod Keeping
-mod KeepingAll
-mod ToldOfQuestion
+mod ExactSets
+mod ChoicesJoined
+mod ClausesOfKinds

@@ -52,3 +52,4 @@ pub mod BasicSetsExact
 pub mod BasicsWithoutMembers
 pub mod KindChoicesExact
 pub mod KindChoicesBack
+pub mod ClausesOfKind
