@@ -2,4 +2,5 @@ mod Sizes
 mod Lists
 mod ExactSets
 mod ChoicesJoined
+pub mod BasicsOfQuestions
 mod ClausesOfKinds

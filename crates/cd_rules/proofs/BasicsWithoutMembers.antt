@@ -1,45 +1,44 @@
--- Where no integer is in a question, each of its clauses of integers needs what has no way; so with characters and atoms.
-use Rattle.std.proofs.Common.{◌≡◌, ℤ, ℕ, Bool, true, false, List, [], ◌∷◌, inl, refl, sym, ◌∙◌, true≢false}
-use Rattle.std.specs.Char.{IsScalar}
-use Rattle.cd_intervals.specs.Characters.{CharInterval}
-use Rattle.cd_intervals.specs.Atoms.{Atoms as AtomSet}
-use Rattle.cd_intervals.specs.declared.interval.Interval.{Interval}
+-- Where no integer, no character and no atom is in a question, nothing is in its basic clauses, and these need what has no way.
+use Rattle.std.proofs.Common.{ℕ, true, List, [], ◌∷◌, inl, refl}
 use Rattle.cd_sets.specs.declared.question.Question.{Question}
-use Rattle.cd_syntax.specs.Integer.{IsInteger}
-use Rattle.cd_syntax.specs.Name.{Name, IsLabel}
 use Rattle.cd_model.specs.Thing as thing
+use Rattle.cd_model.specs.Thing.{Thing, IsElement}
 use Rattle.cd_model.specs.Formula.{Graph}
+use Rattle.cd_model.specs.Kinds.{kind_of}
+use Rattle.cd_model.specs.Membership.{asked, answers, reader}
 use Rattle.cd_model.specs.Types.{no_closure}
-use Rattle.cd_rules.specs.BasicSets.{question_passes, integer_test, character_test, atom_test}
-use Rattle.cd_rules.specs.Clauses.{Ints, Chars, Atoms, IsClauseOfQuestion}
+use Rattle.cd_rules.specs.BasicSets.{IsBasic, HasNoBasic}
+use Rattle.cd_rules.specs.Clauses.{Clause, Ints, Chars, Atoms, IsClauseOfQuestion, IsInClause}
 use Rattle.cd_rules.specs.Needs.{AreNeeds}
-use Rattle.cd_rules.proofs.BasicSetsExact.{integers_exact, characters_exact, atoms_exact}
 use Rattle.cd_rules.proofs.ClausesExact.{thing_exact}
 
-module _ (graph : Graph) (question : Question) where
-  pub no_integer : ((z : ℤ) → IsInteger z → question_passes (integer_test z) graph question ≡ false)
-      → (wanted refused : List (List Interval)) → IsClauseOfQuestion graph question (Ints wanted refused)
-      → AreNeeds (Ints wanted refused) ([] ∷ [])
-  no_integer none wanted refused of = inl (
-    λ z is. true≢false (sym ((integers_exact graph question z).0 ((thing_exact graph no_closure question (thing.Integer z)).1
-        (Ints wanted refused, of, (refl, is.1, is.2)))) ∙ none z is.0),
-    refl,
-  )
+module _ (graph : Graph) (question : Question) (none : HasNoBasic graph question) where
+  in_question : (is : Clause) → IsClauseOfQuestion graph question is → (e : Thing) → IsInClause (kind_of e) (reader graph e) is
+      → asked (answers graph e) question true
+  in_question is of e inside = (thing_exact graph no_closure question e).1 (is, of, inside)
 
-  pub no_character : ((c : ℕ) → IsScalar c → question_passes (character_test c) graph question ≡ false)
-      → (wanted refused : List (List CharInterval)) → IsClauseOfQuestion graph question (Chars wanted refused)
-      → AreNeeds (Chars wanted refused) ([] ∷ [])
-  no_character none wanted refused of = inl (
-    λ c is. true≢false (sym ((characters_exact graph question c).0 ((thing_exact graph no_closure question (thing.Character c)).1
-        (Chars wanted refused, of, (refl, is.1, is.2)))) ∙ none c is.0),
+  pub nothing_needed : (is : Clause) → IsClauseOfQuestion graph question is → IsBasic is → AreNeeds is ([] ∷ [])
+  nothing_needed (Ints wanted refused) of basic = inl (
+    λ z is. none.0 z is.0 (in_question (Ints wanted refused) of (thing.Integer z) (refl, is.1, is.2)),
     refl,
   )
+  nothing_needed (Chars wanted refused) of basic = inl (
+    λ c is. none.1 c is.0 (in_question (Chars wanted refused) of (thing.Character c) (refl, is.1, is.2)),
+    refl,
+  )
+  nothing_needed (Atoms wanted refused) of basic = inl (
+    λ name is. none.2 name is.0 (in_question (Atoms wanted refused) of (thing.Atom name) (refl, is.1, is.2)),
+    refl,
+  )
+  nothing_needed _ of basic = absurd basic
 
-  pub no_atom : ((name : Name) → IsLabel name → question_passes (atom_test name) graph question ≡ false)
-      → (wanted refused : List AtomSet) → IsClauseOfQuestion graph question (Atoms wanted refused)
-      → AreNeeds (Atoms wanted refused) ([] ∷ [])
-  no_atom none wanted refused of = inl (
-    λ name is. true≢false (sym ((atoms_exact graph question name).0 ((thing_exact graph no_closure question (thing.Atom name)).1
-        (Atoms wanted refused, of, (refl, is.1, is.2)))) ∙ none name is.0),
-    refl,
-  )
+  -- an element of the question is in no basic clause
+  pub in_no_basic : (is : Clause) → IsBasic is → (e : Thing) → IsElement e → asked (answers graph e) question true
+      → IsInClause (kind_of e) (reader graph e) is → ⊥
+  in_no_basic (Ints wanted refused) basic (thing.Integer z) element asking inside = none.0 z element asking
+  in_no_basic (Ints wanted refused) basic _ element asking inside = absurd cc
+  in_no_basic (Chars wanted refused) basic (thing.Character c) element asking inside = none.1 c element asking
+  in_no_basic (Chars wanted refused) basic _ element asking inside = absurd cc
+  in_no_basic (Atoms wanted refused) basic (thing.Atom name) element asking inside = none.2 name element asking
+  in_no_basic (Atoms wanted refused) basic _ element asking inside = absurd cc
+  in_no_basic _ basic e element asking inside = absurd basic

@@ -6,9 +6,13 @@ use Rattle.cd_sets.specs.declared.question.Question.{Question}
 use Rattle.cd_intervals.specs.Interval as integers
 use Rattle.cd_intervals.specs.Characters.{holds_character}
 use Rattle.cd_intervals.specs.Atoms as atoms
-use Rattle.cd_syntax.specs.Name.{Name}
+use Rattle.std.specs.Char.{IsScalar}
+use Rattle.cd_syntax.specs.Integer.{IsInteger}
+use Rattle.cd_syntax.specs.Name.{Name, IsLabel}
 use Rattle.cd_model.specs.Formula as formula
 use Rattle.cd_model.specs.Formula.{Formula, Formulas, NoFormula, AFormula, Graph, formula_at}
+use Rattle.cd_model.specs.Membership.{asked, answers}
+use Rattle.cd_model.specs.Thing as thing
 use Rattle.cd_rules.specs.Clauses.{Clause, Ints, Chars, Atoms}
 
 abbrev mutual
@@ -60,3 +64,10 @@ IsBasic (Ints wanted refused) = Unit {0}
 IsBasic (Chars wanted refused) = Unit {0}
 IsBasic (Atoms wanted refused) = Unit {0}
 IsBasic _ = ⊥
+
+-- no integer, no character and no atom is in the question
+abbrev pub HasNoBasic : Graph → Question → Type 0
+HasNoBasic graph question =
+    ((z : ℤ) → IsInteger z → asked (answers graph (thing.Integer z)) question true → ⊥)
+    × ((c : ℕ) → IsScalar c → asked (answers graph (thing.Character c)) question true → ⊥)
+    × ((name : Name) → IsLabel name → asked (answers graph (thing.Atom name)) question true → ⊥)
