@@ -56,12 +56,7 @@ fn wanted(alloc: Global, graph: &Graph, ids: &[NodeId]) -> Result<Basics, AllocE
 }
 
 // Those of these that are in none of the nodes.
-fn without(
-    alloc: Global,
-    graph: &Graph,
-    sets: Basics,
-    ids: &[NodeId],
-) -> Result<Basics, AllocError>
+fn without(alloc: Global, graph: &Graph, sets: Basics, ids: &[NodeId]) -> Result<Basics, AllocError>
     requires { AllOf (λ id. id.0 < length (nodes graph.now)) ids.now }
     ensures { IfOk result (λ left. (passing : Passing) → AreExact passing sets
         → AreExact (λ test. passing test && in_none test (nodes graph.now) ids.now) left) }
@@ -89,10 +84,8 @@ fn of_formula(alloc: Global, formula: &Formula) -> Result<Basics, AllocError>
         Formula::And(formulas) => of_each(alloc, formulas.items()),
         Formula::Or(formulas) => of_one(alloc, formulas.items()),
         Formula::Not(inner) => others(alloc, &of_formula(alloc, inner)?),
-        Formula::Pair(_, _)
-        | Formula::Xml(_, _, _)
-        | Formula::Record(_)
-        | Formula::Arrow(_, _) => Ok(Basics::none(alloc)),
+        Formula::Pair(_, _) | Formula::Xml(_, _, _) | Formula::Record(_) | Formula::Arrow(_, _) =>
+            Ok(Basics::none(alloc)),
     }
 }
 
