@@ -29,9 +29,9 @@ pub enum Expansion {
     Clauses(Vec<Needs>),
 }
 
-/// Looks at a question. Where an integer, a character or an atom is in it, that is its element. Else
-/// what the clauses for the other kinds need is given, once they are reduced, and the questions of
-/// the needs are added to those that are asked.
+/// Looks at a question. Where an integer, a character or an atom is in it, that is its element.
+/// Else what the clauses for the other kinds need is given, once they are reduced, and the
+/// questions of the needs are added to those that are asked.
 ///
 /// # Errors
 ///

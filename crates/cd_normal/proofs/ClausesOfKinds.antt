@@ -44,8 +44,9 @@ module _ (graph : Graph) (question : Question) where
   all_in [] = tt
   all_in (kind ∷ some) =
       let choices = kind_choices_of (plain_kind kind) graph question in
-      each_of_lists (IsClauseOfQuestion graph question) (clauses_of_kind graph question kind) (clauses_of_kinds graph question some)
-      (each_of_map (clause_for kind) (IsClauseOfQuestion graph question) choices (each_of_its (λ choice. IsClauseOfQuestion graph question (clause_for kind choice)) choices (clause_in kind)))
+      let Is = IsClauseOfQuestion graph question in
+      each_of_lists Is (clauses_of_kind graph question kind) (clauses_of_kinds graph question some)
+      (each_of_map (clause_for kind) Is choices (each_of_its (λ choice. Is (clause_for kind choice)) choices (clause_in kind)))
       (all_in some)
 
   -- and each clause of a kind is what one of its choices says
@@ -54,28 +55,32 @@ module _ (graph : Graph) (question : Question) where
 
   pairs_among : (wanted refused : List rules.Pair) → IsClauseOfQuestion graph question (Pairs wanted refused)
       → Among (clauses_of_kind graph question Pair) (Pairs wanted refused)
-  pairs_among wanted refused of = one_of_map (clause_for Pair) (λ one. one ≡ Pairs wanted refused) (kind_choices_of (plain_kind Pair) graph question)
+  pairs_among wanted refused of =
+      one_of_map (clause_for Pair) (λ one. one ≡ Pairs wanted refused) (kind_choices_of (plain_kind Pair) graph question)
       (one_weaker (HasParts pair_of wanted refused) (λ choice. clause_for Pair choice ≡ Pairs wanted refused)
       (λ choice parts. ap₂ Pairs (sym parts.0) (sym parts.1)) (kind_choices_of (plain_kind Pair) graph question)
       ((pairs_of_kind graph question wanted refused).0 of))
 
   xmls_among : (wanted refused : List Triple) → IsClauseOfQuestion graph question (Xmls wanted refused)
       → Among (clauses_of_kind graph question Xml) (Xmls wanted refused)
-  xmls_among wanted refused of = one_of_map (clause_for Xml) (λ one. one ≡ Xmls wanted refused) (kind_choices_of (plain_kind Xml) graph question)
+  xmls_among wanted refused of =
+      one_of_map (clause_for Xml) (λ one. one ≡ Xmls wanted refused) (kind_choices_of (plain_kind Xml) graph question)
       (one_weaker (HasParts xml_of wanted refused) (λ choice. clause_for Xml choice ≡ Xmls wanted refused)
       (λ choice parts. ap₂ Xmls (sym parts.0) (sym parts.1)) (kind_choices_of (plain_kind Xml) graph question)
       ((xmls_of_kind graph question wanted refused).0 of))
 
   records_among : (wanted refused : List RecordType) → IsClauseOfQuestion graph question (Records wanted refused)
       → Among (clauses_of_kind graph question Record) (Records wanted refused)
-  records_among wanted refused of = one_of_map (clause_for Record) (λ one. one ≡ Records wanted refused) (kind_choices_of (plain_kind Record) graph question)
+  records_among wanted refused of =
+      one_of_map (clause_for Record) (λ one. one ≡ Records wanted refused) (kind_choices_of (plain_kind Record) graph question)
       (one_weaker (HasParts record_of wanted refused) (λ choice. clause_for Record choice ≡ Records wanted refused)
       (λ choice parts. ap₂ Records (sym parts.0) (sym parts.1)) (kind_choices_of (plain_kind Record) graph question)
       ((records_of_kind graph question wanted refused).0 of))
 
   arrows_among : (wanted refused : List rules.Pair) → IsClauseOfQuestion graph question (Arrows wanted refused)
       → Among (clauses_of_kind graph question Function) (Arrows wanted refused)
-  arrows_among wanted refused of = one_of_map (clause_for Function) (λ one. one ≡ Arrows wanted refused) (kind_choices_of (plain_kind Function) graph question)
+  arrows_among wanted refused of =
+      one_of_map (clause_for Function) (λ one. one ≡ Arrows wanted refused) (kind_choices_of (plain_kind Function) graph question)
       (one_weaker (HasParts arrow_of wanted refused) (λ choice. clause_for Function choice ≡ Arrows wanted refused)
       (λ choice parts. ap₂ Arrows (sym parts.0) (sym parts.1)) (kind_choices_of (plain_kind Function) graph question)
       ((arrows_of_kind graph question wanted refused).0 of))

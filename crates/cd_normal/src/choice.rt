@@ -26,8 +26,8 @@ pub(crate) fn choices_of<'g>(
 ) -> Result<Vec<Vec<Literal<'g>>>, AllocError>
     requires pos { AllOf (λ id. id.0 < length (nodes graph.now)) question.now.pos }
     requires neg { AllOf (λ id. id.0 < length (nodes graph.now)) question.now.neg }
-    ensures { IfOk result (λ choices.
-        plain_choices choices.items ≡ kind_choices_of (plain_kind kind) (nodes graph.now) question.now) }
+    ensures { IfOk result (λ choices. plain_choices choices.items
+        ≡ kind_choices_of (plain_kind kind) (nodes graph.now) question.now) }
 {
     let inside = choices_at(alloc, graph, kind, question.pos.ids(), true)?;
     let outside = choices_at(alloc, graph, kind, question.neg.ids(), false)?;
@@ -93,8 +93,8 @@ fn of_each<'g>(
     formulas: &'g Formulas,
     wanted: bool,
 ) -> Result<Vec<Vec<Literal<'g>>>, AllocError>
-    ensures { IfOk result (λ choices.
-        plain_choices choices.items ≡ kind_of_each (plain_kind kind) (plain_formulas formulas.now) wanted) }
+    ensures { IfOk result (λ choices. plain_choices choices.items
+        ≡ kind_of_each (plain_kind kind) (plain_formulas formulas.now) wanted) }
 {
     let formulas = formulas.items();
     let mut all = when(alloc, true)?;
@@ -115,8 +115,8 @@ fn of_one<'g>(
     formulas: &'g Formulas,
     wanted: bool,
 ) -> Result<Vec<Vec<Literal<'g>>>, AllocError>
-    ensures { IfOk result (λ choices.
-        plain_choices choices.items ≡ kind_of_one (plain_kind kind) (plain_formulas formulas.now) wanted) }
+    ensures { IfOk result (λ choices. plain_choices choices.items
+        ≡ kind_of_one (plain_kind kind) (plain_formulas formulas.now) wanted) }
 {
     let formulas = formulas.items();
     let mut all = Vec::new(alloc);
