@@ -1,5 +1,5 @@
 -- The clauses of the code for the choices of each kind are those of the question, but for the basic ones.
-use Rattle.std.proofs.Common.{◌≡◌, ◌⊎◌, Option, true, false, List, [], ◌∷◌, ◌++◌, map, inl, inr, refl, sym, ap, ap₂, subst}
+use Rattle.std.proofs.Common.{◌≡◌, ◌⊎◌, Option, true, false, List, [], ◌∷◌, map, inl, inr, refl, sym, ap, ap₂, subst}
 use Rattle.cd_sets.specs.declared.question.Question.{Question}
 use Rattle.cd_model.specs.AllOf.{AllOf, AnyOf}
 use Rattle.cd_model.specs.Formula.{Formula, Graph}

@@ -36,7 +36,7 @@ opposite false false = (λ is. sym is, λ is. sym is)
 
 module _ (reader : Reader) (test : Formula → Bool) (reads : (is : Formula) (answer : Bool) → reader is answer ↔ (test is ≡ answer)) where
   mutual
-    pub passes_exact : (is : Formula) (answer : Bool) → holds reader is answer ↔ (passes test is ≡ answer)
+    passes_exact : (is : Formula) (answer : Bool) → holds reader is answer ↔ (passes test is ≡ answer)
     passes_exact formula.Nothing answer = (λ same. sym same, λ same. sym same)
     passes_exact formula.Everything answer = (λ same. sym same, λ same. sym same)
     passes_exact (formula.And formulas) true = each_true formulas

@@ -1,5 +1,5 @@
 -- Where no integer, no character and no atom is in a question, nothing is in its basic clauses, and these need what has no way.
-use Rattle.std.proofs.Common.{ℕ, true, List, [], ◌∷◌, inl, refl}
+use Rattle.std.proofs.Common.{true, [], ◌∷◌, inl, refl}
 use Rattle.cd_sets.specs.declared.question.Question.{Question}
 use Rattle.cd_model.specs.Thing as thing
 use Rattle.cd_model.specs.Thing.{Thing, IsElement}

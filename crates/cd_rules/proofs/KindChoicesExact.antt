@@ -109,7 +109,7 @@ module _ (kind : Kind) where
       by_tests false false = refl
 
   mutual
-    pub kind_exact : (is : Formula) (wanted : Bool) → kind_choices kind is wanted ≡ for_kind kind (choices is wanted)
+    kind_exact : (is : Formula) (wanted : Bool) → kind_choices kind is wanted ≡ for_kind kind (choices is wanted)
     kind_exact formula.Nothing wanted = for_when (not wanted)
     kind_exact formula.Everything wanted = for_when wanted
     kind_exact (formula.And formulas) true = each_exact formulas true
