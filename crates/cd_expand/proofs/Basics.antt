@@ -1,5 +1,4 @@
 -- What is in the sets of a question is an element of it.
-use Rattle.std.proofs.Common.{◌≡◌}
 use Rattle.cd_sets.specs.declared.question.Question.{Question}
 use Rattle.cd_model.specs.Formula.{Graph}
 use Rattle.cd_elements.specs.declared.shape.Shape.{Shape}

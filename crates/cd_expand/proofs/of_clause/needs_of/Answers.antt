@@ -1,5 +1,5 @@
 use Rattle.cd_normal.specs.declared.clause.Clause.TheVariants as code
-use Rattle.cd_expand.specs.Inner.OfClauses.{PairsAsk, XmlsAsk, RecordsAsk, ArrowsAsk, ClauseAsks}
+use Rattle.cd_expand.specs.Inner.OfClauses.{PairsAsk, XmlsAsk, RecordsAsk, ArrowsAsk}
 use Rattle.cd_expand.proofs.OneClause.{clause_added}
 use Rattle.cd_expand.proofs.of_clause.needs_of.Goals as goal
 
