@@ -1,11 +1,8 @@
--- Why no element is in a clause: its set holds nothing, or the parts of its wanted pairs, or XML types, are apart.
-use Rattle.std.proofs.Common.{◌≡◌, ◌++◌, true, List, map, inl, inr, sym, ◌∙◌, subst, true≢false}
+-- Why no element is in a clause: the parts of its wanted pairs, or XML types, are apart.
+use Rattle.std.proofs.Common.{◌≡◌, ◌++◌, true, List, map, inl, inr, subst}
 use Rattle.std.specs.declared.alloc.Global.{Global}
 use Rattle.std.specs.declared.vec.Vec.{Vec}
 use Rattle.cd_sets.specs.declared.node_id.NodeId.{NodeId}
-use Rattle.cd_intervals.specs.declared.interval.Interval.{Interval}
-use Rattle.cd_intervals.specs.Characters.{CharInterval}
-use Rattle.cd_intervals.specs.Atoms.{Atoms as AtomSet}
 use Rattle.cd_model.specs.Thing as thing
 use Rattle.cd_model.specs.Thing.{Thing, IsElement}
 use Rattle.cd_model.specs.BuiltIns.{built_ins}
@@ -14,45 +11,20 @@ use Rattle.cd_model.specs.Formula.{Graph}
 use Rattle.cd_model.specs.Kinds.{kind_of}
 use Rattle.cd_model.specs.Membership.{answers, reader}
 use Rattle.cd_model.specs.Types.{no_closure}
-use Rattle.cd_rules.specs.Clauses.{Clause, Ints, Chars, Atoms, Pairs, Xmls, Pair, Triple, IsInClause}
+use Rattle.cd_rules.specs.Clauses.{Clause, Pairs, Xmls, Pair, Triple, IsInClause}
 use Rattle.cd_rules.specs.Reduced.{AreApart}
 use Rattle.cd_rules.proofs.Asking.{each_of_map}
 use Rattle.cd_rules.proofs.NoMember.{tag_in, attributes_in}
 use Rattle.cd_rules.proofs.Ones.{each_weaker}
 use Rattle.cd_normal.specs.declared.clause.Clause.{Clause as CodeClause}
 use Rattle.cd_normal.specs.declared.clause.Clause.TheVariants as code
-use Rattle.cd_normal.specs.Standing.{Stands, HoldsNothing}
+use Rattle.cd_normal.specs.Standing.{Stands}
 use Rattle.cd_apart.specs.Inner.Emptiness.{IsEmpty, ArePairsApart, AreXmlsApart}
 
 module _ (graph : Graph) where
   -- no element is in a clause for which this one stands
   abbrev HasNone : CodeClause → Type 0
   HasNone clause = (e : Thing) → IsElement e → (of : Clause) → Stands clause of → IsInClause (kind_of e) (reader graph e) of → ⊥
-
-  no_integer : (set : List Interval) → HoldsNothing (code.Ints set) → HasNone (code.Ints set)
-  no_integer set nothing (thing.Integer z) is (Ints wanted refused) stands inside =
-      true≢false (sym ((stands z is).1 (inside.1, inside.2)) ∙ nothing z)
-  no_integer set nothing _ is (Ints wanted refused) stands inside = absurd cc
-  no_integer set nothing _ is _ stands inside = absurd stands
-
-  no_character : (set : List CharInterval) → HoldsNothing (code.Chars set) → HasNone (code.Chars set)
-  no_character set nothing (thing.Character c) is (Chars wanted refused) stands inside =
-      true≢false (sym ((stands c is).1 (inside.1, inside.2)) ∙ nothing c is)
-  no_character set nothing _ is (Chars wanted refused) stands inside = absurd cc
-  no_character set nothing _ is _ stands inside = absurd stands
-
-  no_atom : (set : AtomSet) → HoldsNothing (code.Atoms set) → HasNone (code.Atoms set)
-  no_atom set nothing (thing.Atom name) is (Atoms wanted refused) stands inside =
-      true≢false (sym ((stands name is).1 (inside.1, inside.2)) ∙ nothing name is)
-  no_atom set nothing _ is (Atoms wanted refused) stands inside = absurd cc
-  no_atom set nothing _ is _ stands inside = absurd stands
-
-  -- a set that holds nothing has no element
-  pub empty_by_set : (clause : CodeClause) → HoldsNothing clause → IsEmpty graph clause
-  empty_by_set (code.Ints set) nothing = λ e is held. no_integer set nothing e is held.0 held.1 held.2
-  empty_by_set (code.Chars set) nothing = λ e is held. no_character set nothing e is held.0 held.1 held.2
-  empty_by_set (code.Atoms set) nothing = λ e is held. no_atom set nothing e is held.0 held.1 held.2
-  empty_by_set _ nothing = absurd nothing
 
   -- where nodes are one part of each thing of a list and are apart, no element is in that part of each
   part_out : {X : Type 0} (part : X → NodeId) (xs : List X) → AreApart graph (map part xs) → (e : Thing) → IsElement e

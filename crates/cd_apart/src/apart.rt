@@ -32,8 +32,10 @@ pub fn are_apart(
     requires { AllOf (λ id. id.0 < length (nodes graph.now)) ids.now }
     ensures { IfOk result (λ apart. OnTrue apart (AreApart (nodes graph.now) ids.now)) }
 {
-    let clauses = clauses_of_all(alloc, graph, ids)?;
-    are_all_empty(alloc, graph, clauses.as_slice(), depth)
+    match clauses_of_all(alloc, graph, ids)? {
+        Some(clauses) => are_all_empty(alloc, graph, clauses.as_slice(), depth),
+        None => Ok(false),
+    }
 }
 
 // Whether it is seen that no element is in any of the clauses.
@@ -64,9 +66,6 @@ fn is_empty(alloc: Global, graph: &Graph, clause: &Clause, depth: usize) -> Resu
     // The contract of this call says that the graph has the built-in nodes.
     let _built_in = graph.len();
     match clause {
-        Clause::Ints(set) => Ok(set.is_empty()),
-        Clause::Chars(set) => Ok(set.is_empty()),
-        Clause::Atoms(set) => Ok(set.is_empty()),
         Clause::Pairs(wanted, _) => are_pairs_apart(alloc, graph, wanted.as_slice(), depth),
         Clause::Xmls(wanted, _) => are_xmls_apart(alloc, graph, wanted.as_slice(), depth),
         Clause::Records(_, _) | Clause::Arrows(_, _) => Ok(false),

@@ -39,9 +39,6 @@ clause_asks nodes least (code.Records pos neg) (rules.Records wanted refused) st
     (within_both (λ wanted refused. IsWithin nodes (rules.Records wanted refused)) stands within)
 clause_asks nodes least (code.Arrows pos neg) (rules.Arrows wanted refused) stands within =
     arrow_ways_ask nodes pos.items neg.items (within_both (λ wanted refused. IsWithin nodes (rules.Arrows wanted refused)) stands within)
-clause_asks nodes least (code.Ints set) _ stands within = tt
-clause_asks nodes least (code.Chars set) _ stands within = tt
-clause_asks nodes least (code.Atoms set) _ stands within = tt
 clause_asks nodes least _ _ stands within = absurd stands
 
 -- so does what it needs once it is reduced

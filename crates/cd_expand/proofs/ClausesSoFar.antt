@@ -1,7 +1,6 @@
 -- What the first clauses of a list need, once they are reduced.
-use Rattle.std.proofs.Common.{◌≡◌, ℕ, List, [], ◌∷◌, ◌++◌, ◌⊎◌, inl, inr, Option, Some, None, map, sym, ap, ◌∙◌, subst}
+use Rattle.std.proofs.Common.{◌≡◌, ℕ, List, [], ◌∷◌, ◌++◌, inl, map, sym, ap, ◌∙◌, subst}
 use Rattle.std.proofs.Common.{append_assoc, append-nil}
-use Rattle.std.specs.Option.{option_to_list}
 use Rattle.std.specs.declared.alloc.Global.{Global}
 use Rattle.std.specs.declared.vec.Vec.{Vec}
 use Rattle.cd_sets.specs.declared.question.Question.{Question}
@@ -16,9 +15,8 @@ use Rattle.cd_expand.specs.declared.needs.Way.{Way}
 use Rattle.cd_expand.specs.declared.needs.Needs.{Needs}
 use Rattle.cd_expand.specs.declared.needs.Needs.TheVariants as needs
 use Rattle.cd_expand.specs.Inner.Added.{Adds}
-use Rattle.cd_expand.specs.Inner.Basic.{IsBasic}
 use Rattle.cd_expand.specs.Named.{Names, NamesNeed, NamesRow}
-use Rattle.cd_expand.specs.Inner.OfClauses.{NamesReduced, NamesOne, NamesEach}
+use Rattle.cd_expand.specs.Inner.OfClauses.{NamesReduced, NamesEach}
 use Rattle.cd_expand.specs.Inner.Within.{StandsInGraph}
 use Rattle.cd_expand.proofs.Adding.{each_both, adds_none, adds_for, adds_then}
 use Rattle.cd_expand.proofs.Naming.{along_stays, need_stays, row_stays}
@@ -44,12 +42,12 @@ module _ (graph : Graph) where
   needed_stays asked more clause named names =
       λ is stands. let less = names is stands in (less.0, less.1, names_stays asked more named less.0 less.2)
 
-  -- the needs are of one of the clauses, and the clause is basic or needs one of these
+  -- the needs are of one of the clauses, and the clause needs one of these
   abbrev Of : (asked : List Question) → List Clause → Needs → Type 0
   Of asked clauses named = AnyOf (λ clause. NamesReduced graph asked clause named) clauses
 
   abbrev Has : (asked : List Question) → List Needs → Clause → Type 0
-  Has asked all clause = IsBasic clause ⊎ AnyOf (NamesReduced graph asked clause) all
+  Has asked all clause = AnyOf (NamesReduced graph asked clause) all
 
   each_stays : (asked more : List Question) (clauses : List Clause) (all : List Needs) → NamesEach graph asked clauses all
       → NamesEach graph (asked ++ more) clauses all
@@ -63,37 +61,22 @@ module _ (graph : Graph) where
           (λ clause. needed_stays asked more clause named) clauses
 
       has_still : (clause : Clause) → Has asked all clause → Has (asked ++ more) all clause
-      has_still clause (inl basic) = inl basic
-      has_still clause (inr one) = inr (one_weaker (NamesReduced graph asked clause) (NamesReduced graph (asked ++ more) clause)
-          (needed_stays asked more clause) all one)
+      has_still clause = one_weaker (NamesReduced graph asked clause) (NamesReduced graph (asked ++ more) clause)
+          (needed_stays asked more clause) all
 
   -- with what one more clause needs
-  of_next : (asked : List Question) (clauses : List Clause) (clause : Clause) (found : Option Needs) → NamesOne graph asked clause found
-      → AllOf (Of asked (clauses ++ clause ∷ [])) (option_to_list found)
-  of_next asked clauses clause None basic = tt
-  of_next asked clauses clause (Some named) here =
-      (one_on_right (λ one. NamesReduced graph asked one named) clauses (clause ∷ []) (inl here), tt)
-
-  has_next : (asked : List Question) (all : List Needs) (clause : Clause) (found : Option Needs) → NamesOne graph asked clause found
-      → Has asked (all ++ option_to_list found) clause
-  has_next asked all clause None basic = inl basic
-  has_next asked all clause (Some named) here = inr (one_on_right (NamesReduced graph asked clause) all (named ∷ []) (inl here))
-
-  has_more : (asked : List Question) (all more : List Needs) (clause : Clause) → Has asked all clause → Has asked (all ++ more) clause
-  has_more asked all more clause (inl basic) = inl basic
-  has_more asked all more clause (inr one) = inr (one_on_left (NamesReduced graph asked clause) all more one)
-
-  with_next : (asked : List Question) (clauses : List Clause) (all : List Needs) (clause : Clause) (found : Option Needs)
-      → NamesEach graph asked clauses all → NamesOne graph asked clause found
-      → NamesEach graph asked (clauses ++ clause ∷ []) (all ++ option_to_list found)
-  with_next asked clauses all clause found names here = (
-    each_both (Of asked (clauses ++ clause ∷ [])) all (option_to_list found)
+  with_next : (asked : List Question) (clauses : List Clause) (all : List Needs) (clause : Clause) (named : Needs)
+      → NamesEach graph asked clauses all → NamesReduced graph asked clause named
+      → NamesEach graph asked (clauses ++ clause ∷ []) (all ++ named ∷ [])
+  with_next asked clauses all clause named names here = (
+    each_both (Of asked (clauses ++ clause ∷ [])) all (named ∷ [])
         (each_weaker (Of asked clauses) (Of asked (clauses ++ clause ∷ []))
         (λ named. one_on_left (λ one. NamesReduced graph asked one named) clauses (clause ∷ [])) all names.0)
-        (of_next asked clauses clause found here),
-    each_both (Has asked (all ++ option_to_list found)) clauses (clause ∷ [])
-        (each_weaker (Has asked all) (Has asked (all ++ option_to_list found)) (has_more asked all (option_to_list found)) clauses names.1)
-        (has_next asked all clause found here, tt),
+        (one_on_right (λ one. NamesReduced graph asked one named) clauses (clause ∷ []) (inl here), tt),
+    each_both (Has asked (all ++ named ∷ [])) clauses (clause ∷ [])
+        (each_weaker (Has asked all) (Has asked (all ++ named ∷ []))
+        (λ clause. one_on_left (NamesReduced graph asked clause) all (named ∷ [])) clauses names.1)
+        (one_on_right (NamesReduced graph asked clause) all (named ∷ []) (inl here), tt),
   )
 
   -- what the clauses that are done need is named, and what was added is of all the clauses
@@ -127,13 +110,13 @@ module _ (graph : Graph) where
       clause_adds = adds_then (λ nodes. AllOf (StandsInGraph nodes) clauses) old mid new far.added
           (adds_for (λ nodes. AllOf (StandsInGraph nodes) clauses) (λ nodes. StandsInGraph nodes clause) next_in_graph mid new adds)
 
-      pub next_clause : {longer : List Needs} (found : Option Needs) → NamesOne graph new clause found
-          → longer ≡ made ++ option_to_list found → ClausesSoFar clauses (done ++ clause ∷ []) rest old new longer
-      next_clause {longer} found names longer_is =
+      pub next_clause : {longer : List Needs} (named : Needs) → NamesReduced graph new clause named
+          → longer ≡ made ++ named ∷ [] → ClausesSoFar clauses (done ++ clause ∷ []) rest old new longer
+      next_clause {longer} named names longer_is =
           let now = subst (λ asked. NamesEach graph asked done made) (sym adds.grown) (each_stays mid adds.more done made far.named) in
           record {
             both = append_assoc done (clause ∷ []) rest ∙ ap (λ left. done ++ left) (sym is) ∙ far.both;
-            named = subst (NamesEach graph new (done ++ clause ∷ [])) (sym longer_is) (with_next new done made clause found now names);
+            named = subst (NamesEach graph new (done ++ clause ∷ [])) (sym longer_is) (with_next new done made clause named now names);
             added = clause_adds;
           }
 

@@ -3,23 +3,20 @@ use Rattle.std.proofs.Common.{List, [], ◌∷◌, ◌⊎◌, inl, inr}
 use Rattle.cd_sets.specs.declared.question.Question.{Question}
 use Rattle.cd_model.specs.AllOf.{AllOf, AnyOf}
 use Rattle.cd_model.specs.Formula.{Graph, IsGraph}
-use Rattle.cd_elements.specs.declared.shape.Shape.{Shape}
-use Rattle.cd_elements.specs.declared.shape.Shape.TheVariants.{Int, Char, Atom}
+use Rattle.cd_rules.specs.BasicSets.{IsBasic, HasNoBasic}
 use Rattle.cd_rules.specs.Clauses as rules
 use Rattle.cd_rules.specs.Clauses.{IsClauseOfQuestion}
 use Rattle.cd_rules.specs.Members.{NamesLabels}
 use Rattle.cd_rules.specs.Needs.{AreNeeds}
 use Rattle.cd_rules.specs.Reduced.{IsReduced}
-use Rattle.cd_rules.proofs.Ones.{each_weaker, each_of_two, one_weaker}
+use Rattle.cd_rules.proofs.BasicsWithoutMembers.{nothing_needed}
+use Rattle.cd_rules.proofs.Ones.{each_weaker, one_weaker}
 use Rattle.cd_normal.specs.declared.clause.Clause.{Clause}
-use Rattle.cd_normal.specs.declared.clause.Clause.TheVariants as code
-use Rattle.cd_normal.specs.Standing.{Stands, HoldsNothing}
+use Rattle.cd_normal.specs.Standing.{Stands}
 use Rattle.cd_expand.specs.declared.needs.Needs.{Needs}
-use Rattle.cd_expand.specs.Inner.Basic.{IsBasic, IsNoSet, IsIn}
-use Rattle.cd_expand.specs.Expansion.{HasShape, AreOfClauses, CoverClauses}
+use Rattle.cd_expand.specs.Expansion.{AreOfClauses, CoverClauses}
 use Rattle.cd_expand.specs.Named.{Names}
 use Rattle.cd_expand.specs.Inner.OfClauses.{NamesReduced, NamesEach}
-use Rattle.cd_expand.proofs.Basics.{nothing_needed, integer_in, character_in, atom_in}
 use Rattle.cd_rules.proofs.PartsAsk.{clause_names_labels}
 use Rattle.cd_expand.proofs.Reducing.{reduced_names_labels}
 
@@ -31,11 +28,11 @@ IsToldOf graph question clause = (is : rules.Clause) × IsClauseOfQuestion graph
 pub record AreTold (graph : Graph) (question : Question) (clauses : List Clause) : Type 0 where
   pub sound : AllOf (IsToldOf graph question) clauses
   pub complete : (is : rules.Clause) → IsClauseOfQuestion graph question is
-      → AnyOf (λ clause. Stands clause is) clauses ⊎ ((clause : Clause) × Stands clause is × HoldsNothing clause)
+      → IsBasic is ⊎ AnyOf (λ clause. Stands clause is) clauses
 
 pub are_told : (graph : Graph) (question : Question) (clauses : List Clause) → AllOf (IsToldOf graph question) clauses
     → ((is : rules.Clause) → IsClauseOfQuestion graph question is
-    → AnyOf (λ clause. Stands clause is) clauses ⊎ ((clause : Clause) × Stands clause is × HoldsNothing clause))
+    → IsBasic is ⊎ AnyOf (λ clause. Stands clause is) clauses)
     → AreTold graph question clauses
 are_told graph question clauses sound complete = record { sound = sound; complete = complete }
 
@@ -45,23 +42,6 @@ with_one : {X : Type 0} (one other : X → Type 0) (So : Type 0) → ((x : X) �
 with_one one other So lead [] each is = elim is [ ]
 with_one one other So lead (x ∷ xs) each (inl is) = lead x each.0 is
 with_one one other So lead (x ∷ xs) each (inr later) = with_one one other So lead xs each.1 later
-
--- the thing of a shape that is in the set of a clause is in the question
-shape_in : (graph : Graph) (question : Question) (clause : Clause) (is : rules.Clause) (shape : Shape)
-    → IsClauseOfQuestion graph question is → Stands clause is → IsIn clause shape → HasShape graph question shape
-shape_in graph question (code.Ints set) is (Int n) of stands here =
-    λ table. (tt, here.0, integer_in graph question set is n of stands here.0 here.1)
-shape_in graph question (code.Chars set) is (Char c) of stands here =
-    λ table. (tt, here.0, character_in graph question set is c of stands here.0 here.1)
-shape_in graph question (code.Atoms set) is (Atom name) of stands here =
-    λ table. (here.0, here.0, atom_in graph question set is name of stands here.0 here.1)
-shape_in graph question _ is _ of stands here = absurd here
-
-pub element_told : (graph : Graph) (question : Question) (clauses : List Clause) → AreTold graph question clauses → (shape : Shape)
-    → AnyOf (λ clause. IsIn clause shape) clauses → HasShape graph question shape
-element_told graph question clauses told shape one =
-    with_one (IsToldOf graph question) (λ clause. IsIn clause shape) (HasShape graph question shape)
-    (λ clause of here. shape_in graph question clause of.0 shape of.1 of.2 here) clauses told.sound one
 
 -- what is needed for the clauses of the code is needed for reduced clauses of the question
 pub needs_told : (graph : Graph) → IsGraph graph → (question : Question)
@@ -87,26 +67,16 @@ abbrev Covers : Graph → (asked : List Question) → List Needs → rules.Claus
 Covers graph asked all is =
     AnyOf (λ named. (reduced : rules.Clause) × IsReduced graph is reduced × Names asked named reduced) all ⊎ AreNeeds is ([] ∷ [])
 
-abbrev Known : Graph → (asked : List Question) → List Needs → Clause → Type 0
-Known graph asked all clause = IsNoSet clause × (IsBasic clause ⊎ AnyOf (NamesReduced graph asked clause) all)
-
-known_covers : (graph : Graph) (asked : List Question) (all : List Needs) (is : rules.Clause) (clause : Clause)
-    → Known graph asked all clause → Stands clause is → Covers graph asked all is
-known_covers graph asked all is clause (no_set, inl basic) stands = inr (nothing_needed clause is stands (no_set basic))
-known_covers graph asked all is clause (no_set, inr one) stands = inl (one_weaker (NamesReduced graph asked clause)
-    (λ named. (reduced : rules.Clause) × IsReduced graph is reduced × Names asked named reduced) (λ named names. names is stands) all one)
-
 pub needs_cover : (graph : Graph) (question : Question) (clauses : List Clause) → AreTold graph question clauses
-    → AllOf IsNoSet clauses → (asked : List Question) (all : List Needs) → NamesEach graph asked clauses all
+    → HasNoBasic graph question → (asked : List Question) (all : List Needs) → NamesEach graph asked clauses all
     → CoverClauses graph asked question all
-needs_cover graph question clauses told none asked all names is of = of_told (told.complete is of)
+needs_cover graph question clauses told none asked all names is of = by_kind (told.complete is of)
   where
-    known : AllOf (Known graph asked all) clauses
-    known = each_of_two IsNoSet (λ clause. IsBasic clause ⊎ AnyOf (NamesReduced graph asked clause) all) (Known graph asked all)
-        (λ clause no_set has. (no_set, has)) clauses none names.1
+    of_named : (clause : Clause) → AnyOf (NamesReduced graph asked clause) all → Stands clause is → Covers graph asked all is
+    of_named clause one stands = inl (one_weaker (NamesReduced graph asked clause)
+        (λ named. (reduced : rules.Clause) × IsReduced graph is reduced × Names asked named reduced) (λ named names. names is stands) all one)
 
-    of_told : AnyOf (λ clause. Stands clause is) clauses ⊎ ((clause : Clause) × Stands clause is × HoldsNothing clause)
-        → Covers graph asked all is
-    of_told (inl one) = with_one (Known graph asked all) (λ clause. Stands clause is) (Covers graph asked all is)
-        (known_covers graph asked all is) clauses known one
-    of_told (inr (clause, stands, nothing)) = inr (nothing_needed clause is stands nothing)
+    by_kind : IsBasic is ⊎ AnyOf (λ clause. Stands clause is) clauses → Covers graph asked all is
+    by_kind (inl basic) = inr (nothing_needed graph question none is of basic)
+    by_kind (inr one) = with_one (λ clause. AnyOf (NamesReduced graph asked clause) all) (λ clause. Stands clause is)
+        (Covers graph asked all is) of_named clauses names.1 one

@@ -1,5 +1,5 @@
 -- What the reduced form of a clause needs, and what its parts are.
-use Rattle.std.proofs.Common.{ℕ, List, Option, Some, None, sym, subst}
+use Rattle.std.proofs.Common.{ℕ, List, sym, subst}
 use Rattle.cd_sets.specs.declared.question.Question.{Question}
 use Rattle.cd_model.specs.AllOf.{AllOf}
 use Rattle.cd_model.specs.Formula.{Graph}
@@ -13,9 +13,8 @@ use Rattle.cd_normal.specs.Standing.{Stands}
 use Rattle.cd_rules.specs.Within.{IsPairWithin, IsXmlWithin, IsWithin}
 use Rattle.cd_apart.specs.Within.{IsWithin as CodeIsWithin}
 use Rattle.cd_expand.specs.declared.needs.Needs.{Needs}
-use Rattle.cd_expand.specs.Inner.Basic.{IsBasic}
 use Rattle.cd_expand.specs.Named.{Names}
-use Rattle.cd_expand.specs.Inner.OfClauses.{NamesNeeded, NamesClause, NamesOne}
+use Rattle.cd_expand.specs.Inner.OfClauses.{NamesNeeded, NamesReduced}
 use Rattle.cd_expand.specs.Inner.Within.{StandsInGraph}
 
 -- what is so of each of a list is so of each that is kept of it
@@ -56,43 +55,6 @@ module _ (graph : Graph) where
   reduced_names_labels (Records wanted refused) reduced is labels = subst NamesLabels (sym is) labels
   reduced_names_labels (Arrows wanted refused) reduced is labels = subst NamesLabels (sym is) labels
 
-  -- a clause of the rules that is basic
-  abbrev IsPlainBasic : rules.Clause → Type 0
-  IsPlainBasic (Ints wanted refused) = Unit {0}
-  IsPlainBasic (Chars wanted refused) = Unit {0}
-  IsPlainBasic (Atoms wanted refused) = Unit {0}
-  IsPlainBasic _ = ⊥
-
-  plain_basic : (clause : Clause) (is : rules.Clause) → Stands clause is → IsBasic clause → IsPlainBasic is
-  plain_basic (code.Ints set) (Ints wanted refused) stands basic = tt
-  plain_basic (code.Chars set) (Chars wanted refused) stands basic = tt
-  plain_basic (code.Atoms set) (Atoms wanted refused) stands basic = tt
-  plain_basic (code.Ints set) _ stands basic = absurd stands
-  plain_basic (code.Chars set) _ stands basic = absurd stands
-  plain_basic (code.Atoms set) _ stands basic = absurd stands
-  plain_basic _ _ stands basic = absurd basic
-
-  code_basic : (clause : Clause) (is : rules.Clause) → Stands clause is → IsPlainBasic is → IsBasic clause
-  code_basic (code.Ints set) is stands basic = tt
-  code_basic (code.Chars set) is stands basic = tt
-  code_basic (code.Atoms set) is stands basic = tt
-  code_basic _ (Ints wanted refused) stands basic = absurd stands
-  code_basic _ (Chars wanted refused) stands basic = absurd stands
-  code_basic _ (Atoms wanted refused) stands basic = absurd stands
-  code_basic _ _ stands basic = absurd basic
-
-  -- a clause whose reduced form is basic is basic
-  basic_back : (clause reduced : rules.Clause) → IsReduced graph clause reduced → IsPlainBasic reduced → IsPlainBasic clause
-  basic_back (Ints wanted refused) reduced is basic = tt
-  basic_back (Chars wanted refused) reduced is basic = tt
-  basic_back (Atoms wanted refused) reduced is basic = tt
-  basic_back (Pairs wanted refused) (Pairs same kept) is basic = absurd basic
-  basic_back (Xmls wanted refused) (Xmls same kept) is basic = absurd basic
-  basic_back (Pairs wanted refused) _ is basic = absurd cc
-  basic_back (Xmls wanted refused) _ is basic = absurd cc
-  basic_back (Records wanted refused) reduced is basic = subst IsPlainBasic is basic
-  basic_back (Arrows wanted refused) reduced is basic = subst IsPlainBasic is basic
-
   -- a clause of the code is reduced to another one: what it stands for is reduced to what that stands for
   abbrev pub AreReduced : (clause kept : Clause) → Type 0
   AreReduced clause kept = (is : rules.Clause) → Stands clause is → (reduced : rules.Clause) × IsReduced graph is reduced × Stands kept reduced
@@ -116,17 +78,11 @@ module _ (graph : Graph) where
         (λ i. (stands.0 i, stands.1 i)) names
     names_of (code.Arrows pos neg) (Arrows wanted refused) named stands names =
         subst (λ (lists : List Pair × List Pair). Names asked named (Arrows lists.0 lists.1)) (λ i. (stands.0 i, stands.1 i)) names
-    names_of (code.Ints set) _ named stands names = absurd names
-    names_of (code.Chars set) _ named stands names = absurd names
-    names_of (code.Atoms set) _ named stands names = absurd names
     names_of _ _ named stands names = absurd stands
 
-    pub kept_names : (nodes : ℕ) (clause kept : Clause) → AreReduced clause kept → StandsInGraph nodes clause → (found : Option Needs)
-        → NamesClause asked kept found → NamesOne graph asked clause found
-    kept_names nodes clause kept told stands None basic =
-        let less = told stands.1 stands.2 in
-        code_basic clause stands.1 stands.2 (basic_back stands.1 less.0 less.1 (plain_basic kept less.0 less.2 basic))
-    kept_names nodes clause kept told stands (Some named) names =
+    pub kept_names : (clause kept : Clause) → AreReduced clause kept → (named : Needs) → NamesNeeded asked kept named
+        → NamesReduced graph asked clause named
+    kept_names clause kept told named names =
         λ is stood. let less = told is stood in (less.0, less.1, names_of kept less.0 named less.2 names)
 
 -- a clause that stands for one of the graph has its parts in the graph
@@ -140,8 +96,5 @@ stands_within nodes clause stands = by_kind clause stands.1 stands.2 stands.3
         (subst (AllOf (IsXmlWithin nodes)) (sym stands.0) within.0, subst (AllOf (IsXmlWithin nodes)) (sym stands.1) within.1)
     by_kind (code.Pairs pos neg) _ stands within = absurd stands
     by_kind (code.Xmls pos neg) _ stands within = absurd stands
-    by_kind (code.Ints set) is stands within = tt
-    by_kind (code.Chars set) is stands within = tt
-    by_kind (code.Atoms set) is stands within = tt
     by_kind (code.Records pos neg) is stands within = tt
     by_kind (code.Arrows pos neg) is stands within = tt

@@ -1,62 +1,42 @@
-//! Elements of the clauses of integers, characters and atoms.
-ghost use Rattle.std.specs.Prelude.{IfOk, MatchOption};
-ghost use Rattle.cd_normal.specs.Standing.{HoldsNothing};
-ghost use Rattle.cd_expand.specs.Inner.Basic.{IsNoSet, IsIn};
+//! Elements that are integers, characters or atoms.
+ghost use Rattle.std.specs.Prelude.{◌≡◌, true, IfOk, MatchOption};
+ghost use Rattle.cd_intervals.specs.Atoms.{holds, HoldsNoAtom};
+ghost use Rattle.cd_syntax.specs.Name.{IsLabel};
+ghost use Rattle.cd_normal.specs.HoldNothing.{HoldNothing};
+ghost use Rattle.cd_expand.specs.Inner.Basic.{IsIn};
 
 use cd_elements::Shape;
 use cd_intervals::atom_set::AtomSet;
-use cd_intervals::char_set::CharSet;
-use cd_intervals::int_set::IntSet;
-use cd_normal::clause::Clause;
+use cd_normal::basic_sets::Basics;
 use cd_syntax::name::Name;
 use std::alloc::{AllocError, Global};
 
-/// An element of a clause of integers, characters or atoms, unless there is nothing in its set.
-pub(crate) fn some_element(alloc: Global, clause: &Clause) -> Result<Option<Shape>, AllocError>
+/// An integer, a character or an atom of these, if there is one.
+pub(crate) fn some_element(alloc: Global, sets: &Basics) -> Result<Option<Shape>, AllocError>
     ensures { IfOk result (λ found.
-        MatchOption found (IsNoSet clause.now) (λ shape. IsIn clause.now shape)) }
+        MatchOption found (HoldNothing sets.now) (λ shape. IsIn sets.now shape)) }
 {
-    match clause {
-        Clause::Ints(set) => Ok(some_integer(set)),
-        Clause::Chars(set) => Ok(some_character(set)),
-        Clause::Atoms(set) => some_atom(alloc, set),
-        Clause::Pairs(_, _) | Clause::Xmls(_, _) => Ok(None),
-        Clause::Records(_, _) | Clause::Arrows(_, _) => Ok(None),
+    if let Some(n) = sets.integers.some_member() {
+        return Ok(Some(Shape::Int(n)));
     }
-}
-
-// An integer of the set, if it has one.
-fn some_integer(set: &IntSet) -> Option<Shape>
-    ensures { MatchOption result (HoldsNothing (Clause.Ints set.now))
-        (λ shape. IsIn (Clause.Ints set.now) shape) }
-{
-    match set.some_member() {
-        Some(n) => Some(Shape::Int(n)),
-        None => None,
+    if let Some(c) = sets.characters.some_member() {
+        return Ok(Some(Shape::Char(c)));
     }
-}
-
-// A character of the set, if it has one.
-fn some_character(set: &CharSet) -> Option<Shape>
-    ensures { MatchOption result (HoldsNothing (Clause.Chars set.now))
-        (λ shape. IsIn (Clause.Chars set.now) shape) }
-{
-    match set.some_member() {
-        Some(c) => Some(Shape::Char(c)),
-        None => None,
+    match some_atom(alloc, &sets.atoms)? {
+        Some(name) => Ok(Some(Shape::Atom(name))),
+        None => Ok(None),
     }
 }
 
 // An atom of the set, if it has one.
-fn some_atom(alloc: Global, set: &AtomSet) -> Result<Option<Shape>, AllocError>
-    ensures { IfOk result (λ found.
-        MatchOption found (HoldsNothing (Clause.Atoms set.now))
-        (λ shape. IsIn (Clause.Atoms set.now) shape)) }
+fn some_atom(alloc: Global, set: &AtomSet) -> Result<Option<Name>, AllocError>
+    ensures { IfOk result (λ found. MatchOption found (HoldsNoAtom set.now)
+        (λ name. IsLabel name × (holds set.now name ≡ true))) }
 {
     match set.some_member()? {
         Some(text) => {
             let name = Name::of(alloc, text.as_str())?;
-            Ok(Some(Shape::Atom(name)))
+            Ok(Some(name))
         }
         None => Ok(None),
     }

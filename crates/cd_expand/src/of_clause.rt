@@ -5,7 +5,7 @@ ghost use Rattle.cd_records.specs.RecordTypes.{record_types};
 ghost use Rattle.cd_expand.specs.Inner.Added.{Adds};
 ghost use Rattle.cd_expand.specs.Named.{Names};
 ghost use Rattle.cd_expand.specs.Inner.OfClauses.{PairsAsk, XmlsAsk, RecordsAsk, ArrowsAsk};
-ghost use Rattle.cd_expand.specs.Inner.OfClauses.{ClauseAsks, NamesClause};
+ghost use Rattle.cd_expand.specs.Inner.OfClauses.{ClauseAsks, NamesNeeded};
 
 use crate::needs::Needs;
 use crate::numbering::{number_need, number_needs};
@@ -18,32 +18,27 @@ use cd_records::split::rows;
 use cd_sets::node_id::NodeId;
 use std::alloc::{AllocError, Global};
 
-/// What a clause needs, with the numbers of the questions. A set of a basic kind has no needs.
+/// What a clause needs, with the numbers of the questions.
 pub(crate) fn needs_of(
     alloc: Global,
     asked: &mut Asked,
     clause: &Clause,
-) -> Result<Option<Needs>, AllocError>
-    ensures names { IfOk result (λ needs. NamesClause asked.new clause.now needs) }
+) -> Result<Needs, AllocError>
+    ensures names { IfOk result (λ needs. NamesNeeded asked.new clause.now needs) }
     ensures grows { Adds (λ nodes. ClauseAsks nodes clause.now) asked.old asked.new }
 {
     match clause {
-        Clause::Ints(_) | Clause::Chars(_) | Clause::Atoms(_) => Ok(None),
         Clause::Pairs(wanted, refused) => {
-            let needs = needs_of_pairs(alloc, asked, wanted.as_slice(), refused.as_slice())?;
-            Ok(Some(needs))
+            needs_of_pairs(alloc, asked, wanted.as_slice(), refused.as_slice())
         }
         Clause::Xmls(wanted, refused) => {
-            let needs = needs_of_xmls(alloc, asked, wanted.as_slice(), refused.as_slice())?;
-            Ok(Some(needs))
+            needs_of_xmls(alloc, asked, wanted.as_slice(), refused.as_slice())
         }
         Clause::Records(wanted, refused) => {
-            let needs = needs_of_records(alloc, asked, wanted.as_slice(), refused.as_slice())?;
-            Ok(Some(needs))
+            needs_of_records(alloc, asked, wanted.as_slice(), refused.as_slice())
         }
         Clause::Arrows(wanted, refused) => {
-            let needs = needs_of_functions(alloc, asked, wanted.as_slice(), refused.as_slice())?;
-            Ok(Some(needs))
+            needs_of_functions(alloc, asked, wanted.as_slice(), refused.as_slice())
         }
     }
 }

@@ -1,9 +1,6 @@
-mod WhatTestsTell
 mod Sizes
-mod HeldByParts
 mod Lists
-mod Telling
-mod ClausesByKind
-mod Keeping
-mod KeepingAll
-mod ToldOfQuestion
+mod ExactSets
+mod ChoicesJoined
+pub mod BasicsOfQuestions
+mod ClausesOfKinds

@@ -1,5 +1,5 @@
 -- What serves private functions. No public clause speaks of it.
 pub mod PlainChoice
-pub mod KindsOfChoices
-pub mod KeptChoices
-pub mod ClausesOfChoices
+pub mod PlainKind
+pub mod PlainClause
+pub mod ExactSets

@@ -1,33 +1,36 @@
-//! The choices of formulas and of questions, each of one kind.
+//! The choices of formulas and of questions for one kind.
 ghost use Rattle.std.specs.Prelude.{◌≡◌, ◌<◌, ◌∷◌, ◌++◌, [], true, false, length, map, IfOk};
 ghost use Rattle.cd_graph.specs.Nodes.{nodes};
 ghost use Rattle.cd_graph.specs.PlainFormula.{plain, plain_list, plain_formulas};
 ghost use Rattle.cd_model.specs.AllOf.{AllOf};
 ghost use Rattle.cd_rules.specs.Choices.{when as choices_when};
+ghost use Rattle.cd_rules.specs.KindChoices.{is_of as is_of_kind, literal_by, kind_choices};
+ghost use Rattle.cd_rules.specs.KindChoices.{kind_of_each, kind_of_one, kind_at, kind_choices_of};
 ghost use Rattle.cd_normal.specs.Inner.PlainChoice.{plain_literal, plain_choice, plain_choices};
-ghost use Rattle.cd_normal.specs.Inner.KeptChoices.{kept_choices, kept_of_each, kept_of_one};
-ghost use Rattle.cd_normal.specs.Inner.KeptChoices.{kept_at, kept_of};
+ghost use Rattle.cd_normal.specs.Inner.PlainKind.{plain_kind};
 
 use crate::joining::joined;
+use crate::kind::{Kind, is_of};
 use crate::literal::Literal;
 use cd_graph::{Formula, Formulas, Graph};
 use cd_sets::node_id::NodeId;
 use cd_sets::question::Question;
 use std::alloc::{AllocError, Global};
 
-/// The choices of a question.
+/// The choices of a question for a kind.
 pub(crate) fn choices_of<'g>(
     alloc: Global,
     graph: &'g Graph,
+    kind: Kind,
     question: &Question,
 ) -> Result<Vec<Vec<Literal<'g>>>, AllocError>
     requires pos { AllOf (λ id. id.0 < length (nodes graph.now)) question.now.pos }
     requires neg { AllOf (λ id. id.0 < length (nodes graph.now)) question.now.neg }
-    ensures { IfOk result (λ choices.
-        plain_choices choices.items ≡ kept_of (nodes graph.now) question.now) }
+    ensures { IfOk result (λ choices. plain_choices choices.items
+        ≡ kind_choices_of (plain_kind kind) (nodes graph.now) question.now) }
 {
-    let inside = choices_at(alloc, graph, question.pos.ids(), true)?;
-    let outside = choices_at(alloc, graph, question.neg.ids(), false)?;
+    let inside = choices_at(alloc, graph, kind, question.pos.ids(), true)?;
+    let outside = choices_at(alloc, graph, kind, question.neg.ids(), false)?;
     joined(alloc, inside.as_slice(), outside.as_slice())
 }
 
@@ -35,48 +38,50 @@ pub(crate) fn choices_of<'g>(
 fn choices_at<'g>(
     alloc: Global,
     graph: &'g Graph,
+    kind: Kind,
     ids: &[NodeId],
     wanted: bool,
 ) -> Result<Vec<Vec<Literal<'g>>>, AllocError>
     requires { AllOf (λ id. id.0 < length (nodes graph.now)) ids.now }
     ensures { IfOk result (λ choices.
-        plain_choices choices.items ≡ kept_at (nodes graph.now) ids.now wanted) }
+        plain_choices choices.items ≡ kind_at (plain_kind kind) (nodes graph.now) ids.now wanted) }
 {
     let mut all = when(alloc, true)?;
     let mut index = ids.len();
     while index > 0 {
         index -= 1;
-        let first = choices(alloc, graph.formula(ids[index]), wanted)?;
+        let first = choices(alloc, kind, graph.formula(ids[index]), wanted)?;
         all = joined(alloc, first.as_slice(), all.as_slice())?;
     }
     Ok(all)
 }
 
-// The choices of a formula.
+// The choices of a formula for a kind.
 #[cycle(choices)]
 fn choices<'g>(
     alloc: Global,
+    kind: Kind,
     formula: &'g Formula,
     wanted: bool,
 ) -> Result<Vec<Vec<Literal<'g>>>, AllocError>
     ensures { IfOk result (λ choices.
-        plain_choices choices.items ≡ kept_choices (plain formula.now) wanted) }
+        plain_choices choices.items ≡ kind_choices (plain_kind kind) (plain formula.now) wanted) }
 {
     match formula {
         Formula::None => when(alloc, !wanted),
         Formula::All => when(alloc, wanted),
-        Formula::And(formulas) if wanted => of_each(alloc, formulas, true),
-        Formula::And(formulas) => of_one(alloc, formulas, false),
-        Formula::Or(formulas) if wanted => of_one(alloc, formulas, true),
-        Formula::Or(formulas) => of_each(alloc, formulas, false),
-        Formula::Not(inner) => choices(alloc, inner, !wanted),
+        Formula::And(formulas) if wanted => of_each(alloc, kind, formulas, true),
+        Formula::And(formulas) => of_one(alloc, kind, formulas, false),
+        Formula::Or(formulas) if wanted => of_one(alloc, kind, formulas, true),
+        Formula::Or(formulas) => of_each(alloc, kind, formulas, false),
+        Formula::Not(inner) => choices(alloc, kind, inner, !wanted),
         Formula::Ints(_)
         | Formula::Chars(_)
         | Formula::Atoms(_)
         | Formula::Pair(_, _)
         | Formula::Xml(_, _, _)
         | Formula::Record(_)
-        | Formula::Arrow(_, _) => only(alloc, Literal { wanted, formula }),
+        | Formula::Arrow(_, _) => literal(alloc, kind, Literal { wanted, formula }),
     }
 }
 
@@ -84,18 +89,19 @@ fn choices<'g>(
 #[cycle(choices)]
 fn of_each<'g>(
     alloc: Global,
+    kind: Kind,
     formulas: &'g Formulas,
     wanted: bool,
 ) -> Result<Vec<Vec<Literal<'g>>>, AllocError>
-    ensures { IfOk result (λ choices.
-        plain_choices choices.items ≡ kept_of_each (plain_formulas formulas.now) wanted) }
+    ensures { IfOk result (λ choices. plain_choices choices.items
+        ≡ kind_of_each (plain_kind kind) (plain_formulas formulas.now) wanted) }
 {
     let formulas = formulas.items();
     let mut all = when(alloc, true)?;
     let mut index = formulas.len();
     while index > 0 {
         index -= 1;
-        let first = choices(alloc, &formulas[index], wanted)?;
+        let first = choices(alloc, kind, &formulas[index], wanted)?;
         all = joined(alloc, first.as_slice(), all.as_slice())?;
     }
     Ok(all)
@@ -105,18 +111,19 @@ fn of_each<'g>(
 #[cycle(choices)]
 fn of_one<'g>(
     alloc: Global,
+    kind: Kind,
     formulas: &'g Formulas,
     wanted: bool,
 ) -> Result<Vec<Vec<Literal<'g>>>, AllocError>
-    ensures { IfOk result (λ choices.
-        plain_choices choices.items ≡ kept_of_one (plain_formulas formulas.now) wanted) }
+    ensures { IfOk result (λ choices. plain_choices choices.items
+        ≡ kind_of_one (plain_kind kind) (plain_formulas formulas.now) wanted) }
 {
     let formulas = formulas.items();
     let mut all = Vec::new(alloc);
     let mut index = formulas.len();
     while index > 0 {
         index -= 1;
-        let first = choices(alloc, &formulas[index], wanted)?;
+        let first = choices(alloc, kind, &formulas[index], wanted)?;
         all = before(first, all)?;
     }
     Ok(all)
@@ -135,6 +142,24 @@ fn before<'g>(
     let mut others = others;
     all.append(&mut others)?;
     Ok(all)
+}
+
+// The choices of a literal: of a formula of another kind none where it is wanted, and one that asks
+// for nothing where it is refused.
+fn literal<'g>(
+    alloc: Global,
+    kind: Kind,
+    literal: Literal<'g>,
+) -> Result<Vec<Vec<Literal<'g>>>, AllocError>
+    ensures { IfOk result (λ choices. plain_choices choices.items
+        ≡ literal_by (is_of_kind (plain_kind kind) (plain literal.entry.formula.now))
+        literal.entry.wanted (plain literal.entry.formula.now)) }
+{
+    if is_of(kind, literal.formula) {
+        only(alloc, literal)
+    } else {
+        when(alloc, !literal.wanted)
+    }
 }
 
 // The choice of this literal alone.

@@ -1,20 +1,19 @@
 //! Choices joined with others.
-ghost use Rattle.std.specs.Prelude.{◌≡◌, ◌++◌, IfOk, OnOk};
+ghost use Rattle.std.specs.Prelude.{◌≡◌, ◌++◌, map, IfOk, OnOk};
+ghost use Rattle.cd_rules.specs.Choices.{joined as joined_choices};
 ghost use Rattle.cd_normal.specs.Inner.PlainChoice.{plain_choice, plain_choices};
-ghost use Rattle.cd_normal.specs.Inner.KeptChoices.{kept, kept_with, kept_joined};
 
-use crate::kind::has_kind;
 use crate::literal::Literal;
 use std::alloc::{AllocError, Global};
 
-/// Each of these choices with each of the others, where it is of one kind.
+/// Each of these choices with each of the others.
 pub(crate) fn joined<'g>(
     alloc: Global,
     choices: &[Vec<Literal<'g>>],
     others: &[Vec<Literal<'g>>],
 ) -> Result<Vec<Vec<Literal<'g>>>, AllocError>
     ensures { IfOk result (λ all.
-        plain_choices all.items ≡ kept_joined (plain_choices choices.now)
+        plain_choices all.items ≡ joined_choices (plain_choices choices.now)
         (plain_choices others.now)) }
 {
     let mut all = Vec::new(alloc);
@@ -32,11 +31,10 @@ fn add_joined<'g>(
 ) -> Result<(), AllocError>
     ensures { OnOk result (plain_choices all.new.items
         ≡ plain_choices all.old.items
-        ++ kept_with (plain_choice choice.now) (plain_choices others.now)) }
+        ++ map (λ other. plain_choice choice.now ++ other) (plain_choices others.now)) }
 {
     for other in others {
-        let both = both(*all.allocator(), choice, other.as_slice())?;
-        add(all, both)?;
+        all.push(both(*all.allocator(), choice, other.as_slice())?)?;
     }
     Ok(())
 }
@@ -53,15 +51,4 @@ fn both<'g>(
     let mut both = Vec::from_slice(alloc, choice)?;
     both.extend_from_slice(other)?;
     Ok(both)
-}
-
-// Adds the choice where it is of one kind.
-fn add<'g>(all: &mut Vec<Vec<Literal<'g>>>, choice: Vec<Literal<'g>>) -> Result<(), AllocError>
-    ensures { OnOk result (plain_choices all.new.items
-        ≡ plain_choices all.old.items ++ kept (plain_choice choice.entry.items)) }
-{
-    if has_kind(choice.as_slice()) {
-        all.push(choice)?;
-    }
-    Ok(())
 }

@@ -1,17 +1,17 @@
-//! The clauses of questions, and what they need.
+//! What is in questions: their integers, characters and atoms, and clauses for the other kinds.
 #![tactic(auto)]
 
-mod atoms;
-mod characters;
+pub mod basic_sets;
 mod choice;
 pub mod clause;
-mod integers;
+mod holding;
 mod joining;
 mod kind;
 mod literal;
 mod normal;
+mod of_choice;
 mod part;
 mod side;
-mod told;
 
+pub use holding::basics;
 pub use normal::clauses;

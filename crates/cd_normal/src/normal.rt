@@ -1,19 +1,21 @@
 //! The clauses of a question.
-ghost use Rattle.std.specs.Prelude.{◌<◌, ◌⊎◌, length, IfOk};
+ghost use Rattle.std.specs.Prelude.{◌≡◌, ◌<◌, ◌++◌, ◌⊎◌, length, map, IfOk, OnOk};
 ghost use Rattle.cd_model.specs.AllOf.{AllOf, AnyOf};
 ghost use Rattle.cd_graph.specs.Nodes.{nodes};
+ghost use Rattle.cd_rules.specs.BasicSets.{IsBasic};
 ghost use Rattle.cd_rules.specs.Clauses.{Clause as PlainClause, IsClauseOfQuestion};
-ghost use Rattle.cd_normal.specs.Standing.{Stands, HoldsNothing};
-ghost use Rattle.cd_normal.specs.declared.clause.Clause.{Clause as CodeClause};
+ghost use Rattle.cd_normal.specs.Standing.{Stands};
+ghost use Rattle.cd_normal.specs.Inner.PlainClause.{plain_clause, clauses_of_kind, clauses_of_all};
 
 use crate::choice::choices_of;
 use crate::clause::Clause;
-use crate::told::clauses_of_choice;
+use crate::kind::{Kind, kinds};
+use crate::of_choice::clause_of;
 use cd_graph::Graph;
 use cd_sets::question::Question;
 use std::alloc::{AllocError, Global};
 
-/// The clauses of a question, in no order, without those of sets that hold nothing.
+/// The clauses of a question for the kinds of things that have parts.
 ///
 /// # Errors
 ///
@@ -25,17 +27,45 @@ pub fn clauses(alloc: Global, graph: &Graph, question: &Question) -> Result<Vec<
         × IsClauseOfQuestion (nodes graph.now) question.now is × Stands clause is) clauses.items) }
     ensures complete { IfOk result
         (λ clauses. (is : PlainClause) → IsClauseOfQuestion (nodes graph.now) question.now is
-        → AnyOf (λ clause. Stands clause is) clauses.items
-        ⊎ ((clause : CodeClause) × Stands clause is × HoldsNothing clause)) }
+        → IsBasic is ⊎ AnyOf (λ clause. Stands clause is) clauses.items) }
 {
-    let choices = choices_of(alloc, graph, question)?;
-    let choices = choices.as_slice();
+    clauses_by_kind(alloc, graph, question)
+}
+
+// Those of one kind, and then those of the next.
+fn clauses_by_kind(
+    alloc: Global,
+    graph: &Graph,
+    question: &Question,
+) -> Result<Vec<Clause>, AllocError>
+    requires pos { AllOf (λ id. id.0 < length (nodes graph.now)) question.now.pos }
+    requires neg { AllOf (λ id. id.0 < length (nodes graph.now)) question.now.neg }
+    ensures { IfOk result (λ clauses.
+        map plain_clause clauses.items ≡ clauses_of_all (nodes graph.now) question.now) }
+{
     let mut found = Vec::new(alloc);
-    let mut index = choices.len();
-    while index > 0 {
-        index -= 1;
-        let mut more = clauses_of_choice(alloc, choices[index].as_slice())?;
-        found.append(&mut more)?;
+    for kind in kinds() {
+        add_clauses(&mut found, graph, *kind, question)?;
     }
     Ok(found)
+}
+
+// Adds those of a kind.
+fn add_clauses(
+    found: &mut Vec<Clause>,
+    graph: &Graph,
+    kind: Kind,
+    question: &Question,
+) -> Result<(), AllocError>
+    requires pos { AllOf (λ id. id.0 < length (nodes graph.now)) question.now.pos }
+    requires neg { AllOf (λ id. id.0 < length (nodes graph.now)) question.now.neg }
+    ensures { OnOk result (map plain_clause found.new.items ≡ map plain_clause found.old.items
+        ++ clauses_of_kind (nodes graph.now) question.now kind) }
+{
+    let alloc = *found.allocator();
+    let choices = choices_of(alloc, graph, kind, question)?;
+    for choice in choices.as_slice() {
+        found.push(clause_of(alloc, kind, choice.as_slice())?)?;
+    }
+    Ok(())
 }

@@ -2,76 +2,12 @@
 ghost use Rattle.std.specs.Prelude.{◌≡◌};
 ghost use Rattle.std.specs.Option.{option_map};
 ghost use Rattle.cd_graph.specs.PlainFormula.{plain};
-ghost use Rattle.cd_rules.specs.Clauses.{integers_of, characters_of, atoms_of, pair_of, xml_of};
-ghost use Rattle.cd_rules.specs.Clauses.{record_of, arrow_of};
+ghost use Rattle.cd_rules.specs.Clauses.{pair_of, xml_of, record_of, arrow_of};
 ghost use Rattle.cd_normal.specs.Standing.{record_type};
 
 use cd_graph::Formula;
 use cd_graph::fields::Fields;
-use cd_intervals::atom_set::AtomSet;
-use cd_intervals::char_set::CharSet;
-use cd_intervals::int_set::IntSet;
 use cd_sets::node_id::NodeId;
-
-/// The integers of a formula of integers.
-pub(crate) fn integers(formula: &Formula) -> Option<&IntSet>
-    ensures { option_map (λ set. set.now) result ≡ integers_of (plain formula.now) }
-{
-    match formula {
-        Formula::Ints(set) => Some(set),
-        Formula::None
-        | Formula::All
-        | Formula::Chars(_)
-        | Formula::Atoms(_)
-        | Formula::Pair(_, _)
-        | Formula::Xml(_, _, _)
-        | Formula::Record(_)
-        | Formula::Arrow(_, _)
-        | Formula::And(_)
-        | Formula::Or(_)
-        | Formula::Not(_) => None,
-    }
-}
-
-/// The characters of a formula of characters.
-pub(crate) fn characters(formula: &Formula) -> Option<&CharSet>
-    ensures { option_map (λ set. set.now) result ≡ characters_of (plain formula.now) }
-{
-    match formula {
-        Formula::Chars(set) => Some(set),
-        Formula::None
-        | Formula::All
-        | Formula::Ints(_)
-        | Formula::Atoms(_)
-        | Formula::Pair(_, _)
-        | Formula::Xml(_, _, _)
-        | Formula::Record(_)
-        | Formula::Arrow(_, _)
-        | Formula::And(_)
-        | Formula::Or(_)
-        | Formula::Not(_) => None,
-    }
-}
-
-/// The atoms of a formula of atoms.
-pub(crate) fn atoms(formula: &Formula) -> Option<&AtomSet>
-    ensures { option_map (λ set. set.now) result ≡ atoms_of (plain formula.now) }
-{
-    match formula {
-        Formula::Atoms(set) => Some(set),
-        Formula::None
-        | Formula::All
-        | Formula::Ints(_)
-        | Formula::Chars(_)
-        | Formula::Pair(_, _)
-        | Formula::Xml(_, _, _)
-        | Formula::Record(_)
-        | Formula::Arrow(_, _)
-        | Formula::And(_)
-        | Formula::Or(_)
-        | Formula::Not(_) => None,
-    }
-}
 
 /// The nodes of the parts of a pair.
 pub(crate) fn pair(formula: &Formula) -> Option<(NodeId, NodeId)>

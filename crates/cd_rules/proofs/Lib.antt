@@ -48,3 +48,8 @@ pub mod NumbersBeyond
 pub mod EachQuestion
 pub mod ValuesDecided
 pub mod WaysExact
+pub mod BasicSetsExact
+pub mod BasicsWithoutMembers
+pub mod KindChoicesExact
+pub mod KindChoicesBack
+pub mod ClausesOfKind

@@ -10,3 +10,5 @@ pub mod Settled
 pub mod Examples
 pub mod Within
 pub mod InWay
+pub mod BasicSets
+pub mod KindChoices

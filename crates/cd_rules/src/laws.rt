@@ -1,5 +1,5 @@
 //! Laws of the definitions in `specs/`. Each is the contract of a function that does nothing.
-ghost use Rattle.std.specs.Prelude.{ℕ, ◌≡◌, ◌++◌, ◌↔◌, ◌⊎◌, true, false, List, [], ◌∷◌, length};
+ghost use Rattle.std.specs.Prelude.{ℕ, ℤ, ◌≡◌, ◌++◌, ◌↔◌, ◌⊎◌, true, false, List, [], ◌∷◌, length};
 ghost use Rattle.std.specs.Prelude.{map};
 ghost use Rattle.cd_sets.specs.declared.node_id.NodeId.{NodeId};
 ghost use Rattle.cd_sets.specs.declared.question.Question.{Question};
@@ -26,6 +26,9 @@ ghost use Rattle.cd_rules.specs.Members.{HasElement, HasMember, IsSupplied, Name
 ghost use Rattle.cd_rules.specs.Reduced.{IsReduced};
 ghost use Rattle.cd_rules.specs.Family.{IsOfFamily, IsCovered, BreaksRow, Breaks, IsClosed};
 ghost use Rattle.cd_rules.specs.Family.{AsksNodes};
+ghost use Rattle.cd_syntax.specs.Name.{Name};
+ghost use Rattle.cd_rules.specs.BasicSets.{question_passes, integer_test, character_test};
+ghost use Rattle.cd_rules.specs.BasicSets.{atom_test};
 ghost use Rattle.cd_rules.specs.Choices.{choices, choices_of, Meets};
 
 /// A question holds just what meets one of its choices.
@@ -48,6 +51,19 @@ pub fn clauses_are_exact()
         → asked (value_answers graph interfaces v) question true
         ↔ ((clause : Clause) × IsClauseOfQuestion graph question clause
         × IsInClause (kind_of v) (value_reader graph interfaces v) clause) }
+{}
+
+/// An integer, a character or an atom is in a question exactly when the question passes its test.
+pub fn basic_sets_are_exact()
+    ensures integers { (graph : Graph) (question : Question) (z : ℤ)
+        → asked (answers graph (thing.Integer z)) question true
+        ↔ (question_passes (integer_test z) graph question ≡ true) }
+    ensures characters { (graph : Graph) (question : Question) (c : ℕ)
+        → asked (answers graph (thing.Character c)) question true
+        ↔ (question_passes (character_test c) graph question ≡ true) }
+    ensures atoms { (graph : Graph) (question : Question) (name : Name)
+        → asked (answers graph (thing.Atom name)) question true
+        ↔ (question_passes (atom_test name) graph question ≡ true) }
 {}
 
 /// A record is in a clause just where it is in one of the clause's rows.

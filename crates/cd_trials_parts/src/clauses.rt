@@ -1,34 +1,31 @@
-//! Clauses of questions.
+//! Basic sets and clauses of questions.
 use crate::atoms::push_atoms;
 use crate::characters::push_characters;
 use crate::integers::push_integers;
 use crate::worlds::{Session, asks_nodes};
-use cd_graph::Graph;
 use cd_graph::fields::Fields;
+use cd_normal::basic_sets::Basics;
 use cd_normal::clause::Clause;
-use cd_normal::clauses;
+use cd_normal::{basics, clauses};
 use cd_sets::node_id::NodeId;
-use cd_sets::question::Question;
 use std::alloc::{AllocError, Global};
 
-/// The clauses of what a text asks, sorted as texts.
+/// What is in the basic sets of what a text asks, and its clauses, sorted as texts.
 pub(crate) fn clauses_of(alloc: Global, session: &Session, of: &str) -> Option<String> {
     let question = session.question(alloc, of)?;
-    let clauses = found(alloc, session.world.graph(), &question)?;
-    joined(alloc, clauses.as_slice()).ok()
-}
-
-// The clauses of a question, if it asks nodes of the graph.
-fn found(alloc: Global, graph: &Graph, question: &Question) -> Option<Vec<Clause>> {
-    if !asks_nodes(question, graph.len()) {
+    let graph = session.world.graph();
+    if !asks_nodes(&question, graph.len()) {
         return None;
     }
-    clauses(alloc, graph, question).ok()
+    let sets = basics(alloc, graph, &question).ok()?;
+    let clauses = clauses(alloc, graph, &question).ok()?;
+    joined(alloc, &sets, clauses.as_slice()).ok()
 }
 
-// Clauses as sorted texts.
-fn joined(alloc: Global, clauses: &[Clause]) -> Result<String, AllocError> {
+// Sets and clauses as sorted texts.
+fn joined(alloc: Global, sets: &Basics, clauses: &[Clause]) -> Result<String, AllocError> {
     let mut texts = Vec::new(alloc);
+    add_sets(&mut texts, sets)?;
     for clause in clauses {
         let mut text = String::new(alloc);
         push_clause(&mut text, clause)?;
@@ -43,21 +40,30 @@ fn joined(alloc: Global, clauses: &[Clause]) -> Result<String, AllocError> {
     Ok(all)
 }
 
+// Adds the texts of the sets that are not empty.
+fn add_sets(texts: &mut Vec<String>, sets: &Basics) -> Result<(), AllocError> {
+    let alloc = *texts.allocator();
+    if !sets.integers.is_empty() {
+        let mut text = String::from_str(alloc, "integers")?;
+        push_integers(&mut text, &sets.integers)?;
+        texts.push(text)?;
+    }
+    if !sets.characters.is_empty() {
+        let mut text = String::from_str(alloc, "characters")?;
+        push_characters(&mut text, &sets.characters)?;
+        texts.push(text)?;
+    }
+    if !sets.atoms.is_empty() {
+        let mut text = String::from_str(alloc, "atoms")?;
+        push_atoms(&mut text, &sets.atoms)?;
+        texts.push(text)?;
+    }
+    Ok(())
+}
+
 // Puts a clause after a text.
 fn push_clause(text: &mut String, clause: &Clause) -> Result<(), AllocError> {
     match clause {
-        Clause::Ints(set) => {
-            text.push_str("integers")?;
-            push_integers(text, set)
-        }
-        Clause::Chars(set) => {
-            text.push_str("characters")?;
-            push_characters(text, set)
-        }
-        Clause::Atoms(set) => {
-            text.push_str("atoms")?;
-            push_atoms(text, set)
-        }
         Clause::Pairs(wanted, refused) => {
             push_pairs(text, "pairs &", wanted.as_slice())?;
             push_pairs(text, " \\", refused.as_slice())

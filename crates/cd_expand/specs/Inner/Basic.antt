@@ -1,4 +1,4 @@
--- What the code tells of the sets of basic clauses.
+-- Shapes of integers, characters and atoms.
 use Rattle.std.specs.Prelude.{◌≡◌, true}
 use Rattle.std.specs.Char.{IsScalar}
 use Rattle.cd_intervals.specs.Interval as integers
@@ -8,24 +8,11 @@ use Rattle.cd_syntax.specs.Integer.{IsInteger}
 use Rattle.cd_syntax.specs.Name.{IsLabel}
 use Rattle.cd_elements.specs.declared.shape.Shape.{Shape}
 use Rattle.cd_elements.specs.declared.shape.Shape.TheVariants.{Int, Char, Atom}
-use Rattle.cd_normal.specs.declared.clause.Clause.{Clause}
-use Rattle.cd_normal.specs.declared.clause.Clause.TheVariants.{Ints, Chars, Atoms}
-use Rattle.cd_normal.specs.Standing.{HoldsNothing}
+use Rattle.cd_normal.specs.declared.basic_sets.Basics.{Basics}
 
--- a clause of integers, characters or atoms
-abbrev pub IsBasic : Clause → Type 0
-IsBasic (Ints set) = Unit {0}
-IsBasic (Chars set) = Unit {0}
-IsBasic (Atoms set) = Unit {0}
-IsBasic _ = ⊥
-
--- if a clause is of these there is nothing in its set
-abbrev pub IsNoSet : Clause → Type 0
-IsNoSet clause = IsBasic clause → HoldsNothing clause
-
--- the shape is of a thing that is in the set of the clause
-abbrev pub IsIn : Clause → Shape → Type 0
-IsIn (Ints set) (Int n) = IsInteger n × (integers.holds set n ≡ true)
-IsIn (Chars set) (Char c) = IsScalar c × (holds_character set c ≡ true)
-IsIn (Atoms set) (Atom name) = IsLabel name × (atoms.holds set name ≡ true)
-IsIn _ _ = ⊥
+-- the shape is of a thing that is in one of the sets
+abbrev pub IsIn : Basics → Shape → Type 0
+IsIn sets (Int n) = IsInteger n × (integers.holds sets.integers n ≡ true)
+IsIn sets (Char c) = IsScalar c × (holds_character sets.characters c ≡ true)
+IsIn sets (Atom name) = IsLabel name × (atoms.holds sets.atoms name ≡ true)
+IsIn sets _ = ⊥

@@ -1,5 +1,5 @@
 -- What is asked and named where the needs of clauses are numbered.
-use Rattle.std.specs.Prelude.{◌⊎◌, ℕ, List, Option, Some, None, map}
+use Rattle.std.specs.Prelude.{ℕ, List, map}
 use Rattle.cd_sets.specs.declared.question.Question.{Question}
 use Rattle.cd_model.specs.AllOf.{AllOf, AnyOf}
 use Rattle.cd_model.specs.Formula.{Graph}
@@ -15,7 +15,6 @@ use Rattle.cd_normal.specs.declared.clause.Clause.TheVariants as code
 use Rattle.cd_normal.specs.Standing.{Stands}
 use Rattle.cd_records.specs.RecordTypes.{record_types}
 use Rattle.cd_expand.specs.declared.needs.Needs.{Needs}
-use Rattle.cd_expand.specs.Inner.Basic.{IsBasic}
 use Rattle.cd_expand.specs.Named.{Names}
 
 -- a row asks nodes among so many
@@ -41,13 +40,12 @@ ArrowsAsk nodes wanted refused =
     AllOf (AllOf (AllOf (AsksNodes nodes)))
     (map (λ one. map (arrow_way one) (splits wanted)) refused)
 
--- and what a clause needs; a set needs nothing
+-- and what a clause needs
 abbrev pub ClauseAsks : (nodes : ℕ) → Clause → Type 0
 ClauseAsks nodes (code.Pairs wanted refused) = PairsAsk nodes wanted.items refused.items
 ClauseAsks nodes (code.Xmls wanted refused) = XmlsAsk nodes wanted.items refused.items
 ClauseAsks nodes (code.Records wanted refused) = RecordsAsk nodes wanted.items refused.items
 ClauseAsks nodes (code.Arrows wanted refused) = ArrowsAsk nodes wanted.items refused.items
-ClauseAsks nodes _ = Unit {0}
 
 -- a clause of pairs, XML elements, records or functions needs what is named
 abbrev pub NamesNeeded : (asked : List Question) → Clause → Needs → Type 0
@@ -59,26 +57,14 @@ NamesNeeded asked (code.Records wanted refused) needs =
     Names asked needs (Records (record_types wanted.items) (record_types refused.items))
 NamesNeeded asked (code.Arrows wanted refused) needs =
     Names asked needs (Arrows wanted.items refused.items)
-NamesNeeded asked _ needs = ⊥
-
--- what a clause needs is named, if it is not basic
-abbrev pub NamesClause : (asked : List Question) → Clause → Option Needs → Type 0
-NamesClause asked clause None = IsBasic clause
-NamesClause asked clause (Some needs) = NamesNeeded asked clause needs
 
 -- what is named is needed for a reduced form of each clause for which this one stands
 abbrev pub NamesReduced : Graph → (asked : List Question) → Clause → Needs → Type 0
 NamesReduced graph asked clause needs = (is : PlainClause) → Stands clause is
     → (reduced : PlainClause) × IsReduced graph is reduced × Names asked needs reduced
 
--- so it is, if this one is not basic
-abbrev pub NamesOne : Graph → (asked : List Question) → Clause → Option Needs → Type 0
-NamesOne graph asked clause None = IsBasic clause
-NamesOne graph asked clause (Some needs) = NamesReduced graph asked clause needs
-
--- what is named is needed for one of the clauses each, reduced, and each clause that is not basic
--- needs one of those
+-- what is named is needed for one of the clauses each, reduced, and each clause needs one of those
 abbrev pub NamesEach : Graph → (asked : List Question) → List Clause → List Needs → Type 0
 NamesEach graph asked clauses all =
     AllOf (λ needs. AnyOf (λ clause. NamesReduced graph asked clause needs) clauses) all
-    × AllOf (λ clause. IsBasic clause ⊎ AnyOf (NamesReduced graph asked clause) all) clauses
+    × AllOf (λ clause. AnyOf (NamesReduced graph asked clause) all) clauses

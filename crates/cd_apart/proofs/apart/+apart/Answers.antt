@@ -1,6 +1,5 @@
 use Rattle.std.proofs.Common.{rules, ◌∙◌, length, sym, subst}
 use Rattle.cd_model.specs.AllOf.{AllOf}
-use Rattle.cd_normal.specs.declared.clause.Clause.TheVariants as code
 use Rattle.cd_graph.specs.Nodes.{nodes}
 use Rattle.cd_apart.specs.Inner.Emptiness.{IsEmpty, ArePairsApart, AreXmlsApart}
 use Rattle.cd_apart.proofs.Emptying.{empty_by_pairs, empty_by_xmls}
@@ -8,16 +7,16 @@ use Rattle.cd_apart.proofs.HeldByOne.{apart_by_clauses}
 use Rattle.cd_rules.proofs.NumbersBeyond.{has_built_ins}
 use Rattle.cd_rules.proofs.PartsAsk.{IsBelow}
 use Rattle.cd_apart.proofs.PartsBelow.{firsts_below, seconds_below, tags_below, attributes_below, contents_below}
-use Rattle.cd_apart.proofs.SeenEmpty.{if_true, empty_where}
+use Rattle.cd_apart.proofs.SeenEmpty.{if_true}
 use Rattle.cd_apart.proofs.apart.+apart.Goals as goal
 
 -- an element in all nodes would be in one of the clauses
-pub are_apart-returns : goal.are_apart-returns
-are_apart-returns t c =
+pub are_apart-returns-in-Some : goal.are_apart-returns-in-Some
+are_apart-returns-in-Some t c =
     let graph = nodes c.args.graph.now in
     if_true c.are_all_empty.result
-    (λ (empty : AllOf (IsEmpty graph) c.as_slice.result.now). apart_by_clauses graph c.args.ids.now c.in_ok-clauses.clauses.items
-    c.in_ok-clauses.ensures.held (subst (AllOf (IsEmpty graph)) c.as_slice.ensures.value empty)) c.are_all_empty.ensures
+    (λ (empty : AllOf (IsEmpty graph) c.as_slice.result.now). apart_by_clauses graph c.args.ids.now c.in-Some.clauses.items
+    (rw c.in-Some.is at c.in_ok-clauses.ensures.held) (subst (AllOf (IsEmpty graph)) c.as_slice.ensures.value empty)) c.are_all_empty.ensures
 
 -- the parts are nodes of the graph
 pub are_pairs_apart-are_apart-requires : goal.are_pairs_apart-are_apart-requires
@@ -55,19 +54,7 @@ are_xmls_apart-are_apart-requires-3 t c =
     c.args.xmls.now c.requires c.as_slice-3.result.now (c.as_slice-3.ensures.value ∙ c.in_ok-attributes.ensures) in
     search (rules, below, c.decreases)
 
--- no element is in the set of the clause, or in all its wanted pairs, or XML types
-pub is_empty-returns-in-Ints : goal.is_empty-returns-in-Ints
-is_empty-returns-in-Ints t c =
-    empty_where (nodes c.args.graph.now) c.is_empty.result c.args.clause.now (code.Ints c.in-Ints.set) c.in-Ints.is c.is_empty.ensures.0
-
-pub is_empty-returns-in-Chars : goal.is_empty-returns-in-Chars
-is_empty-returns-in-Chars t c = empty_where (nodes c.args.graph.now) c.is_empty-in-Chars.result c.args.clause.now
-    (code.Chars c.in-Chars.set) c.in-Chars.is c.is_empty-in-Chars.ensures.0
-
-pub is_empty-returns-in-Atoms : goal.is_empty-returns-in-Atoms
-is_empty-returns-in-Atoms t c = empty_where (nodes c.args.graph.now) c.is_empty-in-Atoms.result c.args.clause.now (code.Atoms c.in-Atoms.set)
-    c.in-Atoms.is c.is_empty-in-Atoms.ensures.0
-
+-- no element is in all the wanted pairs of a clause, or XML types
 pub is_empty-returns-in-Pairs : goal.is_empty-returns-in-Pairs
 is_empty-returns-in-Pairs t c =
     let graph = nodes c.args.graph.now in

@@ -10,10 +10,10 @@ pub returns-in_err-needs_of_one-clause-grows : goal.returns-in_err-needs_of_one-
 returns-in_err-needs_of_one-clause-grows c = clause_adds (nodes c.args.graph.now) c.loop-clause.invariant c.in-Some.ensures.steps.0
     c.in_err-needs_of_one.ensures.grows
 
-pub returns-in_err-add-clause-grows : goal.returns-in_err-add-clause-grows
-returns-in_err-add-clause-grows c = clause_adds (nodes c.args.graph.now) c.loop-clause.invariant c.in-Some.ensures.steps.0
+pub returns-in_err-push-clause-grows : goal.returns-in_err-push-clause-grows
+returns-in_err-push-clause-grows c = clause_adds (nodes c.args.graph.now) c.loop-clause.invariant c.in-Some.ensures.steps.0
     c.in_ok-needs_of_one.ensures.grows
 
 pub loop-clause-preserved : goal.loop-clause-preserved
 loop-clause-preserved c = next_clause (nodes c.args.graph.now) c.loop-clause.invariant c.in-Some.ensures.steps.0
-    c.in_ok-needs_of_one.ensures.grows c.in_ok-needs_of_one.field-0 c.in_ok-needs_of_one.ensures.names c.in_ok-add.ensures
+    c.in_ok-needs_of_one.ensures.grows c.in_ok-needs_of_one.field-0 c.in_ok-needs_of_one.ensures.names c.in_ok-push.ensures.items

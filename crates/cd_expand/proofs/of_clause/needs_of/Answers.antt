@@ -1,56 +1,28 @@
 use Rattle.cd_normal.specs.declared.clause.Clause.TheVariants as code
-use Rattle.cd_expand.specs.Inner.OfClauses.{PairsAsk, XmlsAsk, RecordsAsk, ArrowsAsk, ClauseAsks}
-use Rattle.cd_expand.proofs.Adding.{adds_none}
+use Rattle.cd_expand.specs.Inner.OfClauses.{PairsAsk, XmlsAsk, RecordsAsk, ArrowsAsk}
 use Rattle.cd_expand.proofs.OneClause.{clause_added}
 use Rattle.cd_expand.proofs.of_clause.needs_of.Goals as goal
 
-pub returns-in-Ints-clause-grows : goal.returns-in-Ints-clause-grows
-returns-in-Ints-clause-grows c = adds_none (λ nodes. ClauseAsks nodes c.args.clause.now) c.args.asked.now
-
-pub returns-in_err-needs-in-Pairs-clause-grows : goal.returns-in_err-needs-in-Pairs-clause-grows
-returns-in_err-needs-in-Pairs-clause-grows c =
+pub returns-in-Pairs-clause-grows : goal.returns-in-Pairs-clause-grows
+returns-in-Pairs-clause-grows c =
     clause_added PairsAsk c.in-Pairs.wanted.items c.in-Pairs.refused.items c.args.clause.now
     (code.Pairs c.in-Pairs.wanted c.in-Pairs.refused) (λ nodes asks. asks) c.in-Pairs.is
-    c.as_slice.ensures.value c.as_slice-in-Pairs.ensures.value c.in_err-needs-in-Pairs.ensures.grows
+    c.as_slice.ensures.value c.as_slice-in-Pairs.ensures.value c.needs_of_pairs.ensures.grows
 
-pub returns-in_ok-needs-in-Pairs-clause-grows : goal.returns-in_ok-needs-in-Pairs-clause-grows
-returns-in_ok-needs-in-Pairs-clause-grows c =
-    clause_added PairsAsk c.in-Pairs.wanted.items c.in-Pairs.refused.items c.args.clause.now
-    (code.Pairs c.in-Pairs.wanted c.in-Pairs.refused) (λ nodes asks. asks) c.in-Pairs.is
-    c.as_slice.ensures.value c.as_slice-in-Pairs.ensures.value c.in_ok-needs-in-Pairs.ensures.grows
-
-pub returns-in_err-needs-in-Xmls-clause-grows : goal.returns-in_err-needs-in-Xmls-clause-grows
-returns-in_err-needs-in-Xmls-clause-grows c =
+pub returns-in-Xmls-clause-grows : goal.returns-in-Xmls-clause-grows
+returns-in-Xmls-clause-grows c =
     clause_added XmlsAsk c.in-Xmls.wanted.items c.in-Xmls.refused.items c.args.clause.now
     (code.Xmls c.in-Xmls.wanted c.in-Xmls.refused) (λ nodes asks. asks) c.in-Xmls.is
-    c.as_slice-in-Xmls.ensures.value c.as_slice-in-Xmls-2.ensures.value c.in_err-needs-in-Xmls.ensures.grows
+    c.as_slice-in-Xmls.ensures.value c.as_slice-in-Xmls-2.ensures.value c.needs_of_xmls.ensures.grows
 
-pub returns-in_ok-needs-in-Xmls-clause-grows : goal.returns-in_ok-needs-in-Xmls-clause-grows
-returns-in_ok-needs-in-Xmls-clause-grows c =
-    clause_added XmlsAsk c.in-Xmls.wanted.items c.in-Xmls.refused.items c.args.clause.now
-    (code.Xmls c.in-Xmls.wanted c.in-Xmls.refused) (λ nodes asks. asks) c.in-Xmls.is
-    c.as_slice-in-Xmls.ensures.value c.as_slice-in-Xmls-2.ensures.value c.in_ok-needs-in-Xmls.ensures.grows
-
-pub returns-in_err-needs-in-Records-clause-grows : goal.returns-in_err-needs-in-Records-clause-grows
-returns-in_err-needs-in-Records-clause-grows c =
+pub returns-in-Records-clause-grows : goal.returns-in-Records-clause-grows
+returns-in-Records-clause-grows c =
     clause_added RecordsAsk c.in-Records.wanted.items c.in-Records.refused.items c.args.clause.now
     (code.Records c.in-Records.wanted c.in-Records.refused) (λ nodes asks. asks) c.in-Records.is
-    c.as_slice-in-Records.ensures.value c.as_slice-in-Records-2.ensures.value c.in_err-needs-in-Records.ensures.grows
+    c.as_slice-in-Records.ensures.value c.as_slice-in-Records-2.ensures.value c.needs_of_records.ensures.grows
 
-pub returns-in_ok-needs-in-Records-clause-grows : goal.returns-in_ok-needs-in-Records-clause-grows
-returns-in_ok-needs-in-Records-clause-grows c =
-    clause_added RecordsAsk c.in-Records.wanted.items c.in-Records.refused.items c.args.clause.now
-    (code.Records c.in-Records.wanted c.in-Records.refused) (λ nodes asks. asks) c.in-Records.is
-    c.as_slice-in-Records.ensures.value c.as_slice-in-Records-2.ensures.value c.in_ok-needs-in-Records.ensures.grows
-
-pub returns-in_err-needs-in-Arrows-clause-grows : goal.returns-in_err-needs-in-Arrows-clause-grows
-returns-in_err-needs-in-Arrows-clause-grows c =
+pub returns-in-Arrows-clause-grows : goal.returns-in-Arrows-clause-grows
+returns-in-Arrows-clause-grows c =
     clause_added ArrowsAsk c.in-Arrows.wanted.items c.in-Arrows.refused.items c.args.clause.now
     (code.Arrows c.in-Arrows.wanted c.in-Arrows.refused) (λ nodes asks. asks) c.in-Arrows.is
-    c.as_slice-in-Arrows.ensures.value c.as_slice-in-Arrows-2.ensures.value c.in_err-needs-in-Arrows.ensures.grows
-
-pub returns-in_ok-needs-in-Arrows-clause-grows : goal.returns-in_ok-needs-in-Arrows-clause-grows
-returns-in_ok-needs-in-Arrows-clause-grows c =
-    clause_added ArrowsAsk c.in-Arrows.wanted.items c.in-Arrows.refused.items c.args.clause.now
-    (code.Arrows c.in-Arrows.wanted c.in-Arrows.refused) (λ nodes asks. asks) c.in-Arrows.is
-    c.as_slice-in-Arrows.ensures.value c.as_slice-in-Arrows-2.ensures.value c.in_ok-needs-in-Arrows.ensures.grows
+    c.as_slice-in-Arrows.ensures.value c.as_slice-in-Arrows-2.ensures.value c.needs_of_functions.ensures.grows

@@ -1,7 +1,8 @@
 use Rattle.std.proofs.Common.{rules, ◌-◌, ◌∙◌, map, ap, arith}
 use Rattle.cd_model.specs.Formula.{formulas_of}
 use Rattle.cd_graph.specs.PlainFormula.{plain}
-use Rattle.cd_normal.specs.Inner.KeptChoices.{kept_of_each}
+use Rattle.cd_rules.specs.KindChoices.{kind_of_each}
+use Rattle.cd_normal.specs.Inner.PlainKind.{plain_kind}
 use Rattle.cd_normal.proofs.Lists.{all_left}
 use Rattle.cd_normal.proofs.Sizes.{items_fall}
 use Rattle.cd_normal.proofs.choice.+choices.Goals as goal
@@ -23,6 +24,6 @@ of_one-choices-requires t c =
 
 -- the choices of all formulas from the first on are all
 pub of_each-returns : goal.of_each-returns
-of_each-returns t c = c.loop-index.invariant.1 ∙ ap (λ left. kept_of_each (formulas_of left) c.args.wanted)
+of_each-returns t c = c.loop-index.invariant.1 ∙ ap (λ left. kind_of_each (plain_kind c.args.kind) (formulas_of left) c.args.wanted)
     (ap (map plain) (all_left c.items-formulas.result.now c.loop-index.index c.loop-index-test.false) ∙
     c.items-formulas.ensures)

@@ -2,7 +2,8 @@ use Rattle.std.proofs.Common.{◌≡◌, ◌≤◌, map, drop, length}
 use Rattle.cd_model.specs.Formula.{formulas_of}
 use Rattle.cd_graph.specs.PlainFormula.{plain, plain_formulas}
 use Rattle.cd_normal.specs.Inner.PlainChoice.{plain_choices}
-use Rattle.cd_normal.specs.Inner.KeptChoices.{kept_of_each, kept_of_one}
+use Rattle.cd_rules.specs.KindChoices.{kind_of_each, kind_of_one}
+use Rattle.cd_normal.specs.Inner.PlainKind.{plain_kind}
 use Rattle.cd_normal.proofs.Sizes.{size, size_list}
 use Rattle.cd_normal.proofs.choice.+choices.Given as goal
 
@@ -20,12 +21,12 @@ decreases-of_one l = size_list (plain_formulas l.formulas.now)
 abbrev pub invariant-of_each-loop-index : goal.invariant-of_each-loop-index
 invariant-of_each-loop-index l =
     (l.index ≤ length l.formulas) ×
-    (plain_choices l.all.items ≡ kept_of_each (formulas_of (map plain (drop l.index l.formulas))) l.wanted)
+    (plain_choices l.all.items ≡ kind_of_each (plain_kind l.kind) (formulas_of (map plain (drop l.index l.formulas))) l.wanted)
 
 abbrev pub invariant-of_one-loop-index : goal.invariant-of_one-loop-index
 invariant-of_one-loop-index l =
     (l.index ≤ length l.formulas) ×
-    (plain_choices l.all.items ≡ kept_of_one (formulas_of (map plain (drop l.index l.formulas))) l.wanted)
+    (plain_choices l.all.items ≡ kind_of_one (plain_kind l.kind) (formulas_of (map plain (drop l.index l.formulas))) l.wanted)
 
 abbrev pub decreases-of_each-loop-index : goal.decreases-of_each-loop-index
 decreases-of_each-loop-index l = l.index

@@ -1,0 +1,21 @@
+-- Sets of integers, of characters and of atoms that hold exactly what passes.
+use Rattle.std.specs.Prelude.{◌≡◌, Bool, ℤ, ℕ}
+use Rattle.std.specs.Char.{IsScalar}
+use Rattle.cd_intervals.specs.Interval as integers
+use Rattle.cd_intervals.specs.Characters.{holds_character}
+use Rattle.cd_intervals.specs.Atoms as atoms
+use Rattle.cd_syntax.specs.Integer.{IsInteger}
+use Rattle.cd_syntax.specs.Name.{Name}
+use Rattle.cd_model.specs.Formula.{Formula}
+use Rattle.cd_rules.specs.BasicSets.{integer_test, character_test, atom_test}
+use Rattle.cd_normal.specs.declared.basic_sets.Basics.{Basics}
+
+-- what the tests of a thing say of some formulas, as one answer
+abbrev pub Passing : Type 0
+Passing = (Formula → Bool) → Bool
+
+abbrev pub AreExact : Passing → Basics → Type 0
+AreExact passing sets =
+    ((z : ℤ) → IsInteger z → integers.holds sets.integers z ≡ passing (integer_test z))
+    × ((c : ℕ) → IsScalar c → holds_character sets.characters c ≡ passing (character_test c))
+    × ((name : Name) → atoms.holds sets.atoms name ≡ passing (atom_test name))

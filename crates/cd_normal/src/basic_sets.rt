@@ -1,0 +1,120 @@
+ghost use Rattle.std.specs.Prelude.{true, false, not, ◌&&◌, ◌||◌, ◌↔◌, IsTrue, IfOk};
+ghost use Rattle.cd_model.specs.Formula as formula;
+ghost use Rattle.cd_normal.specs.HoldNothing.{HoldNothing};
+ghost use Rattle.cd_normal.specs.Inner.ExactSets.{AreExact, Passing};
+
+use cd_intervals::atom_set::AtomSet;
+use cd_intervals::char_set::CharSet;
+use cd_intervals::int_set::IntSet;
+use std::alloc::{AllocError, Global};
+
+/// Integers, characters and atoms.
+#[derive(Drop)]
+pub struct Basics {
+    /// The integers.
+    pub integers: IntSet,
+    /// The characters.
+    pub characters: CharSet,
+    /// The atoms.
+    pub atoms: AtomSet,
+}
+
+impl Basics {
+    /// Whether there is none.
+    pub fn is_empty(&self) -> bool
+        ensures { IsTrue result ↔ HoldNothing self.now }
+    {
+        self.integers.is_empty() && self.characters.is_empty() && self.atoms.is_empty()
+    }
+
+    // None.
+    pub(crate) fn none(alloc: Global) -> Basics
+        ensures { AreExact (λ test. false) result }
+    {
+        Basics {
+            integers: IntSet::empty(alloc),
+            characters: CharSet::empty(alloc),
+            atoms: AtomSet::empty(alloc),
+        }
+    }
+
+    // All.
+    pub(crate) fn all(alloc: Global) -> Result<Basics, AllocError>
+        ensures { IfOk result (AreExact (λ test. true)) }
+    {
+        Ok(Basics {
+            integers: IntSet::interval(alloc, i128::MIN, i128::MAX)?,
+            characters: CharSet::interval(alloc, '\0', '\u{10FFFF}')?,
+            atoms: AtomSet::all(alloc),
+        })
+    }
+
+    // These integers alone.
+    pub(crate) fn of_integers(alloc: Global, set: &IntSet) -> Result<Basics, AllocError>
+        ensures { IfOk result (AreExact (λ test. test (formula.Ints set.now))) }
+    {
+        Ok(Basics {
+            integers: set.copy()?,
+            characters: CharSet::empty(alloc),
+            atoms: AtomSet::empty(alloc),
+        })
+    }
+
+    // These characters alone.
+    pub(crate) fn of_characters(alloc: Global, set: &CharSet) -> Result<Basics, AllocError>
+        ensures { IfOk result (AreExact (λ test. test (formula.Chars set.now))) }
+    {
+        Ok(Basics {
+            integers: IntSet::empty(alloc),
+            characters: set.copy()?,
+            atoms: AtomSet::empty(alloc),
+        })
+    }
+
+    // These atoms alone.
+    pub(crate) fn of_atoms(alloc: Global, set: &AtomSet) -> Result<Basics, AllocError>
+        ensures { IfOk result (AreExact (λ test. test (formula.Atoms set.now))) }
+    {
+        Ok(Basics {
+            integers: IntSet::empty(alloc),
+            characters: CharSet::empty(alloc),
+            atoms: set.copy()?,
+        })
+    }
+
+    // Those that are of one of both.
+    pub(crate) fn union(&self, other: &Basics) -> Result<Basics, AllocError>
+        ensures { IfOk result (λ all. (one two : Passing) → AreExact one self.now
+            → AreExact two other.now → AreExact (λ test. one test || two test) all) }
+    {
+        Ok(Basics {
+            integers: self.integers.union(&other.integers)?,
+            characters: self.characters.union(&other.characters)?,
+            atoms: self.atoms.union(&other.atoms)?,
+        })
+    }
+
+    // Those that are of both.
+    pub(crate) fn intersect(&self, other: &Basics) -> Result<Basics, AllocError>
+        ensures { IfOk result (λ all. (one two : Passing) → AreExact one self.now
+            → AreExact two other.now → AreExact (λ test. one test && two test) all) }
+    {
+        Ok(Basics {
+            integers: self.integers.intersect(&other.integers)?,
+            characters: self.characters.intersect(&other.characters)?,
+            atoms: self.atoms.intersect(&other.atoms)?,
+        })
+    }
+
+    // Those that are of this and not of the other.
+    pub(crate) fn minus(&self, other: &Basics) -> Result<Basics, AllocError>
+        ensures { IfOk result (λ all. (one two : Passing) → AreExact one self.now
+            → AreExact two other.now → AreExact (λ test. one test && not (two test)) all) }
+    {
+        Ok(Basics {
+            integers: self.integers.minus(&other.integers)?,
+            characters: self.characters.minus(&other.characters)?,
+            atoms: self.atoms.minus(&other.atoms)?,
+        })
+    }
+}
