@@ -10,3 +10,7 @@ pub mod Settled
 pub mod Examples
 pub mod Within
 pub mod InWay
+pub mod Fails
+pub mod Tasks
+pub mod KindChoices
+pub mod BegunChoices

@@ -1,0 +1,49 @@
+-- Nodes of equal formulas answer alike; and so does a union of which each member is one of another one, and back.
+use Rattle.std.proofs.Common.{◌≡◌, ◌↔◌, Bool, true, false, List, [], ◌∷◌, inl, inr, ap, sym, subst}
+use Rattle.cd_sets.specs.declared.node_id.NodeId.{NodeId}
+use Rattle.cd_model.specs.AllOf.{AllOf, AnyOf}
+use Rattle.cd_model.specs.Formula.{Formula, Graph, Or, formulas_of, formula_at}
+use Rattle.cd_model.specs.Membership.{Reader, at_nodes, holds, each_holds, one_holds}
+use Rattle.cd_rules.specs.Family.{AreAmong}
+use Rattle.cd_rules.proofs.Among.{each_of_among}
+use Rattle.cd_rules.proofs.Ones.{one_weaker}
+
+pub equal_formulas : (graph : Graph) (reader : Reader) (one other : NodeId) → formula_at graph one ≡ formula_at graph other → (answer : Bool)
+    → at_nodes graph reader one answer ≡ at_nodes graph reader other answer
+equal_formulas graph reader one other same answer = ap (λ is. holds reader is answer) same
+
+module _ (reader : Reader) (answer : Bool) where
+  each_of_formulas : (all : List Formula) → each_holds reader (formulas_of all) answer → AllOf (λ is. holds reader is answer) all
+  each_of_formulas [] is = tt
+  each_of_formulas (first ∷ all) is = (is.0, each_of_formulas all is.1)
+
+  formulas_of_each : (all : List Formula) → AllOf (λ is. holds reader is answer) all → each_holds reader (formulas_of all) answer
+  formulas_of_each [] is = tt
+  formulas_of_each (first ∷ all) is = (is.0, formulas_of_each all is.1)
+
+  one_of_formulas : (all : List Formula) → one_holds reader (formulas_of all) answer → AnyOf (λ is. holds reader is answer) all
+  one_of_formulas [] is = is
+  one_of_formulas (first ∷ all) (inl is) = inl is
+  one_of_formulas (first ∷ all) (inr later) = inr (one_of_formulas all later)
+
+  formulas_of_one : (all : List Formula) → AnyOf (λ is. holds reader is answer) all → one_holds reader (formulas_of all) answer
+  formulas_of_one [] is = is
+  formulas_of_one (first ∷ all) (inl is) = inl is
+  formulas_of_one (first ∷ all) (inr later) = inr (formulas_of_one all later)
+
+  one_on : (some all : List Formula) → AreAmong some all → AnyOf (λ is. holds reader is answer) some → AnyOf (λ is. holds reader is answer) all
+  one_on [] all among is = elim is [ ]
+  one_on (first ∷ some) all among (inl is) = one_weaker (λ other. other ≡ first) (λ is. holds reader is answer)
+      (λ other same. subst (λ (is : Formula). holds reader is answer) (sym same) is) all among.0
+  one_on (first ∷ some) all among (inr later) = one_on some all among.1 later
+
+pub unions_alike : (reader : Reader) (some all : List Formula) → AreAmong some all → AreAmong all some → (answer : Bool)
+    → holds reader (Or (formulas_of some)) answer ↔ holds reader (Or (formulas_of all)) answer
+unions_alike reader some all among back true = (
+  λ is. formulas_of_one reader true all (one_on reader true some all among (one_of_formulas reader true some is)),
+  λ is. formulas_of_one reader true some (one_on reader true all some back (one_of_formulas reader true all is)),
+)
+unions_alike reader some all among back false = (
+  λ is. formulas_of_each reader false all (each_of_among (λ is. holds reader is false) all some back (each_of_formulas reader false some is)),
+  λ is. formulas_of_each reader false some (each_of_among (λ is. holds reader is false) some all among (each_of_formulas reader false all is)),
+)
