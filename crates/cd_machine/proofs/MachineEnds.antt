@@ -1,4 +1,4 @@
--- AllOf step gives a mark more, or as many marks and a longer list, or both alike and less that is left: so the machine ends.
+-- Each step gives a mark more, or as many marks and a longer list, or both alike and less that is left: so the machine ends.
 use Rattle.std.proofs.Common.{◌≡◌, ◌⊎◌, ◌<◌, ◌+◌, ◌*◌, ℕ, zero, suc, List, [], ◌∷◌, ◌++◌, Some, length, map, inl, inr, refl, ap, ◌∙◌}
 use native.Mathlib.Omega.{arith}
 use Rattle.std.proofs.Math.Nat.{suc-mul}
@@ -10,7 +10,7 @@ use Rattle.cd_rules.specs.Tasks.{AreCases, pair_cases, xml_cases, arrow_cases, r
 use Rattle.cd_model.specs.Kinds.{Kind}
 use Rattle.cd_rules.specs.Choices.{Choice}
 use Rattle.cd_rules.specs.KindChoices.{kind_choices}
-use Rattle.cd_rules.specs.BegunChoices.{Begun, Sided}
+use Rattle.cd_rules.specs.PartialChoices.{Partial, Signed}
 use Rattle.cd_machine.specs.Machine.{sum_of, begun_weight, choices_weight}
 use Rattle.cd_machine.specs.Machine.{Frame, Marks, weight, task_weight, tasks_weight, frames_weight}
 use Rattle.cd_machine.specs.Machine.{Step, opens, knows, begins, joins, cuts, drops, splits, goes_on, finds, leaves}
@@ -70,11 +70,11 @@ task_weighs (ArrowTask refused wanted given left) = weighs 2 (length left)
 task_weighs (RecordTask wanted refused given left) = weighs (suc (length (labels_of (wanted ++ refused)))) (length left)
 
 -- a choice weighs something, and what it goes on with weighs one less
-begun_weighs : (kind : Kind) (left : List Sided) (choice : Choice) → 0 < begun_weight kind left choice
+begun_weighs : (kind : Kind) (left : List Signed) (choice : Choice) → 0 < begun_weight kind left choice
 begun_weighs kind [] choice = omega arith
 begun_weighs kind (one ∷ left) choice = omega arith
 
-joined_weight : (kind : Kind) (left : List Sided) (choice : Choice) (choices : List Begun) (more : List Choice)
+joined_weight : (kind : Kind) (left : List Signed) (choice : Choice) (choices : List Partial) (more : List Choice)
     → choices_weight (map (λ more. record { kind = kind; choice = choice ++ more; left = left }) more ++ choices)
     ≡ sum_of (λ more. begun_weight kind left (choice ++ more)) more + choices_weight choices
 joined_weight kind left choice choices [] = omega arith
@@ -98,15 +98,15 @@ module _ (graph : Graph) (settled : List Question) where
   step_further _ _ _ _ _ _ (knows marks list frames question is new element_is inside) = inl (one_more marks (question, is))
   step_further _ _ _ _ _ _ (begins marks list frames place question kind choice choices before late task later same) =
       let weight = ap tasks_weight same in inr (inr (refl, refl, omega arith))
-  step_further _ _ _ _ _ _ (joins marks list frames place question kind choice one left choices begun later branches) =
+  step_further _ _ _ _ _ _ (joins marks list frames place question kind choice one left choices partial later branches) =
       let sum = joined_weight kind left choice choices (kind_choices kind one.0 one.1) in inr (inr (refl, refl, omega arith))
-  step_further _ _ _ _ _ _ (cuts marks list frames place question choice choices begun later branches fails) =
+  step_further _ _ _ _ _ _ (cuts marks list frames place question choice choices partial later branches fails) =
       let one = begun_weighs choice.kind choice.left choice.choice in inr (inr (refl, refl, omega arith))
-  step_further _ _ _ _ _ _ (drops marks list frames place question clauses begun later task branches covered) =
+  step_further _ _ _ _ _ _ (drops marks list frames place question clauses partial later task branches covered) =
       let one = task_weighs task in inr (inr (refl, refl, omega arith))
-  step_further _ _ _ _ _ _ (splits marks list frames place question clauses begun later task branches cases are_cases) =
+  step_further _ _ _ _ _ _ (splits marks list frames place question clauses partial later task branches cases are_cases) =
       let less = cases_weigh task cases are_cases in let both = tasks_weight_append cases branches in inr (inr (refl, refl, omega arith))
-  step_further _ _ _ _ _ _ (goes_on marks list frames place question clauses begun task later done branches) =
+  step_further _ _ _ _ _ _ (goes_on marks list frames place question clauses partial task later done branches) =
       let one = task_weighs done in inr (inr (refl, refl, omega arith))
   step_further _ _ _ _ _ _ (finds marks list frames frame is element_is inside) = inl (one_more marks (frame.question, is))
-  step_further _ _ _ _ _ _ (leaves marks list frames place question begun later) = inr (inr (refl, refl, omega arith))
+  step_further _ _ _ _ _ _ (leaves marks list frames place question partial later) = inr (inr (refl, refl, omega arith))

@@ -19,9 +19,9 @@ use Rattle.cd_rules.specs.Tasks.{Task, PairTask, XmlTask, ArrowTask, RecordTask,
 use Rattle.cd_model.specs.Kinds.{Kind}
 use Rattle.cd_rules.specs.Choices.{Choice}
 use Rattle.cd_rules.specs.KindChoices.{kind_choices}
-use Rattle.cd_rules.specs.BegunChoices.{Sided, clause_by, ends}
-use Rattle.cd_rules.proofs.BegunFail.{joined_each}
-use Rattle.cd_machine.specs.Machine.{EndsOf, Frame, Marks, Step, opens, knows, begins, joins, cuts, drops, splits, goes_on, finds, leaves}
+use Rattle.cd_rules.specs.PartialChoices.{Signed, clause_by, completions}
+use Rattle.cd_rules.proofs.PartialChoicesFail.{joined_each}
+use Rattle.cd_machine.specs.Machine.{IsPartialOf, Frame, Marks, Step, opens, knows, begins, joins, cuts, drops, splits, goes_on, finds, leaves}
 
 -- a task of a clause
 abbrev pub IsTaskOf : Clause → Task → Type 0
@@ -66,43 +66,43 @@ module _ (graph : Graph) where
   IsBegunOf question (Some clause) tasks = IsClauseOfQuestion graph question clause × AllOf (IsTaskOf clause) tasks
 
   pub record IsOfQuestion (frame : Frame) : Type 0 where
-    pub choices : AllOf (EndsOf graph frame.question) frame.choices
+    pub choices : AllOf (IsPartialOf graph frame.question) frame.choices
     pub branches : IsBegunOf frame.question frame.begun frame.branches
     pub later : IsBegunOf frame.question frame.begun frame.later
 
-  one_less : (question : Question) (begun : Option Clause) (task : Task) (tasks : List Task) → IsBegunOf question begun (task ∷ tasks)
-      → IsBegunOf question begun tasks
+  one_less : (question : Question) (partial : Option Clause) (task : Task) (tasks : List Task) → IsBegunOf question partial (task ∷ tasks)
+      → IsBegunOf question partial tasks
   one_less question None task tasks is = absurd cc
   one_less question (Some clause) task tasks is = (is.0, is.1.1)
 
-  one_alone : (question : Question) (begun : Option Clause) (task : Task) (tasks : List Task) → IsBegunOf question begun (task ∷ tasks)
-      → IsBegunOf question begun (task ∷ [])
+  one_alone : (question : Question) (partial : Option Clause) (task : Task) (tasks : List Task) → IsBegunOf question partial (task ∷ tasks)
+      → IsBegunOf question partial (task ∷ [])
   one_alone question None task tasks is = absurd cc
   one_alone question (Some clause) task tasks is = (is.0, (is.1.0, tt))
 
-  split_so : (question : Question) (begun : Option Clause) (task : Task) (tasks all : List Task) → AreCases task all
-      → IsBegunOf question begun (task ∷ tasks) → IsBegunOf question begun (all ++ tasks)
+  split_so : (question : Question) (partial : Option Clause) (task : Task) (tasks all : List Task) → AreCases task all
+      → IsBegunOf question partial (task ∷ tasks) → IsBegunOf question partial (all ++ tasks)
   split_so question None task tasks all cases is = absurd cc
   split_so question (Some clause) task tasks all cases is =
       (is.0, each_of_lists (IsTaskOf clause) all tasks (cases_of_same clause task all cases is.1.0) is.1.1)
 
   -- a choice with nothing left is a clause of the question; and what a choice goes on with ends as it does
-  ended : (question : Question) (kind : Kind) (choice : Choice) → EndsOf graph question (record { kind = kind; choice = choice; left = [] })
+  ended : (question : Question) (kind : Kind) (choice : Choice) → IsPartialOf graph question (record { kind = kind; choice = choice; left = [] })
       → IsClauseOfQuestion graph question (clause_by kind choice)
   ended question kind choice is = subst (λ choice. IsClauseOfQuestion graph question (clause_by kind choice)) (append-nil choice) is.0
 
-  joined_ends : (question : Question) (kind : Kind) (choice : Choice) (one : Sided) (left : List Sided)
-      → EndsOf graph question (record { kind = kind; choice = choice; left = one ∷ left })
-      → AllOf (EndsOf graph question) (map (λ more. record { kind = kind; choice = choice ++ more; left = left }) (kind_choices kind one.0 one.1))
-  joined_ends question kind choice one left is = each_of_map (λ more. record { kind = kind; choice = choice ++ more; left = left }) (EndsOf graph question)
+  joined_ends : (question : Question) (kind : Kind) (choice : Choice) (one : Signed) (left : List Signed)
+      → IsPartialOf graph question (record { kind = kind; choice = choice; left = one ∷ left })
+      → AllOf (IsPartialOf graph question) (map (λ more. record { kind = kind; choice = choice ++ more; left = left }) (kind_choices kind one.0 one.1))
+  joined_ends question kind choice one left is = each_of_map (λ more. record { kind = kind; choice = choice ++ more; left = left }) (IsPartialOf graph question)
       (kind_choices kind one.0 one.1)
-      (each_weaker (λ more. AllOf (λ rest. IsClauseOfQuestion graph question (clause_by kind (choice ++ (more ++ rest)))) (ends kind left))
-      (λ more. AllOf (λ rest. IsClauseOfQuestion graph question (clause_by kind ((choice ++ more) ++ rest))) (ends kind left))
+      (each_weaker (λ more. AllOf (λ rest. IsClauseOfQuestion graph question (clause_by kind (choice ++ (more ++ rest)))) (completions kind left))
+      (λ more. AllOf (λ rest. IsClauseOfQuestion graph question (clause_by kind ((choice ++ more) ++ rest))) (completions kind left))
       (λ more. each_weaker (λ rest. IsClauseOfQuestion graph question (clause_by kind (choice ++ (more ++ rest))))
       (λ rest. IsClauseOfQuestion graph question (clause_by kind ((choice ++ more) ++ rest)))
-      (λ rest. subst (λ choice. IsClauseOfQuestion graph question (clause_by kind choice)) (sym (append_assoc choice more rest))) (ends kind left))
+      (λ rest. subst (λ choice. IsClauseOfQuestion graph question (clause_by kind choice)) (sym (append_assoc choice more rest))) (completions kind left))
       (kind_choices kind one.0 one.1)
-      (joined_each (λ rest. IsClauseOfQuestion graph question (clause_by kind (choice ++ rest))) (kind_choices kind one.0 one.1) (ends kind left) is))
+      (joined_each (λ rest. IsClauseOfQuestion graph question (clause_by kind (choice ++ rest))) (kind_choices kind one.0 one.1) (completions kind left) is))
 
   module _ (settled : List Question) where
     pub step_of_questions : (marks then_marks : Marks) (list then_list : List Question) (frames then_frames : List Frame)
@@ -118,34 +118,34 @@ module _ (graph : Graph) where
       },
       are.1,
     )
-    step_of_questions _ _ _ _ _ _ (joins marks list frames place question kind choice one left choices begun later branches) are = (
+    step_of_questions _ _ _ _ _ _ (joins marks list frames place question kind choice one left choices partial later branches) are = (
       record {
-        choices = each_of_lists (EndsOf graph question) (map (λ more. record { kind = kind; choice = choice ++ more; left = left }) (kind_choices kind one.0 one.1))
+        choices = each_of_lists (IsPartialOf graph question) (map (λ more. record { kind = kind; choice = choice ++ more; left = left }) (kind_choices kind one.0 one.1))
             choices (joined_ends question kind choice one left are.0.choices.0) are.0.choices.1;
         branches = are.0.branches;
         later = are.0.later;
       },
       are.1,
     )
-    step_of_questions _ _ _ _ _ _ (cuts marks list frames place question choice choices begun later branches fails) are = (
+    step_of_questions _ _ _ _ _ _ (cuts marks list frames place question choice choices partial later branches fails) are = (
       record { choices = are.0.choices.1; branches = are.0.branches; later = are.0.later },
       are.1,
     )
-    step_of_questions _ _ _ _ _ _ (drops marks list frames place question choices begun later task branches covered) are = (
-      record { choices = are.0.choices; branches = one_less question begun task branches are.0.branches; later = are.0.later },
+    step_of_questions _ _ _ _ _ _ (drops marks list frames place question choices partial later task branches covered) are = (
+      record { choices = are.0.choices; branches = one_less question partial task branches are.0.branches; later = are.0.later },
       are.1,
     )
-    step_of_questions _ _ _ _ _ _ (splits marks list frames place question choices begun later task branches cases are_cases) are = (
-      record { choices = are.0.choices; branches = split_so question begun task branches cases are_cases are.0.branches; later = are.0.later },
+    step_of_questions _ _ _ _ _ _ (splits marks list frames place question choices partial later task branches cases are_cases) are = (
+      record { choices = are.0.choices; branches = split_so question partial task branches cases are_cases are.0.branches; later = are.0.later },
       are.1,
     )
-    step_of_questions _ _ _ _ _ _ (goes_on marks list frames place question choices begun task later done branches) are = (
+    step_of_questions _ _ _ _ _ _ (goes_on marks list frames place question choices partial task later done branches) are = (
       record {
         choices = are.0.choices;
-        branches = one_alone question begun task later are.0.later;
-        later = one_less question begun task later are.0.later;
+        branches = one_alone question partial task later are.0.later;
+        later = one_less question partial task later are.0.later;
       },
       are.1,
     )
     step_of_questions _ _ _ _ _ _ (finds marks list frames frame is element_is inside) are = are.1
-    step_of_questions _ _ _ _ _ _ (leaves marks list frames place question begun later) are = are.1
+    step_of_questions _ _ _ _ _ _ (leaves marks list frames place question partial later) are = are.1

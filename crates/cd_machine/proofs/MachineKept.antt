@@ -1,4 +1,4 @@
--- AllOf step of the machine keeps what is so of its frames, of the entries of its list and of its marks. At the end the questions that are
+-- Each step of the machine keeps what is so of its frames, of the entries of its list and of its marks. At the end the questions that are
 -- settled and the list are a closed family.
 use Rattle.std.proofs.Common.{◌≡◌, true, List, [], ◌∷◌, ◌++◌, Some, length, take, inl, inr, refl, sym, ap, subst, ◌∙◌, append_assoc, map}
 use Rattle.std.proofs.Math.Seq.{take-append_seam}
@@ -18,10 +18,10 @@ use Rattle.cd_machine.specs.Machine.{Frame, Marks, IsBroken, IsFrame, AreFrames,
 use Rattle.cd_machine.specs.Machine.{Step, opens, knows, begins, joins, cuts, drops, splits, goes_on, finds, leaves}
 use Rattle.cd_rules.proofs.Answered.{map_of_each}
 use Rattle.cd_rules.specs.KindChoices.{kind_choices}
-use Rattle.cd_rules.specs.BegunChoices.{BegunFails, clause_by}
-use Rattle.cd_rules.proofs.BegunFail.{begun_joins, begun_ends}
-use Rattle.cd_rules.proofs.TasksFail.{covered_fails, cases_fail, task_breaks}
-use Rattle.cd_rules.proofs.TasksKept.{cases_are_tasks, are_tasks}
+use Rattle.cd_rules.specs.PartialChoices.{PartialFails, clause_by}
+use Rattle.cd_rules.proofs.PartialChoicesFail.{partial_joins, partial_ends}
+use Rattle.cd_rules.proofs.FailingTasks.{covered_fails, cases_fail, task_breaks}
+use Rattle.cd_rules.proofs.CasesAreTasks.{cases_are_tasks, are_tasks}
 
 -- a list is among what it is a part of
 among_left : {X : Type 0} (xs ys : List X) → AreAmong xs (xs ++ ys)
@@ -57,7 +57,7 @@ module _ (graph : Graph) where
   frame_ends : (base : List Question) (frame : Frame) → IsFrame graph base frame → frame.choices ≡ [] → frame.branches ≡ []
       → IsBroken graph base frame.question
   frame_ends base frame is no_clause no_branch family larger none = is.all family larger
-      (is.now family larger (subst (AllOf (TaskFails family)) (sym no_branch) tt)) (subst (AllOf (BegunFails family)) (sym no_clause) tt)
+      (is.now family larger (subst (AllOf (TaskFails family)) (sym no_branch) tt)) (subst (AllOf (PartialFails family)) (sym no_clause) tt)
 
   module _ (settled : List Question) where
     -- one more entry, which has no frame, or whose frame is the new one
@@ -102,7 +102,7 @@ module _ (graph : Graph) where
       refl,
       refl,
       record {
-        all = λ family larger begun broken. all family larger broken;
+        all = λ family larger partial broken. all family larger broken;
         now = λ family larger fail. tt;
         next = λ family larger one. elim one [ ];
         tasks = tt;
@@ -114,33 +114,33 @@ module _ (graph : Graph) where
     step_keeps _ _ _ _ _ _ (knows marks list frames question is new element_is inside) are = are
     step_keeps _ _ _ _ _ _ (begins marks list frames place question kind choice choices before late task later same) are =
         frame_changed list frames
-        (record { place = place; question = question; choices = record { kind = kind; choice = choice; left = [] } ∷ choices; begun = before; later = late; branches = [] })
-        (record { place = place; question = question; choices = choices; begun = Some (clause_by kind choice); later = later; branches = task ∷ [] })
+        (record { place = place; question = question; choices = record { kind = kind; choice = choice; left = [] } ∷ choices; partial = before; later = late; branches = [] })
+        (record { place = place; question = question; choices = choices; partial = Some (clause_by kind choice); later = later; branches = task ∷ [] })
         refl refl (λ is. record {
-          all = λ family larger begun broken. is.all family larger (is.now family larger tt) (begun_ends family kind choice begun, broken);
+          all = λ family larger partial broken. is.all family larger (is.now family larger tt) (partial_ends family kind choice partial, broken);
           now = λ family larger fail. task_breaks family (clause_by kind choice) (subst (AnyOf (TaskFails family)) (sym same) (inl fail.0));
           next = λ family larger fail. task_breaks family (clause_by kind choice) (subst (AnyOf (TaskFails family)) (sym same) (inr fail));
           tasks = ((subst (AllOf IsTask) same (are_tasks (clause_by kind choice))).0, tt);
           tasks_later = (subst (AllOf IsTask) same (are_tasks (clause_by kind choice))).1;
         }) are
-    step_keeps _ _ _ _ _ _ (joins marks list frames place question kind choice one left choices begun later branches) are =
+    step_keeps _ _ _ _ _ _ (joins marks list frames place question kind choice one left choices partial later branches) are =
         frame_changed list frames
-        (record { place = place; question = question; choices = record { kind = kind; choice = choice; left = one ∷ left } ∷ choices; begun = begun; later = later; branches = branches })
+        (record { place = place; question = question; choices = record { kind = kind; choice = choice; left = one ∷ left } ∷ choices; partial = partial; later = later; branches = branches })
         (record {
           place = place;
           question = question;
           choices = map (λ more. record { kind = kind; choice = choice ++ more; left = left }) (kind_choices kind one.0 one.1) ++ choices;
-          begun = begun;
+          partial = partial;
           later = later;
           branches = branches;
         })
         refl refl (λ is. record {
-          all = λ family larger begun fail.
-              let both = each_parts (BegunFails family) (map (λ more. record { kind = kind; choice = choice ++ more; left = left }) (kind_choices kind one.0 one.1))
+          all = λ family larger partial fail.
+              let both = each_parts (PartialFails family) (map (λ more. record { kind = kind; choice = choice ++ more; left = left }) (kind_choices kind one.0 one.1))
               choices fail in
-              is.all family larger begun (
-                begun_joins family kind choice one left
-                    (map_of_each (λ more. record { kind = kind; choice = choice ++ more; left = left }) (BegunFails family) (kind_choices kind one.0 one.1) both.0),
+              is.all family larger partial (
+                partial_joins family kind choice one left
+                    (map_of_each (λ more. record { kind = kind; choice = choice ++ more; left = left }) (PartialFails family) (kind_choices kind one.0 one.1) both.0),
                 both.1,
               );
           now = is.now;
@@ -148,21 +148,21 @@ module _ (graph : Graph) where
           tasks = is.tasks;
           tasks_later = is.tasks_later;
         }) are
-    step_keeps _ _ _ _ _ _ (cuts marks list frames place question choice choices begun later branches fails) are =
+    step_keeps _ _ _ _ _ _ (cuts marks list frames place question choice choices partial later branches fails) are =
         frame_changed list frames
-        (record { place = place; question = question; choices = choice ∷ choices; begun = begun; later = later; branches = branches })
-        (record { place = place; question = question; choices = choices; begun = begun; later = later; branches = branches })
+        (record { place = place; question = question; choices = choice ∷ choices; partial = partial; later = later; branches = branches })
+        (record { place = place; question = question; choices = choices; partial = partial; later = later; branches = branches })
         refl refl (λ is. record {
-          all = λ family larger begun fail. is.all family larger begun (fails family larger, fail);
+          all = λ family larger partial fail. is.all family larger partial (fails family larger, fail);
           now = is.now;
           next = is.next;
           tasks = is.tasks;
           tasks_later = is.tasks_later;
         }) are
-    step_keeps _ _ _ _ _ _ (drops marks list frames place question choices begun later task branches covered) are =
+    step_keeps _ _ _ _ _ _ (drops marks list frames place question choices partial later task branches covered) are =
         frame_changed list frames
-        (record { place = place; question = question; choices = choices; begun = begun; later = later; branches = task ∷ branches })
-        (record { place = place; question = question; choices = choices; begun = begun; later = later; branches = branches })
+        (record { place = place; question = question; choices = choices; partial = partial; later = later; branches = task ∷ branches })
+        (record { place = place; question = question; choices = choices; partial = partial; later = later; branches = branches })
         refl refl (λ is. record {
           all = is.all;
           now = λ family larger fail. is.now family larger (
@@ -174,10 +174,10 @@ module _ (graph : Graph) where
           tasks = is.tasks.1;
           tasks_later = is.tasks_later;
         }) are
-    step_keeps _ _ _ _ _ _ (splits marks list frames place question choices begun later task branches cases are_cases) are =
+    step_keeps _ _ _ _ _ _ (splits marks list frames place question choices partial later task branches cases are_cases) are =
         frame_changed list frames
-        (record { place = place; question = question; choices = choices; begun = begun; later = later; branches = task ∷ branches })
-        (record { place = place; question = question; choices = choices; begun = begun; later = later; branches = cases ++ branches })
+        (record { place = place; question = question; choices = choices; partial = partial; later = later; branches = task ∷ branches })
+        (record { place = place; question = question; choices = choices; partial = partial; later = later; branches = cases ++ branches })
         refl refl (λ is. record {
           all = is.all;
           now = λ family larger fail. let both = each_parts (TaskFails family) cases branches fail in
@@ -186,10 +186,10 @@ module _ (graph : Graph) where
           tasks = each_of_lists IsTask cases branches (cases_are_tasks task cases are_cases is.tasks.0) is.tasks.1;
           tasks_later = is.tasks_later;
         }) are
-    step_keeps _ _ _ _ _ _ (goes_on marks list frames place question choices begun task later done branches) are =
+    step_keeps _ _ _ _ _ _ (goes_on marks list frames place question choices partial task later done branches) are =
         frame_changed list frames
-        (record { place = place; question = question; choices = choices; begun = begun; later = task ∷ later; branches = done ∷ branches })
-        (record { place = place; question = question; choices = choices; begun = begun; later = later; branches = task ∷ [] })
+        (record { place = place; question = question; choices = choices; partial = partial; later = task ∷ later; branches = done ∷ branches })
+        (record { place = place; question = question; choices = choices; partial = partial; later = later; branches = task ∷ [] })
         refl refl (λ is. record {
           all = is.all;
           now = λ family larger fail. is.next family larger (inl fail.0);
@@ -201,12 +201,12 @@ module _ (graph : Graph) where
         subst (λ list. AreFrames graph settled list frames)
         (sym (ap (λ place. take place list) place_is ∙ ap (take (length before)) list_is ∙ take-append_seam before (frame.question ∷ entries)))
         are
-    step_keeps _ _ _ _ _ _ (leaves marks list frames place question begun later) (before, entries, list_is, place_is, is, broken, are) =
+    step_keeps _ _ _ _ _ _ (leaves marks list frames place question partial later) (before, entries, list_is, place_is, is, broken, are) =
         subst (λ list. AreFrames graph settled list frames) (sym list_is)
         (entry_added before frames question entries
         (subst (λ list. AllOf (IsBroken graph (settled ++ list)) (question ∷ entries)) list_is (
           frame_ends (settled ++ list)
-              (record { place = place; question = question; choices = []; begun = begun; later = later; branches = [] }) is refl refl,
+              (record { place = place; question = question; choices = []; partial = partial; later = later; branches = [] }) is refl refl,
           broken,
         )) are)
 
@@ -217,15 +217,15 @@ module _ (graph : Graph) where
         each_of_lists (λ (mark : Question × Thing). IsElement mark.1 × asked (answers graph mark.1) mark.0 true) marks
         ((question, is) ∷ []) are ((element_is, inside), tt)
     step_keeps_marks _ _ _ _ _ _ (begins marks list frames place question kind choice choices before late task later same) are = are
-    step_keeps_marks _ _ _ _ _ _ (joins marks list frames place question kind choice one left choices begun later branches) are = are
-    step_keeps_marks _ _ _ _ _ _ (cuts marks list frames place question choice choices begun later branches fails) are = are
-    step_keeps_marks _ _ _ _ _ _ (drops marks list frames place question choices begun later task branches covered) are = are
-    step_keeps_marks _ _ _ _ _ _ (splits marks list frames place question choices begun later task branches cases are_cases) are = are
-    step_keeps_marks _ _ _ _ _ _ (goes_on marks list frames place question choices begun task later done branches) are = are
+    step_keeps_marks _ _ _ _ _ _ (joins marks list frames place question kind choice one left choices partial later branches) are = are
+    step_keeps_marks _ _ _ _ _ _ (cuts marks list frames place question choice choices partial later branches fails) are = are
+    step_keeps_marks _ _ _ _ _ _ (drops marks list frames place question choices partial later task branches covered) are = are
+    step_keeps_marks _ _ _ _ _ _ (splits marks list frames place question choices partial later task branches cases are_cases) are = are
+    step_keeps_marks _ _ _ _ _ _ (goes_on marks list frames place question choices partial task later done branches) are = are
     step_keeps_marks _ _ _ _ _ _ (finds marks list frames frame is element_is inside) are =
         each_of_lists (λ (mark : Question × Thing). IsElement mark.1 × asked (answers graph mark.1) mark.0 true) marks
         ((frame.question, is) ∷ []) are ((element_is, inside), tt)
-    step_keeps_marks _ _ _ _ _ _ (leaves marks list frames place question begun later) are = are
+    step_keeps_marks _ _ _ _ _ _ (leaves marks list frames place question partial later) are = are
 
     -- a closed family is broken by each larger one
     closed_broken : IsClosed graph settled → (base : List Question) → AreAmong settled base → AllOf (IsBroken graph base) settled

@@ -1,4 +1,4 @@
--- AllOf question is settled once: those that are settled or marked differ, those of the list differ, and no question is of both.
+-- Each question is settled once: those that are settled or marked differ, those of the list differ, and no question is of both.
 use Rattle.std.proofs.Common.{◌≡◌, ◌⊎◌, List, [], ◌∷◌, ◌++◌, map, length, take, inl, inr, refl, sym, ap, subst, ◌∙◌, append_assoc}
 use Rattle.std.proofs.Math.Seq.{take-append_seam}
 use Rattle.cd_sets.specs.declared.question.Question.{Question}
@@ -103,11 +103,11 @@ module _ (settled : List Question) where
   step_once graph _ _ _ _ _ _ (knows marks list frames question is new element_is inside) are once =
       marked_once marks list question is once.known_differ once.list_differs once.none_known new.0 (not_same question list new.1)
   step_once graph _ _ _ _ _ _ (begins marks list frames place question kind choice choices before late task later same) are once = once
-  step_once graph _ _ _ _ _ _ (joins marks list frames place question kind choice one left choices begun later branches) are once = once
-  step_once graph _ _ _ _ _ _ (cuts marks list frames place question choice choices begun later branches fails) are once = once
-  step_once graph _ _ _ _ _ _ (drops marks list frames place question clauses begun later task branches covered) are once = once
-  step_once graph _ _ _ _ _ _ (splits marks list frames place question clauses begun later task branches cases are_cases) are once = once
-  step_once graph _ _ _ _ _ _ (goes_on marks list frames place question clauses begun task later done branches) are once = once
+  step_once graph _ _ _ _ _ _ (joins marks list frames place question kind choice one left choices partial later branches) are once = once
+  step_once graph _ _ _ _ _ _ (cuts marks list frames place question choice choices partial later branches fails) are once = once
+  step_once graph _ _ _ _ _ _ (drops marks list frames place question clauses partial later task branches covered) are once = once
+  step_once graph _ _ _ _ _ _ (splits marks list frames place question clauses partial later task branches cases are_cases) are once = once
+  step_once graph _ _ _ _ _ _ (goes_on marks list frames place question clauses partial task later done branches) are once = once
   step_once graph _ _ _ _ _ _ (finds marks list frames frame is element_is inside) (before, entries, list_is, place_is, kept, broken, are) once =
       subst (λ list. AreOnce (marks ++ (frame.question, is) ∷ []) list)
       (sym (ap (λ place. take place list) place_is ∙ ap (take (length before)) list_is ∙ take-append_seam before (frame.question ∷ entries)))
@@ -120,7 +120,7 @@ module _ (settled : List Question) where
 
       none : AllOf (NotIn (known marks)) (before ++ frame.question ∷ entries)
       none = subst (AllOf (NotIn (known marks))) list_is once.none_known
-  step_once graph _ _ _ _ _ _ (leaves marks list frames place question begun later) are once = once
+  step_once graph _ _ _ _ _ _ (leaves marks list frames place question partial later) are once = once
 
 -- what is none of some is none of a part of them, and none of each with others that it is none of
 not_left : {X : Type 0} (x : X) (some others : List X) → NotIn (some ++ others) x → NotIn some x

@@ -12,7 +12,7 @@ use Rattle.cd_rules.specs.Rows.{labels_of}
 use Rattle.cd_rules.specs.Choices.{Choice}
 use Rattle.cd_model.specs.Kinds.{Kind}
 use Rattle.cd_rules.specs.KindChoices.{kind_choices}
-use Rattle.cd_rules.specs.BegunChoices.{Begun, BegunFails, AreAllClauses, EndsOf, Sided, clause_by, ends}
+use Rattle.cd_rules.specs.PartialChoices.{Partial, PartialFails, AccountForClauses, IsPartialOf, Signed, clause_by, completions}
 use Rattle.cd_rules.specs.Tasks.{Task, PairTask, XmlTask, ArrowTask, RecordTask, TaskFails, IsTask, tasks_of, questions_of, AreCases}
 
 -- A question that is worked at, and its place in the list: its choices that are not ended; the clause that is begun, its tasks that are not
@@ -20,8 +20,8 @@ use Rattle.cd_rules.specs.Tasks.{Task, PairTask, XmlTask, ArrowTask, RecordTask,
 pub record Frame : Type 0 where
   pub place : ℕ
   pub question : Question
-  pub choices : List Begun
-  pub begun : Option Clause
+  pub choices : List Partial
+  pub partial : Option Clause
   pub later : List Task
   pub branches : List Task
 
@@ -36,11 +36,11 @@ BreaksBegun family (Some clause) = Breaks family clause
 module _ (graph : Graph) where
   -- so it is for an entry of the list that has no frame
   abbrev pub IsBroken : (base : List Question) → Question → Type 0
-  IsBroken base question = AreAllClauses graph base question []
+  IsBroken base question = AccountForClauses graph base question []
 
   -- and for one that has a frame, where what is left of it fails
   pub record IsFrame (base : List Question) (frame : Frame) : Type 0 where
-    pub all : (family : List Question) → AreAmong base family → BreaksBegun family frame.begun → AllOf (BegunFails family) frame.choices
+    pub all : (family : List Question) → AreAmong base family → BreaksBegun family frame.begun → AllOf (PartialFails family) frame.choices
         → (clause : Clause) → IsClauseOfQuestion graph frame.question clause → Breaks family clause
     pub now : (family : List Question) → AreAmong base family → AllOf (TaskFails family) frame.branches → BreaksBegun family frame.begun
     pub next : (family : List Question) → AreAmong base family → AnyOf (TaskFails family) frame.later → BreaksBegun family frame.begun
@@ -67,23 +67,23 @@ module _ (graph : Graph) where
 
     pub data Step : Marks → List Question → List Frame → Marks → List Question → List Frame → Type 0 where
       -- a question gets a frame
-      opens : (marks : Marks) (list : List Question) (frames : List Frame) (question : Question) (choices : List Begun)
-          → IsNew marks list question → AllOf (EndsOf graph question) choices → AreAllClauses graph (settled ++ (list ++ question ∷ [])) question choices
+      opens : (marks : Marks) (list : List Question) (frames : List Frame) (question : Question) (choices : List Partial)
+          → IsNew marks list question → AllOf (IsPartialOf graph question) choices → AccountForClauses graph (settled ++ (list ++ question ∷ [])) question choices
           → Step marks list frames marks (list ++ question ∷ [])
-          (record { place = length list; question = question; choices = choices; begun = None; later = []; branches = [] } ∷ frames)
+          (record { place = length list; question = question; choices = choices; partial = None; later = []; branches = [] } ∷ frames)
       -- a question gets a mark, with no frame
       knows : (marks : Marks) (list : List Question) (frames : List Frame) (question : Question) (is : Thing)
           → IsNew marks list question → IsElement is → asked (answers graph is) question true
           → Step marks list frames (marks ++ (question, is) ∷ []) list frames
       -- a clause is begun, where the one before it is broken
       begins : (marks : Marks) (list : List Question) (frames : List Frame) (place : ℕ) (question : Question) (kind : Kind) (choice : Choice)
-          (choices : List Begun) (before : Option Clause) (late : List Task) (task : Task) (later : List Task)
+          (choices : List Partial) (before : Option Clause) (late : List Task) (task : Task) (later : List Task)
           → tasks_of (clause_by kind choice) ≡ task ∷ later
           → Step marks list (record {
             place = place;
             question = question;
             choices = record { kind = kind; choice = choice; left = [] } ∷ choices;
-            begun = before;
+            partial = before;
             later = late;
             branches = [];
           } ∷ frames)
@@ -91,18 +91,18 @@ module _ (graph : Graph) where
             place = place;
             question = question;
             choices = choices;
-            begun = Some (clause_by kind choice);
+            partial = Some (clause_by kind choice);
             later = later;
             branches = task ∷ [];
           } ∷ frames)
       -- a choice goes on with each one of the next formula
       joins : (marks : Marks) (list : List Question) (frames : List Frame) (place : ℕ) (question : Question) (kind : Kind) (choice : Choice)
-          (one : Sided) (left : List Sided) (choices : List Begun) (begun : Option Clause) (later branches : List Task)
+          (one : Signed) (left : List Signed) (choices : List Partial) (partial : Option Clause) (later branches : List Task)
           → Step marks list (record {
             place = place;
             question = question;
             choices = record { kind = kind; choice = choice; left = one ∷ left } ∷ choices;
-            begun = begun;
+            partial = partial;
             later = later;
             branches = branches;
           } ∷ frames)
@@ -110,40 +110,40 @@ module _ (graph : Graph) where
             place = place;
             question = question;
             choices = map (λ more. record { kind = kind; choice = choice ++ more; left = left }) (kind_choices kind one.0 one.1) ++ choices;
-            begun = begun;
+            partial = partial;
             later = later;
             branches = branches;
           } ∷ frames)
       -- a choice is dropped, that fails by what is settled or in the list
-      cuts : (marks : Marks) (list : List Question) (frames : List Frame) (place : ℕ) (question : Question) (choice : Begun) (choices : List Begun)
-          (begun : Option Clause) (later branches : List Task)
-          → ((family : List Question) → AreAmong (settled ++ list) family → BegunFails family choice)
-          → Step marks list (record { place = place; question = question; choices = choice ∷ choices; begun = begun; later = later; branches = branches } ∷ frames)
-          marks list (record { place = place; question = question; choices = choices; begun = begun; later = later; branches = branches } ∷ frames)
+      cuts : (marks : Marks) (list : List Question) (frames : List Frame) (place : ℕ) (question : Question) (choice : Partial) (choices : List Partial)
+          (partial : Option Clause) (later branches : List Task)
+          → ((family : List Question) → AreAmong (settled ++ list) family → PartialFails family choice)
+          → Step marks list (record { place = place; question = question; choices = choice ∷ choices; partial = partial; later = later; branches = branches } ∷ frames)
+          marks list (record { place = place; question = question; choices = choices; partial = partial; later = later; branches = branches } ∷ frames)
       -- a branch ends by a question that is settled or in the list
-      drops : (marks : Marks) (list : List Question) (frames : List Frame) (place : ℕ) (question : Question) (choices : List Begun)
-          (begun : Option Clause) (later : List Task) (task : Task) (branches : List Task)
+      drops : (marks : Marks) (list : List Question) (frames : List Frame) (place : ℕ) (question : Question) (choices : List Partial)
+          (partial : Option Clause) (later : List Task) (task : Task) (branches : List Task)
           → AnyOf (λ question. IsCovered question (settled ++ list)) (questions_of task)
-          → Step marks list (record { place = place; question = question; choices = choices; begun = begun; later = later; branches = task ∷ branches } ∷ frames)
-          marks list (record { place = place; question = question; choices = choices; begun = begun; later = later; branches = branches } ∷ frames)
+          → Step marks list (record { place = place; question = question; choices = choices; partial = partial; later = later; branches = task ∷ branches } ∷ frames)
+          marks list (record { place = place; question = question; choices = choices; partial = partial; later = later; branches = branches } ∷ frames)
       -- a member that was given to none is given to each side
-      splits : (marks : Marks) (list : List Question) (frames : List Frame) (place : ℕ) (question : Question) (choices : List Begun)
-          (begun : Option Clause) (later : List Task) (task : Task) (branches all : List Task) → AreCases task all
-          → Step marks list (record { place = place; question = question; choices = choices; begun = begun; later = later; branches = task ∷ branches } ∷ frames)
-          marks list (record { place = place; question = question; choices = choices; begun = begun; later = later; branches = all ++ branches } ∷ frames)
+      splits : (marks : Marks) (list : List Question) (frames : List Frame) (place : ℕ) (question : Question) (choices : List Partial)
+          (partial : Option Clause) (later : List Task) (task : Task) (branches all : List Task) → AreCases task all
+          → Step marks list (record { place = place; question = question; choices = choices; partial = partial; later = later; branches = task ∷ branches } ∷ frames)
+          marks list (record { place = place; question = question; choices = choices; partial = partial; later = later; branches = all ++ branches } ∷ frames)
       -- a task is done, and the next one is begun
-      goes_on : (marks : Marks) (list : List Question) (frames : List Frame) (place : ℕ) (question : Question) (choices : List Begun)
-          (begun : Option Clause) (task : Task) (later : List Task) (done : Task) (branches : List Task)
-          → Step marks list (record { place = place; question = question; choices = choices; begun = begun; later = task ∷ later; branches = done ∷ branches } ∷ frames)
-          marks list (record { place = place; question = question; choices = choices; begun = begun; later = later; branches = task ∷ [] } ∷ frames)
+      goes_on : (marks : Marks) (list : List Question) (frames : List Frame) (place : ℕ) (question : Question) (choices : List Partial)
+          (partial : Option Clause) (task : Task) (later : List Task) (done : Task) (branches : List Task)
+          → Step marks list (record { place = place; question = question; choices = choices; partial = partial; later = task ∷ later; branches = done ∷ branches } ∷ frames)
+          marks list (record { place = place; question = question; choices = choices; partial = partial; later = later; branches = task ∷ [] } ∷ frames)
       -- the question has an element: the list is cut to its place
       finds : (marks : Marks) (list : List Question) (frames : List Frame) (frame : Frame) (is : Thing)
           → IsElement is → asked (answers graph is) frame.question true
           → Step marks list (frame ∷ frames) (marks ++ (frame.question, is) ∷ []) (take frame.place list) frames
       -- nothing is left: the question stays in the list
-      leaves : (marks : Marks) (list : List Question) (frames : List Frame) (place : ℕ) (question : Question) (begun : Option Clause)
+      leaves : (marks : Marks) (list : List Question) (frames : List Frame) (place : ℕ) (question : Question) (partial : Option Clause)
           (later : List Task)
-          → Step marks list (record { place = place; question = question; choices = []; begun = begun; later = later; branches = [] } ∷ frames)
+          → Step marks list (record { place = place; question = question; choices = []; partial = partial; later = later; branches = [] } ∷ frames)
           marks list frames
 
 -- steps one after the other
@@ -173,13 +173,13 @@ abbrev pub sum_of : {X : Type 0} → (X → ℕ) → List X → ℕ
 sum_of weight_of [] = 0
 sum_of weight_of (x ∷ xs) = weight_of x + sum_of weight_of xs
 
-abbrev pub begun_weight : Kind → List Sided → Choice → ℕ
+abbrev pub begun_weight : Kind → List Signed → Choice → ℕ
 begun_weight kind [] choice = suc (tasks_weight (tasks_of (clause_by kind choice)))
 begun_weight kind (one ∷ left) choice = suc (sum_of (λ more. begun_weight kind left (choice ++ more)) (kind_choices kind one.0 one.1))
 
-abbrev pub choices_weight : List Begun → ℕ
+abbrev pub choices_weight : List Partial → ℕ
 choices_weight [] = 0
-choices_weight (begun ∷ choices) = begun_weight begun.kind begun.left begun.choice + choices_weight choices
+choices_weight (partial ∷ choices) = begun_weight partial.kind partial.left partial.choice + choices_weight choices
 
 abbrev pub frame_weight : Frame → ℕ
 frame_weight frame = suc (choices_weight frame.choices + tasks_weight frame.later + tasks_weight frame.branches)

@@ -13,4 +13,4 @@ pub mod InWay
 pub mod Fails
 pub mod Tasks
 pub mod KindChoices
-pub mod BegunChoices
+pub mod PartialChoices

@@ -15,7 +15,7 @@ use Rattle.cd_rules.proofs.Ones.{each_weaker, each_of_lists, each_of_all}
 use Rattle.cd_rules.specs.Tasks.{Task, PairTask, XmlTask, ArrowTask, RecordTask, questions_of, row_so_far, present}
 use Rattle.cd_rules.specs.Tasks.{AreCases, pair_cases, xml_cases, arrow_cases, record_cases, Takes, taken_here, taken_later}
 use Rattle.cd_rules.specs.Within.{IsPairWithin, IsXmlWithin, IsTypeWithin, IsTaskWithin}
-use Rattle.cd_rules.proofs.TasksFail.{taken_rest}
+use Rattle.cd_rules.proofs.FailingTasks.{taken_rest}
 
 -- what is taken has the fact of each
 taken_is : {X : Type 0} (Fact : X → Type 0) (x : X) (all rest : List X) → Takes x all rest → AllOf Fact all → Fact x

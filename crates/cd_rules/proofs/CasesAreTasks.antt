@@ -9,7 +9,7 @@ use Rattle.cd_rules.proofs.Asking.{each_of_map}
 use Rattle.cd_rules.proofs.Ones.{each_weaker, each_of_all}
 use Rattle.cd_rules.specs.Tasks.{Task, ArrowTask, RecordTask, IsTask, tasks_of, Takes, AreLeft, IsGiven, IsGivenInThree}
 use Rattle.cd_rules.specs.Tasks.{AreCases, pair_cases, xml_cases, arrow_cases, record_cases}
-use Rattle.cd_rules.proofs.TasksFail.{taken_rest, taken_or_left}
+use Rattle.cd_rules.proofs.FailingTasks.{taken_rest, taken_or_left}
 
 -- at first none is given
 all_left : {X : Type 0} (Given : X → Type 0) (all : List X) → AreLeft Given all all

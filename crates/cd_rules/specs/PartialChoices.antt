@@ -20,33 +20,33 @@ clause_by ARecord choice = Records (parts_in record_of true choice) (parts_in re
 clause_by AFunction choice = Arrows (parts_in arrow_of true choice) (parts_in arrow_of false choice)
 
 -- a formula that a thing is to be in or outside
-abbrev pub Sided : Type 0
-Sided = Formula × Bool
+abbrev pub Signed : Type 0
+Signed = Formula × Bool
 
-pub record Begun : Type 0 where
+pub record Partial : Type 0 where
   pub kind : Kind
   pub choice : Choice
-  pub left : List Sided
+  pub left : List Signed
 
 -- how it may end
-abbrev pub ends : Kind → List Sided → List Choice
-ends kind [] = always
-ends kind (one ∷ left) = joined (kind_choices kind one.0 one.1) (ends kind left)
+abbrev pub completions : Kind → List Signed → List Choice
+completions kind [] = always
+completions kind (one ∷ left) = joined (kind_choices kind one.0 one.1) (completions kind left)
 
 -- it fails where the clause of each choice that it may become is broken
-abbrev pub BegunFails : List Question → Begun → Type 0
-BegunFails family begun = AllOf (λ rest. Breaks family (clause_by begun.kind (begun.choice ++ rest))) (ends begun.kind begun.left)
+abbrev pub PartialFails : List Question → Partial → Type 0
+PartialFails family partial = AllOf (λ rest. Breaks family (clause_by partial.kind (partial.choice ++ rest))) (completions partial.kind partial.left)
 
 -- the formulas of a question
-abbrev pub sided : Graph → Question → List Sided
-sided graph question = map (λ id. (formula_at graph id, true)) question.pos ++ map (λ id. (formula_at graph id, false)) question.neg
+abbrev pub signed : Graph → Question → List Signed
+signed graph question = map (λ id. (formula_at graph id, true)) question.pos ++ map (λ id. (formula_at graph id, false)) question.neg
 
 module _ (graph : Graph) where
   -- each larger family breaks all clauses of a question, where these choices fail in it
-  abbrev pub AreAllClauses : (base : List Question) → Question → List Begun → Type 0
-  AreAllClauses base question choices = (family : List Question) → AreAmong base family → AllOf (BegunFails family) choices
+  abbrev pub AccountForClauses : (base : List Question) → Question → List Partial → Type 0
+  AccountForClauses base question choices = (family : List Question) → AreAmong base family → AllOf (PartialFails family) choices
       → (clause : Clause) → IsClauseOfQuestion graph question clause → Breaks family clause
 
   -- each end of a choice is a clause of the question
-  abbrev pub EndsOf : Question → Begun → Type 0
-  EndsOf question begun = AllOf (λ rest. IsClauseOfQuestion graph question (clause_by begun.kind (begun.choice ++ rest))) (ends begun.kind begun.left)
+  abbrev pub IsPartialOf : Question → Partial → Type 0
+  IsPartialOf question partial = AllOf (λ rest. IsClauseOfQuestion graph question (clause_by partial.kind (partial.choice ++ rest))) (completions partial.kind partial.left)

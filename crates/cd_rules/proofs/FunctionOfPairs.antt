@@ -10,7 +10,7 @@ use Rattle.cd_rules.specs.Clauses.{Pair, Arrows, IsInClause}
 use Rattle.cd_rules.proofs.Among.{among_itself}
 use Rattle.cd_rules.proofs.MembersOfArrows.{IsInArrows}
 use Rattle.cd_rules.proofs.Ones.{each_weaker}
-use Rattle.cd_rules.proofs.MadeOfTasks.{function_begun, function_done}
+use Rattle.cd_rules.proofs.MembersOfTasks.{function_of_none, function_done}
 
 pub record IsSoFar (graph : Graph) (wanted refused left : List Pair) (pairs : thing.Pairs) : Type 0 where
   pub done : List Pair
@@ -22,7 +22,7 @@ module _ (graph : Graph) (wanted refused : List Pair) where
   pub none_so_far : IsSoFar graph wanted refused refused thing.NoPair
   none_so_far = record {
     done = [];
-    is = function_begun graph wanted;
+    is = function_of_none graph wanted;
     all = each_weaker (λ arrow. AnyOf (λ (other : Pair). other ≡ arrow) refused) (λ arrow. ⊥ ⊎ AnyOf (λ (other : Pair). other ≡ arrow) refused)
         (λ arrow there. inr there) refused (among_itself refused);
   }

@@ -18,8 +18,8 @@ use Rattle.cd_rules.specs.Family.{Breaks}
 use Rattle.cd_rules.proofs.Among.{each_of_its}
 use Rattle.cd_rules.proofs.Ones.{one_weaker}
 use Rattle.cd_model.specs.Kinds.{Kind}
-use Rattle.cd_rules.specs.BegunChoices.{Begun, sided, EndsOf, AreAllClauses}
-use Rattle.cd_rules.proofs.BegunFail.{begun_question, question_ends}
+use Rattle.cd_rules.specs.PartialChoices.{Partial, signed, IsPartialOf, AccountForClauses}
+use Rattle.cd_rules.proofs.PartialChoicesFail.{partial_question, question_completions}
 use Rattle.cd_rules.proofs.KindChoicesBack.{kind_clause_of}
 use Rattle.cd_rules.specs.KindChoices.{is_of, kind_choices_of}
 use Rattle.cd_rules.proofs.KindChoicesExact.{clause_of_kind}
@@ -32,11 +32,11 @@ pub record HasNoBasic (graph : Graph) (question : Question) : Type 0 where
   pub atoms : (name : Name) → IsLabel name → asked (answers graph (thing.Atom name)) question true → ⊥
 
 -- a choice of each kind that is made of parts, with nothing of it yet
-abbrev pub begun_of : Graph → Question → Kind → Begun
-begun_of graph question kind = record { kind = kind; choice = []; left = sided graph question }
+abbrev pub partial_of : Graph → Question → Kind → Partial
+partial_of graph question kind = record { kind = kind; choice = []; left = signed graph question }
 
-abbrev pub all_begun : Graph → Question → List Begun
-all_begun graph question = map (begun_of graph question) (APair ∷ AnXml ∷ ARecord ∷ AFunction ∷ [])
+abbrev pub partial_choices : Graph → Question → List Partial
+partial_choices graph question = map (partial_of graph question) (APair ∷ AnXml ∷ ARecord ∷ AFunction ∷ [])
 
 -- the clause of one of some choices
 broken_one : {X : Type 0} (clause_of : (wanted refused : List X) → Clause) (parts : Bool → Choice → List X) (family : List Question)
@@ -82,22 +82,22 @@ no_arrow (formula.Arrow argument result) same = absurd cc
 no_arrow _ same = refl
 
 pub all_clauses : (graph : Graph) (base : List Question) (question : Question) → HasNoBasic graph question
-    → AreAllClauses graph base question (all_begun graph question)
+    → AccountForClauses graph base question (partial_choices graph question)
 all_clauses graph base question none family larger fail (Ints wanted refused) of = no_integer graph family question none.integers wanted refused of
 all_clauses graph base question none family larger fail (Chars wanted refused) of =
     no_character graph family question none.characters wanted refused of
 all_clauses graph base question none family larger fail (Atoms wanted refused) of = no_atom graph family question none.atoms wanted refused of
 all_clauses graph base question none family larger fail (Pairs wanted refused) of = broken_one Pairs (parts_in pair_of) family wanted refused
-    (kind_choices_of APair graph question) (begun_question family APair graph question fail.0)
+    (kind_choices_of APair graph question) (partial_question family APair graph question fail.0)
     (clause_of_kind APair pair_of no_pair pair_kind graph question wanted refused of)
 all_clauses graph base question none family larger fail (Xmls wanted refused) of = broken_one Xmls (parts_in xml_of) family wanted refused
-    (kind_choices_of AnXml graph question) (begun_question family AnXml graph question fail.1.0)
+    (kind_choices_of AnXml graph question) (partial_question family AnXml graph question fail.1.0)
     (clause_of_kind AnXml xml_of no_xml xml_kind graph question wanted refused of)
 all_clauses graph base question none family larger fail (Records wanted refused) of = broken_one Records (parts_in record_of) family wanted refused
-    (kind_choices_of ARecord graph question) (begun_question family ARecord graph question fail.1.1.0)
+    (kind_choices_of ARecord graph question) (partial_question family ARecord graph question fail.1.1.0)
     (clause_of_kind ARecord record_of no_record record_kind graph question wanted refused of)
 all_clauses graph base question none family larger fail (Arrows wanted refused) of = broken_one Arrows (parts_in arrow_of) family wanted refused
-    (kind_choices_of AFunction graph question) (begun_question family AFunction graph question fail.1.1.1.0)
+    (kind_choices_of AFunction graph question) (partial_question family AFunction graph question fail.1.1.1.0)
     (clause_of_kind AFunction arrow_of no_arrow arrow_kind graph question wanted refused of)
 
 -- what a formula of a kind is of, back
@@ -129,18 +129,18 @@ each_of_kind kind clause_of parts graph question back = each_of_its
     (λ other. (parts true choice ≡ parts true other) × (parts false choice ≡ parts false other))
     (λ other same. (ap (parts true) (sym same), ap (parts false) (sym same))) (kind_choices_of kind graph question) there))
 
-pub all_ends : (graph : Graph) (question : Question) → AllOf (EndsOf graph question) (all_begun graph question)
-all_ends graph question = (
-  question_ends graph question APair (each_of_kind APair Pairs (parts_in pair_of) graph question
+pub all_completions : (graph : Graph) (question : Question) → AllOf (IsPartialOf graph question) (partial_choices graph question)
+all_completions graph question = (
+  question_completions graph question APair (each_of_kind APair Pairs (parts_in pair_of) graph question
       (λ wanted refused. kind_clause_of APair pair_back pair_of no_pair wanted refused graph question)),
   (
-    question_ends graph question AnXml (each_of_kind AnXml Xmls (parts_in xml_of) graph question
+    question_completions graph question AnXml (each_of_kind AnXml Xmls (parts_in xml_of) graph question
         (λ wanted refused. kind_clause_of AnXml xml_back xml_of no_xml wanted refused graph question)),
     (
-      question_ends graph question ARecord (each_of_kind ARecord Records (parts_in record_of) graph question
+      question_completions graph question ARecord (each_of_kind ARecord Records (parts_in record_of) graph question
           (λ wanted refused. kind_clause_of ARecord record_back record_of no_record wanted refused graph question)),
       (
-        question_ends graph question AFunction (each_of_kind AFunction Arrows (parts_in arrow_of) graph question
+        question_completions graph question AFunction (each_of_kind AFunction Arrows (parts_in arrow_of) graph question
             (λ wanted refused. kind_clause_of AFunction arrow_back arrow_of no_arrow wanted refused graph question)),
         tt,
       ),

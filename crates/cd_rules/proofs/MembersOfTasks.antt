@@ -122,8 +122,8 @@ module _ (graph : Graph) (wanted done : List Pair) (one : Pair) (pairs : thing.P
       (λ x out. out) (λ x none. elim none [ ])) right)
 
 -- at first a function has no pairs; when each refused arrow is done, it is in the clause
-pub function_begun : (graph : Graph) (wanted : List Pair) → IsInArrows graph wanted [] thing.NoPair
-function_begun graph wanted = (tt, none_in_arrows graph wanted, tt)
+pub function_of_none : (graph : Graph) (wanted : List Pair) → IsInArrows graph wanted [] thing.NoPair
+function_of_none graph wanted = (tt, none_in_arrows graph wanted, tt)
 
 pub function_done : (graph : Graph) (wanted refused done : List Pair) (pairs : thing.Pairs) → IsInArrows graph wanted done pairs
     → AreAmong refused done → IsElement (thing.Function pairs)

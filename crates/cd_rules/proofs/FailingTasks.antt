@@ -16,23 +16,23 @@ use Rattle.cd_rules.proofs.Ones.{one_weaker, one_of_map, map_of_one, one_on_a_si
 use Rattle.cd_rules.specs.Fails.{Fails, seen, cases, ThreeFail, three_seen, three_cases, RowsFail, row_seen, row_cases}
 use Rattle.cd_rules.specs.Tasks.{Task, PairTask, XmlTask, ArrowTask, RecordTask, HasCovered, TaskFails, IsTask, tasks_of, questions_of}
 use Rattle.cd_rules.specs.Tasks.{present, row_so_far, Takes, taken_here, taken_later, AreCases, pair_cases, xml_cases, arrow_cases, record_cases}
-use Rattle.cd_rules.proofs.FailsBroken.{pair_need_fails, xml_need_fails, arrow_need_fails}
-use Rattle.cd_rules.proofs.RowsFailing.{records_fail}
+use Rattle.cd_rules.proofs.FailingNeeds.{pair_need_fails, xml_need_fails, arrow_need_fails}
+use Rattle.cd_rules.proofs.FailingRows.{records_fail}
 
 -- a weaker fact
-pub fails_weaker : {X : Type 0} (AnyOf Other : List X × List X → Type 0) → ((sides : List X × List X) → AnyOf sides → Other sides)
-    → (all : List X) (given : List X × List X) → Fails AnyOf all given → Fails Other all given
-fails_weaker AnyOf Other weaker all _ (seen given is) = seen given (weaker given is)
-fails_weaker AnyOf Other weaker all _ (cases given x there first second) = cases given x there
-    (fails_weaker AnyOf Other weaker all (to_one x given) first) (fails_weaker AnyOf Other weaker all (to_other x given) second)
+pub fails_weaker : {X : Type 0} (Fact Other : List X × List X → Type 0) → ((sides : List X × List X) → Fact sides → Other sides)
+    → (all : List X) (given : List X × List X) → Fails Fact all given → Fails Other all given
+fails_weaker Fact Other weaker all _ (seen given is) = seen given (weaker given is)
+fails_weaker Fact Other weaker all _ (cases given x there first second) = cases given x there
+    (fails_weaker Fact Other weaker all (to_one x given) first) (fails_weaker Fact Other weaker all (to_other x given) second)
 
-pub three_fail_weaker : {X : Type 0} (AnyOf Other : List X × List X × List X → Type 0)
-    → ((sides : List X × List X × List X) → AnyOf sides → Other sides) → (all : List X) (given : List X × List X × List X)
-    → ThreeFail AnyOf all given → ThreeFail Other all given
-three_fail_weaker AnyOf Other weaker all _ (three_seen given is) = three_seen given (weaker given is)
-three_fail_weaker AnyOf Other weaker all _ (three_cases given x there first second third) = three_cases given x there
-    (three_fail_weaker AnyOf Other weaker all (to_first x given) first) (three_fail_weaker AnyOf Other weaker all (to_middle x given) second)
-    (three_fail_weaker AnyOf Other weaker all (to_last x given) third)
+pub three_fail_weaker : {X : Type 0} (Fact Other : List X × List X × List X → Type 0)
+    → ((sides : List X × List X × List X) → Fact sides → Other sides) → (all : List X) (given : List X × List X × List X)
+    → ThreeFail Fact all given → ThreeFail Other all given
+three_fail_weaker Fact Other weaker all _ (three_seen given is) = three_seen given (weaker given is)
+three_fail_weaker Fact Other weaker all _ (three_cases given x there first second third) = three_cases given x there
+    (three_fail_weaker Fact Other weaker all (to_first x given) first) (three_fail_weaker Fact Other weaker all (to_middle x given) second)
+    (three_fail_weaker Fact Other weaker all (to_last x given) third)
 
 pub rows_fail_weaker : (Fact Other : Reasons → Type 0) → ((reasons : Reasons) → Fact reasons → Other reasons) → (labels : List Name)
     (refused : List RecordType) (given : Reasons) → RowsFail Fact labels refused given → RowsFail Other labels refused given

@@ -12,7 +12,7 @@ use Rattle.cd_rules.proofs.Covering.{asks_more, covers_more}
 use Rattle.cd_rules.proofs.Ones.{one_weaker, one_of_map}
 use Rattle.cd_rules.specs.Fails.{seen, cases, three_seen, three_cases}
 use Rattle.cd_rules.specs.Tasks.{TaskFails, ArrowTask}
-use Rattle.cd_rules.proofs.TasksFail.{task_breaks}
+use Rattle.cd_rules.proofs.FailingTasks.{task_breaks}
 
 module _ (family : List Question) where
   -- the family covers the question that wants and refuses a node

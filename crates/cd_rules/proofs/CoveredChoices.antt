@@ -18,7 +18,7 @@ use Rattle.cd_rules.proofs.Covering.{asks_more, covers_more}
 use Rattle.cd_rules.proofs.Ones.{one_weaker, one_of_map}
 use Rattle.cd_rules.specs.Fails.{row_seen}
 use Rattle.cd_rules.specs.Tasks.{PairTask, XmlTask, questions_of}
-use Rattle.cd_rules.proofs.TasksFail.{covered_fails, task_breaks}
+use Rattle.cd_rules.proofs.FailingTasks.{covered_fails, task_breaks}
 
 module _ {X : Type 0} (parts_of : Formula → Option X) (sign : Bool) where
   -- what a literal gives stands among what a choice with it gives
@@ -68,76 +68,76 @@ module _ {X : Type 0} (parts_of : Formula → Option X) (sign : Bool) where
       by_case false true is gives = among
 
   -- so what literals give stands among what a choice with all of them gives
-  pub parts_among : (begun choice : Choice) → AreAmong begun choice → AreAmong (parts_in parts_of sign begun) (parts_in parts_of sign choice)
+  pub parts_among : (partial choice : Choice) → AreAmong partial choice → AreAmong (parts_in parts_of sign partial) (parts_in parts_of sign choice)
   parts_among [] choice among = tt
-  parts_among (literal ∷ begun) choice among = one_in literal choice among.0 (parts_in parts_of sign begun) (parts_among begun choice among.1)
+  parts_among (literal ∷ partial) choice among = one_in literal choice among.0 (parts_in parts_of sign partial) (parts_among partial choice among.1)
 
 module _ (family : List Question) where
   -- what wants more of a covered question is covered
   wants_more : (some all : List NodeId) → AreAmong some all → IsCovered (question some []) family → IsCovered (question all []) family
   wants_more some all among = covers_more family (question all []) (question some []) (asks_more some [] all [] among tt)
 
-  pub begun_pairs : (begun choice : Choice) (wanted refused : List Pair) → AreAmong begun choice → wanted ≡ parts_in pair_of true choice
-      → IsCovered (question (map (λ parts. parts.0) (parts_in pair_of true begun)) []) family
-      ⊎ IsCovered (question (map (λ parts. parts.1) (parts_in pair_of true begun)) []) family
+  pub covered_pairs : (partial choice : Choice) (wanted refused : List Pair) → AreAmong partial choice → wanted ≡ parts_in pair_of true choice
+      → IsCovered (question (map (λ parts. parts.0) (parts_in pair_of true partial)) []) family
+      ⊎ IsCovered (question (map (λ parts. parts.1) (parts_in pair_of true partial)) []) family
       → Breaks family (Pairs wanted refused)
-  begun_pairs begun choice wanted refused among of covered =
-      let more = subst (AreAmong (parts_in pair_of true begun)) (sym of) (parts_among pair_of true begun choice among) in
+  covered_pairs partial choice wanted refused among of covered =
+      let more = subst (AreAmong (parts_in pair_of true partial)) (sym of) (parts_among pair_of true partial choice among) in
       task_breaks family (Pairs wanted refused) (inl (covered_fails family (PairTask wanted refused ([], []) refused) (by_part more covered)))
     where
-      by_part : AreAmong (parts_in pair_of true begun) wanted
-          → IsCovered (question (map (λ parts. parts.0) (parts_in pair_of true begun)) []) family
-          ⊎ IsCovered (question (map (λ parts. parts.1) (parts_in pair_of true begun)) []) family
+      by_part : AreAmong (parts_in pair_of true partial) wanted
+          → IsCovered (question (map (λ parts. parts.0) (parts_in pair_of true partial)) []) family
+          ⊎ IsCovered (question (map (λ parts. parts.1) (parts_in pair_of true partial)) []) family
           → AnyOf (λ question. IsCovered question family) (questions_of (PairTask wanted refused ([], []) refused))
-      by_part more (inl is) = inl (wants_more (map (λ parts. parts.0) (parts_in pair_of true begun)) (map (λ parts. parts.0) wanted)
-          (among_map (λ (parts : Pair). parts.0) (parts_in pair_of true begun) wanted more) is)
-      by_part more (inr is) = inr (inl (wants_more (map (λ parts. parts.1) (parts_in pair_of true begun)) (map (λ parts. parts.1) wanted)
-          (among_map (λ (parts : Pair). parts.1) (parts_in pair_of true begun) wanted more) is))
+      by_part more (inl is) = inl (wants_more (map (λ parts. parts.0) (parts_in pair_of true partial)) (map (λ parts. parts.0) wanted)
+          (among_map (λ (parts : Pair). parts.0) (parts_in pair_of true partial) wanted more) is)
+      by_part more (inr is) = inr (inl (wants_more (map (λ parts. parts.1) (parts_in pair_of true partial)) (map (λ parts. parts.1) wanted)
+          (among_map (λ (parts : Pair). parts.1) (parts_in pair_of true partial) wanted more) is))
 
-  pub begun_xmls : (begun choice : Choice) (wanted refused : List Triple) → AreAmong begun choice → wanted ≡ parts_in xml_of true choice
-      → IsCovered (question (ATOM ∷ map (λ parts. parts.0) (parts_in xml_of true begun)) []) family
-      ⊎ IsCovered (question (RECORD ∷ map (λ parts. parts.1) (parts_in xml_of true begun)) []) family
-      ⊎ IsCovered (question (map (λ parts. parts.2) (parts_in xml_of true begun)) []) family
+  pub covered_xmls : (partial choice : Choice) (wanted refused : List Triple) → AreAmong partial choice → wanted ≡ parts_in xml_of true choice
+      → IsCovered (question (ATOM ∷ map (λ parts. parts.0) (parts_in xml_of true partial)) []) family
+      ⊎ IsCovered (question (RECORD ∷ map (λ parts. parts.1) (parts_in xml_of true partial)) []) family
+      ⊎ IsCovered (question (map (λ parts. parts.2) (parts_in xml_of true partial)) []) family
       → Breaks family (Xmls wanted refused)
-  begun_xmls begun choice wanted refused among of covered =
-      let more = subst (AreAmong (parts_in xml_of true begun)) (sym of) (parts_among xml_of true begun choice among) in
+  covered_xmls partial choice wanted refused among of covered =
+      let more = subst (AreAmong (parts_in xml_of true partial)) (sym of) (parts_among xml_of true partial choice among) in
       task_breaks family (Xmls wanted refused) (inl (covered_fails family (XmlTask wanted refused ([], [], []) refused) (by_part more covered)))
     where
-      by_part : AreAmong (parts_in xml_of true begun) wanted
-          → IsCovered (question (ATOM ∷ map (λ parts. parts.0) (parts_in xml_of true begun)) []) family
-          ⊎ IsCovered (question (RECORD ∷ map (λ parts. parts.1) (parts_in xml_of true begun)) []) family
-          ⊎ IsCovered (question (map (λ parts. parts.2) (parts_in xml_of true begun)) []) family
+      by_part : AreAmong (parts_in xml_of true partial) wanted
+          → IsCovered (question (ATOM ∷ map (λ parts. parts.0) (parts_in xml_of true partial)) []) family
+          ⊎ IsCovered (question (RECORD ∷ map (λ parts. parts.1) (parts_in xml_of true partial)) []) family
+          ⊎ IsCovered (question (map (λ parts. parts.2) (parts_in xml_of true partial)) []) family
           → AnyOf (λ question. IsCovered question family) (questions_of (XmlTask wanted refused ([], [], []) refused))
-      by_part more (inl is) = inl (wants_more (ATOM ∷ map (λ parts. parts.0) (parts_in xml_of true begun)) (ATOM ∷ map (λ parts. parts.0) wanted)
-          (among_both ATOM (map (λ parts. parts.0) (parts_in xml_of true begun)) (map (λ parts. parts.0) wanted)
-          (among_map (λ (parts : Triple). parts.0) (parts_in xml_of true begun) wanted more)) is)
-      by_part more (inr (inl is)) = inr (inl (wants_more (RECORD ∷ map (λ parts. parts.1) (parts_in xml_of true begun))
+      by_part more (inl is) = inl (wants_more (ATOM ∷ map (λ parts. parts.0) (parts_in xml_of true partial)) (ATOM ∷ map (λ parts. parts.0) wanted)
+          (among_both ATOM (map (λ parts. parts.0) (parts_in xml_of true partial)) (map (λ parts. parts.0) wanted)
+          (among_map (λ (parts : Triple). parts.0) (parts_in xml_of true partial) wanted more)) is)
+      by_part more (inr (inl is)) = inr (inl (wants_more (RECORD ∷ map (λ parts. parts.1) (parts_in xml_of true partial))
           (RECORD ∷ map (λ parts. parts.1) wanted)
-          (among_both RECORD (map (λ parts. parts.1) (parts_in xml_of true begun)) (map (λ parts. parts.1) wanted)
-          (among_map (λ (parts : Triple). parts.1) (parts_in xml_of true begun) wanted more)) is))
-      by_part more (inr (inr is)) = inr (inr (inl (wants_more (map (λ parts. parts.2) (parts_in xml_of true begun)) (map (λ parts. parts.2) wanted)
-          (among_map (λ (parts : Triple). parts.2) (parts_in xml_of true begun) wanted more) is)))
+          (among_both RECORD (map (λ parts. parts.1) (parts_in xml_of true partial)) (map (λ parts. parts.1) wanted)
+          (among_map (λ (parts : Triple). parts.1) (parts_in xml_of true partial) wanted more)) is))
+      by_part more (inr (inr is)) = inr (inr (inl (wants_more (map (λ parts. parts.2) (parts_in xml_of true partial)) (map (λ parts. parts.2) wanted)
+          (among_map (λ (parts : Triple). parts.2) (parts_in xml_of true partial) wanted more) is)))
 
   -- of records a field that has to be there
-  pub begun_records : (begun choice : Choice) (wanted refused : List RecordType) → AreAmong begun choice → wanted ≡ parts_in record_of true choice
+  pub covered_records : (partial choice : Choice) (wanted refused : List RecordType) → AreAmong partial choice → wanted ≡ parts_in record_of true choice
       → (label : Name) → AnyOf (λ name. name ≡ label) (labels_of (wanted ++ refused))
-      → AnyOf (λ type. (field_at type label).optional ≡ false) (parts_in record_of true begun)
-      → IsCovered (question (map (λ type. (field_at type label).type) (parts_in record_of true begun)) []) family
+      → AnyOf (λ type. (field_at type label).optional ≡ false) (parts_in record_of true partial)
+      → IsCovered (question (map (λ type. (field_at type label).type) (parts_in record_of true partial)) []) family
       → Breaks family (Records wanted refused)
-  begun_records begun choice wanted refused among of label there has covered =
-      let more = subst (AreAmong (parts_in record_of true begun)) (sym of) (parts_among record_of true begun choice among) in
+  covered_records partial choice wanted refused among of label there has covered =
+      let more = subst (AreAmong (parts_in record_of true partial)) (sym of) (parts_among record_of true partial choice among) in
       task_breaks family (Records wanted refused) (inl (row_seen [] (inl
       (one_of_map (λ label. (label, cell_at wanted [] label)) (λ cell. (cell.1.absent ≡ false) × IsCovered cell.1.value family)
       (labels_of (wanted ++ refused))
       (one_weaker (λ name. name ≡ label) (λ label. ((cell_at wanted [] label).absent ≡ false) × IsCovered (cell_at wanted [] label).value family)
       (λ name same. subst (λ (label : Name). ((cell_at wanted [] label).absent ≡ false) × IsCovered (cell_at wanted [] label).value family) (sym same) (
         present wanted (one_on more),
-        wants_more (map (λ type. (field_at type label).type) (parts_in record_of true begun)) (map (λ type. (field_at type label).type) wanted)
-            (among_map (λ type. (field_at type label).type) (parts_in record_of true begun) wanted more) covered,
+        wants_more (map (λ type. (field_at type label).type) (parts_in record_of true partial)) (map (λ type. (field_at type label).type) wanted)
+            (among_map (λ type. (field_at type label).type) (parts_in record_of true partial) wanted more) covered,
       )) (labels_of (wanted ++ refused)) there)))))
     where
-      one_on : AreAmong (parts_in record_of true begun) wanted → AnyOf (λ type. (field_at type label).optional ≡ false) wanted
-      one_on more = one_among (parts_in record_of true begun) more has
+      one_on : AreAmong (parts_in record_of true partial) wanted → AnyOf (λ type. (field_at type label).optional ≡ false) wanted
+      one_on more = one_among (parts_in record_of true partial) more has
         where
           one_among : (some : List RecordType) → AreAmong some wanted → AnyOf (λ type. (field_at type label).optional ≡ false) some
               → AnyOf (λ type. (field_at type label).optional ≡ false) wanted
