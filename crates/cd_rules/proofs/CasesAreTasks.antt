@@ -1,96 +1,129 @@
--- The tasks of a clause are tasks, and so are the cases of one.
-use Rattle.std.proofs.Common.{◌≡◌, ◌⊎◌, List, [], ◌∷◌, ◌++◌, map, Some, None, inl, inr, refl, subst}
+-- The tasks of a clause are tasks of it, and so are the cases of one.
+use Rattle.std.proofs.Common.{◌≡◌, List, [], ◌∷◌, ◌++◌, map, Some, None, inl, inr, refl, sym, subst}
 use Rattle.cd_model.specs.AllOf.{AllOf, AnyOf}
 use Rattle.cd_rules.specs.Clauses.{Clause, Ints, Chars, Atoms, Pairs, Xmls, Records, Arrows}
+use Rattle.cd_rules.specs.Family.{AreAmong}
 use Rattle.cd_rules.specs.Needs.{to_one, to_other, to_first, to_middle, to_last}
 use Rattle.cd_rules.specs.Rows.{labels_of}
-use Rattle.cd_rules.proofs.Among.{among_itself, each_of_its}
-use Rattle.cd_rules.proofs.Asking.{each_of_map}
-use Rattle.cd_rules.proofs.Ones.{each_weaker, each_of_all}
-use Rattle.cd_rules.specs.Tasks.{Task, ArrowTask, RecordTask, IsTask, tasks_of, Takes, AreLeft, IsGiven, IsGivenInThree}
+use Rattle.cd_rules.specs.Tasks.{Task, PairTask, XmlTask, ArrowTask, RecordTask, tasks_of}
+use Rattle.cd_rules.specs.Tasks.{Takes, taken_here, taken_later, SameMembers, IsForClause, IsTask, IsTaskOf}
 use Rattle.cd_rules.specs.Tasks.{AreCases, pair_cases, xml_cases, arrow_cases, record_cases}
-use Rattle.cd_rules.proofs.FailingTasks.{taken_rest, taken_or_left}
+use Rattle.cd_rules.proofs.Among.{among_itself, among_on, each_of_its}
+use Rattle.cd_rules.proofs.Asking.{each_of_map}
+use Rattle.cd_rules.proofs.PairsBack.{both_of_each}
+use Rattle.cd_rules.proofs.Ones.{each_weaker, each_of_all}
 
--- at first none is given
-all_left : {X : Type 0} (Given : X → Type 0) (all : List X) → AreLeft Given all all
-all_left {X} Given all = (
-  among_itself all,
-  each_weaker (λ x. AnyOf (λ (other : X). other ≡ x) all) (λ x. AnyOf (λ other. other ≡ x) all ⊎ Given x)
-      (λ x is. inl is) all (among_itself all),
-)
+-- what is taken out of a list is one of it, and the others are what is left
+pub taken_one : {X : Type 0} (Fact : X → Type 0) (x : X) (all rest : List X) → Takes x all rest
+    → AllOf Fact all → Fact x × AllOf Fact rest
+taken_one Fact x _ _ (taken_here rest) each = each
+taken_one Fact x _ _ (taken_later other all rest taken) each =
+    let both = taken_one Fact x all rest taken each.1 in (both.0, (each.0, both.1))
 
--- then one is, and those that were stay so
-left_taken : {X : Type 0} (Given More : X → Type 0) (x : X) (members left rest : List X) → Takes x left rest → More x
-    → ((y : X) → Given y → More y) → AreLeft Given members left → AreLeft More members rest
-left_taken {X} Given More x members left rest taken more stays are = (
-  taken_rest (λ x. AnyOf (λ (other : X). other ≡ x) members) x left rest taken are.0,
-  each_weaker (λ x. AnyOf (λ other. other ≡ x) left ⊎ Given x) (λ x. AnyOf (λ other. other ≡ x) rest ⊎ More x) (λ y is. by_side y is) members are.1,
-)
-  where
-    by_taken : (y : X) → (x ≡ y) ⊎ AnyOf (λ other. other ≡ y) rest → AnyOf (λ other. other ≡ y) rest ⊎ More y
-    by_taken y (inl same) = inr (subst More same more)
-    by_taken y (inr is) = inl is
+-- and back
+one_taken : {X : Type 0} (Fact : X → Type 0) (x : X) (all rest : List X) → Takes x all rest
+    → Fact x → AllOf Fact rest → AllOf Fact all
+one_taken Fact x _ _ (taken_here rest) one each = (one, each)
+one_taken Fact x _ _ (taken_later other all rest taken) one each = (each.0, one_taken Fact x all rest taken one each.1)
 
-    by_side : (y : X) → AnyOf (λ other. other ≡ y) left ⊎ Given y → AnyOf (λ other. other ≡ y) rest ⊎ More y
-    by_side y (inl is) = by_taken y (taken_or_left x y left rest taken is)
-    by_side y (inr is) = inr (stays y is)
+-- it may stand after others, and before others
+taken_after : {X : Type 0} (x : X) (some all rest : List X) → Takes x all rest → Takes x (some ++ all) (some ++ rest)
+taken_after x [] all rest taken = taken
+taken_after x (other ∷ some) all rest taken = taken_later other (some ++ all) (some ++ rest) (taken_after x some all rest taken)
 
--- what was given to a side stays there
-module _ {X : Type 0} (x : X) (given : List X × List X) where
-  to_one_stays : (y : X) → IsGiven given y → IsGiven (to_one x given) y
-  to_one_stays y (inl is) = inl (inr is)
-  to_one_stays y (inr is) = inr is
+taken_before : {X : Type 0} (x : X) (all rest others : List X) → Takes x all rest → Takes x (all ++ others) (rest ++ others)
+taken_before x _ _ others (taken_here rest) = taken_here (rest ++ others)
+taken_before x _ _ others (taken_later other all rest taken) =
+    taken_later other (all ++ others) (rest ++ others) (taken_before x all rest others taken)
 
-  to_other_stays : (y : X) → IsGiven given y → IsGiven (to_other x given) y
-  to_other_stays y (inl is) = inl is
-  to_other_stays y (inr is) = inr (inr is)
+module _ {X : Type 0} (x : X) where
+  -- lists that are the same but for the place of one have the same members
+  moved : (some others rest : List X) → Takes x some rest → Takes x others rest → AreAmong some others
+  moved some others rest one other =
+      let there = taken_one (λ (y : X). AnyOf (λ other. other ≡ y) others) x others rest other (among_itself others) in
+      one_taken (λ (y : X). AnyOf (λ other. other ≡ y) others) x some rest one there.0 there.1
 
-module _ {X : Type 0} (x : X) (given : List X × List X × List X) where
-  first_stays : (y : X) → IsGivenInThree given y → IsGivenInThree (to_first x given) y
-  first_stays y (inl is) = inl (inr is)
-  first_stays y (inr is) = inr is
+  -- so one that was left may be given
+  one_given : (members given left more rest : List X) → Takes x left rest → Takes x more given
+      → SameMembers (given ++ left) members → SameMembers (more ++ rest) members
+  one_given members given left more rest taken given_it same = (
+    among_on (more ++ rest) (given ++ left) members (moved (more ++ rest) (given ++ left) (given ++ rest) after before) same.0,
+    among_on members (given ++ left) (more ++ rest) same.1 (moved (given ++ left) (more ++ rest) (given ++ rest) before after),
+  )
+    where
+      before : Takes x (given ++ left) (given ++ rest)
+      before = taken_after x given left rest taken
 
-  middle_stays : (y : X) → IsGivenInThree given y → IsGivenInThree (to_middle x given) y
-  middle_stays y (inl is) = inl is
-  middle_stays y (inr (inl is)) = inr (inl (inr is))
-  middle_stays y (inr (inr is)) = inr (inr is)
+      after : Takes x (more ++ rest) (given ++ rest)
+      after = taken_before x more given rest given_it
 
-  last_stays : (y : X) → IsGivenInThree given y → IsGivenInThree (to_last x given) y
-  last_stays y (inl is) = inl is
-  last_stays y (inr (inl is)) = inr (inl is)
-  last_stays y (inr (inr is)) = inr (inr (inr is))
+module _ {X : Type 0} (x : X) (members left rest : List X) (taken : Takes x left rest) where
+  -- to one of two sides
+  to_either : (given : List X × List X) → SameMembers (given.0 ++ given.1 ++ left) members
+      → SameMembers ((x ∷ given.0) ++ given.1 ++ rest) members × SameMembers (given.0 ++ (x ∷ given.1) ++ rest) members
+  to_either given same = (
+    one_given x members (given.0 ++ given.1) left ((x ∷ given.0) ++ given.1) rest taken (taken_here (given.0 ++ given.1)) same,
+    one_given x members (given.0 ++ given.1) left (given.0 ++ (x ∷ given.1)) rest taken
+        (taken_after x given.0 (x ∷ given.1) given.1 (taken_here given.1)) same,
+  )
 
-pub cases_are_tasks : (task : Task) (all : List Task) → AreCases task all → IsTask task → AllOf IsTask all
-cases_are_tasks _ _ (pair_cases wanted refused given left rest x taken) is = (
-  left_taken (IsGiven given) (IsGiven (to_one x given)) x refused left rest taken (inl (inl refl)) (to_one_stays x given) is,
-  (left_taken (IsGiven given) (IsGiven (to_other x given)) x refused left rest taken (inr (inl refl)) (to_other_stays x given) is, tt),
-)
-cases_are_tasks _ _ (xml_cases wanted refused given left rest x taken) is = (
-  left_taken (IsGivenInThree given) (IsGivenInThree (to_first x given)) x refused left rest taken (inl (inl refl)) (first_stays x given) is,
-  (
-    left_taken (IsGivenInThree given) (IsGivenInThree (to_middle x given)) x refused left rest taken (inr (inl (inl refl))) (middle_stays x given) is,
-    (left_taken (IsGivenInThree given) (IsGivenInThree (to_last x given)) x refused left rest taken (inr (inr (inl refl))) (last_stays x given) is, tt),
-  ),
-)
-cases_are_tasks _ _ (arrow_cases refused wanted given left rest x taken) is = (
-  left_taken (IsGiven given) (IsGiven (to_one x given)) x wanted left rest taken (inl (inl refl)) (to_one_stays x given) is,
-  (left_taken (IsGiven given) (IsGiven (to_other x given)) x wanted left rest taken (inr (inl refl)) (to_other_stays x given) is, tt),
-)
+  -- to one of three sides
+  to_each_of_three : (given : List X × List X × List X) → SameMembers (given.0 ++ given.1 ++ given.2 ++ left) members
+      → SameMembers ((x ∷ given.0) ++ given.1 ++ given.2 ++ rest) members
+      × SameMembers (given.0 ++ (x ∷ given.1) ++ given.2 ++ rest) members
+      × SameMembers (given.0 ++ given.1 ++ (x ∷ given.2) ++ rest) members
+  to_each_of_three given same = (
+    one_given x members (given.0 ++ given.1 ++ given.2) left ((x ∷ given.0) ++ given.1 ++ given.2) rest taken
+        (taken_here (given.0 ++ given.1 ++ given.2)) same,
+    one_given x members (given.0 ++ given.1 ++ given.2) left (given.0 ++ (x ∷ given.1) ++ given.2) rest taken
+        (taken_before x (given.0 ++ (x ∷ given.1)) (given.0 ++ given.1) given.2
+        (taken_after x given.0 (x ∷ given.1) given.1 (taken_here given.1))) same,
+    one_given x members (given.0 ++ given.1 ++ given.2) left (given.0 ++ given.1 ++ (x ∷ given.2)) rest taken
+        (taken_after x (given.0 ++ given.1) (x ∷ given.2) given.2 (taken_here given.2)) same,
+  )
+
+cases_are_tasks : (task : Task) (all : List Task) → AreCases task all → IsTask task → AllOf IsTask all
+cases_are_tasks _ _ (pair_cases wanted refused given left rest x taken) same =
+    let sides = to_either x refused left rest taken given same in (sides.0, (sides.1, tt))
+cases_are_tasks _ _ (xml_cases wanted refused given left rest x taken) same =
+    let sides = to_each_of_three x refused left rest taken given same in (sides.0, (sides.1, (sides.2, tt)))
+cases_are_tasks _ _ (arrow_cases refused wanted given left rest x taken) same =
+    let sides = to_either x wanted left rest taken given same in (sides.0, (sides.1, tt))
 cases_are_tasks _ _ (record_cases wanted refused given left rest type taken) is =
     each_of_map (λ reason. RecordTask wanted refused ((type, reason) ∷ given) rest) IsTask (None ∷ map Some (labels_of (wanted ++ refused)))
     (each_of_its (λ reason. IsTask (RecordTask wanted refused ((type, reason) ∷ given) rest)) (None ∷ map Some (labels_of (wanted ++ refused)))
     (λ reason named. (
-      left_taken (λ other. AnyOf (λ one. one.0 ≡ other) given) (λ other. AnyOf (λ one. one.0 ≡ other) ((type, reason) ∷ given)) type refused left rest
-          taken (inl refl) (λ other is. inr is) is.0,
+      one_given type refused (map (λ one. one.0) given) left (type ∷ map (λ one. one.0) given) rest taken
+          (taken_here (map (λ one. one.0) given)) is.0,
       (named, is.1),
     )))
 
-pub are_tasks : (clause : Clause) → AllOf IsTask (tasks_of clause)
-are_tasks (Pairs wanted refused) = (all_left (IsGiven ([], [])) refused, tt)
-are_tasks (Xmls wanted refused) = (all_left (IsGivenInThree ([], [], [])) refused, tt)
-are_tasks (Arrows wanted refused) = each_of_map (λ one. ArrowTask one wanted ([], []) wanted) IsTask refused
-    (each_of_all (λ one. IsTask (ArrowTask one wanted ([], []) wanted)) (λ one. all_left (IsGiven ([], [])) wanted) refused)
-are_tasks (Records wanted refused) = ((all_left (λ type. ⊥) refused, tt), tt)
-are_tasks (Ints wanted refused) = tt
-are_tasks (Chars wanted refused) = tt
-are_tasks (Atoms wanted refused) = tt
+-- they are for the same clause
+for_same_clause : (clause : Clause) (task : Task) (all : List Task) → AreCases task all → IsForClause clause task
+    → AllOf (IsForClause clause) all
+for_same_clause (Pairs _ _) _ _ (pair_cases wanted refused given left rest x taken) is = (is, (is, tt))
+for_same_clause (Xmls _ _) _ _ (xml_cases wanted refused given left rest x taken) is = (is, (is, (is, tt)))
+for_same_clause (Arrows _ _) _ _ (arrow_cases refused wanted given left rest x taken) is = (is, (is, tt))
+for_same_clause (Records some others) _ _ (record_cases wanted refused given left rest type taken) is =
+    each_of_map (λ reason. RecordTask wanted refused ((type, reason) ∷ given) rest) (IsForClause (Records some others))
+    (None ∷ map Some (labels_of (wanted ++ refused)))
+    (each_of_all (λ reason. IsForClause (Records some others) (RecordTask wanted refused ((type, reason) ∷ given) rest)) (λ reason. is)
+    (None ∷ map Some (labels_of (wanted ++ refused))))
+for_same_clause _ _ _ _ is = absurd is
+
+pub cases_of_task : (clause : Clause) (task : Task) (all : List Task) → AreCases task all → IsTaskOf clause task
+    → AllOf (IsTaskOf clause) all
+cases_of_task clause task all cases is = both_of_each (IsForClause clause) IsTask all
+    (for_same_clause clause task all cases is.0) (cases_are_tasks task all cases is.1)
+
+-- at first none is given
+pub tasks_are : (clause : Clause) → AllOf (IsTaskOf clause) (tasks_of clause)
+tasks_are (Pairs wanted refused) = (((refl, refl), (among_itself refused, among_itself refused)), tt)
+tasks_are (Xmls wanted refused) = (((refl, refl), (among_itself refused, among_itself refused)), tt)
+tasks_are (Records wanted refused) = (((refl, refl), ((among_itself refused, among_itself refused), tt)), tt)
+tasks_are (Arrows wanted refused) = each_of_map (λ one. ArrowTask one wanted ([], []) wanted) (IsTaskOf (Arrows wanted refused)) refused
+    (each_weaker (λ one. AnyOf (λ other. other ≡ one) refused) (λ one. IsTaskOf (Arrows wanted refused) (ArrowTask one wanted ([], []) wanted))
+    (λ one there. ((refl, there), (among_itself wanted, among_itself wanted))) refused (among_itself refused))
+tasks_are (Ints wanted refused) = tt
+tasks_are (Chars wanted refused) = tt
+tasks_are (Atoms wanted refused) = tt

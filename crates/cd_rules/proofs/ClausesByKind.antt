@@ -18,25 +18,12 @@ use Rattle.cd_rules.specs.Family.{Breaks}
 use Rattle.cd_rules.proofs.Among.{each_of_its}
 use Rattle.cd_rules.proofs.Ones.{one_weaker}
 use Rattle.cd_model.specs.Kinds.{Kind}
-use Rattle.cd_rules.specs.PartialChoices.{Partial, signed, IsPartialOf, AccountForClauses}
+use Rattle.cd_rules.specs.PartialChoices.{HasNoBasic, partial_choices, IsPartialOf, AccountForClauses}
 use Rattle.cd_rules.proofs.PartialChoicesFail.{partial_question, question_completions}
 use Rattle.cd_rules.proofs.KindChoicesBack.{kind_clause_of}
 use Rattle.cd_rules.specs.KindChoices.{is_of, kind_choices_of}
 use Rattle.cd_rules.proofs.KindChoicesExact.{clause_of_kind}
 use Rattle.cd_rules.proofs.SetsJoined.{no_integer, no_character, no_atom}
-
--- no element of a basic kind is in a question
-pub record HasNoBasic (graph : Graph) (question : Question) : Type 0 where
-  pub integers : (z : ℤ) → IsInteger z → asked (answers graph (thing.Integer z)) question true → ⊥
-  pub characters : (c : ℕ) → IsScalar c → asked (answers graph (thing.Character c)) question true → ⊥
-  pub atoms : (name : Name) → IsLabel name → asked (answers graph (thing.Atom name)) question true → ⊥
-
--- a choice of each kind that is made of parts, with nothing of it yet
-abbrev pub partial_of : Graph → Question → Kind → Partial
-partial_of graph question kind = record { kind = kind; choice = []; left = signed graph question }
-
-abbrev pub partial_choices : Graph → Question → List Partial
-partial_choices graph question = map (partial_of graph question) (APair ∷ AnXml ∷ ARecord ∷ AFunction ∷ [])
 
 -- the clause of one of some choices
 broken_one : {X : Type 0} (clause_of : (wanted refused : List X) → Clause) (parts : Bool → Choice → List X) (family : List Question)

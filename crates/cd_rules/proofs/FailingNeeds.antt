@@ -6,7 +6,7 @@ use Rattle.cd_model.specs.AllOf.{AllOf, AnyOf}
 use Rattle.cd_rules.specs.Clauses.{Pair, Triple}
 use Rattle.cd_model.specs.BuiltIns.{ATOM, RECORD}
 use Rattle.cd_rules.specs.Fails.{Fails, seen, cases, ThreeFail, three_seen, three_cases}
-use Rattle.cd_rules.specs.Tasks.{HasCovered, IsGiven, IsGivenInThree}
+use Rattle.cd_rules.specs.Tasks.{HasCovered}
 use Rattle.cd_rules.specs.Family.{IsCovered, BreaksNeed, AreAmong}
 use Rattle.cd_rules.specs.Needs.{question, pair_way, xml_way, arrow_way, result_questions, splits, splits_in_three}
 use Rattle.cd_rules.specs.Needs.{to_one, to_other, to_first, to_middle, to_last}
@@ -15,6 +15,14 @@ use Rattle.cd_rules.proofs.Asking.{each_of_map}
 use Rattle.cd_rules.proofs.Covering.{asks_more, covers_more}
 use Rattle.cd_rules.proofs.Sides.{splits_back, splits_in_three_back}
 use Rattle.cd_rules.proofs.SplitsOfKept.{Sides, ComesOn, ThreeSides, ComesOnInThree}
+
+-- one of a list stands on a side
+abbrev IsGiven : {X : Type 0} → Sides X → X → Type 0
+IsGiven {X} sides x = AnyOf (λ (other : X). other ≡ x) sides.0 ⊎ AnyOf (λ (other : X). other ≡ x) sides.1
+
+abbrev IsGivenInThree : {X : Type 0} → ThreeSides X → X → Type 0
+IsGivenInThree {X} sides x = AnyOf (λ (other : X). other ≡ x) sides.0 ⊎ AnyOf (λ (other : X). other ≡ x) sides.1
+    ⊎ AnyOf (λ (other : X). other ≡ x) sides.2
 
 by_cases : {A B C : Type 0} → A ⊎ B → (A → C) → (B → C) → C
 by_cases (inl a) one other = one a

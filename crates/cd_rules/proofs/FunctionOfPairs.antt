@@ -10,7 +10,7 @@ use Rattle.cd_rules.specs.Clauses.{Pair, Arrows, IsInClause}
 use Rattle.cd_rules.proofs.Among.{among_itself}
 use Rattle.cd_rules.proofs.MembersOfArrows.{IsInArrows}
 use Rattle.cd_rules.proofs.Ones.{each_weaker}
-use Rattle.cd_rules.proofs.MembersOfTasks.{function_of_none, function_done}
+use Rattle.cd_rules.proofs.MembersOfTasks.{function_of_none, function_of_arrows}
 
 pub record IsSoFar (graph : Graph) (wanted refused left : List Pair) (pairs : thing.Pairs) : Type 0 where
   pub done : List Pair
@@ -27,7 +27,7 @@ module _ (graph : Graph) (wanted refused : List Pair) where
         (λ arrow there. inr there) refused (among_itself refused);
   }
 
-  -- a pair for the next one, as `maps_done` and `fails_done` give it
+  -- a pair for the next one, as `maps_of_task` and `fails_of_task` give it
   pub one_more : (one : Pair) (left : List Pair) (pairs more : thing.Pairs) (so_far : IsSoFar graph wanted refused (one ∷ left) pairs)
       → IsInArrows graph wanted (one ∷ so_far.done) more → IsSoFar graph wanted refused left more
   one_more one left pairs more so_far is = record {
@@ -46,7 +46,7 @@ module _ (graph : Graph) (wanted refused : List Pair) where
   -- when none is left the function is in the clause
   pub all_so_far : (pairs : thing.Pairs) → IsSoFar graph wanted refused [] pairs
       → IsElement (thing.Function pairs) × IsInClause AFunction (reader graph (thing.Function pairs)) (Arrows wanted refused)
-  all_so_far pairs so_far = function_done graph wanted refused so_far.done pairs so_far.is
+  all_so_far pairs so_far = function_of_arrows graph wanted refused so_far.done pairs so_far.is
       (each_weaker (λ arrow. AnyOf (λ (other : Pair). other ≡ arrow) so_far.done ⊎ ⊥) (λ arrow. AnyOf (λ (other : Pair). other ≡ arrow) so_far.done)
       only refused so_far.all)
     where

@@ -53,8 +53,8 @@ pub mod KindChoicesExact
 pub mod KindChoicesBack
 pub mod FailingNeeds
 pub mod FailingRows
-pub mod FailingTasks
 pub mod CasesAreTasks
+pub mod FailingTasks
 pub mod TasksAsk
 pub mod PartialChoicesFail
 pub mod CoveredChoices

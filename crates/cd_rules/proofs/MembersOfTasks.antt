@@ -23,112 +23,114 @@ use Rattle.cd_rules.proofs.Asking.{asked_of_each, each_of_map}
 use Rattle.cd_rules.proofs.ArrowsForward.{ArgumentIsOutside, ResultIsInside}
 use Rattle.cd_rules.proofs.LabelsNamed.{IsUnnamed, unnamed_parts}
 use Rattle.cd_rules.proofs.MembersOfArrows.{IsInArrows, IsOutsideArrow, none_in_arrows, with_maps, with_fails}
-use Rattle.cd_rules.proofs.Ones.{each_weaker, one_weaker, map_of_one, each_of_two, each_of_all, each_for_all, one_leads, one_with_each}
+use Rattle.cd_rules.proofs.Ones.{each_weaker, one_weaker, map_of_one, each_of_two, each_of_lists, each_of_all, each_for_all, one_leads, one_with_each}
 use Rattle.cd_rules.proofs.PairsBack.{both_of_each, three_of_each, parts_of_asked, parts_of_asked_more}
 use Rattle.cd_rules.proofs.ReasonsOf.{IsNamed}
 use Rattle.cd_rules.proofs.RowsExact.{SaysNoMore, labelled_by, IsAs, IsReason, of_reason, wanted_in_row, refused_in_row}
 use Rattle.cd_rules.proofs.RowsExact.{unnamed_by_all, say_no_more}
 use Rattle.cd_rules.proofs.RowsOfThings.{thing_says}
-use Rattle.cd_rules.specs.Tasks.{PairTask, XmlTask, ArrowTask, RecordTask, IsTask, AreLeft, IsGiven, IsGivenInThree, IsNamedReason, row_so_far}
+use Rattle.cd_rules.specs.Tasks.{PairTask, XmlTask, ArrowTask, RecordTask, IsTask, IsNamedReason, row_of_given}
 
--- a fact of what was given and of what is left is one of each
-given_or_left : {X : Type 0} (Given Fact : X → Type 0) (members left : List X) → AreLeft Given members left
-    → ((x : X) → Given x → Fact x) → AllOf Fact left → AllOf Fact members
-given_or_left {X} Given Fact members left are given each = each_weaker (λ x. AnyOf (λ (other : X). other ≡ x) left ⊎ Given x) Fact by_side members are.1
-  where
-    by_side : (x : X) → AnyOf (λ (other : X). other ≡ x) left ⊎ Given x → Fact x
-    by_side x (inl is) = of_each Fact left x each is
-    by_side x (inr is) = given x is
+-- a fact of what was given to each side and of what is left is one of each member
+module _ {X : Type 0} (Fact : X → Type 0) (members left : List X) where
+  of_two_sides : (given : List X × List X) → AreAmong members (given.0 ++ given.1 ++ left)
+      → AllOf Fact given.0 → AllOf Fact given.1 → AllOf Fact left → AllOf Fact members
+  of_two_sides given among one other rest = each_of_among Fact members (given.0 ++ given.1 ++ left) among
+      (each_of_lists Fact (given.0 ++ given.1) left (each_of_lists Fact given.0 given.1 one other) rest)
 
-given_of_two : {X : Type 0} (One_fact Other_fact Fact : X → Type 0) (given : List X × List X) → AllOf One_fact given.0 → AllOf Other_fact given.1
-    → ((x : X) → One_fact x → Fact x) → ((x : X) → Other_fact x → Fact x) → (x : X) → IsGiven given x → Fact x
-given_of_two One_fact Other_fact Fact given one other leads leads_too x (inl is) = leads x (of_each One_fact given.0 x one is)
-given_of_two One_fact Other_fact Fact given one other leads leads_too x (inr is) = leads_too x (of_each Other_fact given.1 x other is)
+  of_three_sides : (given : List X × List X × List X) → AreAmong members (given.0 ++ given.1 ++ given.2 ++ left)
+      → AllOf Fact given.0 → AllOf Fact given.1 → AllOf Fact given.2 → AllOf Fact left → AllOf Fact members
+  of_three_sides given among one other last rest = each_of_among Fact members (given.0 ++ given.1 ++ given.2 ++ left) among
+      (each_of_lists Fact (given.0 ++ given.1 ++ given.2) left (each_of_lists Fact (given.0 ++ given.1) given.2
+      (each_of_lists Fact given.0 given.1 one other) last) rest)
 
 -- a pair
-pub pair_done : (graph : Graph) (first second : Thing) (wanted refused : List Pair) (given : List Pair × List Pair) (left : List Pair)
+pub pair_of_task : (graph : Graph) (first second : Thing) (wanted refused : List Pair) (given : List Pair × List Pair) (left : List Pair)
     → IsTask (PairTask wanted refused given left)
     → asked (answers graph first) (question (map (λ parts. parts.0) wanted) (map (λ parts. parts.0) given.0)) true
     → asked (answers graph second) (question (map (λ parts. parts.1) wanted) (map (λ parts. parts.1) given.1)) true
     → AllOf (λ parts. reader graph (thing.Pair first second) (formula.Pair parts.0 parts.1) false) left
     → IsInClause APair (reader graph (thing.Pair first second)) (Pairs wanted refused)
-pair_done graph first second wanted refused given left is of_first of_second outside =
+pair_of_task graph first second wanted refused given left is of_first of_second outside =
     let at_first = parts_of_asked (answers graph first) (λ (parts : Pair). parts.0) wanted given.0 of_first in
     let at_second = parts_of_asked (answers graph second) (λ (parts : Pair). parts.1) wanted given.1 of_second in (
       refl,
       both_of_each (λ (parts : Pair). answers graph first parts.0 true) (λ parts. answers graph second parts.1 true) wanted at_first.0 at_second.0,
-      given_or_left (IsGiven given) (λ parts. pair_reader (answers graph first) (answers graph second) (formula.Pair parts.0 parts.1) false)
-          refused left is (given_of_two (λ (parts : Pair). answers graph first parts.0 false) (λ parts. answers graph second parts.1 false)
-          (λ parts. pair_reader (answers graph first) (answers graph second) (formula.Pair parts.0 parts.1) false) given at_first.1 at_second.1
-          (λ x out. inl out) (λ x out. inr out)) outside,
+      of_two_sides IsOut refused left given is.1
+          (each_weaker (λ (parts : Pair). answers graph first parts.0 false) IsOut (λ parts out. inl out) given.0 at_first.1)
+          (each_weaker (λ (parts : Pair). answers graph second parts.1 false) IsOut (λ parts out. inr out) given.1 at_second.1) outside,
     )
+  where
+    IsOut : Pair → Type 0
+    IsOut parts = pair_reader (answers graph first) (answers graph second) (formula.Pair parts.0 parts.1) false
 
 -- an XML element
-pub xml_done : (graph : Graph) (tag attributes content : Thing) (wanted refused : List Triple)
+pub xml_of_task : (graph : Graph) (tag attributes content : Thing) (wanted refused : List Triple)
     (given : List Triple × List Triple × List Triple) (left : List Triple) → IsTask (XmlTask wanted refused given left)
     → asked (answers graph tag) (question (ATOM ∷ map (λ parts. parts.0) wanted) (map (λ parts. parts.0) given.0)) true
     → asked (answers graph attributes) (question (RECORD ∷ map (λ parts. parts.1) wanted) (map (λ parts. parts.1) given.1)) true
     → asked (answers graph content) (question (map (λ parts. parts.2) wanted) (map (λ parts. parts.2) given.2)) true
     → AllOf (λ parts. reader graph (thing.Xml tag attributes content) (formula.Xml parts.0 parts.1 parts.2) false) left
     → IsInClause AnXml (reader graph (thing.Xml tag attributes content)) (Xmls wanted refused)
-xml_done graph tag attributes content wanted refused given left is of_tag of_attributes of_content outside =
+xml_of_task graph tag attributes content wanted refused given left is of_tag of_attributes of_content outside =
     let at_tag = parts_of_asked_more (answers graph tag) ATOM (λ (parts : Triple). parts.0) wanted given.0 of_tag in
     let at_attributes = parts_of_asked_more (answers graph attributes) RECORD (λ (parts : Triple). parts.1) wanted given.1 of_attributes in
     let at_content = parts_of_asked (answers graph content) (λ (parts : Triple). parts.2) wanted given.2 of_content in (
       refl,
       three_of_each (λ (parts : Triple). answers graph tag parts.0 true) (λ parts. answers graph attributes parts.1 true)
           (λ parts. answers graph content parts.2 true) wanted at_tag.1 at_attributes.1 at_content.0,
-      given_or_left (IsGivenInThree given) (λ parts. xml_reader (answers graph tag) (answers graph attributes) (answers graph content)
-          (formula.Xml parts.0 parts.1 parts.2) false) refused left is (by_side at_tag.2 at_attributes.2 at_content.1) outside,
+      of_three_sides IsOut refused left given is.1
+          (each_weaker (λ (parts : Triple). answers graph tag parts.0 false) IsOut (λ parts out. inl out) given.0 at_tag.2)
+          (each_weaker (λ (parts : Triple). answers graph attributes parts.1 false) IsOut (λ parts out. inr (inl out)) given.1
+          at_attributes.2)
+          (each_weaker (λ (parts : Triple). answers graph content parts.2 false) IsOut (λ parts out. inr (inr out)) given.2 at_content.1)
+          outside,
     )
   where
-    by_side : AllOf (λ (parts : Triple). answers graph tag parts.0 false) given.0 → AllOf (λ (parts : Triple). answers graph attributes parts.1 false) given.1
-        → AllOf (λ (parts : Triple). answers graph content parts.2 false) given.2 → (x : Triple) → IsGivenInThree given x
-        → xml_reader (answers graph tag) (answers graph attributes) (answers graph content) (formula.Xml x.0 x.1 x.2) false
-    by_side one other last x (inl is) = inl (of_each (λ (parts : Triple). answers graph tag parts.0 false) given.0 x one is)
-    by_side one other last x (inr (inl is)) = inr (inl (of_each (λ (parts : Triple). answers graph attributes parts.1 false) given.1 x other is))
-    by_side one other last x (inr (inr is)) = inr (inr (of_each (λ (parts : Triple). answers graph content parts.2 false) given.2 x last is))
+    IsOut : Triple → Type 0
+    IsOut parts = xml_reader (answers graph tag) (answers graph attributes) (answers graph content)
+        (formula.Xml parts.0 parts.1 parts.2) false
 
--- a pair of a function more, for one refused arrow more: it maps, or it fails where no wanted arrow was given to the results
+-- One pair more of a function, for one refused arrow more: it maps, or it fails where no wanted arrow was given to the results
 module _ (graph : Graph) (wanted done : List Pair) (one : Pair) (pairs : thing.Pairs) (rest : IsInArrows graph wanted done pairs) where
-  pub maps_done : (from to : Thing) → IsElement from → IsElement to → (given : List Pair × List Pair) (left : List Pair)
+  pub maps_of_task : (from to : Thing) → IsElement from → IsElement to → (given : List Pair × List Pair) (left : List Pair)
       → IsTask (ArrowTask one wanted given left)
       → asked (answers graph from) (question (one.0 ∷ []) (map (λ parts. parts.0) given.0)) true
       → asked (answers graph to) (question (map (λ parts. parts.1) given.1) (one.1 ∷ [])) true
       → AllOf (λ parts. ArgumentIsOutside (answers graph from) parts ⊎ ResultIsInside (answers graph to) parts) left
       → IsInArrows graph wanted (one ∷ done) (thing.Maps from to pairs)
-  maps_done from to from_is to_is given left is of_from of_to right =
+  maps_of_task from to from_is to_is given left is of_from of_to right =
       let at_from = each_of_asked (answers graph from) (one.0 ∷ []) (map (λ parts. parts.0) given.0) of_from in
       let at_to = each_of_asked (answers graph to) (map (λ parts. parts.1) given.1) (one.1 ∷ []) of_to in
       with_maps graph wanted done one pairs rest from to from_is to_is at_from.0.0 at_to.1.0
-      (given_or_left (IsGiven given) (λ parts. ArgumentIsOutside (answers graph from) parts ⊎ ResultIsInside (answers graph to) parts) wanted left is
-      (given_of_two (ArgumentIsOutside (answers graph from)) (ResultIsInside (answers graph to))
-      (λ parts. ArgumentIsOutside (answers graph from) parts ⊎ ResultIsInside (answers graph to) parts) given
-      (map_of_each (λ (parts : Pair). parts.0) (λ id. answers graph from id false) given.0 at_from.1)
-      (map_of_each (λ (parts : Pair). parts.1) (λ id. answers graph to id true) given.1 at_to.0)
-      (λ x out. inl out) (λ x inside. inr inside)) right)
+      (of_two_sides IsRight wanted left given is.1
+      (each_weaker (ArgumentIsOutside (answers graph from)) IsRight (λ parts out. inl out) given.0
+      (map_of_each (λ (parts : Pair). parts.0) (λ id. answers graph from id false) given.0 at_from.1))
+      (each_weaker (ResultIsInside (answers graph to)) IsRight (λ parts inside. inr inside) given.1
+      (map_of_each (λ (parts : Pair). parts.1) (λ id. answers graph to id true) given.1 at_to.0)) right)
+    where
+      IsRight : Pair → Type 0
+      IsRight parts = ArgumentIsOutside (answers graph from) parts ⊎ ResultIsInside (answers graph to) parts
 
-  pub fails_done : (from : Thing) → IsElement from → (given : List Pair) (left : List Pair)
+  pub fails_of_task : (from : Thing) → IsElement from → (given : List Pair) (left : List Pair)
       → IsTask (ArrowTask one wanted (given, []) left)
       → asked (answers graph from) (question (one.0 ∷ []) (map (λ parts. parts.0) given)) true
       → AllOf (ArgumentIsOutside (answers graph from)) left
       → IsInArrows graph wanted (one ∷ done) (thing.Fails from pairs)
-  fails_done from from_is given left is of_from right =
+  fails_of_task from from_is given left is of_from right =
       let at_from = each_of_asked (answers graph from) (one.0 ∷ []) (map (λ parts. parts.0) given) of_from in
       with_fails graph wanted done one pairs rest from from_is at_from.0.0
-      (given_or_left (IsGiven (given, [])) (ArgumentIsOutside (answers graph from)) wanted left is
-      (given_of_two (ArgumentIsOutside (answers graph from)) (λ x. ⊥) (ArgumentIsOutside (answers graph from)) (given, [])
-      (map_of_each (λ (parts : Pair). parts.0) (λ id. answers graph from id false) given at_from.1) tt
-      (λ x out. out) (λ x none. elim none [ ])) right)
+      (of_two_sides (ArgumentIsOutside (answers graph from)) wanted left (given, []) is.1
+      (map_of_each (λ (parts : Pair). parts.0) (λ id. answers graph from id false) given at_from.1) tt right)
 
 -- at first a function has no pairs; when each refused arrow is done, it is in the clause
 pub function_of_none : (graph : Graph) (wanted : List Pair) → IsInArrows graph wanted [] thing.NoPair
 function_of_none graph wanted = (tt, none_in_arrows graph wanted, tt)
 
-pub function_done : (graph : Graph) (wanted refused done : List Pair) (pairs : thing.Pairs) → IsInArrows graph wanted done pairs
+pub function_of_arrows : (graph : Graph) (wanted refused done : List Pair) (pairs : thing.Pairs) → IsInArrows graph wanted done pairs
     → AreAmong refused done → IsElement (thing.Function pairs)
     × IsInClause AFunction (reader graph (thing.Function pairs)) (Arrows wanted refused)
-function_done graph wanted refused done pairs is all = (is.0, (refl, is.1, each_of_among (IsOutsideArrow graph pairs) refused done all is.2))
+function_of_arrows graph wanted refused done pairs is all = (is.0, (refl, is.1, each_of_among (IsOutsideArrow graph pairs) refused done all is.2))
 
 -- reasons that are given are named
 named_reason : (labels : List Name) (reason : Reason) → IsNamedReason labels reason → IsNamed labels reason
@@ -153,44 +155,42 @@ module _ {X : Type 0} (said : X → Answers) (at : Name → Option X) (wanted re
       × AllOf (IsOutsideType labelled) refused
 
   record_by : (given : Reasons) (left : List RecordType) → IsTask (RecordTask wanted refused given left)
-      → IsInRow said at (row_so_far wanted refused given)
+      → IsInRow said at (row_of_given wanted refused given)
       → AllOf (IsOutsideType (labelled_by said at)) left → IsInTypes (labelled_by said at)
   record_by given left is row outside = (
     each_for_all (IsAs said at labels wanted true) wanted
         (wanted_in_row said at labels wanted (λ label none. (unnamed label none).0) given row),
-    each_of_two (SaysNoMore labels) (λ type. AnyOf (λ other. other ≡ type) left ⊎ AnyOf (λ one. one.0 ≡ type) given)
-        (IsOutsideType (labelled_by said at)) by_side refused
-        (say_no_more labels refused (λ label none. (unnamed label none).1)) is.0.1,
+    each_of_two (SaysNoMore labels) IsOut (IsOutsideType (labelled_by said at)) (λ type free out. out free) refused
+        (say_no_more labels refused (λ label none. (unnamed label none).1))
+        (each_of_among IsOut refused (map (λ one. one.0) given ++ left) is.0.1
+        (each_of_lists IsOut (map (λ one. one.0) given) left
+        (each_of_map (λ one. one.0) IsOut given
+        (each_weaker (λ one. IsReason said at labels wanted one.0 one.1 × IsNamedReason labels one.1) (λ one. IsOut one.0) by_reason given
+        reasons))
+        (each_weaker (IsOutsideType (labelled_by said at)) IsOut (λ type out free. out) left outside))),
   )
     where
+      IsOut : RecordType → Type 0
+      IsOut type = SaysNoMore labels type → IsOutsideType (labelled_by said at) type
+
       reasons : AllOf (λ one. IsReason said at labels wanted one.0 one.1 × IsNamedReason labels one.1) given
       reasons = both_of_each (λ one. IsReason said at labels wanted one.0 one.1) (λ one. IsNamedReason labels one.1) given
           (refused_in_row said at labels wanted (λ label none. (unnamed label none).0) given
           (each_weaker (λ one. IsNamedReason labels one.1) (λ one. IsNamed labels one.1) (λ one named. named_reason labels one.1 named) given is.1)
           row) is.1
 
-      by_reason : (type : RecordType) → SaysNoMore labels type → (one : RecordType × Reason)
-          → (one.0 ≡ type) × (IsReason said at labels wanted one.0 one.1 × IsNamedReason labels one.1)
-          → IsOutsideType (labelled_by said at) type
-      by_reason type free one (same, (reason, named)) = of_reason said at labels wanted type free
-          (one_weaker (λ other. other ≡ one.1) (IsReason said at labels wanted type)
-          (λ other is. subst (IsReason said at labels wanted type) (sym is)
-          (subst (λ type. IsReason said at labels wanted type one.1) same reason)) (None ∷ map Some labels) named)
-
-      by_side : (type : RecordType) → SaysNoMore labels type → AnyOf (λ other. other ≡ type) left ⊎ AnyOf (λ one. one.0 ≡ type) given
-          → IsOutsideType (labelled_by said at) type
-      by_side type free (inl there) = of_each (IsOutsideType (labelled_by said at)) left type outside there
-      by_side type free (inr there) = one_leads
-          (λ one. (one.0 ≡ type) × (IsReason said at labels wanted one.0 one.1 × IsNamedReason labels one.1)) (by_reason type free) given
-          (one_with_each (λ one. one.0 ≡ type) (λ one. IsReason said at labels wanted one.0 one.1 × IsNamedReason labels one.1) given there reasons)
+      by_reason : (one : RecordType × Reason) → IsReason said at labels wanted one.0 one.1 × IsNamedReason labels one.1 → IsOut one.0
+      by_reason one (reason, named) free = of_reason said at labels wanted one.0 free
+          (one_weaker (λ other. other ≡ one.1) (IsReason said at labels wanted one.0)
+          (λ other same. subst (IsReason said at labels wanted one.0) (sym same) reason) (None ∷ map Some labels) named)
 
 -- a record
-pub record_done : (graph : Graph) (fields : thing.Fields) (wanted refused : List RecordType) (given : Reasons) (left : List RecordType)
+pub record_of_task : (graph : Graph) (fields : thing.Fields) (wanted refused : List RecordType) (given : Reasons) (left : List RecordType)
     → IsTask (RecordTask wanted refused given left)
-    → IsInRow (answers graph) (thing_at fields) (row_so_far wanted refused given)
+    → IsInRow (answers graph) (thing_at fields) (row_of_given wanted refused given)
     → AllOf (λ type. reader graph (thing.Record fields) (formula.Record type.named type.rest) false) left
     → IsInClause ARecord (reader graph (thing.Record fields)) (Records wanted refused)
-record_done graph fields wanted refused given left is row outside = let both = of_said outside in (refl, both.0, both.1)
+record_of_task graph fields wanted refused given left is row outside = let both = of_said outside in (refl, both.0, both.1)
   where
     of_said : AllOf (λ type. record_reader (labelled graph fields) (formula.Record type.named type.rest) false) left
         → AllOf (λ type. record_reader (labelled graph fields) (formula.Record type.named type.rest) true) wanted
@@ -211,9 +211,9 @@ pub record IsOfRow (graph : Graph) (row : Row) (fields : thing.Fields) : Type 0 
       ⊎ AnyOf (λ question. (is : Thing) × asked (answers graph is) question true × (thing_at fields label ≡ Some is)) row.some
 
 -- it is in the row
-pub row_done : (graph : Graph) (fields : thing.Fields) (labels : List Name) (wanted : List RecordType) (given : Reasons)
+pub record_in_row : (graph : Graph) (fields : thing.Fields) (labels : List Name) (wanted : List RecordType) (given : Reasons)
     → IsOfRow graph (row_of labels wanted given) fields → IsInRow (answers graph) (thing_at fields) (row_of labels wanted given)
-row_done graph fields labels wanted given is = (is.cells, every, some_in)
+record_in_row graph fields labels wanted given is = (is.cells, every, some_in)
   where
     row : Row
     row = row_of labels wanted given

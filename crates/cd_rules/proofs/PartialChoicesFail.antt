@@ -1,4 +1,4 @@
--- A choice that has begun fails where each choice with one of the first formula that is left does; where what it wants so far has a covered question;
+-- A partial choice fails where each choice with one of the first formula that is left does; where what it wants so far has a covered question;
 -- and, with nothing left, where its clause is broken. Where that of a question fails, all clauses of its kind are broken.
 use Rattle.std.proofs.Common.{◌≡◌, Bool, true, false, List, [], ◌∷◌, ◌++◌, map, refl, sym, ap, subst, append_assoc, append-nil, ◌⊎◌}
 use Rattle.cd_sets.specs.declared.node_id.NodeId.{NodeId}
@@ -16,7 +16,7 @@ use Rattle.cd_rules.proofs.Among.{each_of_its}
 use Rattle.cd_rules.proofs.Answered.{map_of_each}
 use Rattle.cd_rules.proofs.Asking.{each_of_map}
 use Rattle.cd_rules.proofs.Ones.{each_weaker, each_of_all, each_of_lists, one_on_left}
-use Rattle.cd_rules.specs.PartialChoices.{clause_by, Signed, completions, PartialFails, signed}
+use Rattle.cd_rules.specs.PartialChoices.{clause_by, Signed, partial, completions, PartialFails, signed, IsPartialOf}
 use Rattle.cd_rules.specs.KindChoices.{kind_choices, kind_at, kind_choices_of}
 use Rattle.cd_rules.proofs.CoveredChoices.{covered_pairs, covered_xmls, covered_records}
 use Rattle.cd_syntax.specs.Name.{Name}
@@ -42,8 +42,8 @@ module _ (family : List Question) (kind : Kind) where
 
   -- one of the first formula
   pub partial_joins : (choice : Choice) (one : Signed) (left : List Signed)
-      → AllOf (λ more. PartialFails family (record { kind = kind; choice = choice ++ more; left = left })) (kind_choices kind one.0 one.1)
-      → PartialFails family (record { kind = kind; choice = choice; left = one ∷ left })
+      → AllOf (λ more. PartialFails family (partial kind (choice ++ more) left)) (kind_choices kind one.0 one.1)
+      → PartialFails family (partial kind choice (one ∷ left))
   partial_joins choice one left each = each_joined (λ rest. BreaksBy (choice ++ rest)) (kind_choices kind one.0 one.1) (completions kind left)
       (each_weaker (λ more. AllOf (λ rest. BreaksBy ((choice ++ more) ++ rest)) (completions kind left))
       (λ more. AllOf (λ rest. BreaksBy (choice ++ (more ++ rest))) (completions kind left))
@@ -51,12 +51,12 @@ module _ (family : List Question) (kind : Kind) where
       (λ rest. subst BreaksBy (append_assoc choice more rest)) (completions kind left)) (kind_choices kind one.0 one.1) each)
 
   -- nothing is left
-  pub partial_ends : (choice : Choice) → BreaksBy choice → PartialFails family (record { kind = kind; choice = choice; left = [] })
+  pub partial_ends : (choice : Choice) → BreaksBy choice → PartialFails family (partial kind choice [])
   partial_ends choice breaks = (subst BreaksBy (sym (append-nil choice)) breaks, tt)
 
   -- what any end breaks
   pub partial_cut : (choice : Choice) (left : List Signed) → ((rest : Choice) → BreaksBy (choice ++ rest))
-      → PartialFails family (record { kind = kind; choice = choice; left = left })
+      → PartialFails family (partial kind choice left)
   partial_cut choice left breaks = each_of_all (λ rest. BreaksBy (choice ++ rest)) breaks (completions kind left)
 
   -- the formulas of two lists
@@ -80,7 +80,7 @@ module _ (family : List Question) (kind : Kind) where
 
   -- that of a question
   pub partial_question : (graph : Graph) (question : Question)
-      → PartialFails family (record { kind = kind; choice = []; left = signed graph question })
+      → PartialFails family (partial kind [] (signed graph question))
       → AllOf (λ choice. Breaks family (clause_by kind choice)) (kind_choices_of kind graph question)
   partial_question graph question fails = each_joined BreaksBy (kind_at kind graph question.pos true) (kind_at kind graph question.neg false)
       (subst (λ some. AllOf (λ one. AllOf (λ other. BreaksBy (one ++ other)) (kind_at kind graph question.neg false)) some)
@@ -128,7 +128,7 @@ module _ (family : List Question) where
   pub pair_cut : (choice : Choice) (left : List Signed)
       → IsCovered (question (map (λ parts. parts.0) (parts_in pair_of true choice)) []) family
       ⊎ IsCovered (question (map (λ parts. parts.1) (parts_in pair_of true choice)) []) family
-      → PartialFails family (record { kind = APair; choice = choice; left = left })
+      → PartialFails family (partial APair choice left)
   pair_cut choice left covered = partial_cut family APair choice left (λ rest. covered_pairs family choice (choice ++ rest)
       (parts_in pair_of true (choice ++ rest)) (parts_in pair_of false (choice ++ rest)) (in_longer choice rest) refl covered)
 
@@ -136,7 +136,7 @@ module _ (family : List Question) where
       → IsCovered (question (ATOM ∷ map (λ parts. parts.0) (parts_in xml_of true choice)) []) family
       ⊎ IsCovered (question (RECORD ∷ map (λ parts. parts.1) (parts_in xml_of true choice)) []) family
       ⊎ IsCovered (question (map (λ parts. parts.2) (parts_in xml_of true choice)) []) family
-      → PartialFails family (record { kind = AnXml; choice = choice; left = left })
+      → PartialFails family (partial AnXml choice left)
   xml_cut choice left covered = partial_cut family AnXml choice left (λ rest. covered_xmls family choice (choice ++ rest)
       (parts_in xml_of true (choice ++ rest)) (parts_in xml_of false (choice ++ rest)) (in_longer choice rest) refl covered)
 
@@ -145,6 +145,6 @@ module _ (family : List Question) where
       → ((rest : Choice) → AnyOf (λ name. name ≡ label) (labels_of (parts_in record_of true (choice ++ rest) ++ parts_in record_of false (choice ++ rest))))
       → AnyOf (λ type. (field_at type label).optional ≡ false) (parts_in record_of true choice)
       → IsCovered (question (map (λ type. (field_at type label).type) (parts_in record_of true choice)) []) family
-      → PartialFails family (record { kind = ARecord; choice = choice; left = left })
+      → PartialFails family (partial ARecord choice left)
   record_cut choice left label named has covered = partial_cut family ARecord choice left (λ rest. covered_records family choice (choice ++ rest)
       (parts_in record_of true (choice ++ rest)) (parts_in record_of false (choice ++ rest)) (in_longer choice rest) refl label (named rest) has covered)

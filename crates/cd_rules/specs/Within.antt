@@ -1,8 +1,7 @@
 -- Clauses all of whose parts are nodes among so many.
-use Rattle.std.specs.Prelude.{ℕ, ◌<◌, ◌≤◌}
+use Rattle.std.specs.Prelude.{ℕ, ◌<◌}
 use Rattle.cd_model.specs.AllOf.{AllOf}
 use Rattle.cd_rules.specs.Clauses.{Clause, Pair, Triple, RecordType, Pairs, Xmls, Records, Arrows}
-use Rattle.cd_rules.specs.Tasks.{Task, PairTask, XmlTask, ArrowTask, RecordTask}
 
 abbrev pub IsPairWithin : (nodes : ℕ) → Pair → Type 0
 IsPairWithin nodes parts = (parts.0.0 < nodes) × (parts.1.0 < nodes)
@@ -25,15 +24,3 @@ IsWithin nodes (Records wanted refused) =
 IsWithin nodes (Arrows wanted refused) =
     AllOf (IsPairWithin nodes) wanted × AllOf (IsPairWithin nodes) refused
 IsWithin nodes clause = Unit {0}
-
--- what is wanted, what was given to each side, and what is left; the built-in nodes are among so many
-abbrev pub IsTaskWithin : (nodes : ℕ) → Task → Type 0
-IsTaskWithin nodes (PairTask wanted refused given left) = AllOf (IsPairWithin nodes) wanted
-    × (AllOf (IsPairWithin nodes) given.0 × AllOf (IsPairWithin nodes) given.1) × AllOf (IsPairWithin nodes) left
-IsTaskWithin nodes (XmlTask wanted refused given left) = AllOf (IsXmlWithin nodes) wanted
-    × (AllOf (IsXmlWithin nodes) given.0 × AllOf (IsXmlWithin nodes) given.1 × AllOf (IsXmlWithin nodes) given.2) × AllOf (IsXmlWithin nodes) left
-    × (14 ≤ nodes)
-IsTaskWithin nodes (ArrowTask refused wanted given left) = IsPairWithin nodes refused
-    × (AllOf (IsPairWithin nodes) given.0 × AllOf (IsPairWithin nodes) given.1) × AllOf (IsPairWithin nodes) left
-IsTaskWithin nodes (RecordTask wanted refused given left) = AllOf (IsTypeWithin nodes) wanted
-    × AllOf (λ one. IsTypeWithin nodes one.0) given × AllOf (IsTypeWithin nodes) left
