@@ -1,5 +1,5 @@
--- Where no integer, no character and no atom is in a question, its clauses are all broken where the choices of the other kinds fail; and each end of
--- these is a clause of the question.
+-- Where no integer, no character and no atom is in a question, the choices of the other kinds account for its clauses; and
+-- each clause that they may become is one of the question.
 use Rattle.std.proofs.Common.{◌≡◌, Bool, true, false, ℤ, ℕ, List, [], ◌∷◌, Some, None, inl, inr, refl, sym, subst, map, ap}
 use Rattle.std.specs.Char.{IsScalar}
 use Rattle.cd_sets.specs.declared.question.Question.{Question}
@@ -18,12 +18,22 @@ use Rattle.cd_rules.specs.Family.{Breaks}
 use Rattle.cd_rules.proofs.Among.{each_of_its}
 use Rattle.cd_rules.proofs.Ones.{one_weaker}
 use Rattle.cd_model.specs.Kinds.{Kind}
-use Rattle.cd_rules.specs.PartialChoices.{HasNoBasic, partial_choices, IsPartialOf, AccountForClauses}
-use Rattle.cd_rules.proofs.PartialChoicesFail.{partial_question, question_completions}
+use Rattle.cd_rules.specs.PartialChoices.{HasNoBasic, clause_by, partial, signed, EachClause, partial_choices, IsPartialOf, AccountForClauses}
+use Rattle.cd_rules.proofs.Completions.{completions_of_question}
 use Rattle.cd_rules.proofs.KindChoicesBack.{kind_clause_of}
 use Rattle.cd_rules.specs.KindChoices.{is_of, kind_choices_of}
 use Rattle.cd_rules.proofs.KindChoicesExact.{clause_of_kind}
 use Rattle.cd_rules.proofs.SetsJoined.{no_integer, no_character, no_atom}
+
+-- a fact of each clause that a choice with nothing yet may become is one of each of the question's choices of the kind, and back
+module _ (fact : Clause → Type 0) (kind : Kind) (graph : Graph) (question : Question) where
+  of_question : EachClause fact (partial kind [] (signed graph question))
+      → AllOf (λ choice. fact (clause_by kind choice)) (kind_choices_of kind graph question)
+  of_question = subst (AllOf (λ choice. fact (clause_by kind choice))) (completions_of_question kind graph question)
+
+  to_question : AllOf (λ choice. fact (clause_by kind choice)) (kind_choices_of kind graph question)
+      → EachClause fact (partial kind [] (signed graph question))
+  to_question = subst (AllOf (λ choice. fact (clause_by kind choice))) (sym (completions_of_question kind graph question))
 
 -- the clause of one of some choices
 broken_one : {X : Type 0} (clause_of : (wanted refused : List X) → Clause) (parts : Bool → Choice → List X) (family : List Question)
@@ -68,23 +78,23 @@ no_arrow : (is : Formula) → is_of AFunction is ≡ false → arrow_of is ≡ N
 no_arrow (formula.Arrow argument result) same = absurd cc
 no_arrow _ same = refl
 
-pub all_clauses : (graph : Graph) (base : List Question) (question : Question) → HasNoBasic graph question
+pub accounts_for_clauses : (graph : Graph) (base : List Question) (question : Question) → HasNoBasic graph question
     → AccountForClauses graph base question (partial_choices graph question)
-all_clauses graph base question none family larger fail (Ints wanted refused) of = no_integer graph family question none.integers wanted refused of
-all_clauses graph base question none family larger fail (Chars wanted refused) of =
+accounts_for_clauses graph base question none family larger fail (Ints wanted refused) of = no_integer graph family question none.integers wanted refused of
+accounts_for_clauses graph base question none family larger fail (Chars wanted refused) of =
     no_character graph family question none.characters wanted refused of
-all_clauses graph base question none family larger fail (Atoms wanted refused) of = no_atom graph family question none.atoms wanted refused of
-all_clauses graph base question none family larger fail (Pairs wanted refused) of = broken_one Pairs (parts_in pair_of) family wanted refused
-    (kind_choices_of APair graph question) (partial_question family APair graph question fail.0)
+accounts_for_clauses graph base question none family larger fail (Atoms wanted refused) of = no_atom graph family question none.atoms wanted refused of
+accounts_for_clauses graph base question none family larger fail (Pairs wanted refused) of = broken_one Pairs (parts_in pair_of) family wanted refused
+    (kind_choices_of APair graph question) (of_question (Breaks family) APair graph question fail.0)
     (clause_of_kind APair pair_of no_pair pair_kind graph question wanted refused of)
-all_clauses graph base question none family larger fail (Xmls wanted refused) of = broken_one Xmls (parts_in xml_of) family wanted refused
-    (kind_choices_of AnXml graph question) (partial_question family AnXml graph question fail.1.0)
+accounts_for_clauses graph base question none family larger fail (Xmls wanted refused) of = broken_one Xmls (parts_in xml_of) family wanted refused
+    (kind_choices_of AnXml graph question) (of_question (Breaks family) AnXml graph question fail.1.0)
     (clause_of_kind AnXml xml_of no_xml xml_kind graph question wanted refused of)
-all_clauses graph base question none family larger fail (Records wanted refused) of = broken_one Records (parts_in record_of) family wanted refused
-    (kind_choices_of ARecord graph question) (partial_question family ARecord graph question fail.1.1.0)
+accounts_for_clauses graph base question none family larger fail (Records wanted refused) of = broken_one Records (parts_in record_of) family wanted refused
+    (kind_choices_of ARecord graph question) (of_question (Breaks family) ARecord graph question fail.1.1.0)
     (clause_of_kind ARecord record_of no_record record_kind graph question wanted refused of)
-all_clauses graph base question none family larger fail (Arrows wanted refused) of = broken_one Arrows (parts_in arrow_of) family wanted refused
-    (kind_choices_of AFunction graph question) (partial_question family AFunction graph question fail.1.1.1.0)
+accounts_for_clauses graph base question none family larger fail (Arrows wanted refused) of = broken_one Arrows (parts_in arrow_of) family wanted refused
+    (kind_choices_of AFunction graph question) (of_question (Breaks family) AFunction graph question fail.1.1.1.0)
     (clause_of_kind AFunction arrow_of no_arrow arrow_kind graph question wanted refused of)
 
 -- what a formula of a kind is of, back
@@ -116,18 +126,18 @@ each_of_kind kind clause_of parts graph question back = each_of_its
     (λ other. (parts true choice ≡ parts true other) × (parts false choice ≡ parts false other))
     (λ other same. (ap (parts true) (sym same), ap (parts false) (sym same))) (kind_choices_of kind graph question) there))
 
-pub all_completions : (graph : Graph) (question : Question) → AllOf (IsPartialOf graph question) (partial_choices graph question)
-all_completions graph question = (
-  question_completions graph question APair (each_of_kind APair Pairs (parts_in pair_of) graph question
+pub partial_choices_are : (graph : Graph) (question : Question) → AllOf (IsPartialOf graph question) (partial_choices graph question)
+partial_choices_are graph question = (
+  to_question (IsClauseOfQuestion graph question) APair graph question (each_of_kind APair Pairs (parts_in pair_of) graph question
       (λ wanted refused. kind_clause_of APair pair_back pair_of no_pair wanted refused graph question)),
   (
-    question_completions graph question AnXml (each_of_kind AnXml Xmls (parts_in xml_of) graph question
+    to_question (IsClauseOfQuestion graph question) AnXml graph question (each_of_kind AnXml Xmls (parts_in xml_of) graph question
         (λ wanted refused. kind_clause_of AnXml xml_back xml_of no_xml wanted refused graph question)),
     (
-      question_completions graph question ARecord (each_of_kind ARecord Records (parts_in record_of) graph question
+      to_question (IsClauseOfQuestion graph question) ARecord graph question (each_of_kind ARecord Records (parts_in record_of) graph question
           (λ wanted refused. kind_clause_of ARecord record_back record_of no_record wanted refused graph question)),
       (
-        question_completions graph question AFunction (each_of_kind AFunction Arrows (parts_in arrow_of) graph question
+        to_question (IsClauseOfQuestion graph question) AFunction graph question (each_of_kind AFunction Arrows (parts_in arrow_of) graph question
             (λ wanted refused. kind_clause_of AFunction arrow_back arrow_of no_arrow wanted refused graph question)),
         tt,
       ),

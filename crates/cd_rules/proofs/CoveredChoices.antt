@@ -1,5 +1,5 @@
--- A choice that has begun: where what it wants so far has a covered question, each clause of a choice that has its literals is broken. So it
--- need not be joined with others.
+-- A partial choice fails where what it wants so far has a covered question: each clause of a choice with its literals is broken.
+-- So it need not be joined with others.
 use Rattle.std.proofs.Common.{◌≡◌, Bool, true, false, ◌&&◌, ◌⊎◌, List, [], ◌∷◌, ◌++◌, Option, Some, None, map, inl, inr, refl, sym, subst}
 use Rattle.std.specs.List.{list_all}
 use Rattle.cd_sets.specs.declared.node_id.NodeId.{NodeId}
@@ -8,16 +8,18 @@ use Rattle.cd_syntax.specs.Name.{Name}
 use Rattle.cd_model.specs.BuiltIns.{ATOM, RECORD}
 use Rattle.cd_model.specs.AllOf.{AnyOf}
 use Rattle.cd_model.specs.Formula.{Formula}
+use Rattle.cd_model.specs.Kinds.{Kind, APair, AnXml, ARecord}
 use Rattle.cd_rules.specs.Choices.{Literal, Choice}
 use Rattle.cd_rules.specs.Clauses.{Pairs, Xmls, Records, Pair, Triple, RecordType, one_more, parts_in, pair_of, xml_of, record_of}
 use Rattle.cd_rules.specs.Family.{IsCovered, Breaks, AreAmong}
 use Rattle.cd_rules.specs.Needs.{question}
 use Rattle.cd_rules.specs.Rows.{labels_of, field_at, cell_at}
-use Rattle.cd_rules.proofs.Among.{among_map, among_both}
+use Rattle.cd_rules.proofs.Among.{among_map, among_both, each_of_its}
 use Rattle.cd_rules.proofs.Covering.{asks_more, covers_more}
-use Rattle.cd_rules.proofs.Ones.{one_weaker, one_of_map}
+use Rattle.cd_rules.proofs.Ones.{one_weaker, one_of_map, one_on_left, each_of_all}
 use Rattle.cd_rules.specs.Fails.{row_seen}
 use Rattle.cd_rules.specs.Tasks.{PairTask, XmlTask, questions_of}
+use Rattle.cd_rules.specs.PartialChoices.{Signed, partial, clause_by, completions, PartialFails}
 use Rattle.cd_rules.proofs.FailingTasks.{covered_fails, task_breaks}
 
 module _ {X : Type 0} (parts_of : Formula → Option X) (sign : Bool) where
@@ -77,7 +79,7 @@ module _ (family : List Question) where
   wants_more : (some all : List NodeId) → AreAmong some all → IsCovered (question some []) family → IsCovered (question all []) family
   wants_more some all among = covers_more family (question all []) (question some []) (asks_more some [] all [] among tt)
 
-  pub covered_pairs : (partial choice : Choice) (wanted refused : List Pair) → AreAmong partial choice → wanted ≡ parts_in pair_of true choice
+  covered_pairs : (partial choice : Choice) (wanted refused : List Pair) → AreAmong partial choice → wanted ≡ parts_in pair_of true choice
       → IsCovered (question (map (λ parts. parts.0) (parts_in pair_of true partial)) []) family
       ⊎ IsCovered (question (map (λ parts. parts.1) (parts_in pair_of true partial)) []) family
       → Breaks family (Pairs wanted refused)
@@ -94,7 +96,7 @@ module _ (family : List Question) where
       by_part more (inr is) = inr (inl (wants_more (map (λ parts. parts.1) (parts_in pair_of true partial)) (map (λ parts. parts.1) wanted)
           (among_map (λ (parts : Pair). parts.1) (parts_in pair_of true partial) wanted more) is))
 
-  pub covered_xmls : (partial choice : Choice) (wanted refused : List Triple) → AreAmong partial choice → wanted ≡ parts_in xml_of true choice
+  covered_xmls : (partial choice : Choice) (wanted refused : List Triple) → AreAmong partial choice → wanted ≡ parts_in xml_of true choice
       → IsCovered (question (ATOM ∷ map (λ parts. parts.0) (parts_in xml_of true partial)) []) family
       ⊎ IsCovered (question (RECORD ∷ map (λ parts. parts.1) (parts_in xml_of true partial)) []) family
       ⊎ IsCovered (question (map (λ parts. parts.2) (parts_in xml_of true partial)) []) family
@@ -119,7 +121,7 @@ module _ (family : List Question) where
           (among_map (λ (parts : Triple). parts.2) (parts_in xml_of true partial) wanted more) is)))
 
   -- of records a field that has to be there
-  pub covered_records : (partial choice : Choice) (wanted refused : List RecordType) → AreAmong partial choice → wanted ≡ parts_in record_of true choice
+  covered_records : (partial choice : Choice) (wanted refused : List RecordType) → AreAmong partial choice → wanted ≡ parts_in record_of true choice
       → (label : Name) → AnyOf (λ name. name ≡ label) (labels_of (wanted ++ refused))
       → AnyOf (λ type. (field_at type label).optional ≡ false) (parts_in record_of true partial)
       → IsCovered (question (map (λ type. (field_at type label).type) (parts_in record_of true partial)) []) family
@@ -156,3 +158,36 @@ module _ (family : List Question) where
               → ((test && list_all (λ type. (field_at type label).optional) types) && true) ≡ false
           by_test true rest = rest
           by_test false rest = refl
+
+  -- so a partial choice fails where what it wants so far has a covered question
+  cut : (kind : Kind) (choice : Choice) (left : List Signed) → ((rest : Choice) → Breaks family (clause_by kind (choice ++ rest)))
+      → PartialFails family (partial kind choice left)
+  cut kind choice left breaks = each_of_all (λ rest. Breaks family (clause_by kind (choice ++ rest))) breaks (completions kind left)
+
+  in_longer : (choice rest : Choice) → AreAmong choice (choice ++ rest)
+  in_longer choice rest = each_of_its (λ one. AnyOf (λ other. other ≡ one) (choice ++ rest)) choice
+      (λ one is. one_on_left (λ other. other ≡ one) choice rest is)
+
+  pub pair_cut : (choice : Choice) (left : List Signed)
+      → IsCovered (question (map (λ parts. parts.0) (parts_in pair_of true choice)) []) family
+      ⊎ IsCovered (question (map (λ parts. parts.1) (parts_in pair_of true choice)) []) family
+      → PartialFails family (partial APair choice left)
+  pair_cut choice left covered = cut APair choice left (λ rest. covered_pairs choice (choice ++ rest)
+      (parts_in pair_of true (choice ++ rest)) (parts_in pair_of false (choice ++ rest)) (in_longer choice rest) refl covered)
+
+  pub xml_cut : (choice : Choice) (left : List Signed)
+      → IsCovered (question (ATOM ∷ map (λ parts. parts.0) (parts_in xml_of true choice)) []) family
+      ⊎ IsCovered (question (RECORD ∷ map (λ parts. parts.1) (parts_in xml_of true choice)) []) family
+      ⊎ IsCovered (question (map (λ parts. parts.2) (parts_in xml_of true choice)) []) family
+      → PartialFails family (partial AnXml choice left)
+  xml_cut choice left covered = cut AnXml choice left (λ rest. covered_xmls choice (choice ++ rest)
+      (parts_in xml_of true (choice ++ rest)) (parts_in xml_of false (choice ++ rest)) (in_longer choice rest) refl covered)
+
+  -- of records, at a label that each end names
+  pub record_cut : (choice : Choice) (left : List Signed) (label : Name)
+      → ((rest : Choice) → AnyOf (λ name. name ≡ label) (labels_of (parts_in record_of true (choice ++ rest) ++ parts_in record_of false (choice ++ rest))))
+      → AnyOf (λ type. (field_at type label).optional ≡ false) (parts_in record_of true choice)
+      → IsCovered (question (map (λ type. (field_at type label).type) (parts_in record_of true choice)) []) family
+      → PartialFails family (partial ARecord choice left)
+  record_cut choice left label named has covered = cut ARecord choice left (λ rest. covered_records choice (choice ++ rest)
+      (parts_in record_of true (choice ++ rest)) (parts_in record_of false (choice ++ rest)) (in_longer choice rest) refl label (named rest) has covered)

@@ -56,7 +56,7 @@ pub mod FailingRows
 pub mod CasesAreTasks
 pub mod FailingTasks
 pub mod TasksAsk
-pub mod PartialChoicesFail
+pub mod Completions
 pub mod CoveredChoices
 pub mod ClausesByKind
 pub mod MembersOfTasks
