@@ -1,1 +1,6 @@
 pub mod WorkKept
+pub mod FramesKept
+pub mod QuestionsOnce
+pub mod RunsAreRight
+pub mod WorkFalls
+pub mod RunsEnd

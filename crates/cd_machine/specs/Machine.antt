@@ -138,5 +138,5 @@ module _ (graph : Graph) (settled : List Question) where
 
   -- steps one after the other
   pub data Steps : (before after : State) → Type 0 where
-    none : (now : State) → Steps now now
-    after : (before now next : State) → Steps before now → Step now next → Steps before next
+    no_step : (now : State) → Steps now now
+    one_more : (before now next : State) → Steps before now → Step now next → Steps before next
