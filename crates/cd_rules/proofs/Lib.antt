@@ -60,6 +60,5 @@ pub mod Completions
 pub mod CoveredChoices
 pub mod ClausesByKind
 pub mod MembersOfTasks
-pub mod FunctionOfPairs
 pub mod UnionsAlike
 pub mod WantedAndRefused

@@ -13,11 +13,12 @@ use Rattle.cd_model.specs.Membership.{Answers, Labelled, asked, answers, reader,
 use Rattle.cd_model.specs.Types.{no_closure}
 use Rattle.cd_model.proofs.Labels.{IsOneOf}
 use Rattle.cd_rules.specs.Clauses.{Pair, Triple, RecordType, Pairs, Xmls, Records, Arrows, IsInClause}
-use Rattle.cd_rules.specs.InRow.{thing_at, IsInRow, IsInCell, IsOfNoCell, HasElsewhere}
+use Rattle.cd_rules.specs.InRow.{thing_at, IsInRow, IsForRow, IsInCell, IsOfNoCell}
+use Rattle.cd_rules.specs.MadeForTasks.{IsRightPair, IsFunctionBut}
 use Rattle.cd_rules.specs.Needs.{question}
-use Rattle.cd_rules.specs.Rows.{Reason, Reasons, Row, labels_of, types_elsewhere, row_of}
+use Rattle.cd_rules.specs.Rows.{Cell, Reason, Reasons, Row, labels_of, types_elsewhere, row_of}
 use Rattle.cd_rules.specs.Family.{AreAmong}
-use Rattle.cd_rules.proofs.Among.{of_each, each_of_among}
+use Rattle.cd_rules.proofs.Among.{among_itself, each_of_among}
 use Rattle.cd_rules.proofs.Answered.{map_of_each, each_of_asked}
 use Rattle.cd_rules.proofs.Asking.{asked_of_each, each_of_map}
 use Rattle.cd_rules.proofs.ArrowsForward.{ArgumentIsOutside, ResultIsInside}
@@ -91,46 +92,76 @@ xml_of_task graph tag attributes content wanted refused given left is of_tag of_
     IsOut parts = xml_reader (answers graph tag) (answers graph attributes) (answers graph content)
         (formula.Xml parts.0 parts.1 parts.2) false
 
--- One pair more of a function, for one refused arrow more: it maps, or it fails where no wanted arrow was given to the results
-module _ (graph : Graph) (wanted done : List Pair) (one : Pair) (pairs : thing.Pairs) (rest : IsInArrows graph wanted done pairs) where
+-- a function: it has no pair at first
+pub function_of_none : (graph : Graph) (wanted refused : List Pair) → IsFunctionBut graph wanted refused refused thing.NoPair
+function_of_none graph wanted refused = (
+  tt,
+  none_in_arrows graph wanted,
+  each_weaker (λ arrow. AnyOf (λ (other : Pair). other ≡ arrow) refused)
+      (λ arrow. IsOutsideArrow graph thing.NoPair arrow ⊎ AnyOf (λ (other : Pair). other ≡ arrow) refused)
+      (λ arrow there. inr there) refused (among_itself refused),
+)
+
+-- then one for each refused arrow: it maps, or it fails where no wanted arrow was given to the results
+module _ (graph : Graph) (wanted refused : List Pair) (one : Pair) (others : List Pair) (pairs : thing.Pairs)
+    (before : IsFunctionBut graph wanted refused (one ∷ others) pairs) where
+  -- where more pairs are outside what these are outside, and outside that arrow, one arrow less is left
+  one_less : (more : thing.Pairs) → IsInArrows graph wanted (one ∷ []) more
+      → ((arrow : Pair) → IsOutsideArrow graph pairs arrow → IsOutsideArrow graph more arrow)
+      → IsFunctionBut graph wanted refused others more
+  one_less more is stays = (
+    is.0,
+    is.1,
+    each_weaker (λ arrow. IsOutsideArrow graph pairs arrow ⊎ AnyOf (λ (other : Pair). other ≡ arrow) (one ∷ others))
+        (λ arrow. IsOutsideArrow graph more arrow ⊎ AnyOf (λ (other : Pair). other ≡ arrow) others) by_side refused before.2,
+  )
+    where
+      by_side : (arrow : Pair) → IsOutsideArrow graph pairs arrow ⊎ AnyOf (λ (other : Pair). other ≡ arrow) (one ∷ others)
+          → IsOutsideArrow graph more arrow ⊎ AnyOf (λ (other : Pair). other ≡ arrow) others
+      by_side arrow (inl out) = inl (stays arrow out)
+      by_side arrow (inr (inl same)) = inl (subst (IsOutsideArrow graph more) same is.2.0)
+      by_side arrow (inr (inr there)) = inr there
+
   pub maps_of_task : (from to : Thing) → IsElement from → IsElement to → (given : List Pair × List Pair) (left : List Pair)
       → IsTask (ArrowTask one wanted given left)
       → asked (answers graph from) (question (one.0 ∷ []) (map (λ parts. parts.0) given.0)) true
       → asked (answers graph to) (question (map (λ parts. parts.1) given.1) (one.1 ∷ [])) true
-      → AllOf (λ parts. ArgumentIsOutside (answers graph from) parts ⊎ ResultIsInside (answers graph to) parts) left
-      → IsInArrows graph wanted (one ∷ done) (thing.Maps from to pairs)
+      → AllOf (IsRightPair graph from to) left
+      → IsFunctionBut graph wanted refused others (thing.Maps from to pairs)
   maps_of_task from to from_is to_is given left is of_from of_to right =
       let at_from = each_of_asked (answers graph from) (one.0 ∷ []) (map (λ parts. parts.0) given.0) of_from in
       let at_to = each_of_asked (answers graph to) (map (λ parts. parts.1) given.1) (one.1 ∷ []) of_to in
-      with_maps graph wanted done one pairs rest from to from_is to_is at_from.0.0 at_to.1.0
-      (of_two_sides IsRight wanted left given is.1
-      (each_weaker (ArgumentIsOutside (answers graph from)) IsRight (λ parts out. inl out) given.0
+      one_less (thing.Maps from to pairs) (with_maps graph wanted [] one pairs (before.0, before.1, tt) from to from_is to_is
+      at_from.0.0 at_to.1.0
+      (of_two_sides (IsRightPair graph from to) wanted left given is.1
+      (each_weaker (ArgumentIsOutside (answers graph from)) (IsRightPair graph from to) (λ parts out. inl out) given.0
       (map_of_each (λ (parts : Pair). parts.0) (λ id. answers graph from id false) given.0 at_from.1))
-      (each_weaker (ResultIsInside (answers graph to)) IsRight (λ parts inside. inr inside) given.1
-      (map_of_each (λ (parts : Pair). parts.1) (λ id. answers graph to id true) given.1 at_to.0)) right)
-    where
-      IsRight : Pair → Type 0
-      IsRight parts = ArgumentIsOutside (answers graph from) parts ⊎ ResultIsInside (answers graph to) parts
+      (each_weaker (ResultIsInside (answers graph to)) (IsRightPair graph from to) (λ parts inside. inr inside) given.1
+      (map_of_each (λ (parts : Pair). parts.1) (λ id. answers graph to id true) given.1 at_to.0)) right)) (λ arrow out. inr out)
 
-  pub fails_of_task : (from : Thing) → IsElement from → (given : List Pair) (left : List Pair)
+  pub fails_of_task : (from : Thing) → IsElement from → (given left : List Pair)
       → IsTask (ArrowTask one wanted (given, []) left)
       → asked (answers graph from) (question (one.0 ∷ []) (map (λ parts. parts.0) given)) true
       → AllOf (ArgumentIsOutside (answers graph from)) left
-      → IsInArrows graph wanted (one ∷ done) (thing.Fails from pairs)
+      → IsFunctionBut graph wanted refused others (thing.Fails from pairs)
   fails_of_task from from_is given left is of_from right =
       let at_from = each_of_asked (answers graph from) (one.0 ∷ []) (map (λ parts. parts.0) given) of_from in
-      with_fails graph wanted done one pairs rest from from_is at_from.0.0
+      one_less (thing.Fails from pairs) (with_fails graph wanted [] one pairs (before.0, before.1, tt) from from_is at_from.0.0
       (of_two_sides (ArgumentIsOutside (answers graph from)) wanted left (given, []) is.1
-      (map_of_each (λ (parts : Pair). parts.0) (λ id. answers graph from id false) given at_from.1) tt right)
+      (map_of_each (λ (parts : Pair). parts.0) (λ id. answers graph from id false) given at_from.1) tt right)) (λ arrow out. inr out)
 
--- at first a function has no pairs; when each refused arrow is done, it is in the clause
-pub function_of_none : (graph : Graph) (wanted : List Pair) → IsInArrows graph wanted [] thing.NoPair
-function_of_none graph wanted = (tt, none_in_arrows graph wanted, tt)
-
-pub function_of_arrows : (graph : Graph) (wanted refused done : List Pair) (pairs : thing.Pairs) → IsInArrows graph wanted done pairs
-    → AreAmong refused done → IsElement (thing.Function pairs)
-    × IsInClause AFunction (reader graph (thing.Function pairs)) (Arrows wanted refused)
-function_of_arrows graph wanted refused done pairs is all = (is.0, (refl, is.1, each_of_among (IsOutsideArrow graph pairs) refused done all is.2))
+-- where no arrow is left it is in the clause
+pub function_of_arrows : (graph : Graph) (wanted refused : List Pair) (pairs : thing.Pairs)
+    → IsFunctionBut graph wanted refused [] pairs
+    → IsElement (thing.Function pairs) × IsInClause AFunction (reader graph (thing.Function pairs)) (Arrows wanted refused)
+function_of_arrows graph wanted refused pairs is = (
+  is.0,
+  (refl, is.1, each_weaker (λ arrow. IsOutsideArrow graph pairs arrow ⊎ ⊥) (IsOutsideArrow graph pairs) only refused is.2),
+)
+  where
+    only : (arrow : Pair) → IsOutsideArrow graph pairs arrow ⊎ ⊥ → IsOutsideArrow graph pairs arrow
+    only arrow (inl out) = out
+    only arrow (inr none) = elim none [ ]
 
 -- reasons that are given are named
 named_reason : (labels : List Name) (reason : Reason) → IsNamedReason labels reason → IsNamed labels reason
@@ -201,65 +232,33 @@ record_of_task graph fields wanted refused given left is row outside = let both 
         (sym (λ i label field answer. thing_says graph no_closure fields label field answer i))
         (record_by (answers graph) (thing_at fields) wanted refused given left is row)
 
--- What stands where in a record that is made for a row: at each cell's label nothing, if that may be, or an element of its question; for each of
--- the other questions an element of it at a label of no cell; and else nothing
-pub record IsOfRow (graph : Graph) (row : Row) (fields : thing.Fields) : Type 0 where
-  pub cells : AllOf (λ cell. IsInCell (answers graph) (thing_at fields cell.0) cell.1) row.cells
-  pub some : AllOf (λ question. (label : Name) × IsOfNoCell row label × ((is : Thing) × asked (answers graph is) question true
-      × (thing_at fields label ≡ Some is))) row.some
-  pub others : (label : Name) → IsOfNoCell row label → (thing_at fields label ≡ None)
-      ⊎ AnyOf (λ question. (is : Thing) × asked (answers graph is) question true × (thing_at fields label ≡ Some is)) row.some
+-- a record that is made for a row is in it: what is in a question of `some` is in `every`
+module _ {X : Type 0} (answers : X → Answers) (at : Name → Option X) (labels : List Name) (wanted : List RecordType) (given : Reasons) where
+  abbrev row : Row
+  row = row_of labels wanted given
 
--- it is in the row
-pub record_in_row : (graph : Graph) (fields : thing.Fields) (labels : List Name) (wanted : List RecordType) (given : Reasons)
-    → IsOfRow graph (row_of labels wanted given) fields → IsInRow (answers graph) (thing_at fields) (row_of labels wanted given)
-record_in_row graph fields labels wanted given is = (is.cells, every, some_in)
-  where
-    row : Row
-    row = row_of labels wanted given
+  abbrev every_cell : Cell
+  every_cell = record { absent = true; value = row.every }
 
-    every_has : AllOf (λ question. (is : Thing) → asked (answers graph is) question true → asked (answers graph is) (row_of labels wanted given).every true)
-        (row_of labels wanted given).some
-    every_has = each_of_map (λ (type : RecordType). question (map (λ type. type.rest) wanted) (type.rest ∷ []))
-        (λ question. (is : Thing) → asked (answers graph is) question true → asked (answers graph is) (row_of labels wanted given).every true)
-        (types_elsewhere given)
-        (each_of_all (λ (type : RecordType). (is : Thing)
-        → asked (answers graph is) (question (map (λ type. type.rest) wanted) (type.rest ∷ [])) true
-        → asked (answers graph is) (row_of labels wanted given).every true)
-        (λ type is has. asked_of_each (answers graph is) (map (λ type. type.rest) wanted) []
-        (each_of_asked (answers graph is) (map (λ type. type.rest) wanted) (type.rest ∷ []) has).0 tt) (types_elsewhere given))
+  in_every : (what : Option X) (type : RecordType)
+      → IsInCell answers what (record { absent = false; value = question (map (λ type. type.rest) wanted) (type.rest ∷ []) })
+      → IsInCell answers what every_cell
+  in_every None type is = absurd cc
+  in_every (Some x) type is = asked_of_each (answers x) (map (λ type. type.rest) wanted) []
+      (each_of_asked (answers x) (map (λ type. type.rest) wanted) (type.rest ∷ []) is).0 tt
 
-    at_label : (label : Name) → (question : Question)
-        → ((is : Thing) × asked (answers graph is) question true × (thing_at fields label ≡ Some is))
-        × ((is : Thing) → asked (answers graph is) question true → asked (answers graph is) (row_of labels wanted given).every true)
-        → IsInCell (answers graph) (thing_at fields label) (record { absent = true; value = (row_of labels wanted given).every })
-    at_label label of_question ((e, has, there), leads) = subst (λ (what : Option Thing).
-        IsInCell (answers graph) what (record { absent = true; value = (row_of labels wanted given).every })) (sym there) (leads e has)
+  pub record_in_row : IsForRow answers at row → IsInRow answers at row
+  record_in_row is = (is.0, every, is.2)
+    where
+      by_side : (label : Name) → (at label ≡ None)
+          ⊎ AnyOf (λ question. IsInCell answers (at label) (record { absent = false; value = question })) row.some
+          → IsInCell answers (at label) every_cell
+      by_side label (inl none) = subst (λ (what : Option X). IsInCell answers what every_cell) (sym none) refl
+      by_side label (inr one) = one_leads
+          (λ type. IsInCell answers (at label) (record { absent = false; value = question (map (λ type. type.rest) wanted) (type.rest ∷ []) }))
+          (in_every (at label)) (types_elsewhere given)
+          (map_of_one (λ (type : RecordType). question (map (λ type. type.rest) wanted) (type.rest ∷ []))
+          (λ question. IsInCell answers (at label) (record { absent = false; value = question })) (types_elsewhere given) one)
 
-    by_side : (label : Name) → (thing_at fields label ≡ None)
-        ⊎ AnyOf (λ question. (is : Thing) × asked (answers graph is) question true × (thing_at fields label ≡ Some is)) (row_of labels wanted given).some
-        → IsInCell (answers graph) (thing_at fields label) (record { absent = true; value = (row_of labels wanted given).every })
-    by_side label (inl none) = subst (λ (what : Option Thing).
-        IsInCell (answers graph) what (record { absent = true; value = (row_of labels wanted given).every })) (sym none) refl
-    by_side label (inr one) = one_leads
-        (λ question. ((is : Thing) × asked (answers graph is) question true × (thing_at fields label ≡ Some is))
-        × ((is : Thing) → asked (answers graph is) question true → asked (answers graph is) (row_of labels wanted given).every true))
-        (at_label label) (row_of labels wanted given).some
-        (one_with_each (λ question. (is : Thing) × asked (answers graph is) question true × (thing_at fields label ≡ Some is))
-        (λ question. (is : Thing) → asked (answers graph is) question true → asked (answers graph is) (row_of labels wanted given).every true)
-        (row_of labels wanted given).some one every_has)
-
-    every : (label : Name) → IsOfNoCell (row_of labels wanted given) label
-        → IsInCell (answers graph) (thing_at fields label) (record { absent = true; value = (row_of labels wanted given).every })
-    every label none = by_side label (is.others label none)
-
-    some_in : AllOf (HasElsewhere (answers graph) (thing_at fields) (row_of labels wanted given)) (row_of labels wanted given).some
-    some_in = each_weaker (λ question. (label : Name) × IsOfNoCell (row_of labels wanted given) label × ((is : Thing)
-        × asked (answers graph is) question true × (thing_at fields label ≡ Some is)))
-        (HasElsewhere (answers graph) (thing_at fields) (row_of labels wanted given))
-        (λ question (label, none, (e, has, there)). (
-          label,
-          none,
-          subst (λ (what : Option Thing).
-              IsInCell (answers graph) what (record { absent = false; value = question })) (sym there) has,
-        )) (row_of labels wanted given).some is.some
+      every : (label : Name) → IsOfNoCell row label → IsInCell answers (at label) every_cell
+      every label none = by_side label (is.1 label none)

@@ -14,3 +14,4 @@ pub mod Fails
 pub mod Tasks
 pub mod KindChoices
 pub mod PartialChoices
+pub mod MadeForTasks
