@@ -6,11 +6,13 @@ use Rattle.cd_model.specs.Formula.{Formula, Graph, Or, formulas_of, formula_at}
 use Rattle.cd_model.specs.Membership.{Reader, at_nodes, holds, each_holds, one_holds}
 use Rattle.cd_rules.specs.Family.{AreAmong}
 use Rattle.cd_rules.proofs.Among.{each_of_among}
+use Rattle.cd_rules.specs.Tasks.{SameMembers}
 use Rattle.cd_rules.proofs.Ones.{one_weaker}
 
-pub equal_formulas : (graph : Graph) (reader : Reader) (one other : NodeId) → formula_at graph one ≡ formula_at graph other → (answer : Bool)
-    → at_nodes graph reader one answer ≡ at_nodes graph reader other answer
-equal_formulas graph reader one other same answer = ap (λ is. holds reader is answer) same
+pub equal_formulas : (graph : Graph) (reader : Reader) (one other : NodeId) (answer : Bool) → formula_at graph one ≡ formula_at graph other
+    → at_nodes graph reader one answer ↔ at_nodes graph reader other answer
+equal_formulas graph reader one other answer same =
+    (subst (λ is. holds reader is answer) same, subst (λ is. holds reader is answer) (sym same))
 
 module _ (reader : Reader) (answer : Bool) where
   each_of_formulas : (all : List Formula) → each_holds reader (formulas_of all) answer → AllOf (λ is. holds reader is answer) all
@@ -37,13 +39,15 @@ module _ (reader : Reader) (answer : Bool) where
       (λ other same. subst (λ (is : Formula). holds reader is answer) (sym same) is) all among.0
   one_on (first ∷ some) all among (inr later) = one_on some all among.1 later
 
-pub unions_alike : (reader : Reader) (some all : List Formula) → AreAmong some all → AreAmong all some → (answer : Bool)
-    → holds reader (Or (formulas_of some)) answer ↔ holds reader (Or (formulas_of all)) answer
-unions_alike reader some all among back true = (
-  λ is. formulas_of_one reader true all (one_on reader true some all among (one_of_formulas reader true some is)),
-  λ is. formulas_of_one reader true some (one_on reader true all some back (one_of_formulas reader true all is)),
+pub unions_alike : (reader : Reader) (some others : List Formula) (answer : Bool) → SameMembers some others
+    → holds reader (Or (formulas_of some)) answer ↔ holds reader (Or (formulas_of others)) answer
+unions_alike reader some others true same = (
+  λ is. formulas_of_one reader true others (one_on reader true some others same.0 (one_of_formulas reader true some is)),
+  λ is. formulas_of_one reader true some (one_on reader true others some same.1 (one_of_formulas reader true others is)),
 )
-unions_alike reader some all among back false = (
-  λ is. formulas_of_each reader false all (each_of_among (λ is. holds reader is false) all some back (each_of_formulas reader false some is)),
-  λ is. formulas_of_each reader false some (each_of_among (λ is. holds reader is false) some all among (each_of_formulas reader false all is)),
+unions_alike reader some others false same = (
+  λ is. formulas_of_each reader false others
+      (each_of_among (λ is. holds reader is false) others some same.1 (each_of_formulas reader false some is)),
+  λ is. formulas_of_each reader false some
+      (each_of_among (λ is. holds reader is false) some others same.0 (each_of_formulas reader false others is)),
 )
