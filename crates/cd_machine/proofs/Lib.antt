@@ -4,3 +4,4 @@ pub mod QuestionsOnce
 pub mod RunsAreRight
 pub mod WorkFalls
 pub mod RunsEnd
+pub mod WorkOfQuestion

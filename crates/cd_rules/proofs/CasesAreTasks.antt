@@ -2,11 +2,11 @@
 use Rattle.std.proofs.Common.{◌≡◌, List, [], ◌∷◌, ◌++◌, map, Some, None, inl, inr, refl, sym, subst}
 use Rattle.cd_model.specs.AllOf.{AllOf, AnyOf}
 use Rattle.cd_rules.specs.Clauses.{Clause, Ints, Chars, Atoms, Pairs, Xmls, Records, Arrows}
-use Rattle.cd_rules.specs.Family.{AreAmong}
+use Rattle.cd_rules.specs.Family.{AreAmong, SameMembers}
 use Rattle.cd_rules.specs.Needs.{to_one, to_other, to_first, to_middle, to_last}
 use Rattle.cd_rules.specs.Rows.{labels_of}
 use Rattle.cd_rules.specs.Tasks.{Task, PairTask, XmlTask, ArrowTask, RecordTask, tasks_of}
-use Rattle.cd_rules.specs.Tasks.{Takes, taken_here, taken_later, SameMembers, IsForClause, IsTask, IsTaskOf}
+use Rattle.cd_rules.specs.Tasks.{Takes, taken_here, taken_later, IsForClause, IsTask, IsTaskOf}
 use Rattle.cd_rules.specs.Tasks.{AreCases, pair_cases, xml_cases, arrow_cases, record_cases}
 use Rattle.cd_rules.proofs.Among.{among_itself, among_on, each_of_its}
 use Rattle.cd_rules.proofs.Asking.{each_of_map}

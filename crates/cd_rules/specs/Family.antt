@@ -16,6 +16,10 @@ IsOfFamily question family = AnyOf (λ other. other ≡ question) family
 abbrev pub AreAmong : {X : Type 0} → (some all : List X) → Type 0
 AreAmong some all = AllOf (λ x. AnyOf (λ other. other ≡ x) all) some
 
+-- two lists have the same members
+abbrev pub SameMembers : {X : Type 0} → (some others : List X) → Type 0
+SameMembers some others = AreAmong some others × AreAmong others some
+
 -- A question asks no less than another: it wants each node that the other wants, and refuses each
 -- one that the other refuses. So what is in it is in the other
 abbrev pub AsksNoLess : Question → Question → Type 0

@@ -5,7 +5,7 @@ use Rattle.cd_sets.specs.declared.question.Question.{Question}
 use Rattle.cd_syntax.specs.Name.{Name}
 use Rattle.cd_model.specs.AllOf.{AllOf, AnyOf}
 use Rattle.cd_rules.specs.Clauses.{Clause, Pairs, Xmls, Records, Arrows, Pair, Triple, RecordType}
-use Rattle.cd_rules.specs.Family.{AreAmong, IsCovered, BreaksRow}
+use Rattle.cd_rules.specs.Family.{SameMembers, IsCovered, BreaksRow}
 use Rattle.cd_rules.specs.Needs.{Way, pair_way, xml_way, arrow_way, to_one, to_other, to_first}
 use Rattle.cd_rules.specs.Needs.{to_middle, to_last}
 use Rattle.cd_rules.specs.Rows.{Cell, Row, Reason, Reasons, row_of, labels_of}
@@ -92,10 +92,6 @@ pub data AreCases : Task → List Task → Type 0 where
       → AreCases (RecordTask wanted refused given left)
       (map (λ reason. RecordTask wanted refused ((type, reason) ∷ given) rest)
       (None ∷ map Some (labels_of (wanted ++ refused))))
-
--- two lists have the same members
-abbrev pub SameMembers : {X : Type 0} → (some others : List X) → Type 0
-SameMembers some others = AreAmong some others × AreAmong others some
 
 -- a reason is one of these labels, or a label that no type names
 abbrev pub IsNamedReason : List Name → Reason → Type 0

@@ -15,7 +15,7 @@ ghost use Rattle.cd_model.specs.Membership.{holds, answers, reader, value_answer
 ghost use Rattle.cd_rules.specs.Choices.{Choice};
 ghost use Rattle.cd_rules.specs.Clauses.{Clause, Pair, Triple, RecordType, Pairs, Xmls, Arrows};
 ghost use Rattle.cd_rules.specs.Clauses.{Records, IsInClause, parts_in, pair_of, xml_of, record_of};
-ghost use Rattle.cd_rules.specs.Family.{IsCovered, Breaks, AsksNodes};
+ghost use Rattle.cd_rules.specs.Family.{SameMembers, IsCovered, Breaks, AsksNodes};
 ghost use Rattle.cd_rules.specs.InRow.{thing_at, IsForRow};
 ghost use Rattle.cd_rules.specs.InWay.{AreInWay};
 ghost use Rattle.cd_rules.specs.MadeForTasks.{IsRightPair, IsFunctionBut};
@@ -25,7 +25,7 @@ ghost use Rattle.cd_rules.specs.PartialChoices.{IsPartialOf, AccountForClauses, 
 ghost use Rattle.cd_rules.specs.Rows.{Reasons, field_at, labels_of};
 ghost use Rattle.cd_rules.specs.Tasks.{Task, PairTask, XmlTask, ArrowTask, RecordTask, IsTask};
 ghost use Rattle.cd_rules.specs.Tasks.{IsTaskOf, tasks_of, questions_of, row_of_given, AreCases};
-ghost use Rattle.cd_rules.specs.Tasks.{TaskFails, SameMembers};
+ghost use Rattle.cd_rules.specs.Tasks.{TaskFails};
 ghost use Rattle.cd_rules.specs.Within.{IsWithin};
 
 /// Where no element of a basic kind is in a question, the choices of the other kinds account for
