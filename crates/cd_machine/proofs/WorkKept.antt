@@ -16,8 +16,8 @@ use Rattle.cd_rules.proofs.CasesAreTasks.{cases_of_task, tasks_are}
 use Rattle.cd_rules.proofs.Covering.{covered_where, covers_on}
 use Rattle.cd_rules.proofs.FailingTasks.{covered_fails, cases_fail, task_breaks}
 use Rattle.cd_rules.proofs.Ones.{each_weaker, one_weaker, each_of_lists}
-use Rattle.cd_rules.proofs.Completions.{of_extensions, to_extensions, of_complete, to_complete}
-use Rattle.cd_machine.specs.Machine.{Work, Works, extends, cuts, begins, drops, splits, goes_on}
+use Rattle.cd_rules.proofs.Completions.{of_members, to_members, of_extensions, to_extensions, of_complete, to_complete}
+use Rattle.cd_machine.specs.Machine.{Work, Works, unfolds, extends, cuts, begins, drops, splits, goes_on}
 use Rattle.cd_machine.specs.Right.{AreTasksOf, IsWorkOf, IsBroken, BreaksBegun}
 
 module _ (graph : Graph) where
@@ -64,6 +64,15 @@ module _ (graph : Graph) where
 
     pub work_kept : (base : List Question) (before after : Work) → Works base before after
         → IsWorkOf graph base question before → IsWorkOf graph base question after
+    work_kept base _ _ (unfolds kind choice one members left choices clause later branches are) is = record {
+      choices_fail = λ family larger broken fail. is.choices_fail family larger broken
+          (of_members (Breaks family) kind choice one members left are fail.0, fail.1);
+      branches_fail = is.branches_fail;
+      later_fails = is.later_fails;
+      choices_are = (to_members (IsClauseOfQuestion graph question) kind choice one members left are is.choices_are.0, is.choices_are.1);
+      branches_are = is.branches_are;
+      later_are = is.later_are;
+    }
     work_kept base _ _ (extends kind choice one left choices clause later branches) is = record {
       choices_fail = λ family larger broken fail.
           let both = each_parts (PartialFails family) (extensions kind choice one left) choices fail in

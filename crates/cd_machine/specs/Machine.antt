@@ -12,7 +12,8 @@ use Rattle.cd_model.specs.Thing.{Thing, IsElement}
 use Rattle.cd_rules.specs.Choices.{Choice}
 use Rattle.cd_rules.specs.Clauses.{Clause}
 use Rattle.cd_rules.specs.Family.{AreAmong, IsCovered, AsksNodes}
-use Rattle.cd_rules.specs.PartialChoices.{Partial, Signed, partial, clause_by, extensions}
+use Rattle.cd_rules.specs.PartialChoices.{Partial, Signed, IsConjunction, partial}
+use Rattle.cd_rules.specs.PartialChoices.{clause_by, extensions}
 use Rattle.cd_rules.specs.PartialChoices.{PartialFails, IsPartialOf, AccountForClauses}
 use Rattle.cd_rules.specs.Tasks.{Task, tasks_of, questions_of, AreCases}
 
@@ -56,6 +57,12 @@ state witnesses list frames = record { witnesses = witnesses; list = list; frame
 
 -- one thing is done for a question, where these questions are settled or listed
 pub data Works (known : List Question) : (before after : Work) → Type 0 where
+  -- the next formula of a choice is a conjunction: its members take its place
+  unfolds : (kind : Kind) (choice : Choice) (one : Signed) (members left : List Signed)
+      (choices : List Partial) (clause : Option Clause) (later branches : List Task)
+      → IsConjunction one members
+      → Works known (work (partial kind choice (one ∷ left) ∷ choices) clause later branches)
+      (work (partial kind choice (members ++ left) ∷ choices) clause later branches)
   -- a choice becomes more choices, one with each way to meet its next formula
   extends : (kind : Kind) (choice : Choice) (one : Signed) (left : List Signed)
       (choices : List Partial) (clause : Option Clause) (later branches : List Task)

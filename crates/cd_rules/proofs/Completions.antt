@@ -3,13 +3,14 @@ use Rattle.std.proofs.Common.{◌≡◌, Bool, true, false, List, [], ◌∷◌,
 use Rattle.cd_sets.specs.declared.node_id.NodeId.{NodeId}
 use Rattle.cd_sets.specs.declared.question.Question.{Question}
 use Rattle.cd_model.specs.AllOf.{AllOf}
-use Rattle.cd_model.specs.Formula.{Graph, formula_at}
+use Rattle.cd_model.specs.Formula.{Formulas, NoFormula, AFormula, Graph, formula_at}
 use Rattle.cd_model.specs.Kinds.{Kind}
 use Rattle.cd_model.proofs.Covered.{each_parts}
 use Rattle.cd_rules.specs.Choices.{Choice, joined, always}
 use Rattle.cd_rules.specs.Clauses.{Clause}
-use Rattle.cd_rules.specs.KindChoices.{kind_choices, kind_at, kind_choices_of}
+use Rattle.cd_rules.specs.KindChoices.{kind_choices, kind_of_each, kind_at, kind_choices_of}
 use Rattle.cd_rules.specs.PartialChoices.{Signed, partial, clause_by, completions, EachClause, extensions, signed}
+use Rattle.cd_rules.specs.PartialChoices.{each_signed, IsConjunction, wants_each, refuses_each, denies}
 use Rattle.cd_rules.proofs.Answered.{map_of_each}
 use Rattle.cd_rules.proofs.Asking.{each_of_map}
 use Rattle.cd_rules.proofs.Ones.{each_weaker, each_of_lists}
@@ -101,6 +102,20 @@ module _ (kind : Kind) where
   completions_of_both (one ∷ some) others = ap (joined (kind_choices kind one.0 one.1)) (completions_of_both some others)
       ∙ sym (joined_assoc (kind_choices kind one.0 one.1) (completions kind some) (completions kind others))
 
+  -- a conjunction is completed as its formulas are
+  completions_of_each : (formulas : Formulas) (wanted : Bool)
+      → completions kind (each_signed formulas wanted) ≡ kind_of_each kind formulas wanted
+  completions_of_each NoFormula wanted = refl
+  completions_of_each (AFormula is rest) wanted = ap (joined (kind_choices kind is wanted)) (completions_of_each rest wanted)
+
+  pub completions_unfold : (one : Signed) (members left : List Signed) → IsConjunction one members
+      → completions kind (members ++ left) ≡ completions kind (one ∷ left)
+  completions_unfold _ _ left (wants_each formulas) = completions_of_both (each_signed formulas true) left
+      ∙ ap (λ some. joined some (completions kind left)) (completions_of_each formulas true)
+  completions_unfold _ _ left (refuses_each formulas) = completions_of_both (each_signed formulas false) left
+      ∙ ap (λ some. joined some (completions kind left)) (completions_of_each formulas false)
+  completions_unfold _ _ left (denies is wanted) = refl
+
   completions_at : (graph : Graph) (wanted : Bool) (ids : List NodeId)
       → completions kind (map (λ id. (formula_at graph id, wanted)) ids) ≡ kind_at kind graph ids wanted
   completions_at graph wanted [] = refl
@@ -112,3 +127,12 @@ module _ (kind : Kind) where
       completions_of_both (map (λ id. (formula_at graph id, true)) question.pos) (map (λ id. (formula_at graph id, false)) question.neg)
       ∙ ap (λ some. joined some (completions kind (map (λ id. (formula_at graph id, false)) question.neg))) (completions_at graph true question.pos)
       ∙ ap (joined (kind_at kind graph question.pos true)) (completions_at graph false question.neg)
+
+module _ (fact : Clause → Type 0) (kind : Kind) (choice : Choice) (one : Signed) (members left : List Signed)
+    (are : IsConjunction one members) where
+  -- so what a choice may become stays, where the formulas of a conjunction take its place
+  pub of_members : EachClause fact (partial kind choice (members ++ left)) → EachClause fact (partial kind choice (one ∷ left))
+  of_members = subst (AllOf (λ rest. fact (clause_by kind (choice ++ rest)))) (completions_unfold kind one members left are)
+
+  pub to_members : EachClause fact (partial kind choice (one ∷ left)) → EachClause fact (partial kind choice (members ++ left))
+  to_members = subst (AllOf (λ rest. fact (clause_by kind (choice ++ rest)))) (sym (completions_unfold kind one members left are))

@@ -1,12 +1,13 @@
 -- A choice of one kind in the making: its literals so far, and the formulas of which it has none yet.
-use Rattle.std.specs.Prelude.{Bool, true, false, ℤ, ℕ, List, [], ◌∷◌, ◌++◌, map}
+use Rattle.std.specs.Prelude.{Bool, true, false, not, ℤ, ℕ, List, [], ◌∷◌, ◌++◌, map}
 use Rattle.std.specs.Char.{IsScalar}
 use Rattle.cd_sets.specs.declared.question.Question.{Question}
 use Rattle.cd_syntax.specs.Integer.{IsInteger}
 use Rattle.cd_syntax.specs.Name.{Name, IsLabel}
 use Rattle.cd_model.specs.Thing.{Integer, Character, Atom}
 use Rattle.cd_model.specs.AllOf.{AllOf}
-use Rattle.cd_model.specs.Formula.{Formula, Graph, formula_at}
+use Rattle.cd_model.specs.Formula.{Formula, Formulas, NoFormula, AFormula, And, Or, Not}
+use Rattle.cd_model.specs.Formula.{Graph, formula_at}
 use Rattle.cd_model.specs.Kinds.{Kind, AnInteger, ACharacter, AnAtom, APair, AnXml, ARecord}
 use Rattle.cd_model.specs.Kinds.{AFunction}
 use Rattle.cd_model.specs.Membership.{answers, asked}
@@ -56,6 +57,18 @@ EachClause fact is = AllOf (λ rest. fact (clause_by is.kind (is.choice ++ rest)
 -- it fails in a family that breaks each of these clauses
 abbrev pub PartialFails : List Question → Partial → Type 0
 PartialFails family = EachClause (Breaks family)
+
+-- a formula that is one of several at once, and these
+abbrev pub each_signed : Formulas → (wanted : Bool) → List Signed
+each_signed NoFormula wanted = []
+each_signed (AFormula is rest) wanted = (is, wanted) ∷ each_signed rest wanted
+
+pub data IsConjunction : Signed → List Signed → Type 0 where
+  wants_each : (formulas : Formulas) → IsConjunction (And formulas, true) (each_signed formulas true)
+  refuses_each : (formulas : Formulas)
+      → IsConjunction (Or formulas, false) (each_signed formulas false)
+  denies : (is : Formula) (wanted : Bool)
+      → IsConjunction (Not is, wanted) ((is, not wanted) ∷ [])
 
 -- with one more formula each choice becomes some
 abbrev pub extensions : Kind → Choice → Signed → List Signed → List Partial
