@@ -1,5 +1,5 @@
 -- What is made of elements of a task's questions is in the clause, where it is in no member that was given to none.
-use Rattle.std.proofs.Common.{◌≡◌, ◌⊎◌, true, false, List, [], ◌∷◌, ◌++◌, map, Option, Some, None, inl, inr, refl, sym, subst}
+use Rattle.std.proofs.Common.{◌≡◌, ◌⊎◌, true, false, List, [], ◌∷◌, ◌++◌, map, Option, Some, None, inl, inr, refl, sym, ap, subst}
 use Rattle.cd_sets.specs.declared.question.Question.{Question}
 use Rattle.cd_syntax.specs.Name.{Name}
 use Rattle.cd_model.specs.Thing as thing
@@ -14,7 +14,7 @@ use Rattle.cd_model.specs.Types.{no_closure}
 use Rattle.cd_model.proofs.Labels.{IsOneOf}
 use Rattle.cd_rules.specs.Clauses.{Pair, Triple, RecordType, Pairs, Xmls, Records, Arrows, IsInClause}
 use Rattle.cd_rules.specs.InRow.{thing_at, IsInRow, IsForRow, IsInCell, IsOfNoCell}
-use Rattle.cd_rules.specs.MadeForTasks.{IsRightPair, IsFunctionBut}
+use Rattle.cd_rules.specs.MadeForTasks.{IsRightPair, IsFunctionBut, arrows_of}
 use Rattle.cd_rules.specs.Needs.{question}
 use Rattle.cd_rules.specs.Rows.{Cell, Reason, Reasons, Row, labels_of, types_elsewhere, row_of}
 use Rattle.cd_rules.specs.Family.{AreAmong}
@@ -30,7 +30,8 @@ use Rattle.cd_rules.proofs.ReasonsOf.{IsNamed}
 use Rattle.cd_rules.proofs.RowsExact.{SaysNoMore, labelled_by, IsAs, IsReason, of_reason, wanted_in_row, refused_in_row}
 use Rattle.cd_rules.proofs.RowsExact.{unnamed_by_all, say_no_more}
 use Rattle.cd_rules.proofs.RowsOfThings.{thing_says}
-use Rattle.cd_rules.specs.Tasks.{PairTask, XmlTask, ArrowTask, RecordTask, IsTask, IsNamedReason, row_of_given}
+use Rattle.cd_rules.specs.Tasks.{Task, PairTask, XmlTask, ArrowTask, RecordTask, IsTask, IsNamedReason, row_of_given, tasks_of}
+use Rattle.cd_rules.specs.Tasks.{AreCases, pair_cases, xml_cases, arrow_cases, record_cases}
 
 -- a fact of what was given to each side and of what is left is one of each member
 module _ {X : Type 0} (Fact : X → Type 0) (members left : List X) where
@@ -149,6 +150,25 @@ module _ (graph : Graph) (wanted refused : List Pair) (one : Pair) (others : Lis
       one_less (thing.Fails from pairs) (with_fails graph wanted [] one pairs (before.0, before.1, tt) from from_is at_from.0.0
       (of_two_sides (ArgumentIsOutside (answers graph from)) wanted left (given, []) is.1
       (map_of_each (λ (parts : Pair). parts.0) (λ id. answers graph from id false) given at_from.1) tt right)) (λ arrow out. inr out)
+
+-- the tasks of a clause are for its refused arrows, and the cases of a task for that of the task
+pub arrows_at_first : (wanted refused : List Pair) → arrows_of (tasks_of (Arrows wanted refused)) ≡ refused
+arrows_at_first wanted refused = of_each refused
+  where
+    of_each : (some : List Pair) → arrows_of (map (λ one. ArrowTask one wanted ([], []) wanted) some) ≡ some
+    of_each [] = refl
+    of_each (one ∷ some) = ap (λ arrows. one ∷ arrows) (of_each some)
+
+pub arrows_of_cases : (task : Task) (cases later : List Task) → AreCases task cases
+    → AllOf (λ case. arrows_of (case ∷ later) ≡ arrows_of (task ∷ later)) cases
+arrows_of_cases _ _ later (pair_cases wanted refused given left rest x taken) = (refl, (refl, tt))
+arrows_of_cases _ _ later (xml_cases wanted refused given left rest x taken) = (refl, (refl, (refl, tt)))
+arrows_of_cases _ _ later (arrow_cases refused wanted given left rest x taken) = (refl, (refl, tt))
+arrows_of_cases _ _ later (record_cases wanted refused given left rest type taken) =
+    each_of_map (λ reason. RecordTask wanted refused ((type, reason) ∷ given) rest)
+    (λ case. arrows_of (case ∷ later) ≡ arrows_of later) (None ∷ map Some (labels_of (wanted ++ refused)))
+    (each_of_all (λ reason. arrows_of (RecordTask wanted refused ((type, reason) ∷ given) rest ∷ later) ≡ arrows_of later)
+    (λ reason. refl) (None ∷ map Some (labels_of (wanted ++ refused))))
 
 -- where no arrow is left it is in the clause
 pub function_of_arrows : (graph : Graph) (wanted refused : List Pair) (pairs : thing.Pairs)

@@ -1,10 +1,11 @@
 -- Functions that are made for the tasks of a clause of arrows: a pair for each refused arrow.
-use Rattle.std.specs.Prelude.{◌≡◌, ◌⊎◌, true, false, List}
+use Rattle.std.specs.Prelude.{◌≡◌, ◌⊎◌, true, false, List, [], ◌∷◌}
 use Rattle.cd_model.specs.AllOf.{AllOf, AnyOf}
 use Rattle.cd_model.specs.Formula.{Graph}
 use Rattle.cd_model.specs.Membership.{answers, mapping}
 use Rattle.cd_model.specs.Thing.{Thing, Pairs, ArePairs}
 use Rattle.cd_rules.specs.Clauses.{Pair}
+use Rattle.cd_rules.specs.Tasks.{Task, ArrowTask}
 
 -- a pair is right for an arrow where its argument is outside the arrow's, or its result inside
 abbrev pub IsRightPair : Graph → (argument result : Thing) → Pair → Type 0
@@ -17,3 +18,9 @@ IsFunctionBut graph wanted refused left pairs = ArePairs pairs
     × AllOf (λ arrow. mapping graph pairs arrow.0 arrow.1 true) wanted
     × AllOf (λ arrow. mapping graph pairs arrow.0 arrow.1 false
     ⊎ AnyOf (λ other. other ≡ arrow) left) refused
+
+-- the refused arrows that these tasks are for
+abbrev pub arrows_of : List Task → List Pair
+arrows_of [] = []
+arrows_of (ArrowTask refused wanted given left ∷ tasks) = refused ∷ arrows_of tasks
+arrows_of (task ∷ tasks) = arrows_of tasks

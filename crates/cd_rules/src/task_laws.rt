@@ -18,7 +18,7 @@ ghost use Rattle.cd_rules.specs.Clauses.{Records, IsInClause, parts_in, pair_of,
 ghost use Rattle.cd_rules.specs.Family.{SameMembers, IsCovered, Breaks, AsksNodes};
 ghost use Rattle.cd_rules.specs.InRow.{thing_at, IsForRow};
 ghost use Rattle.cd_rules.specs.InWay.{AreInWay};
-ghost use Rattle.cd_rules.specs.MadeForTasks.{IsRightPair, IsFunctionBut};
+ghost use Rattle.cd_rules.specs.MadeForTasks.{IsRightPair, IsFunctionBut, arrows_of};
 ghost use Rattle.cd_rules.specs.Needs.{question};
 ghost use Rattle.cd_rules.specs.PartialChoices.{Signed, partial, partial_choices, PartialFails};
 ghost use Rattle.cd_rules.specs.PartialChoices.{IsPartialOf, AccountForClauses, HasNoBasic};
@@ -116,14 +116,17 @@ pub fn tasks_make_members()
         → IsInClause ARecord (reader graph (thing.Record fields)) (Records wanted refused) }
 {}
 
-/// A function is made of one pair for each refused arrow: it maps, or it fails where no wanted arrow
-/// was given to the results.
+/// A function is made of one pair for each refused arrow, as long as tasks are left: the pair maps,
+/// or it fails where no wanted arrow was given to the results.
 pub fn tasks_make_functions()
     ensures no_pair { (graph : Graph) (wanted refused : List Pair)
-        → IsFunctionBut graph wanted refused refused thing.NoPair }
+        → IsFunctionBut graph wanted refused (arrows_of (tasks_of (Arrows wanted refused)))
+        thing.NoPair }
+    ensures cases { (task : Task) (cases later : List Task) → AreCases task cases
+        → AllOf (λ case. arrows_of (case ∷ later) ≡ arrows_of (task ∷ later)) cases }
     ensures maps { (graph : Graph) (wanted refused : List Pair) (one : Pair) (others : List Pair)
-        (pairs : thing.Pairs) (argument result : Thing)
-        (given : List Pair) (arrow : Pair) (arrows left : List Pair)
+        (pairs : thing.Pairs) (argument result : Thing) (given : List Pair) (arrow : Pair)
+        (arrows left : List Pair)
         → IsFunctionBut graph wanted refused (one ∷ others) pairs
         → IsElement argument → IsElement result
         → IsTask (ArrowTask one wanted (given, arrow ∷ arrows) left)
