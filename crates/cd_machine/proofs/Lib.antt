@@ -5,3 +5,4 @@ pub mod RunsAreRight
 pub mod WorkFalls
 pub mod RunsEnd
 pub mod WorkOfQuestion
+pub mod EndlessRun
