@@ -5,7 +5,7 @@ use Rattle.cd_model.specs.AllOf.{AllOf, AnyOf}
 use Rattle.cd_model.specs.Formula.{Graph}
 use Rattle.cd_model.proofs.Covered.{each_parts}
 use Rattle.cd_rules.proofs.Ones.{each_weaker, each_of_lists, one_on_left, one_on_right, one_on_a_side}
-use Rattle.cd_machine.specs.Machine.{Witness, State, NotIn, known_questions, Step, opens, knows, works, finds, leaves}
+use Rattle.cd_machine.specs.Machine.{Witness, State, NotIn, decided_questions, Step, opens, knows, works, finds, leaves}
 use Rattle.cd_machine.specs.Right.{Differ, AreOnce, AreFrames}
 use Rattle.cd_machine.proofs.FramesKept.{cut_to_place}
 
@@ -56,9 +56,9 @@ not_same x [] new = tt
 not_same x (y ∷ some) new = ((λ same. new (inl (sym same))), not_same x some (λ one. new (inr one)))
 
 module _ (settled : List Question) where
-  known_grow : (witnesses : List Witness) (witness : Witness)
-      → known_questions settled (witnesses ++ witness ∷ []) ≡ known_questions settled witnesses ++ witness.0 ∷ []
-  known_grow witnesses witness = ap (λ more. settled ++ more) (questions witnesses)
+  decided_grow : (witnesses : List Witness) (witness : Witness)
+      → decided_questions settled (witnesses ++ witness ∷ []) ≡ decided_questions settled witnesses ++ witness.0 ∷ []
+  decided_grow witnesses witness = ap (λ more. settled ++ more) (questions witnesses)
       ∙ sym (append_assoc settled (map (λ witness. witness.0) witnesses) (witness.0 ∷ []))
     where
       questions : (witnesses : List Witness)
@@ -67,41 +67,41 @@ module _ (settled : List Question) where
       questions (one ∷ witnesses) = ap (λ more. one.0 ∷ more) (questions witnesses)
 
   -- one witness more, of a question that is none of the list
-  one_witness_more : (witnesses : List Witness) (list : List Question) (witness : Witness) → Differ (known_questions settled witnesses)
-      → Differ list → AllOf (NotIn (known_questions settled witnesses)) list → NotIn (known_questions settled witnesses) witness.0
+  one_witness_more : (witnesses : List Witness) (list : List Question) (witness : Witness) → Differ (decided_questions settled witnesses)
+      → Differ list → AllOf (NotIn (decided_questions settled witnesses)) list → NotIn (decided_questions settled witnesses) witness.0
       → AllOf (λ other. witness.0 ≡ other → ⊥) list → AreOnce settled (witnesses ++ witness ∷ []) list
-  one_witness_more witnesses list witness known_differ list_differs none_known new others = record {
-    known_differ = subst Differ (sym (known_grow witnesses witness))
-        (differ_more (known_questions settled witnesses) witness.0 known_differ new);
+  one_witness_more witnesses list witness decided_differ list_differs none_decided new others = record {
+    decided_differ = subst Differ (sym (decided_grow witnesses witness))
+        (differ_more (decided_questions settled witnesses) witness.0 decided_differ new);
     list_differs = list_differs;
-    none_known = subst (λ all. AllOf (NotIn all) list) (sym (known_grow witnesses witness))
-        (none_more (known_questions settled witnesses) witness.0 list none_known others);
+    none_decided = subst (λ all. AllOf (NotIn all) list) (sym (decided_grow witnesses witness))
+        (none_more (decided_questions settled witnesses) witness.0 list none_decided others);
   }
 
   pub once_kept : (graph : Graph) (before after : State) → Step graph settled before after
       → AreFrames graph settled before.list before.frames → AreOnce settled before.witnesses before.list
       → AreOnce settled after.witnesses after.list
   once_kept graph _ _ (opens before question choices new asks of accounts) are once = record {
-    known_differ = once.known_differ;
+    decided_differ = once.decided_differ;
     list_differs = differ_more before.list question once.list_differs new.1;
-    none_known = each_of_lists (NotIn (known_questions settled before.witnesses)) before.list (question ∷ []) once.none_known (new.0, tt);
+    none_decided = each_of_lists (NotIn (decided_questions settled before.witnesses)) before.list (question ∷ []) once.none_decided (new.0, tt);
   }
   once_kept graph _ _ (knows before witness new is) are once = one_witness_more before.witnesses before.list witness
-      once.known_differ once.list_differs once.none_known new.0 (not_same witness.0 before.list new.1)
+      once.decided_differ once.list_differs once.none_decided new.0 (not_same witness.0 before.list new.1)
   once_kept graph _ _ (works witnesses list place question before after frames step) are once = once
   once_kept graph _ _ (finds witnesses list last frames e is) (before, done, list_is, place_is, left, broken, are) once =
       subst (AreOnce settled (witnesses ++ (last.question, e) ∷ []))
       (sym (cut_to_place last.place list before last.question done list_is place_is))
-      (one_witness_more witnesses before (last.question, e) once.known_differ (differ_left before (last.question ∷ done) differ)
-      (each_parts (NotIn (known_questions settled witnesses)) before (last.question ∷ done) none).0
-      (each_parts (NotIn (known_questions settled witnesses)) before (last.question ∷ done) none).1.0
+      (one_witness_more witnesses before (last.question, e) once.decided_differ (differ_left before (last.question ∷ done) differ)
+      (each_parts (NotIn (decided_questions settled witnesses)) before (last.question ∷ done) none).0
+      (each_parts (NotIn (decided_questions settled witnesses)) before (last.question ∷ done) none).1.0
       (not_in_part last.question before done differ))
     where
       differ : Differ (before ++ last.question ∷ done)
       differ = subst Differ list_is once.list_differs
 
-      none : AllOf (NotIn (known_questions settled witnesses)) (before ++ last.question ∷ done)
-      none = subst (AllOf (NotIn (known_questions settled witnesses))) list_is once.none_known
+      none : AllOf (NotIn (decided_questions settled witnesses)) (before ++ last.question ∷ done)
+      none = subst (AllOf (NotIn (decided_questions settled witnesses))) list_is once.none_decided
   once_kept graph _ _ (leaves witnesses list last frames is_done) are once = once
 
 -- what is none of some is none of a part of them, and none of each with others that it is none of
@@ -144,7 +144,7 @@ between (x ∷ some) more others differ are none = (
 pub once_again : (settled : List Question) (witnesses : List Witness) (list : List Question) → AreOnce settled witnesses list
     → AreOnce (settled ++ list) witnesses []
 once_again settled witnesses list once = record {
-  known_differ = between settled list (map (λ witness. witness.0) witnesses) once.known_differ once.list_differs once.none_known;
+  decided_differ = between settled list (map (λ witness. witness.0) witnesses) once.decided_differ once.list_differs once.none_decided;
   list_differs = tt;
-  none_known = tt;
+  none_decided = tt;
 }

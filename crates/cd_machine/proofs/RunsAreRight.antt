@@ -1,5 +1,5 @@
 -- What each step keeps all do; what a state is at first, and what is so at last.
-use Rattle.std.proofs.Common.{◌≡◌, List, [], ◌∷◌, ◌++◌, length, take, sym, subst}
+use Rattle.std.proofs.Common.{List, [], ◌∷◌, ◌++◌, length, sym, subst}
 use Rattle.cd_sets.specs.declared.question.Question.{Question}
 use Rattle.cd_model.specs.AllOf.{AllOf}
 use Rattle.cd_model.specs.Formula.{Graph}

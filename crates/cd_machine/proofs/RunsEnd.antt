@@ -1,9 +1,9 @@
 -- Each run ends, as long as there is a bound of the witnesses and of the list.
-use Rattle.std.proofs.Common.{◌≡◌, ◌⊎◌, ◌<◌, ◌≤◌, ◌+◌, ℕ, zero, suc, List, length, inl, inr, ap}
+use Rattle.std.proofs.Common.{◌<◌, ◌+◌, ℕ, zero, suc, List, length, inl, inr, ap}
 use native.Mathlib.Omega.{arith}
 use Rattle.cd_sets.specs.declared.question.Question.{Question}
 use Rattle.cd_model.specs.Formula.{Graph}
-use Rattle.cd_machine.specs.Machine.{State, Step}
+use Rattle.cd_machine.specs.Machine.{State}
 use Rattle.cd_machine.specs.Weight.{frames_weight, IsFurther, IsBounded, Ends, ends}
 use Rattle.cd_machine.proofs.WorkFalls.{step_further}
 

@@ -1,5 +1,5 @@
 -- Each step gives one witness more, or as many and a longer list, or both alike and less that is left to do.
-use Rattle.std.proofs.Common.{◌≡◌, ◌⊎◌, ◌<◌, ◌+◌, ◌*◌, ℕ, zero, suc, List, [], ◌∷◌, ◌++◌, Some, None, length, map, Bool, true, false, inl, inr, refl, ap, ◌∙◌, append_assoc, append-nil}
+use Rattle.std.proofs.Common.{◌≡◌, ◌<◌, ◌+◌, ◌*◌, ℕ, zero, suc, List, [], ◌∷◌, ◌++◌, Some, length, map, Bool, true, false, inl, inr, refl, ap, ◌∙◌, append_assoc, append-nil}
 use native.Mathlib.Omega.{arith}
 use Rattle.std.proofs.Math.Nat.{suc-mul, mul-add, mul_assoc}
 use Rattle.std.proofs.lemmas.List.{length-append, length-map}
@@ -8,15 +8,15 @@ use Rattle.cd_model.specs.Formula.{Formula, Formulas, NoFormula, AFormula, And, 
 use Rattle.cd_model.specs.Kinds.{Kind}
 use Rattle.cd_rules.specs.Choices.{Choice, joined}
 use Rattle.cd_rules.specs.KindChoices.{kind_choices, kind_of_each}
-use Rattle.cd_rules.specs.PartialChoices.{Partial, Signed, partial, clause_by, completions, extensions, each_signed}
+use Rattle.cd_rules.specs.PartialChoices.{Signed, partial, clause_by, completions, extensions, each_signed}
 use Rattle.cd_rules.specs.PartialChoices.{IsConjunction, wants_each, refuses_each, denies}
 use Rattle.cd_rules.proofs.Completions.{completions_unfold}
 use Rattle.cd_rules.specs.Rows.{labels_of}
 use Rattle.cd_rules.specs.Tasks.{Task, PairTask, XmlTask, ArrowTask, RecordTask, Takes, taken_here, taken_later}
 use Rattle.cd_rules.specs.Tasks.{AreCases, pair_cases, xml_cases, arrow_cases, record_cases}
 use Rattle.cd_machine.specs.Machine.{Work, Works, unfolds, extends, cuts, begins, drops, splits, goes_on}
-use Rattle.cd_machine.specs.Machine.{State, IsDone, Step, opens, knows, works, finds, leaves}
-use Rattle.cd_machine.specs.Weight.{weight, task_weight, sum_of, clause_weight, formula_weight, weight_of_each, joining_weight, partial_weight, work_weight, frames_weight, IsFurther}
+use Rattle.cd_machine.specs.Machine.{State, Step, opens, knows, works, finds, leaves}
+use Rattle.cd_machine.specs.Weight.{weight, task_weight, sum_of, clause_weight, formula_weight, weight_of_each, joining_weight, partial_weight, work_weight, IsFurther}
 
 sum_of_both : {X : Type 0} (weight_of : X → ℕ) (some others : List X)
     → sum_of weight_of (some ++ others) ≡ sum_of weight_of some + sum_of weight_of others

@@ -1,24 +1,21 @@
 -- What is left to do for a question stays enough, and stays of the question, whatever is done.
-use Rattle.std.proofs.Common.{◌≡◌, List, [], ◌∷◌, ◌++◌, map, Option, Some, None, inl, inr, sym, subst, append_assoc, append-nil}
+use Rattle.std.proofs.Common.{List, [], ◌∷◌, ◌++◌, Option, Some, None, inl, inr, sym, subst}
 use Rattle.cd_sets.specs.declared.question.Question.{Question}
 use Rattle.cd_model.specs.AllOf.{AllOf, AnyOf}
 use Rattle.cd_model.specs.Formula.{Graph}
-use Rattle.cd_model.specs.Kinds.{Kind}
 use Rattle.cd_model.proofs.Covered.{each_parts}
-use Rattle.cd_rules.specs.Choices.{Choice}
 use Rattle.cd_rules.specs.Clauses.{IsClauseOfQuestion, Clause}
 use Rattle.cd_rules.specs.Family.{AreAmong, IsCovered, Breaks}
-use Rattle.cd_rules.specs.PartialChoices.{Signed, partial, clause_by, extensions, PartialFails, IsPartialOf}
-use Rattle.cd_rules.specs.Tasks.{Task, TaskFails, IsTaskOf, AreCases, tasks_of, questions_of}
+use Rattle.cd_rules.specs.PartialChoices.{clause_by, extensions, PartialFails, IsPartialOf}
+use Rattle.cd_rules.specs.Tasks.{Task, TaskFails, IsTaskOf, AreCases, questions_of}
 use Rattle.cd_rules.proofs.Among.{among_on}
-use Rattle.cd_rules.proofs.Answered.{map_of_each}
 use Rattle.cd_rules.proofs.CasesAreTasks.{cases_of_task, tasks_are}
 use Rattle.cd_rules.proofs.Covering.{covered_where, covers_on}
 use Rattle.cd_rules.proofs.FailingTasks.{covered_fails, cases_fail, task_breaks}
 use Rattle.cd_rules.proofs.Ones.{each_weaker, one_weaker, each_of_lists}
 use Rattle.cd_rules.proofs.Completions.{of_members, to_members, of_extensions, to_extensions, of_complete, to_complete}
 use Rattle.cd_machine.specs.Machine.{Work, Works, unfolds, extends, cuts, begins, drops, splits, goes_on}
-use Rattle.cd_machine.specs.Right.{AreTasksOf, IsWorkOf, IsBroken, BreaksBegun}
+use Rattle.cd_machine.specs.Right.{AreTasksOf, IsWorkOf, IsBroken}
 
 module _ (graph : Graph) where
   -- a larger base keeps what rests on it

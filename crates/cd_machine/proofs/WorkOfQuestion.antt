@@ -1,5 +1,5 @@
 -- The branches of a question ask nodes of the graph, and what is in its begun clause is in the question.
-use Rattle.std.proofs.Common.{◌≡◌, ◌≤◌, true, List, [], ◌∷◌, ◌++◌, Option, Some, None, length, ap, sym, subst, ◌∙◌}
+use Rattle.std.proofs.Common.{◌≡◌, ◌≤◌, List, ◌++◌, Option, Some, None, length, ap, sym, subst, ◌∙◌}
 use Rattle.std.proofs.Common.{length-append}
 use native.Mathlib.Omega.{arith}
 use Rattle.cd_sets.specs.declared.question.Question.{Question}

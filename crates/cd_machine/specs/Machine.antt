@@ -1,6 +1,6 @@
--- The machine that decides questions, over plain data: a list of questions that are assumed or found
--- to have no element, in the order in which they were assumed, and a frame for each of them that is
--- still worked at.
+-- The machine that decides questions, over plain data: a list of questions that are assumed or
+-- found to have no element, in the order in which they were assumed, and a frame for each of them
+-- that is still worked at.
 use Rattle.std.specs.Prelude.{◌≡◌, ◌++◌, ℕ, true, List, [], ◌∷◌, Option, Some, None, length, map}
 use Rattle.std.specs.Prelude.{take}
 use Rattle.cd_sets.specs.declared.question.Question.{Question}
@@ -12,9 +12,9 @@ use Rattle.cd_model.specs.Thing.{Thing, IsElement}
 use Rattle.cd_rules.specs.Choices.{Choice}
 use Rattle.cd_rules.specs.Clauses.{Clause}
 use Rattle.cd_rules.specs.Family.{AreAmong, IsCovered, AsksNodes}
-use Rattle.cd_rules.specs.PartialChoices.{Partial, Signed, IsConjunction, partial}
-use Rattle.cd_rules.specs.PartialChoices.{clause_by, extensions}
-use Rattle.cd_rules.specs.PartialChoices.{PartialFails, IsPartialOf, AccountForClauses}
+use Rattle.cd_rules.specs.PartialChoices.{Partial, Signed, IsConjunction, partial, clause_by}
+use Rattle.cd_rules.specs.PartialChoices.{extensions, PartialFails, IsPartialOf}
+use Rattle.cd_rules.specs.PartialChoices.{AccountForClauses}
 use Rattle.cd_rules.specs.Tasks.{Task, tasks_of, questions_of, AreCases}
 
 -- What is left to do for a question: the choices whose clauses are not begun, the clause that is
@@ -46,7 +46,8 @@ abbrev pub IsWitness : Graph → Witness → Type 0
 IsWitness graph witness =
     IsElement witness.1 × asked (answers graph witness.1) witness.0 true
 
--- the frame of the question that was assumed last comes first
+-- The witnesses that were found; the list; and the frames, of which that of the question that was
+-- assumed last comes first
 pub record State : Type 0 where
   pub witnesses : List Witness
   pub list : List Question
@@ -102,8 +103,8 @@ abbrev pub IsDone : Work → Type 0
 IsDone left = (left.choices ≡ []) × (left.branches ≡ [])
 
 -- the questions that are settled or have a witness
-abbrev pub known_questions : (settled : List Question) → List Witness → List Question
-known_questions settled witnesses = settled ++ map (λ witness. witness.0) witnesses
+abbrev pub decided_questions : (settled : List Question) → List Witness → List Question
+decided_questions settled witnesses = settled ++ map (λ witness. witness.0) witnesses
 
 abbrev pub NotIn : {X : Type 0} → List X → X → Type 0
 NotIn all x = AnyOf (λ other. other ≡ x) all → ⊥
@@ -111,7 +112,7 @@ NotIn all x = AnyOf (λ other. other ≡ x) all → ⊥
 -- a question of which nothing is known or assumed
 abbrev pub IsNew : (settled : List Question) → State → Question → Type 0
 IsNew settled now question =
-    NotIn (known_questions settled now.witnesses) question × NotIn now.list question
+    NotIn (decided_questions settled now.witnesses) question × NotIn now.list question
 
 module _ (graph : Graph) (settled : List Question) where
   -- one step, where these questions are settled: they have no element

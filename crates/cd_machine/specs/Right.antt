@@ -1,5 +1,5 @@
--- What is so of a state of the machine: why each question of the list has no element, as far as what
--- is left to do fails.
+-- What is so of a state of the machine: why each question of the list has no element, as far as
+-- what is left to do fails.
 use Rattle.std.specs.Prelude.{◌≡◌, ◌++◌, List, [], ◌∷◌, Option, Some, None, length}
 use Rattle.cd_sets.specs.declared.question.Question.{Question}
 use Rattle.cd_model.specs.AllOf.{AllOf, AnyOf}
@@ -9,7 +9,7 @@ use Rattle.cd_rules.specs.Family.{AreAmong, Breaks, AsksNodes}
 use Rattle.cd_rules.specs.PartialChoices.{PartialFails, IsPartialOf, AccountForClauses}
 use Rattle.cd_rules.specs.Tasks.{Task, TaskFails, IsTaskOf}
 use Rattle.cd_machine.specs.Machine.{Work, Frame, Witness, State, IsWitness, NotIn}
-use Rattle.cd_machine.specs.Machine.{known_questions}
+use Rattle.cd_machine.specs.Machine.{decided_questions}
 
 -- the clause that is begun, if there is one, is broken
 abbrev pub BreaksBegun : List Question → Option Clause → Type 0
@@ -23,9 +23,9 @@ module _ (graph : Graph) where
   AreTasksOf question (Some clause) tasks =
       IsClauseOfQuestion graph question clause × AllOf (IsTaskOf clause) tasks
 
-  -- What is left to do is enough: in each family that has all of `base`, the clauses of the question
-  -- are broken where the begun one is and the choices fail; and the begun one is where all branches
-  -- fail, or one of the later tasks. And it is of the question
+  -- What is left to do is enough: in each family that has all of `base`, the clauses of the
+  -- question are broken where the begun one is and the choices fail; and the begun one is where all
+  -- branches fail, or one of the later tasks. And it is of the question
   pub record IsWorkOf (base : List Question) (question : Question) (left : Work) : Type 0 where
     pub choices_fail : (family : List Question) → AreAmong base family
         → BreaksBegun family left.clause → AllOf (PartialFails family) left.choices
@@ -60,10 +60,11 @@ Differ (x ∷ all) = NotIn all x × Differ all
 -- each question is there once: settled, with a witness, or in the list
 pub record AreOnce (settled : List Question) (witnesses : List Witness) (list : List Question)
     : Type 0 where
-  pub known_differ : Differ (known_questions settled witnesses)
+  pub decided_differ : Differ (decided_questions settled witnesses)
   pub list_differs : Differ list
-  pub none_known : AllOf (NotIn (known_questions settled witnesses)) list
+  pub none_decided : AllOf (NotIn (decided_questions settled witnesses)) list
 
+-- what is so of a state
 pub record IsRight (graph : Graph) (settled : List Question) (now : State) : Type 0 where
   pub frames : AreFrames graph settled now.list now.frames
   pub witnesses : AllOf (IsWitness graph) now.witnesses

@@ -1,11 +1,10 @@
 -- The tasks of a clause are tasks of it, and so are the cases of one.
-use Rattle.std.proofs.Common.{◌≡◌, List, [], ◌∷◌, ◌++◌, map, Some, None, inl, inr, refl, sym, subst}
+use Rattle.std.proofs.Common.{◌≡◌, List, [], ◌∷◌, ◌++◌, map, Some, None, refl}
 use Rattle.cd_model.specs.AllOf.{AllOf, AnyOf}
 use Rattle.cd_rules.specs.Clauses.{Clause, Ints, Chars, Atoms, Pairs, Xmls, Records, Arrows}
 use Rattle.cd_rules.specs.Family.{AreAmong, SameMembers}
-use Rattle.cd_rules.specs.Needs.{to_one, to_other, to_first, to_middle, to_last}
 use Rattle.cd_rules.specs.Rows.{labels_of}
-use Rattle.cd_rules.specs.Tasks.{Task, PairTask, XmlTask, ArrowTask, RecordTask, tasks_of}
+use Rattle.cd_rules.specs.Tasks.{Task, ArrowTask, RecordTask, tasks_of}
 use Rattle.cd_rules.specs.Tasks.{Takes, taken_here, taken_later, IsForClause, IsTask, IsTaskOf}
 use Rattle.cd_rules.specs.Tasks.{AreCases, pair_cases, xml_cases, arrow_cases, record_cases}
 use Rattle.cd_rules.proofs.Among.{among_itself, among_on, each_of_its}

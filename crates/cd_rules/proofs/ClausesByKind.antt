@@ -1,16 +1,11 @@
 -- Where no integer, no character and no atom is in a question, the choices of the other kinds account for its clauses; and
 -- each clause that they may become is one of the question.
-use Rattle.std.proofs.Common.{◌≡◌, Bool, true, false, ℤ, ℕ, List, [], ◌∷◌, Some, None, inl, inr, refl, sym, subst, map, ap}
-use Rattle.std.specs.Char.{IsScalar}
+use Rattle.std.proofs.Common.{◌≡◌, Bool, true, false, List, [], ◌∷◌, Some, None, inl, inr, refl, sym, subst, ap}
 use Rattle.cd_sets.specs.declared.question.Question.{Question}
-use Rattle.cd_syntax.specs.Integer.{IsInteger}
-use Rattle.cd_syntax.specs.Name.{Name, IsLabel}
-use Rattle.cd_model.specs.Thing as thing
 use Rattle.cd_model.specs.AllOf.{AllOf, AnyOf}
 use Rattle.cd_model.specs.Formula as formula
 use Rattle.cd_model.specs.Formula.{Formula, Graph}
 use Rattle.cd_model.specs.Kinds.{APair, AnXml, ARecord, AFunction}
-use Rattle.cd_model.specs.Membership.{answers, asked}
 use Rattle.cd_rules.specs.Choices.{Choice}
 use Rattle.cd_rules.specs.Clauses.{IsClauseOfQuestion}
 use Rattle.cd_rules.specs.Clauses.{Clause, Ints, Chars, Atoms, Pairs, Xmls, Records, Arrows, kind_of_formula, pair_of, xml_of, record_of, arrow_of, parts_in}

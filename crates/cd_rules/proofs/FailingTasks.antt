@@ -5,17 +5,16 @@ use Rattle.std.proofs.lemmas.Bool.{cases_Bool}
 use Rattle.cd_sets.specs.declared.question.Question.{Question}
 use Rattle.cd_syntax.specs.Name.{Name}
 use Rattle.cd_model.specs.AllOf.{AllOf, AnyOf}
-use Rattle.cd_rules.specs.Clauses.{Clause, Ints, Chars, Atoms, Pairs, Xmls, Records, Arrows, RecordType}
+use Rattle.cd_rules.specs.Clauses.{Clause, Ints, Chars, Atoms, Pairs, Xmls, Records, Arrows}
 use Rattle.cd_rules.specs.Family.{IsCovered, BreaksRow, BreaksNeed, Breaks, AreAmong}
-use Rattle.cd_rules.specs.Needs.{pair_way, xml_way, arrow_way, splits, to_one, to_other, to_first, to_middle, to_last}
-use Rattle.cd_rules.specs.Rows.{Cell, Reasons, labels_of}
+use Rattle.cd_rules.specs.Needs.{pair_way, arrow_way, splits}
+use Rattle.cd_rules.specs.Rows.{Cell, labels_of}
 use Rattle.cd_rules.proofs.Among.{of_each}
 use Rattle.cd_rules.proofs.Answered.{map_of_each}
-use Rattle.cd_rules.proofs.Covering.{covered_where, way_on, row_on}
 use Rattle.cd_rules.proofs.Ones.{one_weaker, one_of_map, map_of_one, one_on_a_side}
-use Rattle.cd_rules.specs.Fails.{Fails, seen, cases, ThreeFail, three_seen, three_cases, RowsFail, row_seen, row_cases}
-use Rattle.cd_rules.specs.Tasks.{Task, PairTask, XmlTask, ArrowTask, RecordTask, HasCovered, TaskFails, IsTask, tasks_of, questions_of}
-use Rattle.cd_rules.specs.Tasks.{present, row_of_given, Takes, taken_here, taken_later, AreCases, pair_cases, xml_cases, arrow_cases, record_cases}
+use Rattle.cd_rules.specs.Fails.{seen, cases, three_seen, three_cases, row_seen, row_cases}
+use Rattle.cd_rules.specs.Tasks.{Task, PairTask, XmlTask, ArrowTask, RecordTask, TaskFails, IsTask, tasks_of, questions_of}
+use Rattle.cd_rules.specs.Tasks.{present, row_of_given, Takes, AreCases, pair_cases, xml_cases, arrow_cases, record_cases}
 use Rattle.cd_model.proofs.Covered.{each_parts}
 use Rattle.cd_rules.proofs.CasesAreTasks.{taken_one}
 use Rattle.cd_rules.proofs.FailingNeeds.{pair_need_fails, xml_need_fails, arrow_need_fails}

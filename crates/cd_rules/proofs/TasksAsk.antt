@@ -1,12 +1,10 @@
 -- The questions of a task of a clause ask nodes, where the parts of the clause are among these.
-use Rattle.std.proofs.Common.{◌≡◌, ◌≤◌, ℕ, Bool, true, false, List, [], ◌∷◌, ◌++◌, map, if◌then◌else◌, sym, subst}
-use Rattle.cd_sets.specs.declared.question.Question.{Question}
+use Rattle.std.proofs.Common.{◌≤◌, ℕ, Bool, true, false, List, [], ◌∷◌, ◌++◌, map, if◌then◌else◌, sym, subst}
 use Rattle.cd_syntax.specs.Name.{Name}
 use Rattle.cd_model.specs.AllOf.{AllOf}
 use Rattle.cd_model.proofs.Covered.{each_parts}
-use Rattle.cd_rules.specs.Clauses.{Clause, Pairs, Xmls, Records, Arrows, RecordType}
+use Rattle.cd_rules.specs.Clauses.{Clause, Pairs, Xmls, Records, Arrows}
 use Rattle.cd_rules.specs.Family.{AreAmong, AsksNodes}
-use Rattle.cd_rules.specs.Needs.{pair_way, xml_way, arrow_way}
 use Rattle.cd_rules.specs.Rows.{Cell, labels_of}
 use Rattle.cd_rules.specs.Tasks.{Task, PairTask, XmlTask, ArrowTask, RecordTask, questions_of, row_of_given, present}
 use Rattle.cd_rules.specs.Tasks.{IsTaskOf}
@@ -54,8 +52,8 @@ module _ (nodes : ℕ) where
       (both_have (IsPairWithin nodes) some left (subst (AllOf (IsPairWithin nodes)) (sym same) within.0) given is.0)
   task_asks least (Records wanted refused) (RecordTask some others given left) ((same, same_too), is) within =
       let asks = row_asks nodes (labels_of (some ++ others)) some (subst (AllOf (IsTypeWithin nodes)) (sym same) within.0) given
-          (map_of_each (λ one. one.0) (IsTypeWithin nodes) given (given_has (IsTypeWithin nodes) others left
-          (subst (AllOf (IsTypeWithin nodes)) (sym same_too) within.1) (map (λ one. one.0) given) is.0.0)) in
+      (map_of_each (λ one. one.0) (IsTypeWithin nodes) given (given_has (IsTypeWithin nodes) others left
+      (subst (AllOf (IsTypeWithin nodes)) (sym same_too) within.1) (map (λ one. one.0) given) is.0.0)) in
       each_of_lists (AsksNodes nodes) (present (row_of_given some others given).cells) (row_of_given some others given).some
       (present_ask (row_of_given some others given).cells asks.0) asks.1
   task_asks _ _ _ is _ = absurd is.0

@@ -1,5 +1,5 @@
 -- Nodes of equal formulas answer alike; and so does a union of which each member is one of another one, and back.
-use Rattle.std.proofs.Common.{◌≡◌, ◌↔◌, Bool, true, false, List, [], ◌∷◌, inl, inr, ap, sym, subst}
+use Rattle.std.proofs.Common.{◌≡◌, ◌↔◌, Bool, true, false, List, [], ◌∷◌, inl, inr, sym, subst}
 use Rattle.cd_sets.specs.declared.node_id.NodeId.{NodeId}
 use Rattle.cd_model.specs.AllOf.{AllOf, AnyOf}
 use Rattle.cd_model.specs.Formula.{Formula, Graph, Or, formulas_of, formula_at}

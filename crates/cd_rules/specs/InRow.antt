@@ -41,8 +41,8 @@ IsInRow answers at row = AllOf (λ cell. IsInCell answers (at cell.0) cell.1) ro
     → IsInCell answers (at label) (record { absent = true; value = row.every }))
     × AllOf (HasElsewhere answers at row) row.some
 
--- a record that is made for a row is in each cell, and has at each other label nothing or a value of
--- a question of `some`
+-- a record that is made for a row is in each cell, and has at each other label nothing or a value
+-- of a question of `some`
 abbrev pub IsForRow : {X : Type 0} → (X → Answers) → (at : Name → Option X) → Row → Type 0
 IsForRow answers at row = AllOf (λ cell. IsInCell answers (at cell.0) cell.1) row.cells
     × ((label : Name) → IsOfNoCell row label

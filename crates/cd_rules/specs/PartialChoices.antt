@@ -1,4 +1,5 @@
--- A choice of one kind in the making: its literals so far, and the formulas of which it has none yet.
+-- A choice of one kind in the making: its literals so far, and the formulas of which it has none
+-- yet.
 use Rattle.std.specs.Prelude.{Bool, true, false, not, ℤ, ℕ, List, [], ◌∷◌, ◌++◌, map}
 use Rattle.std.specs.Char.{IsScalar}
 use Rattle.cd_sets.specs.declared.question.Question.{Question}
@@ -64,7 +65,8 @@ each_signed NoFormula wanted = []
 each_signed (AFormula is rest) wanted = (is, wanted) ∷ each_signed rest wanted
 
 pub data IsConjunction : Signed → List Signed → Type 0 where
-  wants_each : (formulas : Formulas) → IsConjunction (And formulas, true) (each_signed formulas true)
+  wants_each : (formulas : Formulas)
+      → IsConjunction (And formulas, true) (each_signed formulas true)
   refuses_each : (formulas : Formulas)
       → IsConjunction (Or formulas, false) (each_signed formulas false)
   denies : (is : Formula) (wanted : Bool)
@@ -75,7 +77,8 @@ abbrev pub extensions : Kind → Choice → Signed → List Signed → List Part
 extensions kind choice one left =
     map (λ more. partial kind (choice ++ more) left) (kind_choices kind one.0 one.1)
 
--- the formulas of a question, and a choice of each kind that is made of parts, with nothing of it yet
+-- the formulas of a question, and a choice of each kind that is made of parts, with nothing of it
+-- yet
 abbrev pub signed : Graph → Question → List Signed
 signed graph question = map (λ id. (formula_at graph id, true)) question.pos
     ++ map (λ id. (formula_at graph id, false)) question.neg

@@ -1,5 +1,7 @@
-//! Laws of what is to do for a question: of its choices in the making, and of the tasks of a clause.
-ghost use Rattle.std.specs.Prelude.{ℕ, ◌≡◌, ◌≤◌, ◌++◌, ◌↔◌, ◌⊎◌, Bool, true, false, List, [], ◌∷◌, map};
+//! Laws of what is to do for a question: of its choices in the making, and of the tasks of a
+//! clause.
+ghost use Rattle.std.specs.Prelude.{ℕ, ◌≡◌, ◌≤◌, ◌++◌, ◌↔◌, ◌⊎◌, Bool, true, false, List, [], ◌∷◌};
+ghost use Rattle.std.specs.Prelude.{map};
 ghost use Rattle.cd_sets.specs.declared.node_id.NodeId.{NodeId};
 ghost use Rattle.cd_sets.specs.declared.question.Question.{Question};
 ghost use Rattle.cd_syntax.specs.Name.{Name};
@@ -63,8 +65,8 @@ pub fn partial_choices_are_cut()
         → PartialFails family (partial ARecord choice left) }
 {}
 
-/// The tasks of a clause, and the cases of such a task, are tasks of the clause; and their questions
-/// ask nodes, where the parts of the clause are nodes.
+/// The tasks of a clause, and the cases of such a task, are tasks of the clause; and their
+/// questions ask nodes, where the parts of the clause are nodes.
 pub fn cases_are_tasks()
     ensures tasks { (clause : Clause) → AllOf (IsTaskOf clause) (tasks_of clause) }
     ensures cases { (clause : Clause) (task : Task) (cases : List Task) → AreCases task cases

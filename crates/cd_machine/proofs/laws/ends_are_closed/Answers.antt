@@ -1,4 +1,4 @@
-use Rattle.std.proofs.Common.{◌≡◌, ◌++◌, [], List}
+use Rattle.std.proofs.Common.{◌≡◌, ◌++◌}
 use Rattle.cd_rules.proofs.NoMember.{element_out}
 use Rattle.cd_rules.proofs.Covering.{covers_own}
 use Rattle.cd_rules.proofs.Ones.{one_on_right}

@@ -1,4 +1,4 @@
-use Rattle.std.proofs.Common.{Some, subst}
+use Rattle.std.proofs.Common.{subst}
 use Rattle.cd_rules.specs.Clauses.{IsClauseOfQuestion}
 use Rattle.cd_rules.specs.PartialChoices.{clause_by}
 use Rattle.cd_rules.proofs.Completions.{of_complete}
