@@ -8,17 +8,12 @@ use Rattle.cd_rules.specs.Clauses.{Clause, IsClauseOfQuestion}
 use Rattle.cd_rules.specs.Family.{AreAmong, IsClosed, Breaks}
 use Rattle.cd_rules.specs.PartialChoices.{PartialFails}
 use Rattle.cd_rules.specs.Tasks.{TaskFails}
-use Rattle.cd_rules.proofs.Among.{each_of_its, among_on, among_itself}
+use Rattle.cd_rules.proofs.Among.{among_longer, among_on, among_itself}
 use Rattle.cd_rules.proofs.Covering.{covered_where, breaks_on}
 use Rattle.cd_rules.proofs.Ones.{each_weaker, one_on_left, each_of_lists}
 use Rattle.cd_machine.specs.Machine.{Frame, State, Work, IsDone, Step, opens, knows, works, finds, leaves}
 use Rattle.cd_machine.specs.Right.{IsBroken, IsWorkOf, AreFrames}
 use Rattle.cd_machine.proofs.WorkKept.{broken_on, work_on, work_kept}
-
--- a list is among what it begins
-among_longer : {X : Type 0} (list more : List X) → AreAmong list (list ++ more)
-among_longer {X} list more = each_of_its (λ x. AnyOf (λ (other : X). other ≡ x) (list ++ more)) list
-    (λ x is. one_on_left (λ (other : X). other ≡ x) list more is)
 
 -- the list up to the place of its last frame
 pub cut_to_place : (place : ℕ) (list before : List Question) (question : Question) (done : List Question)

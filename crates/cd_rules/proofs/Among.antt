@@ -1,12 +1,12 @@
 -- Lists all of whose things are among those of another list.
-use Rattle.std.proofs.Common.{◌≡◌, List, [], ◌∷◌, map, inl, inr, refl, ap, subst}
+use Rattle.std.proofs.Common.{◌≡◌, List, [], ◌∷◌, ◌++◌, map, inl, inr, refl, sym, ap, subst}
 use Rattle.cd_sets.specs.declared.node_id.NodeId.{NodeId}
 use Rattle.cd_model.specs.AllOf.{AllOf, AnyOf}
 use Rattle.cd_rules.specs.Family.{AreAmong}
 use Rattle.cd_rules.specs.Needs.{set_of}
 use Rattle.cd_rules.proofs.Asking.{each_of_map, each_of_set}
 use Rattle.cd_rules.proofs.Answered.{set_of_each}
-use Rattle.cd_rules.proofs.Ones.{each_weaker, one_weaker, one_of_map, one_leads, one_with_each}
+use Rattle.cd_rules.proofs.Ones.{each_weaker, one_weaker, one_of_map, one_on_left, one_leads, one_with_each}
 
 -- what is so of each of a list is so of one of it
 pub of_each : {X : Type 0} (fact : X → Type 0) (all : List X) (x : X) → AllOf fact all → AnyOf (λ other. other ≡ x) all → fact x
@@ -23,6 +23,13 @@ pub each_of_among : {X : Type 0} (fact : X → Type 0) (some all : List X) → A
 each_of_among {X} fact some all among each =
     each_weaker (λ x. AnyOf (λ (other : X). other ≡ x) all) fact (λ x is. of_each fact all x each is) some among
 
+-- what is so of one of a list that is among another one is so of one of that
+pub one_of_among : {X : Type 0} (fact : X → Type 0) (some all : List X) → AreAmong some all → AnyOf fact some → AnyOf fact all
+one_of_among fact [] all among is = elim is [ ]
+one_of_among {X} fact (x ∷ some) all among (inl is) = one_weaker (λ (other : X). other ≡ x) fact
+    (λ other same. subst fact (sym same) is) all among.0
+one_of_among fact (x ∷ some) all among (inr later) = one_of_among fact some all among.1 later
+
 -- what is among a list is among a longer one
 pub among_more : {X : Type 0} (x : X) (some all : List X) → AreAmong some all → AreAmong some (x ∷ all)
 among_more {X} x some all among =
@@ -35,6 +42,11 @@ among_both x some all among = (inl refl, among_more x some all among)
 pub among_itself : {X : Type 0} (all : List X) → AreAmong all all
 among_itself [] = tt
 among_itself (x ∷ all) = among_both x all all (among_itself all)
+
+-- and among what it begins
+pub among_longer : {X : Type 0} (list more : List X) → AreAmong list (list ++ more)
+among_longer {X} list more = each_of_its (λ x. AnyOf (λ (other : X). other ≡ x) (list ++ more)) list
+    (λ x is. one_on_left (λ (other : X). other ≡ x) list more is)
 
 -- a list among one that is among a third is among that
 pub among_on : {X : Type 0} (some others all : List X) → AreAmong some others → AreAmong others all → AreAmong some all

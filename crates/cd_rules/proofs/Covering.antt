@@ -65,13 +65,13 @@ module _ (some all : List Question) (covered : AreCovered some all) where
   pub covers_on : (question : Question) → IsCovered question some → IsCovered question all
   covers_on question is = of_covered (λ question. IsCovered question all) some question (covers_more all question) covered is
 
-  pub way_on : (way : Way) → AnyOf (λ question. IsCovered question some) way → AnyOf (λ question. IsCovered question all) way
+  way_on : (way : Way) → AnyOf (λ question. IsCovered question some) way → AnyOf (λ question. IsCovered question all) way
   way_on = one_weaker (λ question. IsCovered question some) (λ question. IsCovered question all) covers_on
 
-  pub need_on : (need : Need) → BreaksNeed some need → BreaksNeed all need
+  need_on : (need : Need) → BreaksNeed some need → BreaksNeed all need
   need_on = each_weaker (λ way. AnyOf (λ question. IsCovered question some) way) (λ way. AnyOf (λ question. IsCovered question all) way) way_on
 
-  pub row_on : (row : Row) → BreaksRow some row → BreaksRow all row
+  row_on : (row : Row) → BreaksRow some row → BreaksRow all row
   row_on row (inl cell) = inl (one_weaker (λ (cell : Name × Cell). (cell.1.absent ≡ false) × IsCovered cell.1.value some)
       (λ cell. (cell.1.absent ≡ false) × IsCovered cell.1.value all) (λ cell is. (is.0, covers_on cell.1.value is.1)) row.cells cell)
   row_on row (inr one) = inr (way_on row.some one)

@@ -11,21 +11,12 @@ use Rattle.cd_rules.specs.Fails.{RowsFail, row_seen, row_cases}
 use Rattle.cd_rules.specs.Family.{IsCovered, BreaksRow, Breaks, AreAmong}
 use Rattle.cd_rules.specs.Needs.{question}
 use Rattle.cd_rules.specs.Rows.{Reason, Reasons, reasons_of, types_at, types_elsewhere, field_at, cell_at, row_of, labels_of}
-use Rattle.cd_rules.proofs.Among.{of_each, each_of_its, each_of_among, among_itself, among_map}
+use Rattle.cd_rules.proofs.Among.{of_each, one_of_among, each_of_its, each_of_among, among_itself, among_map}
 use Rattle.cd_rules.proofs.Asking.{each_of_map}
 use Rattle.cd_rules.proofs.Covering.{asks_more, covers_more}
-use Rattle.cd_rules.proofs.Ones.{each_weaker, one_weaker, one_of_map, map_of_one}
+use Rattle.cd_rules.proofs.InCells.{all_pass, each_passes}
+use Rattle.cd_rules.proofs.Ones.{picked, each_weaker, one_weaker, one_of_map, map_of_one}
 use Rattle.cd_rules.proofs.ReasonsOf.{each_of_reasons, refused_at, refused_elsewhere}
-
-picked : {X : Type 0} (fact : X → Type 0) (xs : List X) → AnyOf fact xs → (x : X) × AnyOf (λ other. other ≡ x) xs × fact x
-picked fact [] is = elim is [ ]
-picked fact (x ∷ xs) (inl is) = (x, inl refl, is)
-picked fact (x ∷ xs) (inr later) = let rest = picked fact xs later in (rest.0, inr rest.1, rest.2)
-
-one_of_among : {X : Type 0} (fact : X → Type 0) (some all : List X) → AreAmong some all → AnyOf fact some → AnyOf fact all
-one_of_among {X} fact some all among is = let one = picked fact some is in
-    one_weaker (λ other. other ≡ one.0) fact (λ other same. subst fact (sym same) one.2) all
-    (of_each (λ x. AnyOf (λ (other : X). other ≡ x) all) some one.0 among one.1)
 
 -- a reason of a choice gives its type to its label
 at_own : (label : Name) (type : RecordType) (chosen : Reasons) → AnyOf (λ one. one ≡ (type, Some label)) chosen
@@ -74,18 +65,6 @@ module _ (given chosen : Reasons) (among : AreAmong given chosen) where
 
   pub elsewhere_among : AreAmong (types_elsewhere given) (types_elsewhere chosen)
   elsewhere_among = refused_elsewhere At Elsewhere given each_stands
-
-both_pass : (a b : Bool) → (a && b) ≡ true → (a ≡ true) × (b ≡ true)
-both_pass true b is = (refl, is)
-both_pass false b is = absurd cc
-
-each_passes : {X : Type 0} (test : X → Bool) (xs : List X) → list_all test xs ≡ true → AllOf (λ x. test x ≡ true) xs
-each_passes test [] all = tt
-each_passes test (x ∷ xs) all = let both = both_pass (test x) (list_all test xs) all in (both.0, each_passes test xs both.1)
-
-all_pass : {X : Type 0} (test : X → Bool) (xs : List X) → AllOf (λ x. test x ≡ true) xs → list_all test xs ≡ true
-all_pass test [] each = refl
-all_pass test (x ∷ xs) each = rw each.0 (all_pass test xs each.1)
 
 still_false : (a b c : Bool) → (c ≡ true → b ≡ true) → (a && b) ≡ false → (a && c) ≡ false
 still_false false b c back is = refl

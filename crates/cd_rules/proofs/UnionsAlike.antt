@@ -5,7 +5,7 @@ use Rattle.cd_model.specs.AllOf.{AllOf, AnyOf}
 use Rattle.cd_model.specs.Formula.{Formula, Graph, Or, formulas_of, formula_at}
 use Rattle.cd_model.specs.Membership.{Reader, at_nodes, holds, each_holds, one_holds}
 use Rattle.cd_rules.specs.Family.{AreAmong, SameMembers}
-use Rattle.cd_rules.proofs.Among.{each_of_among}
+use Rattle.cd_rules.proofs.Among.{each_of_among, one_of_among}
 use Rattle.cd_rules.proofs.Ones.{one_weaker}
 
 pub equal_formulas : (graph : Graph) (reader : Reader) (one other : NodeId) (answer : Bool) → formula_at graph one ≡ formula_at graph other
@@ -32,17 +32,11 @@ module _ (reader : Reader) (answer : Bool) where
   formulas_of_one (first ∷ all) (inl is) = inl is
   formulas_of_one (first ∷ all) (inr later) = inr (formulas_of_one all later)
 
-  one_on : (some all : List Formula) → AreAmong some all → AnyOf (λ is. holds reader is answer) some → AnyOf (λ is. holds reader is answer) all
-  one_on [] all among is = elim is [ ]
-  one_on (first ∷ some) all among (inl is) = one_weaker (λ other. other ≡ first) (λ is. holds reader is answer)
-      (λ other same. subst (λ (is : Formula). holds reader is answer) (sym same) is) all among.0
-  one_on (first ∷ some) all among (inr later) = one_on some all among.1 later
-
 pub unions_alike : (reader : Reader) (some others : List Formula) (answer : Bool) → SameMembers some others
     → holds reader (Or (formulas_of some)) answer ↔ holds reader (Or (formulas_of others)) answer
 unions_alike reader some others true same = (
-  λ is. formulas_of_one reader true others (one_on reader true some others same.0 (one_of_formulas reader true some is)),
-  λ is. formulas_of_one reader true some (one_on reader true others some same.1 (one_of_formulas reader true others is)),
+  λ is. formulas_of_one reader true others (one_of_among (λ is. holds reader is true) some others same.0 (one_of_formulas reader true some is)),
+  λ is. formulas_of_one reader true some (one_of_among (λ is. holds reader is true) others some same.1 (one_of_formulas reader true others is)),
 )
 unions_alike reader some others false same = (
   λ is. formulas_of_each reader false others
