@@ -73,7 +73,7 @@ endless_run = one_more start (at (dropped [])) (state [] (question ∷ []) []) p
   where
     first : Steps endless [] start (at opened)
     first = one_more start start (at opened) (no_step start)
-        (opens start question opened.choices ((λ none. none), (λ none. none)) ((omega arith, tt), tt)
+        (opens start question opened.choices (λ none. none) ((omega arith, tt), tt)
         (partial_choices_are endless question) (accounts_for_clauses endless (question ∷ []) question no_basic))
 
     pairs : Steps endless [] start (at (dropped begun.choices))

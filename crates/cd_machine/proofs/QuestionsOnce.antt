@@ -1,150 +1,115 @@
--- Each question is there once: those that are settled or have a witness differ, those of the list differ, and none is of both.
-use Rattle.std.proofs.Common.{◌≡◌, ◌⊎◌, List, [], ◌∷◌, ◌++◌, map, inl, inr, refl, sym, ap, subst, ◌∙◌, append_assoc}
+-- Each question is there once: settled, in the list, or with a witness.
+use Rattle.std.proofs.Common.{◌≡◌, ◌⊎◌, List, [], ◌∷◌, ◌++◌, map, inl, inr, refl, sym, ap, subst, ◌∙◌, append_assoc, append-nil}
 use Rattle.cd_sets.specs.declared.question.Question.{Question}
-use Rattle.cd_model.specs.AllOf.{AllOf, AnyOf}
+use Rattle.cd_model.specs.AllOf.{AnyOf}
 use Rattle.cd_model.specs.Formula.{Graph}
-use Rattle.cd_model.proofs.Covered.{each_parts}
-use Rattle.cd_rules.proofs.Ones.{each_weaker, each_of_lists, one_on_left, one_on_right, one_on_a_side}
-use Rattle.cd_machine.specs.Machine.{Witness, State, NotIn, decided_questions, Step, opens, knows, works, finds, leaves}
-use Rattle.cd_machine.specs.Right.{Differ, AreOnce, AreFrames}
+use Rattle.cd_rules.proofs.Ones.{one_on_left, one_on_right, one_on_a_side}
+use Rattle.cd_machine.specs.Machine.{Witness, State, state, NotIn, all_questions, Step, opens, knows, works, finds, leaves}
+use Rattle.cd_machine.specs.Right.{Differ, AreFrames}
 use Rattle.cd_machine.proofs.FramesKept.{cut_to_place}
 
--- one more at the end
-differ_more : {X : Type 0} (all : List X) (x : X) → Differ all → NotIn all x → Differ (all ++ x ∷ [])
-differ_more [] x are new = ((λ none. none), tt)
-differ_more {X} (first ∷ all) x are new = (
-  λ one. by_side (one_on_a_side (λ (other : X). other ≡ first) all (x ∷ []) one),
-  differ_more all x are.1 (λ one. new (inr one)),
-)
-  where
-    by_side : AnyOf (λ (other : X). other ≡ first) all ⊎ AnyOf (λ (other : X). other ≡ first) (x ∷ []) → ⊥
-    by_side (inl one) = are.0 one
-    by_side (inr (inl same)) = new (inl (sym same))
-    by_side (inr (inr none)) = none
+module _ {X : Type 0} where
+  -- one is in two lists where it is in one of them, and in none where it is in neither
+  in_neither : (some others : List X) (x : X) → NotIn some x → NotIn others x → NotIn (some ++ others) x
+  in_neither some others x one other there = by_side (one_on_a_side (λ (y : X). y ≡ x) some others there)
+    where
+      by_side : AnyOf (λ (y : X). y ≡ x) some ⊎ AnyOf (λ (y : X). y ≡ x) others → ⊥
+      by_side (inl is) = one is
+      by_side (inr is) = other is
 
--- a part of differing ones differs, and what follows it is none of it
-differ_left : {X : Type 0} (some others : List X) → Differ (some ++ others) → Differ some
-differ_left [] others are = tt
-differ_left {X} (x ∷ some) others are = (
-  λ one. are.0 (one_on_left (λ (other : X). other ≡ x) some others one),
-  differ_left some others are.1,
-)
+  not_on_left : (some others : List X) (x : X) → NotIn (some ++ others) x → NotIn some x
+  not_on_left some others x none there = none (one_on_left (λ (y : X). y ≡ x) some others there)
 
-not_in_part : {X : Type 0} (x : X) (some others : List X) → Differ (some ++ x ∷ others) → AllOf (λ y. x ≡ y → ⊥) some
-not_in_part x [] others are = tt
-not_in_part {X} x (first ∷ some) others are = (
-  λ same. are.0 (one_on_right (λ (other : X). other ≡ first) some (x ∷ others) (inl same)),
-  not_in_part x some others are.1,
-)
+  not_on_right : (some others : List X) (x : X) → NotIn (some ++ others) x → NotIn others x
+  not_on_right some others x none there = none (one_on_right (λ (y : X). y ≡ x) some others there)
 
--- those that are none of some are none of these and one more, which they are not
-none_more : {X : Type 0} (all : List X) (x : X) (some : List X) → AllOf (NotIn all) some → AllOf (λ y. x ≡ y → ⊥) some
-    → AllOf (NotIn (all ++ x ∷ [])) some
-none_more all x [] each others = tt
-none_more {X} all x (y ∷ some) each others = (
-  λ one. by_side (one_on_a_side (λ (other : X). other ≡ y) all (x ∷ []) one),
-  none_more all x some each.1 others.1,
-)
-  where
-    by_side : AnyOf (λ (other : X). other ≡ y) all ⊎ AnyOf (λ (other : X). other ≡ y) (x ∷ []) → ⊥
-    by_side (inl one) = each.0 one
-    by_side (inr (inl same)) = others.0 same
-    by_side (inr (inr none)) = none
+  -- one that is not among others may stand between them, and back
+  differ_with : (some others : List X) (x : X) → Differ (some ++ others) → NotIn (some ++ others) x → Differ (some ++ x ∷ others)
+  differ_with [] others x differ none = (none, differ)
+  differ_with (y ∷ some) others x differ none = (
+    in_neither some (x ∷ others) y (not_on_left some others y differ.0) other_one,
+    differ_with some others x differ.1 (λ there. none (inr there)),
+  )
+    where
+      other_one : NotIn (x ∷ others) y
+      other_one (inl same) = none (inl (sym same))
+      other_one (inr there) = not_on_right some others y differ.0 there
 
-not_same : {X : Type 0} (x : X) (some : List X) → NotIn some x → AllOf (λ y. x ≡ y → ⊥) some
-not_same x [] new = tt
-not_same x (y ∷ some) new = ((λ same. new (inl (sym same))), not_same x some (λ one. new (inr one)))
+  differ_without : (some others : List X) (x : X) → Differ (some ++ x ∷ others) → Differ (some ++ others) × NotIn (some ++ others) x
+  differ_without [] others x differ = (differ.1, differ.0)
+  differ_without (y ∷ some) others x differ = let rest = differ_without some others x differ.1 in (
+    (
+      in_neither some others y (not_on_left some (x ∷ others) y differ.0)
+          (λ there. not_on_right some (x ∷ others) y differ.0 (inr there)),
+      rest.0,
+    ),
+    other_one rest.1,
+  )
+    where
+      other_one : NotIn (some ++ others) x → NotIn (y ∷ some ++ others) x
+      other_one none (inl same) = not_on_right some (x ∷ others) y differ.0 (inl (sym same))
+      other_one none (inr there) = none there
+
+  -- those between may go
+  differ_less : (some more others : List X) → Differ (some ++ (more ++ others)) → Differ (some ++ others)
+  differ_less some [] others differ = differ
+  differ_less some (y ∷ more) others differ = differ_less some more others (differ_without some (more ++ others) y differ).0
+
+  not_in_less : (some more others : List X) (x : X) → NotIn (some ++ (more ++ others)) x → NotIn (some ++ others) x
+  not_in_less some more others x none = in_neither some others x (not_on_left some (more ++ others) x none)
+      (not_on_right more others x (not_on_right some (more ++ others) x none))
+
+  -- one more at the end
+  differ_more : (all : List X) (x : X) → Differ all → NotIn all x → Differ (all ++ x ∷ [])
+  differ_more all x differ none = differ_with all [] x (subst Differ (sym (append-nil all)) differ)
+      (subst (λ all. NotIn all x) (sym (append-nil all)) none)
+
+questions_of_more : (witnesses : List Witness) (witness : Witness)
+    → map (λ witness. witness.0) (witnesses ++ witness ∷ []) ≡ map (λ witness. witness.0) witnesses ++ witness.0 ∷ []
+questions_of_more [] witness = refl
+questions_of_more (one ∷ witnesses) witness = ap (λ more. one.0 ∷ more) (questions_of_more witnesses witness)
 
 module _ (settled : List Question) where
-  decided_grow : (witnesses : List Witness) (witness : Witness)
-      → decided_questions settled (witnesses ++ witness ∷ []) ≡ decided_questions settled witnesses ++ witness.0 ∷ []
-  decided_grow witnesses witness = ap (λ more. settled ++ more) (questions witnesses)
-      ∙ sym (append_assoc settled (map (λ witness. witness.0) witnesses) (witness.0 ∷ []))
-    where
-      questions : (witnesses : List Witness)
-          → map (λ witness. witness.0) (witnesses ++ witness ∷ []) ≡ map (λ witness. witness.0) witnesses ++ witness.0 ∷ []
-      questions [] = refl
-      questions (one ∷ witnesses) = ap (λ more. one.0 ∷ more) (questions witnesses)
+  abbrev of_both : (list : List Question) → List Witness → List Question
+  of_both list witnesses = settled ++ list ++ map (λ witness. witness.0) witnesses
 
-  -- one witness more, of a question that is none of the list
-  one_witness_more : (witnesses : List Witness) (list : List Question) (witness : Witness) → Differ (decided_questions settled witnesses)
-      → Differ list → AllOf (NotIn (decided_questions settled witnesses)) list → NotIn (decided_questions settled witnesses) witness.0
-      → AllOf (λ other. witness.0 ≡ other → ⊥) list → AreOnce settled (witnesses ++ witness ∷ []) list
-  one_witness_more witnesses list witness decided_differ list_differs none_decided new others = record {
-    decided_differ = subst Differ (sym (decided_grow witnesses witness))
-        (differ_more (decided_questions settled witnesses) witness.0 decided_differ new);
-    list_differs = list_differs;
-    none_decided = subst (λ all. AllOf (NotIn all) list) (sym (decided_grow witnesses witness))
-        (none_more (decided_questions settled witnesses) witness.0 list none_decided others);
-  }
+  -- where a question stands in the list
+  listed_between : (before done : List Question) (question : Question) (witnesses : List Witness)
+      → of_both (before ++ question ∷ done) witnesses
+      ≡ (settled ++ before) ++ question ∷ (done ++ map (λ witness. witness.0) witnesses)
+  listed_between before done question witnesses =
+      ap (λ all. all ++ map (λ witness. witness.0) witnesses) (sym (append_assoc settled before (question ∷ done)))
+      ∙ append_assoc (settled ++ before) (question ∷ done) (map (λ witness. witness.0) witnesses)
+
+  one_witness_more : (list : List Question) (witnesses : List Witness) (witness : Witness) → Differ (of_both list witnesses)
+      → NotIn (of_both list witnesses) witness.0 → Differ (of_both list (witnesses ++ witness ∷ []))
+  one_witness_more list witnesses witness differ none =
+      subst Differ (append_assoc (settled ++ list) (map (λ witness. witness.0) witnesses) (witness.0 ∷ [])
+      ∙ sym (ap (λ more. settled ++ list ++ more) (questions_of_more witnesses witness)))
+      (differ_more (of_both list witnesses) witness.0 differ none)
 
   pub once_kept : (graph : Graph) (before after : State) → Step graph settled before after
-      → AreFrames graph settled before.list before.frames → AreOnce settled before.witnesses before.list
-      → AreOnce settled after.witnesses after.list
-  once_kept graph _ _ (opens before question choices new asks of accounts) are once = record {
-    decided_differ = once.decided_differ;
-    list_differs = differ_more before.list question once.list_differs new.1;
-    none_decided = each_of_lists (NotIn (decided_questions settled before.witnesses)) before.list (question ∷ []) once.none_decided (new.0, tt);
-  }
-  once_kept graph _ _ (knows before witness new is) are once = one_witness_more before.witnesses before.list witness
-      once.decided_differ once.list_differs once.none_decided new.0 (not_same witness.0 before.list new.1)
+      → AreFrames graph settled before.list before.frames → Differ (all_questions settled before)
+      → Differ (all_questions settled after)
+  once_kept graph _ _ (opens before question choices new asks of accounts) are once =
+      subst Differ (sym (listed_between before.list [] question before.witnesses))
+      (differ_with (settled ++ before.list) (map (λ witness. witness.0) before.witnesses) question once new)
+  once_kept graph _ _ (knows before witness new is) are once = one_witness_more before.list before.witnesses witness once new
   once_kept graph _ _ (works witnesses list place question before after frames step) are once = once
   once_kept graph _ _ (finds witnesses list last frames e is) (before, done, list_is, place_is, left, broken, are) once =
-      subst (AreOnce settled (witnesses ++ (last.question, e) ∷ []))
+      subst (λ list. Differ (of_both list (witnesses ++ (last.question, e) ∷ [])))
       (sym (cut_to_place last.place list before last.question done list_is place_is))
-      (one_witness_more witnesses before (last.question, e) once.decided_differ (differ_left before (last.question ∷ done) differ)
-      (each_parts (NotIn (decided_questions settled witnesses)) before (last.question ∷ done) none).0
-      (each_parts (NotIn (decided_questions settled witnesses)) before (last.question ∷ done) none).1.0
-      (not_in_part last.question before done differ))
+      (one_witness_more before witnesses (last.question, e)
+      (differ_less (settled ++ before) done (map (λ witness. witness.0) witnesses) without.0)
+      (not_in_less (settled ++ before) done (map (λ witness. witness.0) witnesses) last.question without.1))
     where
-      differ : Differ (before ++ last.question ∷ done)
-      differ = subst Differ list_is once.list_differs
-
-      none : AllOf (NotIn (decided_questions settled witnesses)) (before ++ last.question ∷ done)
-      none = subst (AllOf (NotIn (decided_questions settled witnesses))) list_is once.none_decided
+      without : Differ ((settled ++ before) ++ (done ++ map (λ witness. witness.0) witnesses))
+          × NotIn ((settled ++ before) ++ (done ++ map (λ witness. witness.0) witnesses)) last.question
+      without = differ_without (settled ++ before) (done ++ map (λ witness. witness.0) witnesses) last.question
+          (subst Differ (listed_between before done last.question witnesses) (subst (λ list. Differ (of_both list witnesses)) list_is once))
   once_kept graph _ _ (leaves witnesses list last frames is_done) are once = once
 
--- what is none of some is none of a part of them, and none of each with others that it is none of
-not_left : {X : Type 0} (x : X) (some others : List X) → NotIn (some ++ others) x → NotIn some x
-not_left {X} x some others new one = new (one_on_left (λ (other : X). other ≡ x) some others one)
-
-not_right : {X : Type 0} (x : X) (some others : List X) → NotIn (some ++ others) x → NotIn others x
-not_right {X} x some others new one = new (one_on_right (λ (other : X). other ≡ x) some others one)
-
-not_both : {X : Type 0} (x : X) (some others : List X) → NotIn some x → NotIn others x → NotIn (some ++ others) x
-not_both {X} x some others one other is = by_side (one_on_a_side (λ (other : X). other ≡ x) some others is)
-  where
-    by_side : AnyOf (λ (other : X). other ≡ x) some ⊎ AnyOf (λ (other : X). other ≡ x) others → ⊥
-    by_side (inl there) = one there
-    by_side (inr there) = other there
-
--- one of which none is first among others
-not_first : {X : Type 0} (x : X) (all some : List X) → AllOf (NotIn (x ∷ all)) some → NotIn some x
-not_first x all [] each one = one
-not_first x all (y ∷ some) each (inl same) = each.0 (inl (sym same))
-not_first x all (y ∷ some) each (inr later) = not_first x all some each.1 later
-
--- differing ones before others, of which none is one of them
-before_others : {X : Type 0} (some others : List X) → Differ some → Differ others → AllOf (NotIn others) some → Differ (some ++ others)
-before_others [] others are differ none = differ
-before_others (x ∷ some) others are differ none =
-    (not_both x some others are.0 none.0, before_others some others are.1 differ none.1)
-
--- and between some and others
-between : {X : Type 0} (some more others : List X) → Differ (some ++ others) → Differ more → AllOf (NotIn (some ++ others)) more
-    → Differ ((some ++ more) ++ others)
-between [] more others differ are none = before_others more others are differ none
-between (x ∷ some) more others differ are none = (
-  not_both x (some ++ more) others (not_both x some more (not_left x some others differ.0) (not_first x (some ++ others) more none))
-      (not_right x some others differ.0),
-  between some more others differ.1 are (each_weaker (NotIn (x ∷ (some ++ others))) (NotIn (some ++ others)) (λ y new one. new (inr one)) more none),
-)
-
--- so when the list is settled too, each is there once, as it has to be at first
-pub once_again : (settled : List Question) (witnesses : List Witness) (list : List Question) → AreOnce settled witnesses list
-    → AreOnce (settled ++ list) witnesses []
-once_again settled witnesses list once = record {
-  decided_differ = between settled list (map (λ witness. witness.0) witnesses) once.decided_differ once.list_differs once.none_decided;
-  list_differs = tt;
-  none_decided = tt;
-}
+-- so it is with the list settled
+pub once_again : (settled list : List Question) (witnesses : List Witness) → Differ (all_questions settled (state witnesses list []))
+    → Differ (all_questions (settled ++ list) (state witnesses [] []))
+once_again settled list witnesses = subst (λ all. Differ (all ++ map (λ witness. witness.0) witnesses)) (sym (append-nil (settled ++ list)))

@@ -6,8 +6,8 @@ use Rattle.cd_model.specs.Formula.{Graph}
 use Rattle.cd_model.proofs.Covered.{each_parts}
 use Rattle.cd_rules.specs.Family.{IsClosed, AsksNodes}
 use Rattle.cd_rules.proofs.Ones.{each_of_lists}
-use Rattle.cd_machine.specs.Machine.{Witness, State, state, IsWitness, Step, opens, knows, works, finds, leaves, Steps, no_step, one_more}
-use Rattle.cd_machine.specs.Right.{AreFrames, AreOnce, IsRight}
+use Rattle.cd_machine.specs.Machine.{Witness, State, state, IsWitness, all_questions, Step, opens, knows, works, finds, leaves, Steps, no_step, one_more}
+use Rattle.cd_machine.specs.Right.{Differ, AreFrames, IsRight}
 use Rattle.cd_machine.proofs.FramesKept.{frames_kept, closed_at_last, cut_to_place}
 use Rattle.cd_machine.proofs.QuestionsOnce.{once_kept, once_again}
 
@@ -50,14 +50,6 @@ module _ (graph : Graph) (settled : List Question) where
   steps_on before _ _ first (one_more now later next steps step) = one_more before later next (steps_on before now later first steps) step
 
   -- at first nothing is listed
-  pub right_at_first : (witnesses : List Witness) → AllOf (IsWitness graph) witnesses → AreOnce settled witnesses []
+  pub right_at_first : (witnesses : List Witness) → AllOf (IsWitness graph) witnesses → Differ (all_questions settled (state witnesses [] []))
       → IsRight graph settled (state witnesses [] [])
   right_at_first witnesses are once = record { frames = tt; witnesses = are; asks = tt; once = once }
-
-  -- at last no frame is left
-  pub right_at_last : (witnesses : List Witness) (list : List Question) → IsClosed graph settled
-      → IsRight graph settled (state witnesses list [])
-      → IsClosed graph (settled ++ list) × AllOf (AsksNodes (length graph)) list × AllOf (IsWitness graph) witnesses
-      × AreOnce (settled ++ list) witnesses []
-  right_at_last witnesses list closed is =
-      (closed_at_last graph settled list closed is.frames, is.asks, is.witnesses, once_again settled witnesses list is.once)

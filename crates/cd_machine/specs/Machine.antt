@@ -102,31 +102,26 @@ pub data Works (known : List Question) : (before after : Work) → Type 0 where
 abbrev pub IsDone : Work → Type 0
 IsDone left = (left.choices ≡ []) × (left.branches ≡ [])
 
--- the questions that are settled or have a witness
-abbrev pub decided_questions : (settled : List Question) → List Witness → List Question
-decided_questions settled witnesses = settled ++ map (λ witness. witness.0) witnesses
+-- the questions of which something is known or assumed
+abbrev pub all_questions : (settled : List Question) → State → List Question
+all_questions settled now = settled ++ now.list ++ map (λ witness. witness.0) now.witnesses
 
 abbrev pub NotIn : {X : Type 0} → List X → X → Type 0
 NotIn all x = AnyOf (λ other. other ≡ x) all → ⊥
-
--- a question of which nothing is known or assumed
-abbrev pub IsNew : (settled : List Question) → State → Question → Type 0
-IsNew settled now question =
-    NotIn (decided_questions settled now.witnesses) question × NotIn now.list question
 
 module _ (graph : Graph) (settled : List Question) where
   -- one step, where these questions are settled: they have no element
   pub data Step : (before after : State) → Type 0 where
     -- a new question is assumed to have no element, and gets a frame
     opens : (before : State) (question : Question) (choices : List Partial)
-        → IsNew settled before question → AsksNodes (length graph) question
+        → NotIn (all_questions settled before) question → AsksNodes (length graph) question
         → AllOf (IsPartialOf graph question) choices
         → AccountForClauses graph (settled ++ (before.list ++ question ∷ [])) question choices
         → Step before (state before.witnesses (before.list ++ question ∷ [])
         (frame (length before.list) question (work choices None [] []) ∷ before.frames))
     -- an element of a new question is at hand
     knows : (before : State) (witness : Witness)
-        → IsNew settled before witness.0 → IsWitness graph witness
+        → NotIn (all_questions settled before) witness.0 → IsWitness graph witness
         → Step before (state (before.witnesses ++ witness ∷ []) before.list before.frames)
     -- something is done for the question of the last frame
     works : (witnesses : List Witness) (list : List Question) (place : ℕ) (question : Question)

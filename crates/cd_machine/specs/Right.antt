@@ -8,8 +8,7 @@ use Rattle.cd_rules.specs.Clauses.{Clause, IsClauseOfQuestion}
 use Rattle.cd_rules.specs.Family.{AreAmong, Breaks, AsksNodes}
 use Rattle.cd_rules.specs.PartialChoices.{PartialFails, IsPartialOf, AccountForClauses}
 use Rattle.cd_rules.specs.Tasks.{Task, TaskFails, IsTaskOf}
-use Rattle.cd_machine.specs.Machine.{Work, Frame, Witness, State, IsWitness, NotIn}
-use Rattle.cd_machine.specs.Machine.{decided_questions}
+use Rattle.cd_machine.specs.Machine.{Work, Frame, State, IsWitness, NotIn, all_questions}
 
 -- the clause that is begun, if there is one, is broken
 abbrev pub BreaksBegun : List Question → Option Clause → Type 0
@@ -57,16 +56,9 @@ abbrev pub Differ : {X : Type 0} → List X → Type 0
 Differ [] = Unit {0}
 Differ (x ∷ all) = NotIn all x × Differ all
 
--- each question is there once: settled, with a witness, or in the list
-pub record AreOnce (settled : List Question) (witnesses : List Witness) (list : List Question)
-    : Type 0 where
-  pub decided_differ : Differ (decided_questions settled witnesses)
-  pub list_differs : Differ list
-  pub none_decided : AllOf (NotIn (decided_questions settled witnesses)) list
-
--- what is so of a state
+-- what is so of a state; each question is there once: settled, in the list, or with a witness
 pub record IsRight (graph : Graph) (settled : List Question) (now : State) : Type 0 where
   pub frames : AreFrames graph settled now.list now.frames
   pub witnesses : AllOf (IsWitness graph) now.witnesses
   pub asks : AllOf (AsksNodes (length graph)) now.list
-  pub once : AreOnce settled now.witnesses now.list
+  pub once : Differ (all_questions settled now)

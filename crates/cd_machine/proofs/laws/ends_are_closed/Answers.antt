@@ -20,4 +20,4 @@ returns-clause-asks c = λ graph settled list witnesses right. right.asks
 
 pub returns-clause-again : goal.returns-clause-again
 returns-clause-again c = λ graph settled list witnesses right.
-    right_at_first graph (settled ++ list) witnesses right.witnesses (once_again settled witnesses list right.once)
+    right_at_first graph (settled ++ list) witnesses right.witnesses (once_again settled list witnesses right.once)
