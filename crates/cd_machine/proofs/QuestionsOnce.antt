@@ -10,7 +10,7 @@ use Rattle.cd_machine.proofs.FramesKept.{cut_to_place}
 
 module _ {X : Type 0} where
   -- one is in two lists where it is in one of them, and in none where it is in neither
-  in_neither : (some others : List X) (x : X) → NotIn some x → NotIn others x → NotIn (some ++ others) x
+  pub in_neither : (some others : List X) (x : X) → NotIn some x → NotIn others x → NotIn (some ++ others) x
   in_neither some others x one other there = by_side (one_on_a_side (λ (y : X). y ≡ x) some others there)
     where
       by_side : AnyOf (λ (y : X). y ≡ x) some ⊎ AnyOf (λ (y : X). y ≡ x) others → ⊥

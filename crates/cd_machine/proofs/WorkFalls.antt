@@ -10,9 +10,10 @@ use Rattle.cd_rules.specs.Choices.{Choice, joined}
 use Rattle.cd_rules.specs.KindChoices.{kind_choices, kind_of_each}
 use Rattle.cd_rules.specs.PartialChoices.{Signed, partial, clause_by, completions, extensions, each_signed}
 use Rattle.cd_rules.specs.PartialChoices.{IsConjunction, wants_each, refuses_each, denies}
+use Rattle.cd_machine.proofs.ShorterLists.{taken_length}
 use Rattle.cd_rules.proofs.Completions.{completions_unfold}
 use Rattle.cd_rules.specs.Rows.{labels_of}
-use Rattle.cd_rules.specs.Tasks.{Task, PairTask, XmlTask, ArrowTask, RecordTask, Takes, taken_here, taken_later}
+use Rattle.cd_rules.specs.Tasks.{Task, PairTask, XmlTask, ArrowTask, RecordTask}
 use Rattle.cd_rules.specs.Tasks.{AreCases, pair_cases, xml_cases, arrow_cases, record_cases}
 use Rattle.cd_machine.specs.Machine.{Work, Works, unfolds, extends, cuts, begins, drops, splits, goes_on}
 use Rattle.cd_machine.specs.Machine.{State, Step, opens, knows, works, finds, leaves}
@@ -22,11 +23,6 @@ sum_of_both : {X : Type 0} (weight_of : X → ℕ) (some others : List X)
     → sum_of weight_of (some ++ others) ≡ sum_of weight_of some + sum_of weight_of others
 sum_of_both weight_of [] others = omega arith
 sum_of_both weight_of (x ∷ some) others = let rest = sum_of_both weight_of some others in omega arith
-
--- what is taken out was one
-taken_length : {X : Type 0} (x : X) (all rest : List X) → Takes x all rest → length all ≡ suc (length rest)
-taken_length x _ _ (taken_here rest) = refl
-taken_length x _ _ (taken_later other all rest taken) = ap suc (taken_length x all rest taken)
 
 -- so many tasks of one weight
 sum_of_same : {X : Type 0} (task : X → Task) (one : ℕ) → ((x : X) → task_weight (task x) ≡ one) → (xs : List X)

@@ -1,15 +1,16 @@
 -- How much is left to do.
-use Rattle.std.specs.Prelude.{◌≡◌, ◌+◌, ◌*◌, ◌<◌, ◌≤◌, ◌⊎◌, ◌++◌, ℕ, zero, suc, Bool, true, false}
+use Rattle.std.specs.Prelude.{◌≡◌, ◌+◌, ◌*◌, ◌<◌, ◌⊎◌, ◌++◌, ℕ, zero, suc, Bool, true, false}
 use Rattle.std.specs.Prelude.{not, List, [], ◌∷◌, length}
 use Rattle.cd_sets.specs.declared.question.Question.{Question}
 use Rattle.cd_model.specs.Formula.{Formula, Formulas, NoFormula, AFormula, And, Or, Not, Graph}
 use Rattle.cd_model.specs.Kinds.{Kind}
 use Rattle.cd_rules.specs.Clauses.{Clause}
+use Rattle.cd_rules.specs.Family.{AreAmong}
 use Rattle.cd_rules.specs.KindChoices.{kind_choices}
 use Rattle.cd_rules.specs.PartialChoices.{Partial, Signed, clause_by, completions}
 use Rattle.cd_rules.specs.Rows.{labels_of}
 use Rattle.cd_rules.specs.Tasks.{Task, PairTask, XmlTask, ArrowTask, RecordTask, tasks_of}
-use Rattle.cd_machine.specs.Machine.{Work, Frame, State, Step}
+use Rattle.cd_machine.specs.Machine.{Work, Frame, State, all_questions, Step}
 
 -- one for a task with no member left, and for one more member so much for each side
 abbrev pub weight : (sides members : ℕ) → ℕ
@@ -69,13 +70,9 @@ IsFurther before after = (length after.witnesses ≡ suc (length before.witnesse
     ⊎ ((after.witnesses ≡ before.witnesses) × (after.list ≡ before.list)
     × (frames_weight after.frames < frames_weight before.frames))
 
--- a state with no more witnesses, and no longer list, than so many
-abbrev pub IsBounded : (most : ℕ) → State → Type 0
-IsBounded most now = (length now.witnesses ≤ most) × (length now.list ≤ most)
-
--- each run from a state comes to an end, as long as its states are bounded
-pub data Ends (graph : Graph) (settled : List Question) (most : ℕ) : State → Type 0 where
+-- each run from a state comes to an end, as long as the questions of its states are among these
+pub data Ends (graph : Graph) (settled all : List Question) : State → Type 0 where
   ends : (now : State)
-      → ((next : State) → Step graph settled now next → IsBounded most next
-      → Ends graph settled most next)
-      → Ends graph settled most now
+      → ((next : State) → Step graph settled now next
+      → AreAmong (all_questions settled next) all → Ends graph settled all next)
+      → Ends graph settled all now
