@@ -1,14 +1,16 @@
 -- A partial choice fails where what it wants so far has a covered question: each clause of a choice with its literals is broken.
 -- So it need not be joined with others.
 use Rattle.std.proofs.Common.{◌≡◌, Bool, true, false, ◌&&◌, ◌⊎◌, List, [], ◌∷◌, ◌++◌, Option, Some, None, map, inl, inr, refl, sym, ap, subst, ◌∙◌}
+use Rattle.std.proofs.lemmas.Bool.{true≢false}
 use Rattle.std.specs.List.{list_all}
 use Rattle.cd_sets.specs.declared.node_id.NodeId.{NodeId}
 use Rattle.cd_sets.specs.declared.question.Question.{Question}
 use Rattle.cd_syntax.specs.Name.{Name}
 use Rattle.cd_model.specs.BuiltIns.{ATOM, RECORD}
 use Rattle.cd_model.specs.AllOf.{AnyOf}
-use Rattle.cd_model.specs.Formula.{Formula}
+use Rattle.cd_model.specs.Formula.{Formula, Field}
 use Rattle.cd_model.specs.Kinds.{Kind, APair, AnXml, ARecord}
+use Rattle.cd_model.proofs.Labels.{IsOneOf}
 use Rattle.cd_rules.specs.Choices.{Choice}
 use Rattle.cd_rules.specs.Clauses.{Pairs, Xmls, Records, Pair, Triple, RecordType, one_more, parts_in, pair_of, xml_of, record_of}
 use Rattle.cd_rules.specs.Fails.{row_seen}
@@ -20,6 +22,7 @@ use Rattle.cd_rules.specs.Tasks.{PairTask, XmlTask, questions_of}
 use Rattle.cd_rules.proofs.Among.{among_longer, among_map, among_both, one_of_among}
 use Rattle.cd_rules.proofs.Covering.{asks_more, covers_more}
 use Rattle.cd_rules.proofs.FailingTasks.{covered_fails, task_breaks}
+use Rattle.cd_rules.proofs.LabelsNamed.{IsUnnamed, named_or_unnamed, unnamed_parts}
 use Rattle.cd_rules.proofs.Ones.{one_weaker, one_of_map, each_of_all}
 
 -- the parts of a longer choice are those of both
@@ -58,6 +61,20 @@ is_asked_for label (type ∷ types) (inr later) = by_test (field_at type label).
         → ((test && list_all (λ type. (field_at type label).optional) types) && true) ≡ false
     by_test true rest = rest
     by_test false rest = refl
+
+-- so a label is named where a type asks for a field there
+asked_is_named : (label : Name) (types others : List RecordType) → AnyOf (λ type. (field_at type label).optional ≡ false) types
+    → IsOneOf (labels_of (types ++ others)) label
+asked_is_named label types others asked = by_both (named_or_unnamed (types ++ others) label)
+  where
+    none_asks : (some : List RecordType) → IsUnnamed some label → AnyOf (λ type. (field_at type label).optional ≡ false) some → ⊥
+    none_asks [] unnamed is = is
+    none_asks (type ∷ some) unnamed (inl is) = let free = ap (λ (field : Field). field.optional) unnamed.0 in true≢false (sym free ∙ is)
+    none_asks (type ∷ some) unnamed (inr later) = none_asks some unnamed.1 later
+
+    by_both : IsOneOf (labels_of (types ++ others)) label ⊎ IsUnnamed (types ++ others) label → IsOneOf (labels_of (types ++ others)) label
+    by_both (inl named) = named
+    by_both (inr unnamed) = absurd (none_asks types (unnamed_parts types others label unnamed).0 asked)
 
 module _ (family : List Question) where
   -- the question of a part is covered where it is of a choice that wants less
@@ -109,22 +126,22 @@ module _ (family : List Question) where
       by_part rest (inr (inl is)) = inr (inl (stays_covered xml_of (λ (parts : Triple). parts.1) (RECORD ∷ []) choice rest is))
       by_part rest (inr (inr is)) = inr (inr (inl (stays_covered xml_of (λ (parts : Triple). parts.2) [] choice rest is)))
 
-  -- of records a field that has to be there, at a label that each clause names
+  -- of records a field that has to be there
   pub record_cut : (choice : Choice) (left : List Signed) (label : Name)
-      → ((rest : Choice) → AnyOf (λ name. name ≡ label) (labels_of (parts_in record_of true (choice ++ rest) ++ parts_in record_of false (choice ++ rest))))
       → AnyOf (λ type. (field_at type label).optional ≡ false) (parts_in record_of true choice)
       → IsCovered (question (map (λ type. (field_at type label).type) (parts_in record_of true choice)) []) family
       → PartialFails family (partial ARecord choice left)
-  record_cut choice left label named has covered = cut ARecord choice left (λ rest.
+  record_cut choice left label has covered = cut ARecord choice left (λ rest.
       let wanted = parts_in record_of true (choice ++ rest) in let refused = parts_in record_of false (choice ++ rest) in
+      let asked = one_of_among (λ type. (field_at type label).optional ≡ false) (parts_in record_of true choice) wanted
+          (parts_among record_of choice rest) has in
       task_breaks family (Records wanted refused) (inl (row_seen [] (inl
       (one_of_map (λ label. (label, cell_at wanted [] label)) (λ cell. (cell.1.absent ≡ false) × IsCovered cell.1.value family)
       (labels_of (wanted ++ refused))
       (one_weaker (λ name. name ≡ label) (IsBroken rest) (λ name same. subst (IsBroken rest) (sym same) (
-        is_asked_for label wanted (one_of_among (λ type. (field_at type label).optional ≡ false) (parts_in record_of true choice) wanted
-            (parts_among record_of choice rest) has),
+        is_asked_for label wanted asked,
         stays_covered record_of (λ type. (field_at type label).type) [] choice rest covered,
-      )) (labels_of (wanted ++ refused)) (named rest)))))))
+      )) (labels_of (wanted ++ refused)) (asked_is_named label wanted refused asked)))))))
     where
       IsBroken : Choice → Name → Type 0
       IsBroken rest label = ((cell_at (parts_in record_of true (choice ++ rest)) [] label).absent ≡ false)

@@ -24,7 +24,7 @@ ghost use Rattle.cd_rules.specs.MadeForTasks.{IsRightPair, IsFunctionBut, arrows
 ghost use Rattle.cd_rules.specs.Needs.{question};
 ghost use Rattle.cd_rules.specs.PartialChoices.{Signed, partial, partial_choices, PartialFails};
 ghost use Rattle.cd_rules.specs.PartialChoices.{IsPartialOf, AccountForClauses, HasNoBasic};
-ghost use Rattle.cd_rules.specs.Rows.{Reasons, field_at, labels_of};
+ghost use Rattle.cd_rules.specs.Rows.{Reasons, field_at};
 ghost use Rattle.cd_rules.specs.Tasks.{Task, PairTask, XmlTask, ArrowTask, RecordTask, IsTask};
 ghost use Rattle.cd_rules.specs.Tasks.{IsTaskOf, tasks_of, questions_of, row_of_given, AreCases};
 ghost use Rattle.cd_rules.specs.Tasks.{TaskFails};
@@ -42,7 +42,7 @@ pub fn partial_choices_account_for_clauses()
 
 /// A partial choice fails where what it wants so far has a covered question, whatever formulas are
 /// left: of pairs and XML things for one of their parts, of records at a label where some type asks
-/// for a field, and which each clause that the choice may become names.
+/// for a field.
 pub fn partial_choices_are_cut()
     ensures pairs { (family : List Question) (choice : Choice) (left : List Signed)
         → IsCovered (question (map (λ parts. parts.0) (parts_in pair_of true choice)) []) family
@@ -56,9 +56,7 @@ pub fn partial_choices_are_cut()
         ⊎ IsCovered (question (map (λ parts. parts.2) (parts_in xml_of true choice)) []) family
         → PartialFails family (partial AnXml choice left) }
     ensures records { (family : List Question) (choice : Choice) (left : List Signed)
-        (label : Name) → ((rest : Choice) → AnyOf (λ name. name ≡ label)
-        (labels_of (parts_in record_of true (choice ++ rest)
-        ++ parts_in record_of false (choice ++ rest))))
+        (label : Name)
         → AnyOf (λ type. (field_at type label).optional ≡ false) (parts_in record_of true choice)
         → IsCovered (question (map (λ type. (field_at type label).type)
         (parts_in record_of true choice)) []) family
