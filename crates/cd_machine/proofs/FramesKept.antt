@@ -2,7 +2,7 @@
 use Rattle.std.proofs.Common.{◌≡◌, ℕ, List, [], ◌∷◌, ◌++◌, length, take, refl, sym, ap, subst, ◌∙◌, append_assoc}
 use Rattle.std.proofs.Math.Seq.{take-append_seam}
 use Rattle.cd_sets.specs.declared.question.Question.{Question}
-use Rattle.cd_model.specs.AllOf.{AllOf, AnyOf}
+use Rattle.cd_model.specs.AllOf.{AllOf}
 use Rattle.cd_model.specs.Formula.{Graph}
 use Rattle.cd_rules.specs.Clauses.{Clause, IsClauseOfQuestion}
 use Rattle.cd_rules.specs.Family.{AreAmong, IsClosed, Breaks}
@@ -10,7 +10,7 @@ use Rattle.cd_rules.specs.PartialChoices.{PartialFails}
 use Rattle.cd_rules.specs.Tasks.{TaskFails}
 use Rattle.cd_rules.proofs.Among.{among_longer, among_on, among_itself}
 use Rattle.cd_rules.proofs.Covering.{covered_where, breaks_on}
-use Rattle.cd_rules.proofs.Ones.{each_weaker, one_on_left, each_of_lists}
+use Rattle.cd_rules.proofs.Ones.{each_weaker, each_of_lists}
 use Rattle.cd_machine.specs.Machine.{Frame, State, Work, IsDone, Step, opens, knows, works, finds, leaves}
 use Rattle.cd_machine.specs.Right.{IsBroken, IsWorkOf, AreFrames}
 use Rattle.cd_machine.proofs.WorkKept.{broken_on, work_on, work_kept}

@@ -1,15 +1,15 @@
 -- What each step keeps all do; what a state is at first, and what is so at last.
-use Rattle.std.proofs.Common.{List, [], ◌∷◌, ◌++◌, length, sym, subst}
+use Rattle.std.proofs.Common.{List, [], ◌∷◌, length, sym, subst}
 use Rattle.cd_sets.specs.declared.question.Question.{Question}
 use Rattle.cd_model.specs.AllOf.{AllOf}
 use Rattle.cd_model.specs.Formula.{Graph}
 use Rattle.cd_model.proofs.Covered.{each_parts}
-use Rattle.cd_rules.specs.Family.{IsClosed, AsksNodes}
+use Rattle.cd_rules.specs.Family.{AsksNodes}
 use Rattle.cd_rules.proofs.Ones.{each_of_lists}
 use Rattle.cd_machine.specs.Machine.{Witness, State, state, IsWitness, all_questions, Step, opens, knows, works, finds, leaves, Steps, no_step, one_more}
 use Rattle.cd_machine.specs.Right.{Differ, AreFrames, IsRight}
-use Rattle.cd_machine.proofs.FramesKept.{frames_kept, closed_at_last, cut_to_place}
-use Rattle.cd_machine.proofs.QuestionsOnce.{once_kept, once_again}
+use Rattle.cd_machine.proofs.FramesKept.{frames_kept, cut_to_place}
+use Rattle.cd_machine.proofs.QuestionsOnce.{once_kept}
 
 module _ (graph : Graph) (settled : List Question) where
   witnesses_kept : (before after : State) → Step graph settled before after → AllOf (IsWitness graph) before.witnesses

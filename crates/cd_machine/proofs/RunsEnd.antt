@@ -1,11 +1,11 @@
 -- Each run of states that are right ends, as long as their questions are among those of some list.
-use Rattle.std.proofs.Common.{◌≡◌, ◌⊎◌, ◌<◌, ◌≤◌, ◌+◌, ◌++◌, ℕ, zero, suc, List, length, map, inl, inr, ap, ◌∙◌}
+use Rattle.std.proofs.Common.{◌<◌, ◌≤◌, ◌+◌, ◌++◌, ℕ, zero, suc, List, length, map, inl, inr, ap}
 use native.Mathlib.Omega.{arith}
 use Rattle.std.proofs.lemmas.List.{length-append, length-map}
 use Rattle.cd_sets.specs.declared.question.Question.{Question}
 use Rattle.cd_model.specs.Formula.{Graph}
 use Rattle.cd_rules.specs.Family.{AreAmong}
-use Rattle.cd_machine.specs.Machine.{State, Step, all_questions}
+use Rattle.cd_machine.specs.Machine.{State, all_questions}
 use Rattle.cd_machine.specs.Right.{IsRight}
 use Rattle.cd_machine.specs.Weight.{frames_weight, IsFurther, Ends, ends}
 use Rattle.cd_machine.proofs.RunsAreRight.{step_right}

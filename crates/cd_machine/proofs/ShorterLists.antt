@@ -1,5 +1,5 @@
 -- A list whose members differ is no longer than one that has them all.
-use Rattle.std.proofs.Common.{◌≡◌, ◌≤◌, ◌⊎◌, ℕ, suc, List, [], ◌∷◌, length, inl, inr, refl, sym, ap, subst}
+use Rattle.std.proofs.Common.{◌≡◌, ◌≤◌, ◌⊎◌, suc, List, [], ◌∷◌, length, inl, inr, refl, sym, ap, subst}
 use native.Mathlib.Omega.{arith}
 use Rattle.cd_model.specs.AllOf.{AnyOf}
 use Rattle.cd_rules.specs.Family.{AreAmong}

@@ -1,5 +1,5 @@
--- A partial choice fails where what it wants so far has a covered question: each clause of a choice with its literals is broken.
--- So it need not be joined with others.
+-- A partial choice fails where what it wants, or refuses, so far has a covered question: each clause of a choice with its
+-- literals is broken. So it need not be joined with others.
 use Rattle.std.proofs.Common.{◌≡◌, Bool, true, false, ◌&&◌, ◌⊎◌, List, [], ◌∷◌, ◌++◌, Option, Some, None, map, inl, inr, refl, sym, ap, subst, ◌∙◌}
 use Rattle.std.proofs.lemmas.Bool.{true≢false}
 use Rattle.std.specs.List.{list_all}
@@ -9,16 +9,17 @@ use Rattle.cd_syntax.specs.Name.{Name}
 use Rattle.cd_model.specs.BuiltIns.{ATOM, RECORD}
 use Rattle.cd_model.specs.AllOf.{AnyOf}
 use Rattle.cd_model.specs.Formula.{Formula, Field}
-use Rattle.cd_model.specs.Kinds.{Kind, APair, AnXml, ARecord}
+use Rattle.cd_model.specs.Kinds.{Kind, APair, AnXml, ARecord, AFunction}
 use Rattle.cd_model.proofs.Labels.{IsOneOf}
 use Rattle.cd_rules.specs.Choices.{Choice}
-use Rattle.cd_rules.specs.Clauses.{Pairs, Xmls, Records, Pair, Triple, RecordType, one_more, parts_in, pair_of, xml_of, record_of}
+use Rattle.cd_rules.specs.Clauses.{Pairs, Xmls, Records, Arrows, Pair, Triple, RecordType, one_more, parts_in}
+use Rattle.cd_rules.specs.Clauses.{pair_of, xml_of, record_of, arrow_of}
 use Rattle.cd_rules.specs.Fails.{row_seen}
 use Rattle.cd_rules.specs.Family.{AreAmong, IsCovered, Breaks}
 use Rattle.cd_rules.specs.Needs.{question}
 use Rattle.cd_rules.specs.PartialChoices.{Signed, partial, clause_by, completions, PartialFails}
 use Rattle.cd_rules.specs.Rows.{labels_of, field_at, cell_at}
-use Rattle.cd_rules.specs.Tasks.{PairTask, XmlTask, questions_of}
+use Rattle.cd_rules.specs.Tasks.{PairTask, XmlTask, ArrowTask, questions_of, TaskFails}
 use Rattle.cd_rules.proofs.Among.{among_longer, among_map, among_both, one_of_among}
 use Rattle.cd_rules.proofs.Covering.{asks_more, covers_more}
 use Rattle.cd_rules.proofs.FailingTasks.{covered_fails, task_breaks}
@@ -35,16 +36,16 @@ one_more_longer false false None some others = refl
 one_more_longer true false is some others = refl
 one_more_longer false true is some others = refl
 
-parts_longer : {X : Type 0} (parts_of : Formula → Option X) (choice rest : Choice)
-    → parts_in parts_of true (choice ++ rest) ≡ parts_in parts_of true choice ++ parts_in parts_of true rest
-parts_longer parts_of [] rest = refl
-parts_longer parts_of (literal ∷ choice) rest = ap (one_more true literal.wanted (parts_of literal.is)) (parts_longer parts_of choice rest)
-    ∙ one_more_longer true literal.wanted (parts_of literal.is) (parts_in parts_of true choice) (parts_in parts_of true rest)
+module _ {X : Type 0} (parts_of : Formula → Option X) (sign : Bool) where
+  parts_longer : (choice rest : Choice)
+      → parts_in parts_of sign (choice ++ rest) ≡ parts_in parts_of sign choice ++ parts_in parts_of sign rest
+  parts_longer [] rest = refl
+  parts_longer (literal ∷ choice) rest = ap (one_more sign literal.wanted (parts_of literal.is)) (parts_longer choice rest)
+      ∙ one_more_longer sign literal.wanted (parts_of literal.is) (parts_in parts_of sign choice) (parts_in parts_of sign rest)
 
-parts_among : {X : Type 0} (parts_of : Formula → Option X) (choice rest : Choice)
-    → AreAmong (parts_in parts_of true choice) (parts_in parts_of true (choice ++ rest))
-parts_among parts_of choice rest = subst (AreAmong (parts_in parts_of true choice)) (sym (parts_longer parts_of choice rest))
-    (among_longer (parts_in parts_of true choice) (parts_in parts_of true rest))
+  parts_among : (choice rest : Choice) → AreAmong (parts_in parts_of sign choice) (parts_in parts_of sign (choice ++ rest))
+  parts_among choice rest = subst (AreAmong (parts_in parts_of sign choice)) (sym (parts_longer choice rest))
+      (among_longer (parts_in parts_of sign choice) (parts_in parts_of sign rest))
 
 among_after : (before some all : List NodeId) → AreAmong some all → AreAmong (before ++ some) (before ++ all)
 among_after [] some all among = among
@@ -86,7 +87,7 @@ module _ (family : List Question) where
       let all = before ++ map part (parts_in parts_of true (choice ++ rest)) in
       covers_more family (question all []) (question some []) (asks_more some [] all [] (among_after before
       (map part (parts_in parts_of true choice)) (map part (parts_in parts_of true (choice ++ rest)))
-      (among_map part (parts_in parts_of true choice) (parts_in parts_of true (choice ++ rest)) (parts_among parts_of choice rest))) tt)
+      (among_map part (parts_in parts_of true choice) (parts_in parts_of true (choice ++ rest)) (parts_among parts_of true choice rest))) tt)
 
   -- so whatever completes the choice, its clause is broken
   cut : (kind : Kind) (choice : Choice) (left : List Signed) → ((rest : Choice) → Breaks family (clause_by kind (choice ++ rest)))
@@ -134,7 +135,7 @@ module _ (family : List Question) where
   record_cut choice left label has covered = cut ARecord choice left (λ rest.
       let wanted = parts_in record_of true (choice ++ rest) in let refused = parts_in record_of false (choice ++ rest) in
       let asked = one_of_among (λ type. (field_at type label).optional ≡ false) (parts_in record_of true choice) wanted
-          (parts_among record_of choice rest) has in
+      (parts_among record_of true choice rest) has in
       task_breaks family (Records wanted refused) (inl (row_seen [] (inl
       (one_of_map (λ label. (label, cell_at wanted [] label)) (λ cell. (cell.1.absent ≡ false) × IsCovered cell.1.value family)
       (labels_of (wanted ++ refused))
@@ -146,3 +147,15 @@ module _ (family : List Question) where
       IsBroken : Choice → Name → Type 0
       IsBroken rest label = ((cell_at (parts_in record_of true (choice ++ rest)) [] label).absent ≡ false)
           × IsCovered (cell_at (parts_in record_of true (choice ++ rest)) [] label).value family
+
+  -- of functions the argument of a refused arrow
+  pub arrow_cut : (choice : Choice) (left : List Signed)
+      → AnyOf (λ parts. IsCovered (question (parts.0 ∷ []) []) family) (parts_in arrow_of false choice)
+      → PartialFails family (partial AFunction choice left)
+  arrow_cut choice left covered = cut AFunction choice left (λ rest.
+      let wanted = parts_in arrow_of true (choice ++ rest) in let refused = parts_in arrow_of false (choice ++ rest) in
+      task_breaks family (Arrows wanted refused) (one_of_map (λ one. ArrowTask one wanted ([], []) wanted) (TaskFails family) refused
+      (one_weaker (λ parts. IsCovered (question (parts.0 ∷ []) []) family) (λ one. TaskFails family (ArrowTask one wanted ([], []) wanted))
+      (λ one is. covered_fails family (ArrowTask one wanted ([], []) wanted) (inl is)) refused
+      (one_of_among (λ parts. IsCovered (question (parts.0 ∷ []) []) family) (parts_in arrow_of false choice) refused
+      (parts_among arrow_of false choice rest) covered))))

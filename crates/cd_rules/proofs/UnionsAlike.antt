@@ -4,9 +4,8 @@ use Rattle.cd_sets.specs.declared.node_id.NodeId.{NodeId}
 use Rattle.cd_model.specs.AllOf.{AllOf, AnyOf}
 use Rattle.cd_model.specs.Formula.{Formula, Graph, Or, formulas_of, formula_at}
 use Rattle.cd_model.specs.Membership.{Reader, at_nodes, holds, each_holds, one_holds}
-use Rattle.cd_rules.specs.Family.{AreAmong, SameMembers}
+use Rattle.cd_rules.specs.Family.{SameMembers}
 use Rattle.cd_rules.proofs.Among.{each_of_among, one_of_among}
-use Rattle.cd_rules.proofs.Ones.{one_weaker}
 
 pub equal_formulas : (graph : Graph) (reader : Reader) (one other : NodeId) (answer : Bool) → formula_at graph one ≡ formula_at graph other
     → at_nodes graph reader one answer ↔ at_nodes graph reader other answer

@@ -1,5 +1,4 @@
--- Where a pair, an XML formula or an arrow is wanted and refused, the clause is broken by the questions that want and refuse one node; and these
--- questions of all nodes are a closed family. (A draft: the clauses; that the choices of such a question have such a literal is not shown.)
+-- A clause that wants and refuses the same pair, XML formula or arrow is broken by the questions that want and refuse a node of it.
 use Rattle.std.proofs.Common.{◌≡◌, List, [], ◌∷◌, map, inl, inr, refl, sym, subst}
 use Rattle.cd_sets.specs.declared.node_id.NodeId.{NodeId}
 use Rattle.cd_sets.specs.declared.question.Question.{Question}

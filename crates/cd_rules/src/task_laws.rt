@@ -17,6 +17,7 @@ ghost use Rattle.cd_model.specs.Membership.{holds, answers, reader, value_answer
 ghost use Rattle.cd_rules.specs.Choices.{Choice};
 ghost use Rattle.cd_rules.specs.Clauses.{Clause, Pair, Triple, RecordType, Pairs, Xmls, Arrows};
 ghost use Rattle.cd_rules.specs.Clauses.{Records, IsInClause, parts_in, pair_of, xml_of, record_of};
+ghost use Rattle.cd_rules.specs.Clauses.{arrow_of};
 ghost use Rattle.cd_rules.specs.Family.{SameMembers, IsCovered, Breaks, AsksNodes};
 ghost use Rattle.cd_rules.specs.InRow.{thing_at, IsForRow};
 ghost use Rattle.cd_rules.specs.InWay.{AreInWay};
@@ -40,9 +41,9 @@ pub fn partial_choices_account_for_clauses()
         → AllOf (IsPartialOf graph question) (partial_choices graph question) }
 {}
 
-/// A partial choice fails where what it wants so far has a covered question, whatever formulas are
-/// left: of pairs and XML things for one of their parts, of records at a label where some type asks
-/// for a field.
+/// A partial choice fails where a question of it is covered, whatever formulas are left: that of what
+/// it wants of a part of pairs or of XML things, or of a field that some type asks for; or that of
+/// the argument of a refused arrow.
 pub fn partial_choices_are_cut()
     ensures pairs { (family : List Question) (choice : Choice) (left : List Signed)
         → IsCovered (question (map (λ parts. parts.0) (parts_in pair_of true choice)) []) family
@@ -61,6 +62,10 @@ pub fn partial_choices_are_cut()
         → IsCovered (question (map (λ type. (field_at type label).type)
         (parts_in record_of true choice)) []) family
         → PartialFails family (partial ARecord choice left) }
+    ensures functions { (family : List Question) (choice : Choice) (left : List Signed)
+        → AnyOf (λ parts. IsCovered (question (parts.0 ∷ []) []) family)
+        (parts_in arrow_of false choice)
+        → PartialFails family (partial AFunction choice left) }
 {}
 
 /// The tasks of a clause, and the cases of such a task, are tasks of the clause; and their
