@@ -30,28 +30,26 @@ module _ (graph : Graph) where
       (subst (AllOf (PartialFails family)) (sym no_choice) tt)
 
   module _ (settled : List Question) where
+    -- what is settled and a list are among those with a longer list
+    longer : (list more : List Question) → AreAmong (settled ++ list) (settled ++ (list ++ more))
+    longer list more = subst (AreAmong (settled ++ list)) (append_assoc settled list more) (among_longer (settled ++ list) more)
+
     -- a list that goes on with questions that are broken
     goes_longer : (list : List Question) (frames : List Frame) (more : List Question)
         → AllOf (IsBroken graph (settled ++ (list ++ more))) more → AreFrames graph settled list frames
         → AreFrames graph settled (list ++ more) frames
     goes_longer list [] more broken are = each_of_lists (IsBroken graph (settled ++ (list ++ more))) list more
         (broken_on graph (settled ++ list) (settled ++ (list ++ more)) (longer list more) list are) broken
-      where
-        longer : (list more : List Question) → AreAmong (settled ++ list) (settled ++ (list ++ more))
-        longer list more = subst (AreAmong (settled ++ list)) (append_assoc settled list more) (among_longer (settled ++ list) more)
     goes_longer list (last ∷ frames) more broken (before, done, list_is, place_is, is, done_are, are) = (
       before,
       done ++ more,
       ap (λ list. list ++ more) list_is ∙ append_assoc before (last.question ∷ done) more,
       place_is,
-      work_on graph (settled ++ list) (settled ++ (list ++ more)) longer last.question last.work is,
+      work_on graph (settled ++ list) (settled ++ (list ++ more)) (longer list more) last.question last.work is,
       each_of_lists (IsBroken graph (settled ++ (list ++ more))) done more
-          (broken_on graph (settled ++ list) (settled ++ (list ++ more)) longer done done_are) broken,
+          (broken_on graph (settled ++ list) (settled ++ (list ++ more)) (longer list more) done done_are) broken,
       are,
     )
-      where
-        longer : AreAmong (settled ++ list) (settled ++ (list ++ more))
-        longer = subst (AreAmong (settled ++ list)) (append_assoc settled list more) (among_longer (settled ++ list) more)
 
     pub frames_kept : (before after : State) → Step graph settled before after
         → AreFrames graph settled before.list before.frames → AreFrames graph settled after.list after.frames

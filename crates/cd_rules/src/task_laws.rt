@@ -41,9 +41,9 @@ pub fn partial_choices_account_for_clauses()
         → AllOf (IsPartialOf graph question) (partial_choices graph question) }
 {}
 
-/// A partial choice fails where a question of it is covered, whatever formulas are left: that of what
-/// it wants of a part of pairs or of XML things, or of a field that some type asks for; or that of
-/// the argument of a refused arrow.
+/// A partial choice fails where a question of it is covered, whatever formulas are left: that of
+/// what it wants of a part of pairs or of XML things, or of a field that a type asks for, or that
+/// of the argument of an arrow that it refuses.
 pub fn partial_choices_are_cut()
     ensures pairs { (family : List Question) (choice : Choice) (left : List Signed)
         → IsCovered (question (map (λ parts. parts.0) (parts_in pair_of true choice)) []) family
