@@ -55,11 +55,11 @@ module _ {X : Type 0} (answers : X → Answers) (at : Name → Option X) (labels
   abbrev pub IsAs : Bool → Name → RecordType → Type 0
   IsAs answer label type = Says answers (at label) (field_at type label) answer
 
-  abbrev pub IsAsRest : Bool → Name → RecordType → Type 0
+  abbrev IsAsRest : Bool → Name → RecordType → Type 0
   IsAsRest answer label type = Says answers (at label) (free_field type) answer
 
   -- the record is outside a type for this reason: at the label, or at one that is none of these
-  abbrev pub IsOutside : RecordType → Type 0
+  abbrev IsOutside : RecordType → Type 0
   IsOutside type = (label : Name) × (IsOneOf labels label → ⊥) × IsAsRest false label type
 
   abbrev pub IsReason : RecordType → Reason → Type 0
