@@ -8,8 +8,8 @@ use Rattle.cd_model.specs.Membership.{Answers, asked}
 use Rattle.cd_rules.specs.Clauses.{Clause, Ints, Chars, Atoms, Pairs, Xmls, Records, Arrows}
 use Rattle.cd_rules.specs.Needs.{Way, Need, question}
 use Rattle.cd_rules.specs.Rows.{Cell, Row, rows_of}
-use Rattle.cd_rules.specs.Family.{AsksNoLess, IsOfFamily, IsCovered, BreaksNeed, BreaksRow, HasBrokenNeed, Breaks}
-use Rattle.cd_rules.proofs.Among.{AreOf, each_of_its, each_of_among, among_itself, among_on, among_sets}
+use Rattle.cd_rules.specs.Family.{AsksNoLess, IsOfFamily, IsCovered, BreaksNeed, BreaksRow, HasBrokenNeed, Breaks, AreAmong}
+use Rattle.cd_rules.proofs.Among.{each_of_its, each_of_among, among_itself, among_on, among_sets}
 use Rattle.cd_rules.proofs.Ones.{each_weaker, one_weaker, one_leads, one_with_each}
 
 -- each question asks no less than itself
@@ -22,7 +22,7 @@ asks_on more question less asks on =
     (among_on less.pos question.pos more.pos on.0 asks.0, among_on less.neg question.neg more.neg on.1 asks.1)
 
 -- where nodes are among others, the question of the others asks no less
-pub asks_more : (pos neg more_pos more_neg : List NodeId) → AreOf pos more_pos → AreOf neg more_neg
+pub asks_more : (pos neg more_pos more_neg : List NodeId) → AreAmong pos more_pos → AreAmong neg more_neg
     → AsksNoLess (question more_pos more_neg) (question pos neg)
 asks_more pos neg more_pos more_neg wanted refused = (among_sets pos more_pos wanted, among_sets neg more_neg refused)
 
@@ -56,7 +56,7 @@ of_covered Fact family question comes each covered = one_leads (λ other. AsksNo
 abbrev pub AreCovered : (some all : List Question) → Type 0
 AreCovered some all = AllOf (λ question. IsCovered question all) some
 
-pub covered_where : (some all : List Question) → AreOf some all → AreCovered some all
+pub covered_where : (some all : List Question) → AreAmong some all → AreCovered some all
 covered_where some all among =
     each_weaker (λ question. IsOfFamily question all) (λ question. IsCovered question all) (covers_own all) some among
 

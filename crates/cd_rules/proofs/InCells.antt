@@ -17,15 +17,15 @@ Says answers None field answer = field.optional ≡ answer
 Says answers (Some is) field answer = answers is field.type answer
 
 -- a test that each of a list passes, and back
-all_pass : {X : Type 0} (test : X → Bool) (xs : List X) → AllOf (λ x. test x ≡ true) xs → list_all test xs ≡ true
+pub all_pass : {X : Type 0} (test : X → Bool) (xs : List X) → AllOf (λ x. test x ≡ true) xs → list_all test xs ≡ true
 all_pass test [] each = refl
 all_pass test (x ∷ xs) each = rw each.0 (all_pass test xs each.1)
 
-both_hold : (one other : Bool) → one && other ≡ true → (one ≡ true) × (other ≡ true)
+pub both_hold : (one other : Bool) → one && other ≡ true → (one ≡ true) × (other ≡ true)
 both_hold true other is = (refl, is)
 both_hold false other is = absurd cc
 
-each_passes : {X : Type 0} (test : X → Bool) (xs : List X) → list_all test xs ≡ true → AllOf (λ x. test x ≡ true) xs
+pub each_passes : {X : Type 0} (test : X → Bool) (xs : List X) → list_all test xs ≡ true → AllOf (λ x. test x ≡ true) xs
 each_passes test [] all = tt
 each_passes test (x ∷ xs) all =
     let both = both_hold (test x) (list_all test xs) all in (both.0, each_passes test xs both.1)

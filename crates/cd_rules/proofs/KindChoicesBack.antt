@@ -1,20 +1,24 @@
 -- What a choice of a kind wants and refuses is a clause of the question.
-use Rattle.std.proofs.Common.{◌≡◌, ◌⊎◌, Bool, true, false, List, [], ◌∷◌, Option, Some, None, if◌then◌else◌, inl, inr, subst, ◌∙◌}
-use Rattle.std.proofs.lemmas.Bool.{cases_Bool, and_parts}
+use Rattle.std.proofs.Common.{◌≡◌, ◌&&◌, ◌⊎◌, Bool, true, false, List, [], ◌∷◌, Option, Some, None, if◌then◌else◌, inl, inr, refl, subst, ◌∙◌}
+use Rattle.std.proofs.lemmas.Bool.{cases_Bool}
 use Rattle.cd_sets.specs.declared.question.Question.{Question}
 use Rattle.cd_model.specs.AllOf.{AnyOf}
 use Rattle.cd_model.specs.Formula.{Formula, Graph}
 use Rattle.cd_model.specs.Kinds.{Kind}
 use Rattle.cd_rules.specs.Choices.{Choice, choices_of}
 use Rattle.cd_rules.specs.Clauses.{IsOfParts, AllOfKind, kind_of_formula}
-use Rattle.cd_rules.specs.KindChoices.{is_of, kind_choices_of}
-use Rattle.cd_rules.proofs.KindChoicesExact.{of_kind, fits, for_kind, question_exact, parts_same, HasParts}
+use Rattle.cd_rules.specs.KindChoices.{is_of, kind_choices_of, of_kind, fits, for_kind}
+use Rattle.cd_rules.proofs.KindChoicesExact.{question_exact, parts_same, HasParts}
+
+both_so : (one other : Bool) → (one && other) ≡ true → (one ≡ true) × (other ≡ true)
+both_so true other is = (refl, is)
+both_so false other is = absurd cc
 
 module _ (kind : Kind) (says : (is : Formula) → is_of kind is ≡ true → kind_of_formula is ≡ Some kind) where
   all_of_fitting : (choice : Choice) → fits kind choice ≡ true → AllOfKind kind choice
   all_of_fitting [] fitting = tt
   all_of_fitting (literal ∷ choice) fitting =
-      let both = and_parts (if literal.wanted then is_of kind literal.is else true) (fits kind choice) fitting in (
+      let both = both_so (if literal.wanted then is_of kind literal.is else true) (fits kind choice) fitting in (
         λ wanted. says literal.is (subst (λ (test : Bool). (if test then is_of kind literal.is else true) ≡ true) wanted both.0),
         all_of_fitting choice both.1,
       )
@@ -27,8 +31,7 @@ module _ (kind : Kind) (says : (is : Formula) → is_of kind is ≡ true → kin
     one_back (choice ∷ all) is = by_test (cases_Bool (fits kind choice)) (one_back all)
       where
         by_test : (fits kind choice ≡ true) ⊎ (fits kind choice ≡ false)
-            → (AnyOf (HasParts kind parts_of others wanted refused) (for_kind kind all)
-            → AnyOf (λ choice. IsOfParts kind parts_of choice wanted refused) all)
+            → (AnyOf (HasParts kind parts_of others wanted refused) (for_kind kind all) → AnyOf (λ choice. IsOfParts kind parts_of choice wanted refused) all)
             → AnyOf (λ choice. IsOfParts kind parts_of choice wanted refused) (choice ∷ all)
         by_test (inr differ) rest = inr (rest (subst (λ (test : Bool). AnyOf (HasParts kind parts_of others wanted refused)
             (if test then of_kind kind choice ∷ for_kind kind all else for_kind kind all)) differ is))
@@ -44,8 +47,7 @@ module _ (kind : Kind) (says : (is : Formula) → is_of kind is ≡ true → kin
             )
             by_one (inr later) = inr (rest later)
 
-    pub kind_clause_of : (graph : Graph) (question : Question)
-        → AnyOf (HasParts kind parts_of others wanted refused) (kind_choices_of kind graph question)
+    pub kind_clause_of : (graph : Graph) (question : Question) → AnyOf (HasParts kind parts_of others wanted refused) (kind_choices_of kind graph question)
         → AnyOf (λ choice. IsOfParts kind parts_of choice wanted refused) (choices_of graph question)
     kind_clause_of graph question is = one_back (choices_of graph question)
         (subst (AnyOf (HasParts kind parts_of others wanted refused)) (question_exact kind graph question) is)

@@ -1,5 +1,5 @@
 -- The choices of a kind are what all choices are for the kind: so each clause of the kind is that of one of them.
-use Rattle.std.proofs.Common.{◌≡◌, ◌&&◌, ◌⊎◌, Bool, true, false, not, List, [], ◌∷◌, ◌++◌, Option, Some, None, map, if◌then◌else◌, inl, inr, refl, sym, ap, ap₂, subst, ◌∙◌}
+use Rattle.std.proofs.Common.{◌≡◌, ◌&&◌, ◌⊎◌, Bool, true, false, not, List, [], ◌∷◌, ◌++◌, Option, Some, None, map, if◌then◌else◌, inl, inr, refl, sym, ap, subst, ◌∙◌}
 use Rattle.std.proofs.lemmas.Bool.{cases_Bool}
 use Rattle.cd_sets.specs.declared.node_id.NodeId.{NodeId}
 use Rattle.cd_sets.specs.declared.question.Question.{Question}
@@ -7,26 +7,12 @@ use Rattle.cd_model.specs.AllOf.{AnyOf}
 use Rattle.cd_model.specs.Formula as formula
 use Rattle.cd_model.specs.Formula.{Formula, Formulas, NoFormula, AFormula, Graph, formula_at}
 use Rattle.cd_model.specs.Kinds.{Kind}
-use Rattle.cd_rules.specs.Choices.{Literal, Choice, joined, when, choices, choices_of_each, choices_of_one, choices_at, choices_of}
+use Rattle.cd_rules.specs.Choices.{Choice, joined, when, choices, choices_of_each, choices_of_one, choices_at, choices_of}
 use Rattle.cd_rules.specs.Clauses.{IsOfParts, AllOfKind, kind_of_formula, one_more, parts_in}
-use Rattle.cd_rules.specs.KindChoices.{is_of, literal_by, kind_choices, kind_of_each, kind_of_one, kind_at, kind_choices_of}
+use Rattle.cd_rules.specs.KindChoices.{is_of, literal_by, kind_choices, kind_of_each, kind_of_one, kind_at, kind_choices_of, of_kind, allows, fits, for_kind}
 
--- what a choice is for a kind
-abbrev pub of_kind : Kind → Choice → Choice
-of_kind kind [] = []
-of_kind kind (literal ∷ choice) = if is_of kind literal.is then literal ∷ of_kind kind choice else of_kind kind choice
-
-abbrev allows : Kind → Literal → Bool
-allows kind literal = if literal.wanted then is_of kind literal.is else true
-
-abbrev pub fits : Kind → Choice → Bool
-fits kind [] = true
-fits kind (literal ∷ choice) = allows kind literal && fits kind choice
-
-abbrev pub for_kind : Kind → List Choice → List Choice
-for_kind kind [] = []
-for_kind kind (choice ∷ choices) =
-    if fits kind choice then of_kind kind choice ∷ for_kind kind choices else for_kind kind choices
+cons_both : (one two : Choice) (ones twos : List Choice) → one ≡ two → ones ≡ twos → one ∷ ones ≡ two ∷ twos
+cons_both one two ones twos same so = ap (λ x. x ∷ ones) same ∙ ap (λ xs. two ∷ xs) so
 
 module _ (kind : Kind) where
   fits_append : (one other : Choice) → fits kind (one ++ other) ≡ (fits kind one && fits kind other)
@@ -77,7 +63,8 @@ module _ (kind : Kind) where
           → (if fits kind (choice ++ other) then of_kind kind (choice ++ other) ∷ for_kind kind (map (λ other. choice ++ other) others)
           else for_kind kind (map (λ other. choice ++ other) others))
           ≡ with_each one (of_kind kind choice) (if two then of_kind kind other ∷ for_kind kind others else for_kind kind others)
-      by_tests true true fitting rest = rw fitting (ap₂ (λ one rest. one ∷ rest) (of_append choice other) rest)
+      by_tests true true fitting rest = rw fitting (cons_both (of_kind kind (choice ++ other)) (of_kind kind choice ++ of_kind kind other)
+          (for_kind kind (map (λ other. choice ++ other) others)) (with_each true (of_kind kind choice) (for_kind kind others)) (of_append choice other) rest)
       by_tests true false fitting rest = rw fitting rest
       by_tests false two fitting rest = rw fitting rest
 
@@ -97,8 +84,7 @@ module _ (kind : Kind) where
   for_when true = refl
   for_when false = refl
 
-  for_literal : (is : Formula) (wanted : Bool) → literal_by (is_of kind is) wanted is
-      ≡ for_kind kind ((record { wanted = wanted; is = is } ∷ []) ∷ [])
+  for_literal : (is : Formula) (wanted : Bool) → literal_by (is_of kind is) wanted is ≡ for_kind kind ((record { wanted = wanted; is = is } ∷ []) ∷ [])
   for_literal is wanted = by_tests (is_of kind is) wanted
     where
       by_tests : (test wanted : Bool) → literal_by test wanted is ≡ (if (if wanted then test else true) && true
@@ -109,7 +95,7 @@ module _ (kind : Kind) where
       by_tests false false = refl
 
   mutual
-    kind_exact : (is : Formula) (wanted : Bool) → kind_choices kind is wanted ≡ for_kind kind (choices is wanted)
+    pub kind_exact : (is : Formula) (wanted : Bool) → kind_choices kind is wanted ≡ for_kind kind (choices is wanted)
     kind_exact formula.Nothing wanted = for_when (not wanted)
     kind_exact formula.Everything wanted = for_when wanted
     kind_exact (formula.And formulas) true = each_exact formulas true
@@ -149,8 +135,7 @@ module _ (kind : Kind) where
       ∙ sym (for_joined (choices_at graph question.pos true) (choices_at graph question.neg false))
 
   -- a choice that has a clause of the kind fits it
-  all_fit : ((is : Formula) → kind_of_formula is ≡ Some kind → is_of kind is ≡ true) → (choice : Choice) → AllOfKind kind choice
-      → fits kind choice ≡ true
+  all_fit : ((is : Formula) → kind_of_formula is ≡ Some kind → is_of kind is ≡ true) → (choice : Choice) → AllOfKind kind choice → fits kind choice ≡ true
   all_fit says [] all = refl
   all_fit says (literal ∷ choice) all = by_test literal.wanted (λ is. says literal.is (all.0 is)) (all_fit says choice all.1)
     where
@@ -175,8 +160,7 @@ module _ (kind : Kind) where
             → parts_in parts_of sign (of_kind kind choice) ≡ parts_in parts_of sign choice
             → parts_in parts_of sign (of_kind kind (literal ∷ choice)) ≡ parts_in parts_of sign (literal ∷ choice)
         by_test (inl is) rest = rw is (ap (one_more sign literal.wanted (parts_of literal.is)) rest)
-        by_test (inr other) rest =
-            rw other (rw (others literal.is other) (rest ∙ none_more sign literal.wanted (parts_in parts_of sign choice)))
+        by_test (inr other) rest = rw other (rw (others literal.is other) (rest ∙ none_more sign literal.wanted (parts_in parts_of sign choice)))
 
     -- the parts of a choice
     abbrev pub HasParts : (wanted refused : List X) → Choice → Type 0

@@ -53,3 +53,15 @@ pub mod BasicsWithoutMembers
 pub mod KindChoicesExact
 pub mod KindChoicesBack
 pub mod ClausesOfKind
+pub mod SetsJoined
+pub mod FailingNeeds
+pub mod FailingRows
+pub mod CasesAreTasks
+pub mod FailingTasks
+pub mod TasksAsk
+pub mod Completions
+pub mod CoveredChoices
+pub mod ClausesByKind
+pub mod MembersOfTasks
+pub mod UnionsAlike
+pub mod WantedAndRefused

@@ -1,6 +1,6 @@
 -- Fields that fit the cells of a row, and have an element for each of its other questions, are in each wanted type and
 -- outside each refused one.
-use Rattle.std.proofs.Common.{◌≡◌, ◌<◌, Bool, true, false, not, ◌&&◌, List, [], ◌∷◌, ◌++◌, map, length}
+use Rattle.std.proofs.Common.{◌≡◌, ◌<◌, Bool, true, false, not, List, [], ◌∷◌, ◌++◌, map, length}
 use Rattle.std.proofs.Common.{Option, Some, None, ◌⊎◌, inl, inr, refl, sym, ◌∙◌, subst, arith}
 use Rattle.std.specs.List.{list_all}
 use Rattle.cd_syntax.specs.Name.{Name}
@@ -13,6 +13,7 @@ use Rattle.cd_model.proofs.Labels.{IsOneOf}
 use Rattle.cd_rules.specs.Clauses.{RecordType}
 use Rattle.cd_rules.specs.Needs.{question}
 use Rattle.cd_rules.specs.Rows.{Reasons, field_at, labels_of, types_at, types_elsewhere, cell_at}
+use Rattle.cd_rules.proofs.InCells.{both_hold, each_passes}
 use Rattle.cd_rules.proofs.Asking.{each_of_map}
 use Rattle.cd_rules.proofs.Ones.{each_weaker}
 use Rattle.cd_rules.proofs.PairsBack.{both_of_each, parts_of_asked}
@@ -29,15 +30,7 @@ each_everywhere Is [] each = tt
 each_everywhere Is (x ∷ xs) each =
     (λ place. (each place).0, each_everywhere Is xs (λ place. (each place).1))
 
--- tests that are passed
-both_pass : (one other : Bool) → one && other ≡ true → (one ≡ true) × (other ≡ true)
-both_pass true other is = (refl, is)
-both_pass false other is = absurd cc
-
-all_passed : {X : Type 0} (test : X → Bool) (xs : List X) → list_all test xs ≡ true → AllOf (λ x. test x ≡ true) xs
-all_passed test [] all = tt
-all_passed test (x ∷ xs) all = let both = both_pass (test x) (list_all test xs) all in (both.0, all_passed test xs both.1)
-
+-- a test that fails
 is_not : (b : Bool) → not b ≡ true → b ≡ false
 is_not true is = absurd cc
 is_not false is = refl
@@ -85,12 +78,12 @@ module _ (graph : Graph) (wanted : List RecordType) (reasons : Reasons) where
       × AllOf (λ type. has graph there (field_at type label) false) (types_at label reasons)
   as_cell label None free =
       let types = types_at label reasons in
-      let both = both_pass (list_all (λ type. (field_at type label).optional) wanted)
+      let both = both_hold (list_all (λ type. (field_at type label).optional) wanted)
       (list_all (λ type. not (field_at type label).optional) types) free in (
-        all_passed (λ (type : RecordType). (field_at type label).optional) wanted both.0,
+        each_passes (λ (type : RecordType). (field_at type label).optional) wanted both.0,
         each_weaker (λ (type : RecordType). not (field_at type label).optional ≡ true)
             (λ type. (field_at type label).optional ≡ false) (λ type is. is_not (field_at type label).optional is) types
-            (all_passed (λ (type : RecordType). not (field_at type label).optional) types both.1),
+            (each_passes (λ (type : RecordType). not (field_at type label).optional) types both.1),
       )
   as_cell label (Some is) asked_so = parts_of_asked (answers graph is) (λ (type : RecordType). (field_at type label).type)
       wanted (types_at label reasons) asked_so

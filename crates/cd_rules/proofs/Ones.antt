@@ -42,12 +42,15 @@ one_on_a_side fact (x ∷ xs) ys (inr later) = further (one_on_a_side fact xs ys
     further (inl is) = inl (inr is)
     further (inr is) = inr is
 
--- where one of those that are made of a list has a fact, it is made of one of the list
+-- the one of a list that has a fact, and the one of which that is made which has it
+pub picked : {X : Type 0} (fact : X → Type 0) (xs : List X) → AnyOf fact xs → (x : X) × AnyOf (λ other. other ≡ x) xs × fact x
+picked fact [] is = elim is [ ]
+picked fact (x ∷ xs) (inl is) = (x, inl refl, is)
+picked fact (x ∷ xs) (inr later) = let rest = picked fact xs later in (rest.0, inr rest.1, rest.2)
+
 pub one_picked : {X Y : Type 0} (f : X → Y) (fact : Y → Type 0) (xs : List X) → AnyOf fact (map f xs)
     → (x : X) × AnyOf (λ other. other ≡ x) xs × fact (f x)
-one_picked f fact [] is = elim is [ ]
-one_picked f fact (x ∷ xs) (inl is) = (x, inl refl, is)
-one_picked f fact (x ∷ xs) (inr later) = let rest = one_picked f fact xs later in (rest.0, inr rest.1, rest.2)
+one_picked f fact xs is = picked (λ x. fact (f x)) xs (map_of_one f fact xs is)
 
 -- what holds of all holds of each of a list
 pub each_of_all : {X : Type 0} (Is : X → Type 0) → ((x : X) → Is x) → (xs : List X) → AllOf Is xs

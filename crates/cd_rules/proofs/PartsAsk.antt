@@ -211,7 +211,7 @@ clause_names_labels graph whole question clause of = by_choices NamesLabels grap
 -- what each of a list has, each of the sides to which it is given has
 module _ {X : Type 0} (has : X → Type 0) where
   -- all that is given to either side has it
-  abbrev BothHave : List X × List X → Type 0
+  abbrev pub BothHave : List X × List X → Type 0
   BothHave sides = AllOf has sides.0 × AllOf has sides.1
 
   -- in each split into two
@@ -226,7 +226,7 @@ module _ {X : Type 0} (has : X → Type 0) where
       (λ sides both. (both.0, (each.0, both.1))) (splits xs) rest))
 
   -- all that is given to one of three sides has it
-  abbrev AllHave : List X × List X × List X → Type 0
+  abbrev pub AllHave : List X × List X × List X → Type 0
   AllHave sides = AllOf has sides.0 × AllOf has sides.1 × AllOf has sides.2
 
   -- in each split into three
@@ -267,7 +267,7 @@ module _ (nodes : ℕ) where
   seconds_below = parts_below (λ (parts : Pair). parts.1) (IsPairWithin nodes) (λ parts both. both.1)
 
   -- the way of a clause of pairs, for what its parts are given
-  pair_way_asks : (wanted : List Pair) → AllOf (IsPairWithin nodes) wanted → (given : List Pair × List Pair)
+  pub pair_way_asks : (wanted : List Pair) → AllOf (IsPairWithin nodes) wanted → (given : List Pair × List Pair)
       → BothHave (IsPairWithin nodes) given → AllOf (AsksNodes nodes) (pair_way wanted given)
   pair_way_asks wanted within given both = (
     question_asks (map (λ parts. parts.0) wanted) (map (λ parts. parts.0) given.0)
@@ -292,7 +292,7 @@ module _ (nodes : ℕ) where
   contents_below = parts_below (λ (parts : Triple). parts.2) (IsXmlWithin nodes) (λ parts all. all.2)
 
   -- the way of a clause of XML elements; it asks for an atom and for a record besides
-  xml_way_asks : 14 ≤ nodes → (wanted : List Triple) → AllOf (IsXmlWithin nodes) wanted
+  pub xml_way_asks : 14 ≤ nodes → (wanted : List Triple) → AllOf (IsXmlWithin nodes) wanted
       → (given : List Triple × List Triple × List Triple) → AllHave (IsXmlWithin nodes) given
       → AllOf (AsksNodes nodes) (xml_way wanted given)
   xml_way_asks least wanted within given all = (
@@ -319,7 +319,7 @@ module _ (nodes : ℕ) where
   )
 
   -- the way of a refused arrow
-  arrow_way_asks : (refused : Pair) → IsPairWithin nodes refused → (given : List Pair × List Pair)
+  pub arrow_way_asks : (refused : Pair) → IsPairWithin nodes refused → (given : List Pair × List Pair)
       → BothHave (IsPairWithin nodes) given → AllOf (AsksNodes nodes) (arrow_way refused given)
   arrow_way_asks refused within given both = (
     question_asks (refused.0 ∷ []) (map (λ parts. parts.0) given.0) (within.0, tt) (firsts_below given.0 both.0),
@@ -349,7 +349,7 @@ module _ (nodes : ℕ) where
   rests_below = parts_below (λ (type : RecordType). type.rest) (IsTypeWithin nodes) (λ type both. both.1)
 
   -- the types of some reasons are of nodes below
-  abbrev TypesAreWithin : Reasons → Type 0
+  abbrev pub TypesAreWithin : Reasons → Type 0
   TypesAreWithin reasons = AllOf (λ one. IsTypeWithin nodes one.0) reasons
 
   -- so they are with a type that is
@@ -417,7 +417,7 @@ abbrev pub RowAsks : (nodes : ℕ) → Row → Type 0
 RowAsks nodes row = AllOf (λ cell. AsksNodes nodes cell.1.value) row.cells × AllOf (AsksNodes nodes) row.some
 
 -- those of the row of some reasons do
-row_asks : (nodes : ℕ) (labels : List Name) (wanted : List RecordType) → AllOf (IsTypeWithin nodes) wanted
+pub row_asks : (nodes : ℕ) (labels : List Name) (wanted : List RecordType) → AllOf (IsTypeWithin nodes) wanted
     → (reasons : Reasons) → TypesAreWithin nodes reasons → RowAsks nodes (row_of labels wanted reasons)
 row_asks nodes labels wanted within reasons types = (
   each_of_map (λ label. (label, cell_at wanted reasons label)) (λ (cell : Name × Cell). AsksNodes nodes cell.1.value) labels

@@ -6,10 +6,10 @@ use Rattle.cd_model.specs.BuiltIns.{ATOM, RECORD}
 use Rattle.cd_model.specs.AllOf.{AnyOf}
 use Rattle.cd_model.specs.Formula.{Graph}
 use Rattle.cd_rules.specs.Clauses.{Clause, Ints, Chars, Atoms, Pairs, Xmls, Records, Arrows, Pair, Triple}
-use Rattle.cd_rules.specs.Family.{IsCovered, BreaksNeed, Breaks}
+use Rattle.cd_rules.specs.Family.{IsCovered, BreaksNeed, Breaks, AreAmong}
 use Rattle.cd_rules.specs.Needs.{Way, question, pair_way, xml_way, splits, splits_in_three}
 use Rattle.cd_rules.specs.Reduced.{LeavesOut, IsReduced}
-use Rattle.cd_rules.proofs.Among.{AreOf, among_itself, among_map}
+use Rattle.cd_rules.proofs.Among.{among_itself, among_map}
 use Rattle.cd_rules.proofs.Answered.{map_of_each}
 use Rattle.cd_rules.proofs.Asking.{each_of_map}
 use Rattle.cd_rules.proofs.Covering.{asks_more, covers_more}
@@ -22,7 +22,7 @@ module _ (family : List Question) where
   HasCovered way = AnyOf (λ question. IsCovered question family) way
 
   -- a family covers the question that refuses more parts, where it covers the one that refuses some
-  refuses_more : {X : Type 0} (part : X → NodeId) (wanted : List NodeId) (some all : List X) → AreOf some all
+  refuses_more : {X : Type 0} (part : X → NodeId) (wanted : List NodeId) (some all : List X) → AreAmong some all
       → IsCovered (question wanted (map part some)) family → IsCovered (question wanted (map part all)) family
   refuses_more part wanted some all among = covers_more family (question wanted (map part all)) (question wanted (map part some))
       (asks_more wanted (map part some) wanted (map part all) (among_itself wanted) (among_map part some all among))

@@ -43,7 +43,7 @@ one_or_none (name ∷ names) label = by_name (cases_Bool (bytes_eq name label)) 
     ])
 
 -- a type says no more of a label that is none of these than of any label that it does not name
-abbrev SaysNoMore : List Name → RecordType → Type 0
+abbrev pub SaysNoMore : List Name → RecordType → Type 0
 SaysNoMore labels type = (label : Name) → (IsOneOf labels label → ⊥) → field_at type label ≡ free_field type
 
 -- a record that has at each label what is told
@@ -52,7 +52,7 @@ labelled_by answers at label field answer = Says answers (at label) field answer
 
 module _ {X : Type 0} (answers : X → Answers) (at : Name → Option X) (labels : List Name) (wanted : List RecordType) where
   -- whether the record is as a type says of a label, and as it says of the labels that it does not name
-  abbrev IsAs : Bool → Name → RecordType → Type 0
+  abbrev pub IsAs : Bool → Name → RecordType → Type 0
   IsAs answer label type = Says answers (at label) (field_at type label) answer
 
   abbrev IsAsRest : Bool → Name → RecordType → Type 0
@@ -62,7 +62,7 @@ module _ {X : Type 0} (answers : X → Answers) (at : Name → Option X) (labels
   abbrev IsOutside : RecordType → Type 0
   IsOutside type = (label : Name) × (IsOneOf labels label → ⊥) × IsAsRest false label type
 
-  abbrev IsReason : RecordType → Reason → Type 0
+  abbrev pub IsReason : RecordType → Reason → Type 0
   IsReason type reason = HasReason (IsAs false) IsOutside type reason
 
   -- where the record is outside a type there is a reason, and back
@@ -80,7 +80,7 @@ module _ {X : Type 0} (answers : X → Answers) (at : Name → Option X) (labels
         subst (λ field. Says answers (at outside.0) field false) (free outside.0 none) outside.1,
       )
 
-  of_reason : (type : RecordType) → SaysNoMore labels type → AnyOf (IsReason type) (None ∷ map Some labels)
+  pub of_reason : (type : RecordType) → SaysNoMore labels type → AnyOf (IsReason type) (None ∷ map Some labels)
       → (label : Name) × IsAs false label type
   of_reason type free (inl is) = (
     is.0,
@@ -184,7 +184,7 @@ module _ {X : Type 0} (answers : X → Answers) (at : Name → Option X) (labels
         )
 
     -- a record in the row of reasons is as the wanted types say, and outside the refused ones for these reasons
-    wanted_in_row : (reasons : Reasons) → IsInRow answers at (row_of labels wanted reasons)
+    pub wanted_in_row : (reasons : Reasons) → IsInRow answers at (row_of labels wanted reasons)
         → (label : Name) → AllOf (IsAs true label) wanted
     wanted_in_row reasons is label = by_label (one_or_none labels label)
       where
@@ -194,7 +194,7 @@ module _ {X : Type 0} (answers : X → Answers) (at : Name → Option X) (labels
         by_label (inr none) =
             as_types label none (every_says (at label) reasons (is.1 label (none_of_cells reasons label none)))
 
-    refused_in_row : (reasons : Reasons) → AreNamed labels reasons → IsInRow answers at (row_of labels wanted reasons)
+    pub refused_in_row : (reasons : Reasons) → AreNamed labels reasons → IsInRow answers at (row_of labels wanted reasons)
         → AreReasons IsReason reasons
     refused_in_row reasons named is = reasons_back (IsAs false) IsOutside labels reasons named at_labels
         (each_weaker (λ type. Has (rest_question type)) IsOutside elsewhere
@@ -212,7 +212,7 @@ module _ {X : Type 0} (answers : X → Answers) (at : Name → Option X) (labels
             (label, none_of_these reasons label none, some_says (at label) type value)
 
 -- labels that are none of those that types name are named by none of them
-unnamed_by_all : (types : List RecordType) (label : Name) → (IsOneOf (labels_of types) label → ⊥) → IsUnnamed types label
+pub unnamed_by_all : (types : List RecordType) (label : Name) → (IsOneOf (labels_of types) label → ⊥) → IsUnnamed types label
 unnamed_by_all types label none = by_both (named_or_unnamed types label)
   where
     by_both : IsOneOf (labels_of types) label ⊎ IsUnnamed types label → IsUnnamed types label
@@ -220,7 +220,7 @@ unnamed_by_all types label none = by_both (named_or_unnamed types label)
     by_both (inr unnamed) = unnamed
 
 -- types that do not name labels which are none of these say no more of them
-say_no_more : (labels : List Name) (types : List RecordType)
+pub say_no_more : (labels : List Name) (types : List RecordType)
     → ((label : Name) → (IsOneOf labels label → ⊥) → IsUnnamed types label)
     → AllOf (SaysNoMore labels) types
 say_no_more labels [] unnamed = tt

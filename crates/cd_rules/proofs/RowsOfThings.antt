@@ -38,7 +38,7 @@ module _ {X : Type 0} (answers : X → Answers) (at : Name → Option X) (wanted
 
 module _ (graph : Graph) (closed : ℕ → Mapping) where
   -- a record answers of each label what the thing that it has there does
-  thing_says : (fields : thing.Fields) (label : Name) (field : Field) (answer : Bool)
+  pub thing_says : (fields : thing.Fields) (label : Name) (field : Field) (answer : Bool)
       → labelled_of graph closed fields label field answer
       ≡ labelled_by (answers_of graph closed) (thing_at fields) label field answer
   thing_says thing.NoField label field answer = refl

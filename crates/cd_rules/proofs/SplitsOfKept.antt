@@ -4,7 +4,8 @@ use Rattle.cd_model.specs.AllOf.{AllOf}
 use Rattle.cd_model.proofs.Covered.{each_parts}
 use Rattle.cd_rules.specs.Needs.{splits, splits_in_three, to_one, to_other, to_first, to_middle, to_last}
 use Rattle.cd_rules.specs.Reduced.{LeavesOut, none, keeps, leaves}
-use Rattle.cd_rules.proofs.Among.{AreOf, among_itself, among_more, among_both}
+use Rattle.cd_rules.specs.Family.{AreAmong}
+use Rattle.cd_rules.proofs.Among.{among_itself, among_more, among_both}
 use Rattle.cd_rules.proofs.Answered.{map_of_each}
 use Rattle.cd_rules.proofs.Asking.{each_of_map}
 use Rattle.cd_rules.proofs.Ones.{each_weaker, each_of_lists}
@@ -14,7 +15,7 @@ abbrev pub Sides : (X : Type 0) → Type 0
 Sides X = List X × List X
 
 abbrev pub ComesOn : {X : Type 0} → (Sides X → Type 0) → Type 0
-ComesOn {X} fact = (sides longer : Sides X) → AreOf sides.0 longer.0 → AreOf sides.1 longer.1 → fact sides → fact longer
+ComesOn {X} fact = (sides longer : Sides X) → AreAmong sides.0 longer.0 → AreAmong sides.1 longer.1 → fact sides → fact longer
 
 -- to add one to a side makes it longer, and keeps it longer
 module _ {X : Type 0} (fact : Sides X → Type 0) (comes : ComesOn fact) (x : X) where
@@ -58,7 +59,7 @@ ThreeSides X = List X × List X × List X
 
 abbrev pub ComesOnInThree : {X : Type 0} → (ThreeSides X → Type 0) → Type 0
 ComesOnInThree {X} fact = (sides longer : ThreeSides X)
-    → AreOf sides.0 longer.0 → AreOf sides.1 longer.1 → AreOf sides.2 longer.2 → fact sides → fact longer
+    → AreAmong sides.0 longer.0 → AreAmong sides.1 longer.1 → AreAmong sides.2 longer.2 → fact sides → fact longer
 
 module _ {X : Type 0} (fact : ThreeSides X → Type 0) (comes : ComesOnInThree fact) (x : X) where
   first_on : ComesOnInThree (λ sides. fact (to_first x sides))

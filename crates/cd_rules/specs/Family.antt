@@ -1,7 +1,6 @@
 -- Closed families: lists of questions, each of whose clauses is broken by questions that the list
 -- covers, so that none has a member.
 use Rattle.std.specs.Prelude.{◌≡◌, ◌⊎◌, ℕ, ◌<◌, false, List}
-use Rattle.cd_sets.specs.declared.node_id.NodeId.{NodeId}
 use Rattle.cd_sets.specs.declared.question.Question.{Question}
 use Rattle.cd_model.specs.AllOf.{AllOf, AnyOf}
 use Rattle.cd_model.specs.Formula.{Graph}
@@ -12,11 +11,16 @@ use Rattle.cd_rules.specs.Rows.{Row, rows_of}
 abbrev pub IsOfFamily : Question → List Question → Type 0
 IsOfFamily question family = AnyOf (λ other. other ≡ question) family
 
+-- each thing of the one list is in the other
+abbrev pub AreAmong : {X : Type 0} → (some all : List X) → Type 0
+AreAmong some all = AllOf (λ x. AnyOf (λ other. other ≡ x) all) some
+
+-- two lists have the same members
+abbrev pub SameMembers : {X : Type 0} → (some others : List X) → Type 0
+SameMembers some others = AreAmong some others × AreAmong others some
+
 -- A question asks no less than another: it wants each node that the other wants, and refuses each
 -- one that the other refuses. So what is in it is in the other
-abbrev pub AreAmong : (some all : List NodeId) → Type 0
-AreAmong some all = AllOf (λ id. AnyOf (λ other. other ≡ id) all) some
-
 abbrev pub AsksNoLess : Question → Question → Type 0
 AsksNoLess question other = AreAmong other.pos question.pos × AreAmong other.neg question.neg
 

@@ -1,6 +1,6 @@
 -- What it is for a record to be in a row. A record is what it has at each label, and what the value
 -- there answers.
-use Rattle.std.specs.Prelude.{◌≡◌, true, false, Option, Some, None, bytes_eq, if◌then◌else◌}
+use Rattle.std.specs.Prelude.{◌≡◌, ◌⊎◌, true, false, Option, Some, None, bytes_eq, if◌then◌else◌}
 use Rattle.cd_sets.specs.declared.question.Question.{Question}
 use Rattle.cd_syntax.specs.Name.{Name}
 use Rattle.cd_model.specs.Thing as thing
@@ -39,4 +39,14 @@ abbrev pub IsInRow : {X : Type 0} → (X → Answers) → (at : Name → Option 
 IsInRow answers at row = AllOf (λ cell. IsInCell answers (at cell.0) cell.1) row.cells
     × ((label : Name) → IsOfNoCell row label
     → IsInCell answers (at label) (record { absent = true; value = row.every }))
+    × AllOf (HasElsewhere answers at row) row.some
+
+-- a record that is made for a row is in each cell, and has at each other label nothing or a value
+-- of a question of `some`
+abbrev pub IsForRow : {X : Type 0} → (X → Answers) → (at : Name → Option X) → Row → Type 0
+IsForRow answers at row = AllOf (λ cell. IsInCell answers (at cell.0) cell.1) row.cells
+    × ((label : Name) → IsOfNoCell row label
+    → (at label ≡ None)
+    ⊎ AnyOf (λ question. IsInCell answers (at label) (record { absent = false; value = question }))
+    row.some)
     × AllOf (HasElsewhere answers at row) row.some

@@ -12,3 +12,7 @@ pub mod Within
 pub mod InWay
 pub mod BasicSets
 pub mod KindChoices
+pub mod Fails
+pub mod Tasks
+pub mod PartialChoices
+pub mod MadeForTasks

@@ -1,0 +1,9 @@
+pub mod WorkKept
+pub mod FramesKept
+pub mod QuestionsOnce
+pub mod RunsAreRight
+pub mod ShorterLists
+pub mod WorkFalls
+pub mod RunsEnd
+pub mod WorkOfQuestion
+pub mod EndlessRun
