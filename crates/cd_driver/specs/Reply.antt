@@ -37,7 +37,8 @@ complains status text = record { status = status; out = []; err = line text }
 
 abbrev pub usage : Reply
 usage = complains Usage
-    (codes "usage: cduce sub [--types FILE] T1 T2, member FILE DOC T, check FILE, run [--steps N] FILE DOC, work N")
+    (codes "usage: cduce sub [--types FILE] T1 T2, member FILE DOC T, check FILE, "
+    ++ codes "run [--steps N] FILE DOC, work N")
 
 -- a command that isn't built, by its first word
 abbrev pub not_built : Bytes → Reply
