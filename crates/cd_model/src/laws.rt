@@ -132,6 +132,10 @@ pub fn built_ins_hold()
 
 /// The same of values.
 pub fn built_ins_hold_values()
+    ensures decided { (more : Graph) (interfaces : Interfaces) (v : Thing) (id : NodeId) → IsValue v
+        → id.0 < 14
+        → value_in_node (built_ins ++ more) interfaces v id true
+        ⊎ value_in_node (built_ins ++ more) interfaces v id false }
     ensures empty { (more : Graph) (interfaces : Interfaces) (v : Thing)
         → value_in_node (built_ins ++ more) interfaces v (node_named builtin.Empty) true → ⊥ }
     ensures any { (more : Graph) (interfaces : Interfaces) (v : Thing)

@@ -4,12 +4,17 @@ use Rattle.std.proofs.Common.{ℕ}
 use Rattle.cd_model.specs.BuiltIns.{built_ins}
 use Rattle.cd_model.specs.Formula.{Graph, nodes}
 use Rattle.cd_model.specs.Interfaces.{Interfaces, admits}
-use Rattle.cd_model.specs.Types.{Mapping, closure_maps}
-use Rattle.cd_model.proofs.BuiltIns.{values_are_sound, function_values_are, nothing_is_empty, all_are_any, integers_are, characters_are, bytes_are, atoms_are, bools_are, strings_are, pairs_are, records_are, xmls_are, data_are, nils_are}
+use Rattle.cd_model.specs.Types.{Mapping, closure_maps, no_closure}
+use Rattle.cd_model.proofs.DecidedValues.{value_decided}
+use Rattle.cd_model.proofs.BuiltIns.{all_map, values_are_sound, function_values_are, nothing_is_empty, all_are_any, integers_are, characters_are, bytes_are, atoms_are, bools_are, strings_are, pairs_are, records_are, xmls_are, data_are, nils_are}
 use Rattle.cd_model.proofs.laws.built_ins_hold_values.Goals as goal
 
 abbrev closed : Graph → Interfaces → ℕ → Mapping NodeId
 closed more interfaces = closure_maps (nodes (built_ins ++ more)) (admits interfaces)
+
+pub returns-clause-decided : goal.returns-clause-decided
+returns-clause-decided c more interfaces v id sound =
+    value_decided more (closed more interfaces) (λ function pairs element admitted. all_map more no_closure pairs) v sound id
 
 pub returns-clause-empty : goal.returns-clause-empty
 returns-clause-empty c more interfaces = nothing_is_empty more (closed more interfaces)
