@@ -1,4 +1,6 @@
 pub mod TableLaws
+mod SameShapes
+mod Inserting
 pub mod Outputs
 pub mod Joining
 pub mod Marks

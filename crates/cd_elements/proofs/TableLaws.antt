@@ -1,8 +1,9 @@
 -- A table only grows, so what its shapes stand for stays, and each of its elements is one of the model.
-use Rattle.std.proofs.Common.{◌≡◌, ℕ, zero, suc, ◌+◌, ◌<◌, List, [], ◌∷◌, ◌++◌, Option, Some, None, length, get_or, refl, ap}
+use Rattle.std.proofs.Common.{◌≡◌, ℕ, zero, suc, ◌+◌, ◌<◌, List, [], ◌∷◌, ◌++◌, Option, Some, None, length, get_or, slice_get, refl, ap}
 use Rattle.std.proofs.Common.{sym, ◌∙◌, subst, append_assoc, append-nil, length-append, arith}
-use Rattle.std.specs.Prelude.{IfSome, Result, Ok, Err, is_ok, if◌then◌else◌}
+use Rattle.std.specs.Prelude.{IfSome}
 use Rattle.std.proofs.lemmas.List.{get_or_append_left, get_or_at, length_push}
+use Rattle.std.proofs.lemmas.Option.{slice_get_within, get_or_from_slice_get}
 use Rattle.cd_model.specs.AllOf.{AllOf}
 use Rattle.cd_syntax.specs.Name.{Name}
 use Rattle.cd_model.specs.Thing as thing
@@ -219,21 +220,11 @@ elements_are table (shape ∷ shapes) are sound =
     elements_are (table ++ element_by table shape ∷ []) shapes
     (each_push table (element_by table shape) are (shape_is table shape are sound.0 sound.1)) sound.2
 
--- a table after a push, which may have failed
-pub shapes_pushed : {T E : Type 0} (done : Result T E) (shapes after : List Shape) (shape : Shape) → AreShapes [] shapes
-    → IsShape (elements_from [] shapes) shape → IsRanged shape
-    → after ≡ (if is_ok done then shapes ++ shape ∷ [] else shapes) → AreShapes [] after
-shapes_pushed (Ok value) shapes after shape are is ranged same =
-    subst (AreShapes []) (sym same) (shapes_push [] shapes shape are is ranged)
-shapes_pushed (Err error) shapes after shape are is ranged same = subst (AreShapes []) (sym same) are
-
 -- what is read of the shapes of a table
-pub shape_read : (shapes : List Shape) (index : ℕ) (shape : Shape) → AreShapes [] shapes
-    → index < length (elements_from [] shapes)
-    → shape ≡ get_or shapes index shape → IsShapeAt (elements_from [] shapes) shape index
-shape_read shapes index shape are within is =
-    let lt : index < length shapes = omega (arith, length_from [] shapes) in
+pub shape_read : (shapes : List Shape) (index : ℕ) (shape : Shape) → AreShapes [] shapes → slice_get shapes index ≡ Some shape
+    → IsShapeAt (elements_from [] shapes) shape index
+shape_read shapes index shape are stands =
     let place : length {A = Thing} [] + index ≡ index = omega arith in
-    let found = shape_at [] shapes index shape are lt in
+    let found = shape_at [] shapes index shape are (slice_get_within shapes index shape stands) in
     let placed = subst (IsShapeAt (elements_from [] shapes) (get_or shapes index shape)) place found in
-    subst (λ one. IsShapeAt (elements_from [] shapes) one index) (sym is) placed
+    subst (λ one. IsShapeAt (elements_from [] shapes) one index) (get_or_from_slice_get shapes index shape shape stands) placed

@@ -6,4 +6,4 @@ use Rattle.cd_elements.specs.Table.{elements_from}
 
 -- the elements by their numbers
 abbrev pub table : Elements → List Thing
-table elements = elements_from [] elements.shapes.items
+table elements = elements_from [] elements.shapes.keys

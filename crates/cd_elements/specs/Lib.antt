@@ -1,4 +1,5 @@
 pub mod Parts
+pub mod Comparing
 pub mod Table
 pub mod Sound
 pub mod OneProof

@@ -6,13 +6,14 @@ ghost use Rattle.cd_elements.specs.OneProof.{shapes_prop};
 use crate::shape::{ElementId, Shape};
 use crate::text::text_of;
 use cd_syntax::name::Name;
+use indexmap::IndexSet;
 use std::alloc::{AllocError, Global};
 
 /// A table of elements, to which elements are only added.
 #[derive(Drop)]
 pub struct Elements {
-    shapes: Vec<Shape>,
-    ghost sound: { AreShapes [] shapes.items } by { shapes_prop [] shapes.items },
+    shapes: IndexSet<Shape>,
+    ghost sound: { AreShapes [] shapes.keys } by { shapes_prop [] shapes.keys },
 }
 
 impl Elements {
@@ -20,7 +21,7 @@ impl Elements {
     ghost use Rattle.std.specs.Prelude.{MatchOption};
     ghost use Rattle.cd_model.specs.Canonical.{canonical};
     ghost use Rattle.cd_model.specs.AllOf.{AllOf};
-    ghost use Rattle.cd_model.specs.Thing.{Atom, IsElement};
+    ghost use Rattle.cd_model.specs.Thing.{Thing, Atom, IsElement};
     ghost use Rattle.cd_elements.specs.Table.{ArePartsBelow, IsShape, element_at, element_by};
     ghost use Rattle.cd_elements.specs.Elements.{table};
 
@@ -29,22 +30,25 @@ impl Elements {
         ensures { table result ≡ [] }
     {
         Elements {
-            shapes: Vec::new(alloc),
+            shapes: IndexSet::new(alloc),
         }
     }
 
-    /// Adds an element, and gives its number. Where memory runs out the table stays as it was.
+    /// The number of an element, which is added if it is not there.
+    ///
+    /// # Errors
+    ///
+    /// Want of memory. The table stays as it was.
     pub fn make(&mut self, shape: Shape) -> Result<ElementId, AllocError>
         requires { IsShape (table self.old) shape }
-        ensures number { IfOk result (λ id. id.0 ≡ length (table self.old)) }
-        ensures added { OnOk result
-            (table self.new ≡ table self.old ++ element_by (table self.old) shape ∷ []) }
+        ensures made { IfOk result (λ id. (id.0 < length (table self.new))
+            × (element_at (table self.new) id ≡ element_by (table self.old) shape)) }
+        ensures grows { (more : List Thing) × (table self.new ≡ table self.old ++ more) }
         ensures kept { OnErr result (table self.new ≡ table self.old) }
     {
         know_ranges(&shape);
-        let id = ElementId(self.shapes.len());
-        self.shapes.push(shape)?;
-        Ok(id)
+        let (number, _) = self.shapes.insert_full(shape)?;
+        Ok(ElementId(number))
     }
 
     /// The number of elements.

@@ -1,9 +1,15 @@
 //! Elements over the elements of their table.
 ghost use Rattle.std.specs.Prelude.{◌≡◌, IfOk};
+ghost use Rattle.std.specs.Cmp.{partial_equiv_from_equiv};
+ghost use Rattle.std.specs.Cmp.Lexicographic.{pointwise};
+ghost use Rattle.std.specs.Hash as fed;
 ghost use Rattle.cd_elements.specs.Parts.{HasLabels};
+ghost use Rattle.cd_elements.specs.Comparing.{same_part, part_input, parts_equiv, parts_alike};
+ghost use Rattle.cd_elements.specs.Comparing.{same_pair, pair_input, pairs_equiv, pairs_alike};
 
 use cd_syntax::name::Name;
 use std::alloc::AllocError;
+use std::hash::{Hash, Hasher};
 use std::marker::Model;
 
 /// The number of an element in its table.
@@ -11,7 +17,7 @@ use std::marker::Model;
 pub struct ElementId(pub usize);
 
 /// An element over the elements of its table.
-#[derive(Drop)]
+#[derive(PartialEq, Eq, Hash, Drop)]
 pub enum Shape {
     /// An integer.
     Int(i128),
@@ -77,6 +83,30 @@ impl Parts {
     }
 }
 
+impl PartialEq for Parts {
+    ghost eq = { pointwise same_part };
+
+    ghost laws = { partial_equiv_from_equiv parts_equiv };
+
+    fn eq(&self, other: &Parts) -> bool {
+        self.items.as_slice() == other.items.as_slice()
+    }
+}
+
+impl Eq for Parts {
+    ghost laws = { parts_equiv };
+}
+
+impl Hash for Parts {
+    ghost hash_input = { fed.slice part_input };
+
+    ghost respects_eq = { parts_alike.fed };
+
+    fn hash<H: Hasher>(&self, state: &mut H) {
+        self.items.as_slice().hash(state);
+    }
+}
+
 /// The pairs of a function: an argument and its result, or none where the function fails at it. A
 /// contract sees them in a list.
 #[derive(Drop)]
@@ -115,5 +145,29 @@ impl Pairs {
         Ok(Pairs {
             items: Vec::from_slice(*self.items.allocator(), self.items.as_slice())?,
         })
+    }
+}
+
+impl PartialEq for Pairs {
+    ghost eq = { pointwise same_pair };
+
+    ghost laws = { partial_equiv_from_equiv pairs_equiv };
+
+    fn eq(&self, other: &Pairs) -> bool {
+        self.items.as_slice() == other.items.as_slice()
+    }
+}
+
+impl Eq for Pairs {
+    ghost laws = { pairs_equiv };
+}
+
+impl Hash for Pairs {
+    ghost hash_input = { fed.slice pair_input };
+
+    ghost respects_eq = { pairs_alike.fed };
+
+    fn hash<H: Hasher>(&self, state: &mut H) {
+        self.items.as_slice().hash(state);
     }
 }

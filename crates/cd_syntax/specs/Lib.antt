@@ -1,4 +1,5 @@
 pub mod Name
+pub mod ComparingNames
 pub mod Integer
 pub mod Signs
 pub mod Quotes

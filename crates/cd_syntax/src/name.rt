@@ -1,9 +1,12 @@
 ghost use Rattle.std.specs.Prelude.{◌≡◌, IfOk, string_bytes, bytes_eq};
 ghost use Rattle.std.specs.Str.{chars};
+ghost use Rattle.std.specs.Cmp.{partial_equiv_from_equiv};
 ghost use Rattle.cd_syntax.specs.Name.{first, only, is_type_name as is_type_name_of};
+ghost use Rattle.cd_syntax.specs.ComparingNames.{name_input, names_equiv, names_alike};
 
 use std::alloc::{AllocError, Global};
 use std::fmt;
+use std::hash::{Hash, Hasher};
 use std::marker::Model;
 
 /// A text, which a contract sees as the list of its characters: a word, a label, the name of an
@@ -101,5 +104,29 @@ impl Name {
 impl fmt::Display for Name {
     fn fmt<W: fmt::Write>(&self, f: &mut fmt::Formatter<W>) -> fmt::Result {
         f.write_str(self.text.as_str())
+    }
+}
+
+impl PartialEq for Name {
+    ghost eq = { bytes_eq };
+
+    ghost laws = { partial_equiv_from_equiv names_equiv };
+
+    fn eq(&self, other: &Name) -> bool {
+        self.as_str() == other.as_str()
+    }
+}
+
+impl Eq for Name {
+    ghost laws = { names_equiv };
+}
+
+impl Hash for Name {
+    ghost hash_input = { name_input };
+
+    ghost respects_eq = { names_alike.fed };
+
+    fn hash<H: Hasher>(&self, state: &mut H) {
+        self.as_str().hash(state);
     }
 }

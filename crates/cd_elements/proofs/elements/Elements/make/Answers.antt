@@ -1,19 +1,24 @@
-use Rattle.std.proofs.Common.{[], ◌∷◌, ◌∙◌, ap, arith}
-use Rattle.cd_elements.specs.Table.{elements_from}
-use Rattle.cd_elements.proofs.TableLaws.{length_from, from_append, shapes_pushed}
+use Rattle.cd_elements.proofs.Inserting.{shapes_after, elements_added, number_of_element}
 use Rattle.cd_elements.proofs.elements.Elements.make.Goals as goal
 
+-- the shapes are sound with one more
 pub invariant_of-self : goal.invariant_of-self
 invariant_of-self c =
     let old = c.args.self.now in
-    let ranged = c.know_ranges.ensures in
-    record { sound = shapes_pushed _ old.shapes.items _ c.args.shape old.sound c.requires ranged c.push.ensures.items }
+    let put = c.insert_full.ensures in
+    record {
+      sound = shapes_after c.insert_full.result old.shapes.keys c.insert_full.new.self.keys c.args.shape old.sound
+          c.requires c.know_ranges.ensures put.keys put.err;
+    }
 
-pub returns-clause-number : goal.returns-clause-number
-returns-clause-number c =
-    let shapes = c.args.self.now.shapes in
-    omega (arith, length_from [] shapes.items, shapes.ok.0, c.len.ensures)
+pub returns-clause-made : goal.returns-clause-made
+returns-clause-made c =
+    let old = c.args.self.now in
+    let stored = c.in_ok-number.ensures.stored in
+    number_of_element old.shapes.keys c.insert_full.new.self.keys c.args.shape old.sound c.requires
+    c.in_ok-number.ensures.keys c.in_ok-number.number stored.0 c.know_ranges.ensures stored.1 stored.2
 
-pub returns-clause-added : goal.returns-clause-added
-returns-clause-added c =
-    ap (elements_from []) c.in_ok-push.ensures.items ∙ from_append [] c.args.self.now.shapes.items (c.args.shape ∷ [])
+pub returns-clause-grows : goal.returns-clause-grows
+returns-clause-grows c =
+    let old = c.args.self.now in
+    elements_added old.shapes.keys c.insert_full.new.self.keys c.args.shape old.sound c.requires c.in_ok-number.ensures.keys
