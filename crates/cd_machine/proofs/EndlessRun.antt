@@ -5,14 +5,15 @@ use Rattle.cd_sets.specs.declared.question.Question.{Question}
 use Rattle.cd_model.specs.BuiltIns.{node, INT}
 use Rattle.cd_model.specs.Formula.{Pair}
 use Rattle.cd_model.specs.Kinds.{Kind, APair, AnXml, ARecord, AFunction}
+use Rattle.cd_rules.specs.BasicSets.{HasNoBasic}
 use Rattle.cd_rules.specs.Choices.{Choice}
 use Rattle.cd_rules.specs.Clauses.{Clause, Pairs}
 use Rattle.cd_rules.specs.Examples.{asks, endless}
-use Rattle.cd_rules.specs.PartialChoices.{Partial, Signed, partial, HasNoBasic}
+use Rattle.cd_rules.specs.PartialChoices.{Partial, Signed, partial, GoesOn, extends}
 use Rattle.cd_rules.specs.Tasks.{Task, PairTask}
 use Rattle.cd_rules.proofs.ClausesByKind.{accounts_for_clauses, partial_choices_are}
 use Rattle.cd_machine.specs.Machine.{State, Work, state, work, frame, Steps, no_step, one_more, opens, works, leaves}
-use Rattle.cd_machine.specs.Machine.{Works, extends, begins, drops}
+use Rattle.cd_machine.specs.Machine.{Works, goes_further, begins, drops}
 
 abbrev question : Question
 question = asks (14 ∷ []) []
@@ -55,17 +56,14 @@ dropped choices = work choices (Some clause) [] []
 works_on : (before after : Work) → Works (question ∷ []) before after → Steps endless [] start (at before) → Steps endless [] start (at after)
 works_on before after step steps = one_more start (at before) (at after) steps (works [] (question ∷ []) 0 question before after [] step)
 
--- the formula gives no choice of the other kinds
-no_choice : (kind : Kind) (rest : List Partial) → Works (question ∷ []) (dropped (of_kind kind ∷ rest)) (dropped rest)
+-- a formula that gives no choice of a kind
+no_choice : (kind : Kind) (rest : List Partial) → GoesOn (of_kind kind) []
     → Steps endless [] start (at (dropped (of_kind kind ∷ rest))) → Steps endless [] start (at (dropped rest))
-no_choice kind rest = works_on (dropped (of_kind kind ∷ rest)) (dropped rest)
+no_choice kind rest goes = works_on (dropped (of_kind kind ∷ rest)) (dropped rest)
+    (goes_further (of_kind kind) [] rest (Some clause) [] [] goes)
 
 no_basic : HasNoBasic endless question
-no_basic = record {
-  integers = λ z is asked. absurd cc;
-  characters = λ c is asked. absurd cc;
-  atoms = λ name is asked. absurd cc;
-}
+no_basic = (λ z is asked. absurd cc, λ c is asked. absurd cc, λ name is asked. absurd cc)
 
 pub endless_run : Steps endless [] start (state [] (question ∷ []) [])
 endless_run = one_more start (at (dropped [])) (state [] (question ∷ []) []) pairs_and_others
@@ -79,10 +77,10 @@ endless_run = one_more start (at (dropped [])) (state [] (question ∷ []) []) p
     pairs : Steps endless [] start (at (dropped begun.choices))
     pairs = works_on begun (dropped begun.choices) (drops begun.choices (Some clause) [] task [] (inr (inl (inl ((inl refl, tt), tt)))))
         (works_on extended begun (begins APair choice begun.choices None [] task [] refl)
-        (works_on opened extended (extends APair [] formula [] begun.choices None [] []) first))
+        (works_on opened extended (goes_further (of_kind APair) (partial APair choice [] ∷ []) begun.choices None [] []
+        (extends APair [] formula [])) first))
 
     pairs_and_others : Steps endless [] start (at (dropped []))
-    pairs_and_others = no_choice AFunction [] (extends AFunction [] formula [] [] (Some clause) [] [])
-        (no_choice ARecord (of_kind AFunction ∷ []) (extends ARecord [] formula [] (of_kind AFunction ∷ []) (Some clause) [] [])
-        (no_choice AnXml (of_kind ARecord ∷ of_kind AFunction ∷ [])
-        (extends AnXml [] formula [] (of_kind ARecord ∷ of_kind AFunction ∷ []) (Some clause) [] []) pairs))
+    pairs_and_others = no_choice AFunction [] (extends AFunction [] formula [])
+        (no_choice ARecord (of_kind AFunction ∷ []) (extends ARecord [] formula [])
+        (no_choice AnXml (of_kind ARecord ∷ of_kind AFunction ∷ []) (extends AnXml [] formula []) pairs))

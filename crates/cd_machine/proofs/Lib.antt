@@ -6,4 +6,5 @@ pub mod ShorterLists
 pub mod WorkFalls
 pub mod RunsEnd
 pub mod WorkOfQuestion
+pub mod FirstQuestion
 pub mod EndlessRun

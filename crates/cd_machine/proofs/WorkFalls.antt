@@ -1,23 +1,25 @@
 -- Each step gives one witness more, or as many and a longer list, or both alike and less that is left to do.
-use Rattle.std.proofs.Common.{◌≡◌, ◌<◌, ◌+◌, ◌*◌, ℕ, zero, suc, List, [], ◌∷◌, ◌++◌, Some, length, map, Bool, true, false, inl, inr, refl, ap, ◌∙◌, append_assoc, append-nil}
+use Rattle.std.proofs.Common.{◌≡◌, ◌<◌, ◌+◌, ◌*◌, ℕ, zero, suc, List, [], ◌∷◌, ◌++◌, Some, length, map, Bool, true, false}
+use Rattle.std.proofs.Common.{inl, inr, refl, ap, ◌∙◌, append_assoc, append-nil}
 use native.Mathlib.Omega.{arith}
-use Rattle.std.proofs.Math.Nat.{suc-mul, mul-add, mul_assoc}
+use Rattle.std.proofs.Math.Nat.{suc-mul, add-mul, mul-add, mul_assoc}
 use Rattle.std.proofs.lemmas.List.{length-append, length-map}
 use Rattle.cd_sets.specs.declared.question.Question.{Question}
 use Rattle.cd_model.specs.Formula.{Formula, Formulas, NoFormula, AFormula, And, Or, Not, Graph}
 use Rattle.cd_model.specs.Kinds.{Kind}
 use Rattle.cd_rules.specs.Choices.{Choice, joined}
-use Rattle.cd_rules.specs.KindChoices.{kind_choices, kind_of_each}
-use Rattle.cd_rules.specs.PartialChoices.{Signed, partial, clause_by, completions, extensions, each_signed}
-use Rattle.cd_rules.specs.PartialChoices.{IsConjunction, wants_each, refuses_each, denies}
-use Rattle.cd_machine.proofs.ShorterLists.{taken_length}
-use Rattle.cd_rules.proofs.Completions.{completions_unfold}
+use Rattle.cd_rules.specs.KindChoices.{kind_choices, kind_of_each, kind_of_one}
+use Rattle.cd_rules.specs.PartialChoices.{Signed, Partial, partial, clause_by, completions, each_signed, GoesOn, unfolds, divides, extends}
+use Rattle.cd_rules.specs.PartialChoices.{IsConjunction, wants_each, refuses_each, denies, IsDisjunction, wants_one, refuses_one}
 use Rattle.cd_rules.specs.Rows.{labels_of}
 use Rattle.cd_rules.specs.Tasks.{Task, PairTask, XmlTask, ArrowTask, RecordTask}
 use Rattle.cd_rules.specs.Tasks.{AreCases, pair_cases, xml_cases, arrow_cases, record_cases}
-use Rattle.cd_machine.specs.Machine.{Work, Works, unfolds, extends, cuts, begins, drops, splits, goes_on}
+use Rattle.cd_rules.proofs.Completions.{completions_unfold, joined_both, divided}
+use Rattle.cd_machine.specs.Machine.{Work, Works, goes_further, cuts, begins, drops, splits, goes_on}
 use Rattle.cd_machine.specs.Machine.{State, Step, opens, knows, works, finds, leaves}
-use Rattle.cd_machine.specs.Weight.{weight, task_weight, sum_of, clause_weight, formula_weight, weight_of_each, joining_weight, partial_weight, work_weight, IsFurther}
+use Rattle.cd_machine.specs.Weight.{weight, task_weight, sum_of, clause_weight, formula_weight, weight_of_each, weight_of_one}
+use Rattle.cd_machine.specs.Weight.{joining_weight, partial_weight, work_weight, IsFurther}
+use Rattle.cd_machine.proofs.ShorterLists.{taken_length}
 
 sum_of_both : {X : Type 0} (weight_of : X → ℕ) (some others : List X)
     → sum_of weight_of (some ++ others) ≡ sum_of weight_of some + sum_of weight_of others
@@ -126,6 +128,35 @@ module _ (kind : Kind) where
             → both ≡ first_too + rest → (joining + first) + others ≡ suc count * joining + both
         by_parts joining count first first_too others rest both same so together = let times = suc-mul count joining in omega arith
 
+  -- a choice for each of some formulas, of which one is to be met
+  module _ (choice : Choice) (left : List Signed) where
+    weight_of_divided : (formulas : Formulas) (wanted : Bool) → sum_of partial_weight (divided kind choice left (each_signed formulas wanted))
+        ≡ (weight_of_one kind formulas wanted + length (kind_of_one kind formulas wanted) * joining_weight kind left)
+        + sum_of (weight_with choice left) (joined (kind_of_one kind formulas wanted) (completions kind left))
+    weight_of_divided NoFormula wanted = omega arith
+    weight_of_divided (AFormula is rest) wanted =
+        let some = kind_choices kind is wanted in let others = kind_of_one kind rest wanted in
+        by_parts (formula_weight kind is wanted) (length some) (joining_weight kind left)
+        (sum_of (weight_with choice left) (joined some (completions kind left)))
+        (sum_of partial_weight (divided kind choice left (each_signed rest wanted))) (weight_of_one kind rest wanted) (length others)
+        (sum_of (weight_with choice left) (joined others (completions kind left))) (length (some ++ others))
+        (sum_of (weight_with choice left) (joined (some ++ others) (completions kind left)))
+        (weight_of_divided rest wanted) (length-append some others)
+        (ap (sum_of (weight_with choice left)) (joined_both some others (completions kind left))
+        ∙ sum_of_both (weight_with choice left) (joined some (completions kind left)) (joined others (completions kind left)))
+      where
+        by_parts : (one count joining clauses rest others other_count other_clauses both_count both_clauses : ℕ)
+            → rest ≡ (others + other_count * joining) + other_clauses → both_count ≡ count + other_count
+            → both_clauses ≡ clauses + other_clauses
+            → ((one + count * joining) + clauses) + rest ≡ ((one + others) + both_count * joining) + both_clauses
+        by_parts one count joining clauses rest others other_count other_clauses both_count both_clauses same so together =
+            let times = ap (λ n. n * joining) so ∙ add-mul count other_count joining in omega arith
+
+    dividing_falls : (one : Signed) (members : List Signed) → IsDisjunction one members
+        → sum_of partial_weight (divided kind choice left members) < partial_weight (partial kind choice (one ∷ left))
+    dividing_falls _ _ (wants_one formulas) = let same = weight_of_divided formulas true in omega arith
+    dividing_falls _ _ (refuses_one formulas) = let same = weight_of_divided formulas false in omega arith
+
 -- a formula weighs something, and a choice
 formula_weighs : (kind : Kind) (is : Formula) (wanted : Bool) → 0 < formula_weight kind is wanted
 formula_weighs kind (And formulas) true = omega arith
@@ -137,14 +168,19 @@ joining_weighs : (kind : Kind) (left : List Signed) → 0 < joining_weight kind 
 joining_weighs kind [] = omega arith
 joining_weighs kind (one ∷ left) = let first = formula_weighs kind one.0 one.1 in omega arith
 
-work_falls : (known : List Question) (before after : Work) → Works known before after → work_weight after < work_weight before
-work_falls known _ _ (unfolds kind choice one members left choices clause later branches are) =
+-- where a choice goes on, what comes of it weighs less
+more_falls : (first : Partial) (more : List Partial) → GoesOn first more → sum_of partial_weight more < partial_weight first
+more_falls _ _ (unfolds kind choice one members left are) =
     let less = unfolding_falls kind one members left are in
     let same = ap (sum_of (weight_with kind choice left)) (completions_unfold kind one members left are) in omega arith
-work_falls known _ _ (extends kind choice one left choices clause later branches) =
+more_falls _ _ (divides kind choice one members left are) = dividing_falls kind choice left one members are
+more_falls _ _ (extends kind choice one left) =
     let sum = extensions_weight kind choice left (kind_choices kind one.0 one.1) in
-    let first = formula_weighs kind one.0 one.1 in
-    let both = sum_of_both partial_weight (extensions kind choice one left) choices in omega arith
+    let first = formula_weighs kind one.0 one.1 in omega arith
+
+work_falls : (known : List Question) (before after : Work) → Works known before after → work_weight after < work_weight before
+work_falls known _ _ (goes_further first more choices clause later branches goes) =
+    let less = more_falls first more goes in let both = sum_of_both partial_weight more choices in omega arith
 work_falls known _ _ (cuts choice choices clause later branches fails) =
     let one = joining_weighs choice.kind choice.left in omega arith
 work_falls known _ _ (begins kind choice choices before late task later same) =

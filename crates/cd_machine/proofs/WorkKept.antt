@@ -6,15 +6,15 @@ use Rattle.cd_model.specs.Formula.{Graph}
 use Rattle.cd_model.proofs.Covered.{each_parts}
 use Rattle.cd_rules.specs.Clauses.{IsClauseOfQuestion, Clause}
 use Rattle.cd_rules.specs.Family.{AreAmong, IsCovered, Breaks}
-use Rattle.cd_rules.specs.PartialChoices.{clause_by, extensions, PartialFails, IsPartialOf}
+use Rattle.cd_rules.specs.PartialChoices.{clause_by, PartialFails, IsPartialOf}
 use Rattle.cd_rules.specs.Tasks.{Task, TaskFails, IsTaskOf, AreCases, questions_of}
 use Rattle.cd_rules.proofs.Among.{among_on}
 use Rattle.cd_rules.proofs.CasesAreTasks.{cases_of_task, tasks_are}
 use Rattle.cd_rules.proofs.Covering.{covered_where, covers_on}
 use Rattle.cd_rules.proofs.FailingTasks.{covered_fails, cases_fail, task_breaks}
 use Rattle.cd_rules.proofs.Ones.{each_weaker, one_weaker, each_of_lists}
-use Rattle.cd_rules.proofs.Completions.{of_members, to_members, of_extensions, to_extensions, of_complete, to_complete}
-use Rattle.cd_machine.specs.Machine.{Work, Works, unfolds, extends, cuts, begins, drops, splits, goes_on}
+use Rattle.cd_rules.proofs.Completions.{of_more, to_more, of_complete, to_complete}
+use Rattle.cd_machine.specs.Machine.{Work, Works, goes_further, cuts, begins, drops, splits, goes_on}
 use Rattle.cd_machine.specs.Right.{AreTasksOf, IsWorkOf, IsBroken}
 
 module _ (graph : Graph) where
@@ -61,23 +61,13 @@ module _ (graph : Graph) where
 
     pub work_kept : (base : List Question) (before after : Work) → Works base before after
         → IsWorkOf graph base question before → IsWorkOf graph base question after
-    work_kept base _ _ (unfolds kind choice one members left choices clause later branches are) is = record {
-      choices_fail = λ family larger broken fail. is.choices_fail family larger broken
-          (of_members (Breaks family) kind choice one members left are fail.0, fail.1);
+    work_kept base _ _ (goes_further first more choices clause later branches goes) is = record {
+      choices_fail = λ family larger broken fail. let both = each_parts (PartialFails family) more choices fail in
+          is.choices_fail family larger broken (of_more (Breaks family) first more goes both.0, both.1);
       branches_fail = is.branches_fail;
       later_fails = is.later_fails;
-      choices_are = (to_members (IsClauseOfQuestion graph question) kind choice one members left are is.choices_are.0, is.choices_are.1);
-      branches_are = is.branches_are;
-      later_are = is.later_are;
-    }
-    work_kept base _ _ (extends kind choice one left choices clause later branches) is = record {
-      choices_fail = λ family larger broken fail.
-          let both = each_parts (PartialFails family) (extensions kind choice one left) choices fail in
-          is.choices_fail family larger broken (of_extensions (Breaks family) kind choice one left both.0, both.1);
-      branches_fail = is.branches_fail;
-      later_fails = is.later_fails;
-      choices_are = each_of_lists (IsPartialOf graph question) (extensions kind choice one left) choices
-          (to_extensions (IsClauseOfQuestion graph question) kind choice one left is.choices_are.0) is.choices_are.1;
+      choices_are = each_of_lists (IsPartialOf graph question) more choices
+          (to_more (IsClauseOfQuestion graph question) first more goes is.choices_are.0) is.choices_are.1;
       branches_are = is.branches_are;
       later_are = is.later_are;
     }

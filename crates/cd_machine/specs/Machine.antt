@@ -12,9 +12,8 @@ use Rattle.cd_model.specs.Thing.{Thing, IsElement}
 use Rattle.cd_rules.specs.Choices.{Choice}
 use Rattle.cd_rules.specs.Clauses.{Clause}
 use Rattle.cd_rules.specs.Family.{AreAmong, IsCovered, AsksNodes}
-use Rattle.cd_rules.specs.PartialChoices.{Partial, Signed, IsConjunction, partial, clause_by}
-use Rattle.cd_rules.specs.PartialChoices.{extensions, PartialFails, IsPartialOf}
-use Rattle.cd_rules.specs.PartialChoices.{AccountForClauses}
+use Rattle.cd_rules.specs.PartialChoices.{Partial, GoesOn, partial, clause_by, PartialFails}
+use Rattle.cd_rules.specs.PartialChoices.{IsPartialOf, AccountForClauses}
 use Rattle.cd_rules.specs.Tasks.{Task, tasks_of, questions_of, AreCases}
 
 -- What is left to do for a question: the choices whose clauses are not begun, the clause that is
@@ -58,17 +57,11 @@ state witnesses list frames = record { witnesses = witnesses; list = list; frame
 
 -- one thing is done for a question, where these questions are settled or listed
 pub data Works (known : List Question) : (before after : Work) → Type 0 where
-  -- the next formula of a choice is a conjunction: its members take its place
-  unfolds : (kind : Kind) (choice : Choice) (one : Signed) (members left : List Signed)
-      (choices : List Partial) (clause : Option Clause) (later branches : List Task)
-      → IsConjunction one members
-      → Works known (work (partial kind choice (one ∷ left) ∷ choices) clause later branches)
-      (work (partial kind choice (members ++ left) ∷ choices) clause later branches)
-  -- a choice becomes more choices, one with each way to meet its next formula
-  extends : (kind : Kind) (choice : Choice) (one : Signed) (left : List Signed)
-      (choices : List Partial) (clause : Option Clause) (later branches : List Task)
-      → Works known (work (partial kind choice (one ∷ left) ∷ choices) clause later branches)
-      (work (extensions kind choice one left ++ choices) clause later branches)
+  -- a choice goes on by its next formula
+  goes_further : (first : Partial) (more choices : List Partial) (clause : Option Clause)
+      (later branches : List Task) → GoesOn first more
+      → Works known (work (first ∷ choices) clause later branches)
+      (work (more ++ choices) clause later branches)
   -- a choice goes that fails by what is known
   cuts : (choice : Partial) (choices : List Partial) (clause : Option Clause)
       (later branches : List Task)

@@ -1,6 +1,6 @@
 -- What is so of a state of the machine: why each question of the list has no element, as far as
 -- what is left to do fails.
-use Rattle.std.specs.Prelude.{◌≡◌, ◌++◌, List, [], ◌∷◌, Option, Some, None, length}
+use Rattle.std.specs.Prelude.{◌≡◌, ◌++◌, ◌⊎◌, List, [], ◌∷◌, Option, Some, None, length}
 use Rattle.cd_sets.specs.declared.question.Question.{Question}
 use Rattle.cd_model.specs.AllOf.{AllOf, AnyOf}
 use Rattle.cd_model.specs.Formula.{Graph}
@@ -62,3 +62,8 @@ pub record IsRight (graph : Graph) (settled : List Question) (now : State) : Typ
   pub witnesses : AllOf (IsWitness graph) now.witnesses
   pub asks : AllOf (AsksNodes (length graph)) now.list
   pub once : Differ (all_questions settled now)
+
+-- the question has a witness, or it is the first of the list
+abbrev pub HasFirst : Question → State → Type 0
+HasFirst question now = AnyOf (λ witness. witness.0 ≡ question) now.witnesses
+    ⊎ ((rest : List Question) × (now.list ≡ question ∷ rest))

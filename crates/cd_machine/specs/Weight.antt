@@ -31,11 +31,14 @@ sum_of weight_of (x ∷ xs) = weight_of x + sum_of weight_of xs
 abbrev pub clause_weight : Clause → ℕ
 clause_weight clause = sum_of task_weight (tasks_of clause)
 
--- to join the choices of a formula takes a step, and to unfold a conjunction one more than to join
--- those of its members, one after the other
+-- to join the choices of a formula takes a step, to unfold a conjunction one more than to join
+-- those of its members, one after the other, and to divide a disjunction one more than to join
+-- those of each member
 abbrev mutual
   pub formula_weight : Kind → Formula → (wanted : Bool) → ℕ
   formula_weight kind (And formulas) true = suc (weight_of_each kind formulas true)
+  formula_weight kind (And formulas) false = suc (weight_of_one kind formulas false)
+  formula_weight kind (Or formulas) true = suc (weight_of_one kind formulas true)
   formula_weight kind (Or formulas) false = suc (weight_of_each kind formulas false)
   formula_weight kind (Not is) wanted = suc (formula_weight kind is (not wanted))
   formula_weight kind is wanted = 1
@@ -44,6 +47,11 @@ abbrev mutual
   weight_of_each kind NoFormula wanted = 0
   weight_of_each kind (AFormula is rest) wanted = formula_weight kind is wanted
       + length (kind_choices kind is wanted) * weight_of_each kind rest wanted
+
+  pub weight_of_one : Kind → Formulas → Bool → ℕ
+  weight_of_one kind NoFormula wanted = 0
+  weight_of_one kind (AFormula is rest) wanted =
+      formula_weight kind is wanted + weight_of_one kind rest wanted
 
 abbrev pub joining_weight : Kind → List Signed → ℕ
 joining_weight kind [] = 1

@@ -1,5 +1,5 @@
--- Where no integer, no character and no atom is in a question, nothing is in its basic clauses, and these need what has no way.
-use Rattle.std.proofs.Common.{true, [], ◌∷◌, inl, refl}
+-- Where no integer, no character and no atom is in a question, nothing is in its basic clauses: these need what has no way, and are broken.
+use Rattle.std.proofs.Common.{true, List, [], ◌∷◌, inl, refl}
 use Rattle.cd_sets.specs.declared.question.Question.{Question}
 use Rattle.cd_model.specs.Thing as thing
 use Rattle.cd_model.specs.Thing.{Thing, IsElement}
@@ -9,6 +9,7 @@ use Rattle.cd_model.specs.Membership.{asked, answers, reader}
 use Rattle.cd_model.specs.Types.{no_closure}
 use Rattle.cd_rules.specs.BasicSets.{IsBasic, HasNoBasic}
 use Rattle.cd_rules.specs.Clauses.{Clause, Ints, Chars, Atoms, IsClauseOfQuestion, IsInClause}
+use Rattle.cd_rules.specs.Family.{Breaks}
 use Rattle.cd_rules.specs.Needs.{AreNeeds}
 use Rattle.cd_rules.proofs.ClausesExact.{thing_exact}
 
@@ -31,6 +32,13 @@ module _ (graph : Graph) (question : Question) (none : HasNoBasic graph question
     refl,
   )
   nothing_needed _ of basic = absurd basic
+
+  -- each family breaks them
+  pub basic_breaks : (family : List Question) (is : Clause) → IsClauseOfQuestion graph question is → IsBasic is → Breaks family is
+  basic_breaks family (Ints wanted refused) of basic = ([] ∷ [], nothing_needed (Ints wanted refused) of basic, inl tt)
+  basic_breaks family (Chars wanted refused) of basic = ([] ∷ [], nothing_needed (Chars wanted refused) of basic, inl tt)
+  basic_breaks family (Atoms wanted refused) of basic = ([] ∷ [], nothing_needed (Atoms wanted refused) of basic, inl tt)
+  basic_breaks family _ of basic = absurd basic
 
   -- an element of the question is in no basic clause
   pub in_no_basic : (is : Clause) → IsBasic is → (e : Thing) → IsElement e → asked (answers graph e) question true

@@ -1,24 +1,21 @@
 -- Where no integer, no character and no atom is in a question, the choices of the other kinds account for its clauses; and
 -- each clause that they may become is one of the question.
-use Rattle.std.proofs.Common.{◌≡◌, Bool, true, false, List, [], ◌∷◌, Some, None, inl, inr, refl, sym, subst, ap}
+use Rattle.std.proofs.Common.{◌≡◌, Bool, true, false, List, [], ◌∷◌, inl, inr, sym, subst, ap}
 use Rattle.cd_sets.specs.declared.question.Question.{Question}
 use Rattle.cd_model.specs.AllOf.{AllOf, AnyOf}
-use Rattle.cd_model.specs.Formula as formula
-use Rattle.cd_model.specs.Formula.{Formula, Graph}
-use Rattle.cd_model.specs.Kinds.{APair, AnXml, ARecord, AFunction}
+use Rattle.cd_model.specs.Formula.{Graph}
+use Rattle.cd_model.specs.Kinds.{Kind, APair, AnXml, ARecord, AFunction}
+use Rattle.cd_rules.specs.BasicSets.{HasNoBasic}
 use Rattle.cd_rules.specs.Choices.{Choice}
-use Rattle.cd_rules.specs.Clauses.{IsClauseOfQuestion}
-use Rattle.cd_rules.specs.Clauses.{Clause, Ints, Chars, Atoms, Pairs, Xmls, Records, Arrows, kind_of_formula, pair_of, xml_of, record_of, arrow_of, parts_in}
+use Rattle.cd_rules.specs.Clauses.{Clause, Pairs, Xmls, Records, Arrows, IsClauseOfQuestion, pair_of, xml_of, record_of, arrow_of, parts_in}
 use Rattle.cd_rules.specs.Family.{Breaks}
+use Rattle.cd_rules.specs.KindChoices.{kind_choices_of}
+use Rattle.cd_rules.specs.PartialChoices.{clause_by, partial, signed, EachClause, partial_choices, IsPartialOf, AccountForClauses}
 use Rattle.cd_rules.proofs.Among.{each_of_its}
-use Rattle.cd_rules.proofs.Ones.{one_weaker}
-use Rattle.cd_model.specs.Kinds.{Kind}
-use Rattle.cd_rules.specs.PartialChoices.{HasNoBasic, clause_by, partial, signed, EachClause, partial_choices, IsPartialOf, AccountForClauses}
+use Rattle.cd_rules.proofs.BasicsWithoutMembers.{basic_breaks}
+use Rattle.cd_rules.proofs.ClausesOfKind.{pairs_of_kind, xmls_of_kind, records_of_kind, arrows_of_kind}
 use Rattle.cd_rules.proofs.Completions.{completions_of_question}
-use Rattle.cd_rules.proofs.KindChoicesBack.{kind_clause_of}
-use Rattle.cd_rules.specs.KindChoices.{is_of, kind_choices_of}
-use Rattle.cd_rules.proofs.KindChoicesExact.{clause_of_kind}
-use Rattle.cd_rules.proofs.SetsJoined.{no_integer, no_character, no_atom}
+use Rattle.cd_rules.proofs.Ones.{one_weaker}
 
 -- a fact of each clause that a choice with nothing yet may become is one of each of the question's choices of the kind, and back
 module _ (fact : Clause → Type 0) (kind : Kind) (graph : Graph) (question : Question) where
@@ -41,73 +38,21 @@ broken_one clause_of parts family wanted refused (choice ∷ all) each (inl is) 
 broken_one clause_of parts family wanted refused (choice ∷ all) each (inr later) =
     broken_one clause_of parts family wanted refused all each.1 later
 
-pair_kind : (is : Formula) → kind_of_formula is ≡ Some APair → is_of APair is ≡ true
-pair_kind (formula.Pair first second) same = refl
-pair_kind _ same = absurd cc
-
-xml_kind : (is : Formula) → kind_of_formula is ≡ Some AnXml → is_of AnXml is ≡ true
-xml_kind (formula.Xml tag attributes content) same = refl
-xml_kind _ same = absurd cc
-
-record_kind : (is : Formula) → kind_of_formula is ≡ Some ARecord → is_of ARecord is ≡ true
-record_kind (formula.Record named rest) same = refl
-record_kind _ same = absurd cc
-
-arrow_kind : (is : Formula) → kind_of_formula is ≡ Some AFunction → is_of AFunction is ≡ true
-arrow_kind (formula.Arrow argument result) same = refl
-arrow_kind _ same = absurd cc
-
-no_pair : (is : Formula) → is_of APair is ≡ false → pair_of is ≡ None
-no_pair (formula.Pair first second) same = absurd cc
-no_pair _ same = refl
-
-no_xml : (is : Formula) → is_of AnXml is ≡ false → xml_of is ≡ None
-no_xml (formula.Xml tag attributes content) same = absurd cc
-no_xml _ same = refl
-
-no_record : (is : Formula) → is_of ARecord is ≡ false → record_of is ≡ None
-no_record (formula.Record named rest) same = absurd cc
-no_record _ same = refl
-
-no_arrow : (is : Formula) → is_of AFunction is ≡ false → arrow_of is ≡ None
-no_arrow (formula.Arrow argument result) same = absurd cc
-no_arrow _ same = refl
-
 pub accounts_for_clauses : (graph : Graph) (base : List Question) (question : Question) → HasNoBasic graph question
     → AccountForClauses graph base question (partial_choices graph question)
-accounts_for_clauses graph base question none family larger fail (Ints wanted refused) of = no_integer graph family question none.integers wanted refused of
-accounts_for_clauses graph base question none family larger fail (Chars wanted refused) of =
-    no_character graph family question none.characters wanted refused of
-accounts_for_clauses graph base question none family larger fail (Atoms wanted refused) of = no_atom graph family question none.atoms wanted refused of
 accounts_for_clauses graph base question none family larger fail (Pairs wanted refused) of = broken_one Pairs (parts_in pair_of) family wanted refused
     (kind_choices_of APair graph question) (of_question (Breaks family) APair graph question fail.0)
-    (clause_of_kind APair pair_of no_pair pair_kind graph question wanted refused of)
+    ((pairs_of_kind graph question wanted refused).0 of)
 accounts_for_clauses graph base question none family larger fail (Xmls wanted refused) of = broken_one Xmls (parts_in xml_of) family wanted refused
     (kind_choices_of AnXml graph question) (of_question (Breaks family) AnXml graph question fail.1.0)
-    (clause_of_kind AnXml xml_of no_xml xml_kind graph question wanted refused of)
+    ((xmls_of_kind graph question wanted refused).0 of)
 accounts_for_clauses graph base question none family larger fail (Records wanted refused) of = broken_one Records (parts_in record_of) family wanted refused
     (kind_choices_of ARecord graph question) (of_question (Breaks family) ARecord graph question fail.1.1.0)
-    (clause_of_kind ARecord record_of no_record record_kind graph question wanted refused of)
+    ((records_of_kind graph question wanted refused).0 of)
 accounts_for_clauses graph base question none family larger fail (Arrows wanted refused) of = broken_one Arrows (parts_in arrow_of) family wanted refused
     (kind_choices_of AFunction graph question) (of_question (Breaks family) AFunction graph question fail.1.1.1.0)
-    (clause_of_kind AFunction arrow_of no_arrow arrow_kind graph question wanted refused of)
-
--- what a formula of a kind is of, back
-pair_back : (is : Formula) → is_of APair is ≡ true → kind_of_formula is ≡ Some APair
-pair_back (formula.Pair first second) same = refl
-pair_back _ same = absurd cc
-
-xml_back : (is : Formula) → is_of AnXml is ≡ true → kind_of_formula is ≡ Some AnXml
-xml_back (formula.Xml tag attributes content) same = refl
-xml_back _ same = absurd cc
-
-record_back : (is : Formula) → is_of ARecord is ≡ true → kind_of_formula is ≡ Some ARecord
-record_back (formula.Record named rest) same = refl
-record_back _ same = absurd cc
-
-arrow_back : (is : Formula) → is_of AFunction is ≡ true → kind_of_formula is ≡ Some AFunction
-arrow_back (formula.Arrow argument result) same = refl
-arrow_back _ same = absurd cc
+    ((arrows_of_kind graph question wanted refused).0 of)
+accounts_for_clauses graph base question none family larger fail is of = basic_breaks graph question none family is of tt
 
 -- each choice of such a kind is a clause of the question
 each_of_kind : {X : Type 0} (kind : Kind) (clause_of : (wanted refused : List X) → Clause) (parts : Bool → Choice → List X) (graph : Graph)
@@ -124,16 +69,16 @@ each_of_kind kind clause_of parts graph question back = each_of_its
 pub partial_choices_are : (graph : Graph) (question : Question) → AllOf (IsPartialOf graph question) (partial_choices graph question)
 partial_choices_are graph question = (
   to_question (IsClauseOfQuestion graph question) APair graph question (each_of_kind APair Pairs (parts_in pair_of) graph question
-      (λ wanted refused. kind_clause_of APair pair_back pair_of no_pair wanted refused graph question)),
+      (λ wanted refused. (pairs_of_kind graph question wanted refused).1)),
   (
     to_question (IsClauseOfQuestion graph question) AnXml graph question (each_of_kind AnXml Xmls (parts_in xml_of) graph question
-        (λ wanted refused. kind_clause_of AnXml xml_back xml_of no_xml wanted refused graph question)),
+        (λ wanted refused. (xmls_of_kind graph question wanted refused).1)),
     (
       to_question (IsClauseOfQuestion graph question) ARecord graph question (each_of_kind ARecord Records (parts_in record_of) graph question
-          (λ wanted refused. kind_clause_of ARecord record_back record_of no_record wanted refused graph question)),
+          (λ wanted refused. (records_of_kind graph question wanted refused).1)),
       (
         to_question (IsClauseOfQuestion graph question) AFunction graph question (each_of_kind AFunction Arrows (parts_in arrow_of) graph question
-            (λ wanted refused. kind_clause_of AFunction arrow_back arrow_of no_arrow wanted refused graph question)),
+            (λ wanted refused. (arrows_of_kind graph question wanted refused).1)),
         tt,
       ),
     ),

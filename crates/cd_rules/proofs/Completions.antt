@@ -8,9 +8,10 @@ use Rattle.cd_model.specs.Kinds.{Kind}
 use Rattle.cd_model.proofs.Covered.{each_parts}
 use Rattle.cd_rules.specs.Choices.{Choice, joined, always}
 use Rattle.cd_rules.specs.Clauses.{Clause}
-use Rattle.cd_rules.specs.KindChoices.{kind_choices, kind_of_each, kind_at, kind_choices_of}
-use Rattle.cd_rules.specs.PartialChoices.{Signed, partial, clause_by, completions, EachClause, extensions, signed}
+use Rattle.cd_rules.specs.KindChoices.{kind_choices, kind_of_each, kind_of_one, kind_at, kind_choices_of}
+use Rattle.cd_rules.specs.PartialChoices.{Signed, Partial, partial, clause_by, completions, EachClause, extensions, signed}
 use Rattle.cd_rules.specs.PartialChoices.{each_signed, IsConjunction, wants_each, refuses_each, denies}
+use Rattle.cd_rules.specs.PartialChoices.{IsDisjunction, wants_one, refuses_one, GoesOn, unfolds, divides, extends}
 use Rattle.cd_rules.proofs.Answered.{map_of_each}
 use Rattle.cd_rules.proofs.Asking.{each_of_map}
 use Rattle.cd_rules.proofs.Ones.{each_weaker, each_of_lists}
@@ -30,7 +31,7 @@ module _ (Fact : Choice → Type 0) where
 
 module _ (fact : Clause → Type 0) (kind : Kind) where
   -- a fact of each clause that the extensions may become is one of each that the choice may become, and back
-  pub of_extensions : (choice : Choice) (one : Signed) (left : List Signed) → AllOf (EachClause fact) (extensions kind choice one left)
+  of_extensions : (choice : Choice) (one : Signed) (left : List Signed) → AllOf (EachClause fact) (extensions kind choice one left)
       → EachClause fact (partial kind choice (one ∷ left))
   of_extensions choice one left each = each_joined (λ rest. fact (clause_by kind (choice ++ rest))) (kind_choices kind one.0 one.1)
       (completions kind left) (each_weaker (λ more. EachClause fact (partial kind (choice ++ more) left))
@@ -40,7 +41,7 @@ module _ (fact : Clause → Type 0) (kind : Kind) where
       (kind_choices kind one.0 one.1)
       (map_of_each (λ more. partial kind (choice ++ more) left) (EachClause fact) (kind_choices kind one.0 one.1) each))
 
-  pub to_extensions : (choice : Choice) (one : Signed) (left : List Signed) → EachClause fact (partial kind choice (one ∷ left))
+  to_extensions : (choice : Choice) (one : Signed) (left : List Signed) → EachClause fact (partial kind choice (one ∷ left))
       → AllOf (EachClause fact) (extensions kind choice one left)
   to_extensions choice one left each = each_of_map (λ more. partial kind (choice ++ more) left) (EachClause fact) (kind_choices kind one.0 one.1)
       (each_weaker (λ more. AllOf (λ rest. fact (clause_by kind (choice ++ (more ++ rest)))) (completions kind left))
@@ -83,7 +84,7 @@ joined_with_each choice (one ∷ some) others = ap (λ more. more ++ joined (wit
     ∙ ap (λ more. with_each choice (with_each one others) ++ more) (joined_with_each choice some others)
     ∙ sym (with_each_of_both choice (with_each one others) (joined some others))
 
-joined_both : (some more others : List Choice) → joined (some ++ more) others ≡ joined some others ++ joined more others
+pub joined_both : (some more others : List Choice) → joined (some ++ more) others ≡ joined some others ++ joined more others
 joined_both [] more others = refl
 joined_both (choice ∷ some) more others = ap (λ rest. with_each choice others ++ rest) (joined_both some more others)
     ∙ sym (append_assoc (with_each choice others) (joined some others) (joined more others))
@@ -131,8 +132,57 @@ module _ (kind : Kind) where
 module _ (fact : Clause → Type 0) (kind : Kind) (choice : Choice) (one : Signed) (members left : List Signed)
     (are : IsConjunction one members) where
   -- so what a choice may become stays, where the formulas of a conjunction take its place
-  pub of_members : EachClause fact (partial kind choice (members ++ left)) → EachClause fact (partial kind choice (one ∷ left))
+  of_members : EachClause fact (partial kind choice (members ++ left)) → EachClause fact (partial kind choice (one ∷ left))
   of_members = subst (AllOf (λ rest. fact (clause_by kind (choice ++ rest)))) (completions_unfold kind one members left are)
 
-  pub to_members : EachClause fact (partial kind choice (one ∷ left)) → EachClause fact (partial kind choice (members ++ left))
+  to_members : EachClause fact (partial kind choice (one ∷ left)) → EachClause fact (partial kind choice (members ++ left))
   to_members = subst (AllOf (λ rest. fact (clause_by kind (choice ++ rest)))) (sym (completions_unfold kind one members left are))
+
+-- a choice for each of these formulas
+abbrev pub divided : Kind → Choice → (left members : List Signed) → List Partial
+divided kind choice left members = map (λ member. partial kind choice (member ∷ left)) members
+
+module _ (fact : Clause → Type 0) (kind : Kind) (choice : Choice) (left : List Signed) where
+  abbrev IsOfRest : Choice → Type 0
+  IsOfRest rest = fact (clause_by kind (choice ++ rest))
+
+  -- the choices of one of some formulas are those of each, one after the other
+  of_each_one : (formulas : Formulas) (wanted : Bool) → AllOf (EachClause fact) (divided kind choice left (each_signed formulas wanted))
+      → AllOf IsOfRest (joined (kind_of_one kind formulas wanted) (completions kind left))
+  of_each_one NoFormula wanted each = tt
+  of_each_one (AFormula is rest) wanted each =
+      subst (AllOf IsOfRest) (sym (joined_both (kind_choices kind is wanted) (kind_of_one kind rest wanted) (completions kind left)))
+      (each_of_lists IsOfRest (joined (kind_choices kind is wanted) (completions kind left))
+      (joined (kind_of_one kind rest wanted) (completions kind left)) each.0 (of_each_one rest wanted each.1))
+
+  to_each_one : (formulas : Formulas) (wanted : Bool) → AllOf IsOfRest (joined (kind_of_one kind formulas wanted) (completions kind left))
+      → AllOf (EachClause fact) (divided kind choice left (each_signed formulas wanted))
+  to_each_one NoFormula wanted each = tt
+  to_each_one (AFormula is rest) wanted each =
+      let both = each_parts IsOfRest (joined (kind_choices kind is wanted) (completions kind left))
+      (joined (kind_of_one kind rest wanted) (completions kind left))
+      (subst (AllOf IsOfRest) (joined_both (kind_choices kind is wanted) (kind_of_one kind rest wanted) (completions kind left)) each) in
+      (both.0, to_each_one rest wanted both.1)
+
+  -- so what a choice may become stays, where there is a choice for each formula of a disjunction
+  of_divided : (one : Signed) (members : List Signed) → IsDisjunction one members → AllOf (EachClause fact) (divided kind choice left members)
+      → EachClause fact (partial kind choice (one ∷ left))
+  of_divided _ _ (wants_one formulas) = of_each_one formulas true
+  of_divided _ _ (refuses_one formulas) = of_each_one formulas false
+
+  to_divided : (one : Signed) (members : List Signed) → IsDisjunction one members → EachClause fact (partial kind choice (one ∷ left))
+      → AllOf (EachClause fact) (divided kind choice left members)
+  to_divided _ _ (wants_one formulas) = to_each_one formulas true
+  to_divided _ _ (refuses_one formulas) = to_each_one formulas false
+
+-- a fact of each clause that a choice may become stays where it goes on, and is so before where it is so after
+module _ (fact : Clause → Type 0) where
+  pub of_more : (first : Partial) (more : List Partial) → GoesOn first more → AllOf (EachClause fact) more → EachClause fact first
+  of_more _ _ (unfolds kind choice one members left are) each = of_members fact kind choice one members left are each.0
+  of_more _ _ (divides kind choice one members left are) each = of_divided fact kind choice left one members are each
+  of_more _ _ (extends kind choice one left) each = of_extensions fact kind choice one left each
+
+  pub to_more : (first : Partial) (more : List Partial) → GoesOn first more → EachClause fact first → AllOf (EachClause fact) more
+  to_more _ _ (unfolds kind choice one members left are) each = (to_members fact kind choice one members left are each, tt)
+  to_more _ _ (divides kind choice one members left are) each = to_divided fact kind choice left one members are each
+  to_more _ _ (extends kind choice one left) each = to_extensions fact kind choice one left each

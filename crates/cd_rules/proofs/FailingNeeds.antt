@@ -14,7 +14,21 @@ use Rattle.cd_rules.proofs.Among.{of_each, each_of_its, among_itself, among_map}
 use Rattle.cd_rules.proofs.Asking.{each_of_map}
 use Rattle.cd_rules.proofs.Covering.{asks_more, covers_more}
 use Rattle.cd_rules.proofs.Sides.{splits_back, splits_in_three_back}
-use Rattle.cd_rules.proofs.SplitsOfKept.{Sides, ComesOn, ThreeSides, ComesOnInThree}
+
+-- two sides, and a fact that comes from sides to longer ones
+abbrev Sides : (X : Type 0) → Type 0
+Sides X = List X × List X
+
+abbrev ComesOn : {X : Type 0} → (Sides X → Type 0) → Type 0
+ComesOn {X} fact = (sides longer : Sides X) → AreAmong sides.0 longer.0 → AreAmong sides.1 longer.1 → fact sides → fact longer
+
+-- and three
+abbrev ThreeSides : (X : Type 0) → Type 0
+ThreeSides X = List X × List X × List X
+
+abbrev ComesOnInThree : {X : Type 0} → (ThreeSides X → Type 0) → Type 0
+ComesOnInThree {X} fact = (sides longer : ThreeSides X)
+    → AreAmong sides.0 longer.0 → AreAmong sides.1 longer.1 → AreAmong sides.2 longer.2 → fact sides → fact longer
 
 -- one of a list stands on a side
 abbrev IsGiven : {X : Type 0} → Sides X → X → Type 0

@@ -37,9 +37,6 @@ pub mod InCells
 pub mod RowsExact
 pub mod RowsOfThings
 pub mod ClosedStays
-pub mod SplitsOfKept
-pub mod ReducedBroken
-pub mod ReducedHeld
 pub mod NodeSets
 pub mod PartsAsk
 pub mod BasicNeeds
@@ -53,12 +50,11 @@ pub mod BasicsWithoutMembers
 pub mod KindChoicesExact
 pub mod KindChoicesBack
 pub mod ClausesOfKind
-pub mod SetsJoined
 pub mod FailingNeeds
 pub mod FailingRows
 pub mod CasesAreTasks
 pub mod FailingTasks
-pub mod TasksAsk
+pub mod TasksOfNodes
 pub mod Completions
 pub mod CoveredChoices
 pub mod ClausesByKind

@@ -5,7 +5,6 @@ pub mod Rows
 pub mod InRow
 pub mod Family
 pub mod Members
-pub mod Reduced
 pub mod Settled
 pub mod Examples
 pub mod Within

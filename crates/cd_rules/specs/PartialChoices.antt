@@ -1,17 +1,12 @@
 -- A choice of one kind in the making: its literals so far, and the formulas of which it has none
 -- yet.
-use Rattle.std.specs.Prelude.{Bool, true, false, not, ℤ, ℕ, List, [], ◌∷◌, ◌++◌, map}
-use Rattle.std.specs.Char.{IsScalar}
+use Rattle.std.specs.Prelude.{Bool, true, false, not, List, [], ◌∷◌, ◌++◌, map}
 use Rattle.cd_sets.specs.declared.question.Question.{Question}
-use Rattle.cd_syntax.specs.Integer.{IsInteger}
-use Rattle.cd_syntax.specs.Name.{Name, IsLabel}
-use Rattle.cd_model.specs.Thing.{Integer, Character, Atom}
 use Rattle.cd_model.specs.AllOf.{AllOf}
 use Rattle.cd_model.specs.Formula.{Formula, Formulas, NoFormula, AFormula, And, Or, Not}
 use Rattle.cd_model.specs.Formula.{Graph, formula_at}
 use Rattle.cd_model.specs.Kinds.{Kind, AnInteger, ACharacter, AnAtom, APair, AnXml, ARecord}
 use Rattle.cd_model.specs.Kinds.{AFunction}
-use Rattle.cd_model.specs.Membership.{answers, asked}
 use Rattle.cd_rules.specs.Choices.{Choice, joined, always}
 use Rattle.cd_rules.specs.Clauses.{Clause, Ints, Chars, Atoms, Pairs, Xmls, Records, Arrows}
 use Rattle.cd_rules.specs.Clauses.{IsClauseOfQuestion, parts_in, integers_of, characters_of}
@@ -72,10 +67,30 @@ pub data IsConjunction : Signed → List Signed → Type 0 where
   denies : (is : Formula) (wanted : Bool)
       → IsConjunction (Not is, wanted) ((is, not wanted) ∷ [])
 
+-- a formula that is one of several, and these
+pub data IsDisjunction : Signed → List Signed → Type 0 where
+  wants_one : (formulas : Formulas)
+      → IsDisjunction (Or formulas, true) (each_signed formulas true)
+  refuses_one : (formulas : Formulas)
+      → IsDisjunction (And formulas, false) (each_signed formulas false)
+
 -- with one more formula each choice becomes some
 abbrev pub extensions : Kind → Choice → Signed → List Signed → List Partial
 extensions kind choice one left =
     map (λ more. partial kind (choice ++ more) left) (kind_choices kind one.0 one.1)
+
+-- A choice goes on by its next formula: the members of a conjunction take its place; of a
+-- disjunction there is a choice for each member; or there is one for each way to meet the formula
+pub data GoesOn : Partial → List Partial → Type 0 where
+  unfolds : (kind : Kind) (choice : Choice) (one : Signed) (members left : List Signed)
+      → IsConjunction one members
+      → GoesOn (partial kind choice (one ∷ left)) (partial kind choice (members ++ left) ∷ [])
+  divides : (kind : Kind) (choice : Choice) (one : Signed) (members left : List Signed)
+      → IsDisjunction one members
+      → GoesOn (partial kind choice (one ∷ left))
+      (map (λ member. partial kind choice (member ∷ left)) members)
+  extends : (kind : Kind) (choice : Choice) (one : Signed) (left : List Signed)
+      → GoesOn (partial kind choice (one ∷ left)) (extensions kind choice one left)
 
 -- the formulas of a question, and a choice of each kind that is made of parts, with nothing of it
 -- yet
@@ -98,9 +113,3 @@ module _ (graph : Graph) where
   AccountForClauses base question choices = (family : List Question) → AreAmong base family
       → AllOf (PartialFails family) choices
       → (clause : Clause) → IsClauseOfQuestion graph question clause → Breaks family clause
-
-  -- no integer, no character and no atom is in the question
-  pub record HasNoBasic (question : Question) : Type 0 where
-    pub integers : (z : ℤ) → IsInteger z → asked (answers graph (Integer z)) question true → ⊥
-    pub characters : (c : ℕ) → IsScalar c → asked (answers graph (Character c)) question true → ⊥
-    pub atoms : (name : Name) → IsLabel name → asked (answers graph (Atom name)) question true → ⊥

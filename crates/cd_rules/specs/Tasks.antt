@@ -1,11 +1,13 @@
 -- What is to do for a need of a clause, or for its rows: what was given to each side, and which of
 -- its members are given to none.
-use Rattle.std.specs.Prelude.{◌≡◌, List, [], ◌∷◌, ◌++◌, map, Some, None, if◌then◌else◌}
+use Rattle.std.specs.Prelude.{◌≡◌, ℕ, List, [], ◌∷◌, ◌++◌, map, length, Some, None}
+use Rattle.std.specs.Prelude.{if◌then◌else◌}
 use Rattle.cd_sets.specs.declared.question.Question.{Question}
-use Rattle.cd_syntax.specs.Name.{Name}
+use Rattle.cd_syntax.specs.Name.{Name, IsLabel}
 use Rattle.cd_model.specs.AllOf.{AllOf, AnyOf}
 use Rattle.cd_rules.specs.Clauses.{Clause, Pairs, Xmls, Records, Arrows, Pair, Triple, RecordType}
-use Rattle.cd_rules.specs.Family.{SameMembers, IsCovered, BreaksRow}
+use Rattle.cd_rules.specs.Family.{SameMembers, IsCovered, BreaksRow, AsksNodes}
+use Rattle.cd_rules.specs.Within.{IsWithin}
 use Rattle.cd_rules.specs.Needs.{Way, pair_way, xml_way, arrow_way, to_one, to_other, to_first}
 use Rattle.cd_rules.specs.Needs.{to_middle, to_last}
 use Rattle.cd_rules.specs.Rows.{Cell, Row, Reason, Reasons, row_of, labels_of}
@@ -122,3 +124,29 @@ IsForClause _ _ = ⊥
 -- a task of a clause
 abbrev pub IsTaskOf : Clause → Task → Type 0
 IsTaskOf clause task = IsForClause clause task × IsTask task
+
+-- the members that were given to none, as a clause that refuses them
+abbrev pub left_of : Task → Clause
+left_of (PairTask wanted refused given left) = Pairs [] left
+left_of (XmlTask wanted refused given left) = Xmls [] left
+left_of (ArrowTask refused wanted given left) = Arrows [] left
+left_of (RecordTask wanted refused given left) = Records [] left
+
+-- how many these are
+abbrev pub count_left : Task → ℕ
+count_left (PairTask wanted refused given left) = length left
+count_left (XmlTask wanted refused given left) = length left
+count_left (ArrowTask refused wanted given left) = length left
+count_left (RecordTask wanted refused given left) = length left
+
+-- the labels that the types of a task name
+abbrev pub labels_in : Task → List Name
+labels_in (RecordTask wanted refused given left) = labels_of (wanted ++ refused)
+labels_in task = []
+
+-- a task of a clause whose parts are nodes among so many, and whose labels are labels
+pub record IsTaskOfNodes (nodes : ℕ) (this : Task) : Type 0 where
+  pub task : IsTask this
+  pub asks : AllOf (AsksNodes nodes) (questions_of this)
+  pub left : IsWithin nodes (left_of this)
+  pub labels : AllOf IsLabel (labels_in this)

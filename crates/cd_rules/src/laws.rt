@@ -23,7 +23,6 @@ ghost use Rattle.cd_model.specs.Kinds.{kind_of, APair, AnXml, ARecord};
 ghost use Rattle.cd_rules.specs.Clauses.{Clause, Pair, Triple, RecordType, Pairs, Xmls, Records};
 ghost use Rattle.cd_rules.specs.Clauses.{IsClauseOfQuestion, IsInClause};
 ghost use Rattle.cd_rules.specs.Members.{HasElement, HasMember, IsSupplied, NamesLabels};
-ghost use Rattle.cd_rules.specs.Reduced.{IsReduced};
 ghost use Rattle.cd_rules.specs.Family.{IsOfFamily, IsCovered, BreaksRow, Breaks, IsClosed};
 ghost use Rattle.cd_rules.specs.Family.{AsksNodes};
 ghost use Rattle.cd_syntax.specs.Name.{Name};
@@ -114,33 +113,6 @@ pub fn needs_are_exact()
 pub fn families_cover()
     ensures { (family : List Question) (question : Question) → IsOfFamily question family
         → IsCovered question family }
-{}
-
-/// A clause holds the elements and the values that its reduced form holds, and is broken where that
-/// is.
-pub fn reduced_clauses()
-    ensures holds { (graph more : Graph) (clause reduced : Clause) (e : Thing)
-        → graph ≡ built_ins ++ more → IsReduced graph clause reduced
-        → IsElement e → IsInClause (kind_of e) (reader graph e) reduced
-        → IsInClause (kind_of e) (reader graph e) clause }
-    ensures holds_values { (graph more : Graph) (arrows : ℕ → List (ArrowOf NodeId))
-        (clause reduced : Clause) (v : Thing)
-        → graph ≡ built_ins ++ more → IsGraph graph → IsReduced graph clause reduced → IsValue v
-        → IsInClause (kind_of v) (value_reader graph (OfNodes graph arrows) v) reduced
-        → IsInClause (kind_of v) (value_reader graph (OfNodes graph arrows) v) clause }
-    ensures holds_values_by_written { (graph more : Graph) (count : ℕ)
-        (arrows : ℕ → List (ArrowOf NodeId)) (others : ℕ → List (ArrowOf WrittenType))
-        (clause reduced : Clause) (v : Thing)
-        → graph ≡ built_ins ++ more → IsGraph graph
-        → ((function : ℕ) → ArrowsAgree graph count (arrows function) (others function))
-        → IsReduced graph clause reduced → IsValue v
-        → IsInClause (kind_of v) (value_reader graph (OfWritten count others) v) reduced
-        → IsInClause (kind_of v) (value_reader graph (OfWritten count others) v) clause }
-    ensures breaks { (graph : Graph) (family : List Question) (clause reduced : Clause)
-        → IsReduced graph clause reduced
-        → Breaks family reduced → Breaks family clause }
-    ensures labels { (graph : Graph) (clause reduced : Clause) → IsReduced graph clause reduced
-        → NamesLabels clause → NamesLabels reduced }
 {}
 
 /// A clause all of whose questions have elements or are covered by a family has all that it needs,
@@ -244,7 +216,4 @@ pub fn worked_examples()
         (example.row_without_a (asks (14 ∷ []) []) (asks (1 ∷ []) [])
         (asks (1 ∷ []) (0 ∷ []) ∷ [])) }
     ensures endless { IsClosed example.endless (asks (14 ∷ []) [] ∷ []) }
-    ensures reduced { (more : Graph)
-        → IsReduced (built_ins ++ more) (Pairs ((INT, INT) ∷ []) ((CHAR, ANY) ∷ []))
-        (Pairs ((INT, INT) ∷ []) []) }
 {}

@@ -1,6 +1,6 @@
 //! Laws of what is to do for a question: of its choices in the making, and of the tasks of a
 //! clause.
-ghost use Rattle.std.specs.Prelude.{ℕ, ◌≡◌, ◌≤◌, ◌++◌, ◌↔◌, ◌⊎◌, Bool, true, false, List, [], ◌∷◌};
+ghost use Rattle.std.specs.Prelude.{◌≡◌, ◌++◌, ◌↔◌, ◌⊎◌, Bool, true, false, List, [], ◌∷◌, length};
 ghost use Rattle.std.specs.Prelude.{map};
 ghost use Rattle.cd_sets.specs.declared.node_id.NodeId.{NodeId};
 ghost use Rattle.cd_sets.specs.declared.question.Question.{Question};
@@ -8,28 +8,28 @@ ghost use Rattle.cd_syntax.specs.Name.{Name};
 ghost use Rattle.cd_model.specs.Thing as thing;
 ghost use Rattle.cd_model.specs.Thing.{Thing, IsElement};
 ghost use Rattle.cd_model.specs.AllOf.{AllOf, AnyOf};
-ghost use Rattle.cd_model.specs.BuiltIns.{ATOM, RECORD};
+ghost use Rattle.cd_model.specs.BuiltIns.{built_ins, ATOM, RECORD};
 ghost use Rattle.cd_model.specs.Formula as formula;
-ghost use Rattle.cd_model.specs.Formula.{Formula, Graph, Or, formulas_of, formula_at};
+ghost use Rattle.cd_model.specs.Formula.{Formula, Graph, IsGraph, Or, formulas_of, formula_at};
 ghost use Rattle.cd_model.specs.Kinds.{APair, AnXml, ARecord, AFunction};
 ghost use Rattle.cd_model.specs.Interfaces.{Interfaces};
 ghost use Rattle.cd_model.specs.Membership.{holds, answers, reader, value_answers, value_reader};
+ghost use Rattle.cd_rules.specs.BasicSets.{HasNoBasic};
 ghost use Rattle.cd_rules.specs.Choices.{Choice};
 ghost use Rattle.cd_rules.specs.Clauses.{Clause, Pair, Triple, RecordType, Pairs, Xmls, Arrows};
 ghost use Rattle.cd_rules.specs.Clauses.{Records, IsInClause, parts_in, pair_of, xml_of, record_of};
-ghost use Rattle.cd_rules.specs.Clauses.{arrow_of};
-ghost use Rattle.cd_rules.specs.Family.{SameMembers, IsCovered, Breaks, AsksNodes};
+ghost use Rattle.cd_rules.specs.Clauses.{IsClauseOfQuestion, arrow_of};
+ghost use Rattle.cd_rules.specs.Family.{SameMembers, IsCovered, Breaks};
 ghost use Rattle.cd_rules.specs.InRow.{thing_at, IsForRow};
 ghost use Rattle.cd_rules.specs.InWay.{AreInWay};
 ghost use Rattle.cd_rules.specs.MadeForTasks.{IsRightPair, IsFunctionBut, arrows_of};
 ghost use Rattle.cd_rules.specs.Needs.{question};
 ghost use Rattle.cd_rules.specs.PartialChoices.{Signed, partial, partial_choices, PartialFails};
-ghost use Rattle.cd_rules.specs.PartialChoices.{IsPartialOf, AccountForClauses, HasNoBasic};
+ghost use Rattle.cd_rules.specs.PartialChoices.{IsPartialOf, AccountForClauses};
 ghost use Rattle.cd_rules.specs.Rows.{Reasons, field_at};
 ghost use Rattle.cd_rules.specs.Tasks.{Task, PairTask, XmlTask, ArrowTask, RecordTask, IsTask};
 ghost use Rattle.cd_rules.specs.Tasks.{IsTaskOf, tasks_of, questions_of, row_of_given, AreCases};
-ghost use Rattle.cd_rules.specs.Tasks.{TaskFails};
-ghost use Rattle.cd_rules.specs.Within.{IsWithin};
+ghost use Rattle.cd_rules.specs.Tasks.{TaskFails, IsTaskOfNodes};
 
 /// Where no element of a basic kind is in a question, the choices of the other kinds account for
 /// its clauses; and each clause that they may become is one of the question.
@@ -68,15 +68,15 @@ pub fn partial_choices_are_cut()
         → PartialFails family (partial AFunction choice left) }
 {}
 
-/// The tasks of a clause, and the cases of such a task, are tasks of the clause; and their
-/// questions ask nodes, where the parts of the clause are nodes.
+/// The tasks of a clause, and the cases of such a task, are tasks of the clause. Where it is a
+/// clause of a question their parts are nodes of the graph, and their labels are labels.
 pub fn cases_are_tasks()
     ensures tasks { (clause : Clause) → AllOf (IsTaskOf clause) (tasks_of clause) }
     ensures cases { (clause : Clause) (task : Task) (cases : List Task) → AreCases task cases
         → IsTaskOf clause task → AllOf (IsTaskOf clause) cases }
-    ensures asks { (nodes : ℕ) (clause : Clause) (task : Task) → 14 ≤ nodes
-        → IsWithin nodes clause → IsTaskOf clause task
-        → AllOf (AsksNodes nodes) (questions_of task) }
+    ensures of_nodes { (graph more : Graph) (question : Question) (clause : Clause) (task : Task)
+        → graph ≡ built_ins ++ more → IsGraph graph → IsClauseOfQuestion graph question clause
+        → IsTaskOf clause task → IsTaskOfNodes (length graph) task }
 {}
 
 /// A task fails where one of its questions is covered, or where each of its cases fails; and a

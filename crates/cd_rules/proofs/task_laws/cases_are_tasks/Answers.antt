@@ -1,5 +1,5 @@
 use Rattle.cd_rules.proofs.CasesAreTasks.{tasks_are, cases_of_task}
-use Rattle.cd_rules.proofs.TasksAsk.{task_asks}
+use Rattle.cd_rules.proofs.TasksOfNodes.{task_of_nodes}
 use Rattle.cd_rules.proofs.task_laws.cases_are_tasks.Goals as goal
 
 pub returns-clause-tasks : goal.returns-clause-tasks
@@ -8,5 +8,5 @@ returns-clause-tasks c = tasks_are
 pub returns-clause-cases : goal.returns-clause-cases
 returns-clause-cases c = cases_of_task
 
-pub returns-clause-asks : goal.returns-clause-asks
-returns-clause-asks c = λ nodes clause task least within is. task_asks nodes least clause task is within
+pub returns-clause-of_nodes : goal.returns-clause-of_nodes
+returns-clause-of_nodes c = task_of_nodes
