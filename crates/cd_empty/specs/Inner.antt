@@ -1,5 +1,7 @@
 -- What serves private functions. No public clause speaks of it.
-pub mod Deciding
-pub mod Placing
-pub mod Rounds
-pub mod Steps
+pub mod PlainFrame
+pub mod Fit
+pub mod Doing
+pub mod Running
+pub mod Looking
+pub mod Working

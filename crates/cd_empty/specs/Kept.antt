@@ -1,42 +1,49 @@
 -- What a decider keeps.
-use Rattle.std.specs.Prelude.{◌≤◌, List, [], ◌∷◌, Option, Some, None, length, take}
+use Rattle.std.specs.Prelude.{List, [], ◌∷◌, length, map}
 use Rattle.cd_sets.specs.declared.question.Question.{Question}
 use Rattle.cd_model.specs.Thing.{Thing}
 use Rattle.cd_model.specs.AllOf.{AllOf}
 use Rattle.cd_model.specs.Formula.{Graph}
-use Rattle.cd_elements.specs.declared.shape.ElementId.{ElementId}
+use Rattle.cd_elements.specs.Elements as elements
+use Rattle.cd_elements.specs.Table.{Names, element_at}
+use Rattle.cd_holds.specs.Facts.{AreRight}
+use Rattle.cd_machine.specs.Machine.{Witness, IsWitness}
+use Rattle.cd_machine.specs.Right.{Differ}
 use Rattle.cd_rules.specs.Family.{AsksNodes, IsClosed}
-use Rattle.cd_members.specs.Marks.{AreMarked, unmarked}
 use Rattle.cd_empty.specs.declared.decider.Decider.{Decider}
 use Rattle.cd_empty.specs.declared.verdict.Verdict.{Verdict}
 use Rattle.cd_empty.specs.declared.verdict.Verdict.TheVariants.{Empty, Inhabited}
+use Rattle.cd_empty.specs.Verdicts.{family}
 
--- the verdict that a mark stands for
-abbrev pub verdict_of : Option ElementId → Verdict
-verdict_of None = Empty
-verdict_of (Some id) = Inhabited id
-
-abbrev pub with_verdicts : List Question → List (Option ElementId) → List (Question × Verdict)
-with_verdicts (question ∷ questions) (mark ∷ marks) = (question, verdict_of mark)
-    ∷ with_verdicts questions marks
-with_verdicts _ _ = []
-
--- the questions that are settled, and their marks
-abbrev pub settled_questions : Decider → List Question
-settled_questions decider = take decider.settled decider.asked
-
-abbrev pub settled_marks : Decider → List (Option ElementId)
-settled_marks decider = take decider.settled decider.marks.items
+-- its elements, and the questions that are settled, with their verdicts
+abbrev pub table : Decider → List Thing
+table decider = elements.table decider.elements
 
 abbrev pub kept : Decider → List (Question × Verdict)
-kept decider = with_verdicts (settled_questions decider) (settled_marks decider)
+kept decider = decider.verdicts
 
--- A decider fits a graph and a table of elements where all that is asked asks nodes of the graph,
--- where what is settled has its marks, and these are elements of the questions, and where the
--- settled questions without a mark are a closed family
-pub record Fits (graph : Graph) (table : List Thing) (decider : Decider) : Type 0 where
-  pub asks : AllOf (AsksNodes (length graph)) decider.asked
-  pub all_asked : decider.settled ≤ length decider.asked
-  pub all_marked : decider.settled ≤ length decider.marks.items
-  pub marked : AreMarked graph table (settled_questions decider) (settled_marks decider)
-  pub closed : IsClosed graph (unmarked (settled_questions decider) (settled_marks decider))
+-- the questions that have elements, and these
+abbrev pub witnesses_in : (table : List Thing) → List (Question × Verdict) → List Witness
+witnesses_in table [] = []
+witnesses_in table ((question, Empty) ∷ kept) = witnesses_in table kept
+witnesses_in table ((question, Inhabited id) ∷ kept) =
+    (question, element_at table id) ∷ witnesses_in table kept
+
+abbrev pub witnesses : Decider → List Witness
+witnesses decider = witnesses_in (table decider) (kept decider)
+
+-- a verdict tells an element of the table
+abbrev pub IsNamed : List Thing → Verdict → Type 0
+IsNamed table Empty = Unit {0}
+IsNamed table (Inhabited id) = Names table id
+
+-- A decider is sound for a graph where all that is settled asks nodes of the graph, one time each;
+-- where the elements that are kept are of the table and in their questions; where the facts are
+-- right; and where the questions without elements are a closed family
+pub record IsSound (graph : Graph) (decider : Decider) : Type 0 where
+  pub asks : AllOf (λ one. AsksNodes (length graph) one.0) (kept decider)
+  pub once : Differ (map (λ one. one.0) (kept decider))
+  pub named : AllOf (λ one. IsNamed (table decider) one.1) (kept decider)
+  pub witnesses : AllOf (IsWitness graph) (witnesses decider)
+  pub facts : AreRight graph (table decider) decider.facts
+  pub closed : IsClosed graph (family (kept decider))

@@ -1,5 +1,5 @@
 -- Questions with their verdicts.
-use Rattle.std.specs.Prelude.{ℕ, ◌≡◌, ◌++◌, true, List, [], ◌∷◌}
+use Rattle.std.specs.Prelude.{ℕ, ◌≡◌, ◌++◌, true, List, [], ◌∷◌, map}
 use Rattle.cd_sets.specs.declared.node_id.NodeId.{NodeId}
 use Rattle.cd_sets.specs.declared.question.Question.{Question}
 use Rattle.cd_model.specs.Thing.{Thing, IsElement, IsValue}
@@ -45,3 +45,7 @@ abbrev pub family : List (Question × Verdict) → List Question
 family [] = []
 family ((question, Empty) ∷ kept) = question ∷ family kept
 family ((question, Inhabited id) ∷ kept) = family kept
+
+-- questions that have no element, with this verdict
+abbrev pub without_elements : List Question → List (Question × Verdict)
+without_elements questions = map (λ question. (question, Empty)) questions

@@ -1,7 +1,3 @@
-ghost use Rattle.cd_graph.specs.Nodes.{nodes};
-ghost use Rattle.cd_elements.specs.Elements.{table};
-ghost use Rattle.cd_empty.specs.Kept.{Fits};
-
 use crate::decider::Decider;
 use crate::verdict::Verdict;
 use cd_elements::Elements;
@@ -10,18 +6,37 @@ use cd_needs::asking::question;
 use cd_sets::node_id::NodeId;
 use cd_sets::question::Question;
 use std::alloc::{AllocError, Global};
+use std::marker::Model;
 
 /// A graph of types, a table of elements, and what is settled of questions: whether there is an
 /// element in some nodes and outside some others. What is settled stays so.
 #[derive(Drop)]
 pub struct World {
     graph: Graph,
-    elements: Elements,
     decider: Decider,
-    ghost fits: { ∥ Fits (nodes graph) (table elements) decider ∥₁ },
+}
+
+impl Model for World {
+    ghost use Rattle.cd_graph.specs.Nodes.{nodes};
+    ghost use Rattle.cd_empty.specs.Kept.{IsSound, kept};
+    ghost use Rattle.cd_empty.specs.Seen.{Seen, seen_code};
+
+    ghost Value = { Seen };
+
+    ghost coded = { seen_code };
+
+    ghost view = { λ world. record {
+      graph = world.graph;
+      elements = world.decider.elements;
+      verdicts = kept world.decider;
+    } };
+
+    ghost invariant = { λ world. IsSound (nodes world.graph) world.decider };
 }
 
 impl World {
+    ghost use Rattle.cd_graph.specs.Nodes.{nodes};
+    ghost use Rattle.cd_elements.specs.Elements.{table};
     ghost use Rattle.std.specs.Prelude.{◌≡◌, ◌+◌, ◌<◌, ◌++◌, [], ◌∷◌, true, Some, None, length};
     ghost use Rattle.std.specs.Prelude.{slice_get, IfOk, OnOk, OnErr, MatchOption};
     ghost use Rattle.cd_sets.specs.declared.node_id.NodeId.{NodeId as AnId};
@@ -48,7 +63,6 @@ impl World {
     {
         Ok(World {
             graph: Graph::new(alloc)?,
-            elements: Elements::new(alloc),
             decider: Decider::new(alloc),
         })
     }
@@ -66,6 +80,8 @@ impl World {
         ensures elements { table_of self.new ≡ table_of self.old }
         ensures grows { Grows self.old self.new }
     {
+        // The contract of this call says that the graph is sound.
+        let _nodes = self.graph.len();
         self.graph.extend(batch)
     }
 
@@ -84,11 +100,9 @@ impl World {
         ensures graph { graph_of self.new ≡ graph_of self.old }
         ensures grows { Grows self.old self.new }
     {
-        let verdict = self
-            .decider
-            .decide(&self.graph, &mut self.elements, question)?;
-        self.know();
-        Ok(verdict)
+        // The contract of this call says that the graph begins with the built-in nodes.
+        let _nodes = self.graph.len();
+        self.decider.decide(&self.graph, question)
     }
 
     /// Settles whether what is in the first node is in the second: Empty where it is, and else an
@@ -115,7 +129,7 @@ impl World {
         ensures grows { Grows self.old self.new }
     {
         // The contract of this call says that the graph begins with the built-in nodes.
-        let _nodes = self.graph.len();
+        let _graph = self.graph();
         let question = question(self.decider.allocator(), &[first], &[second])?;
         self.decide(&question)
     }
@@ -131,10 +145,11 @@ impl World {
             (kept self.now) }
         ensures once { (asked : AQuestion) (one other : AVerdict) → IsKept (kept self.now) asked one
             → IsKept (kept self.now) asked other → one ≡ other }
-        ensures closed { ∥ IsClosed (graph_of self.now) (family (kept self.now)) ∥₁ }
+        ensures closed { IsClosed (graph_of self.now) (family (kept self.now)) }
     {
-        self.know();
-        self.decider.settled(question)
+        // The contract of this call says that the graph begins with the built-in nodes.
+        let _nodes = self.graph.len();
+        self.decider.verdicts.get(question)
     }
 
     /// The question at a place among those whose verdicts are kept, and its verdict. So the
@@ -143,21 +158,7 @@ impl World {
         ensures { MatchOption result (slice_get (kept self.now) place ≡ None)
             (λ one. slice_get (kept self.now) place ≡ Some (one.0.now, one.1)) }
     {
-        self.decider.kept_at(place)
-    }
-
-    // All verdicts that are kept are of questions of the graph and exact, and the questions without
-    // elements are a closed family. It does nothing.
-    fn know(&self)
-        ensures asks { AllOf (λ one. AsksNodes (length (graph_of self.now)) one.0) (kept self.now) }
-        ensures exact { AllOf (λ one. IsExact (graph_of self.now) (table_of self.now) one.0 one.1)
-            (kept self.now) }
-        ensures closed { ∥ IsClosed (graph_of self.now) (family (kept self.now)) ∥₁ }
-    {
-        // The contract of this call says that the graph begins with the built-in nodes, and that of
-        // the next that the table is sound.
-        let _nodes = self.graph.len();
-        let _elements = self.elements.len();
+        self.decider.verdicts.at(place)
     }
 
     /// The graph, which is sound and begins with the built-in nodes.
@@ -177,7 +178,7 @@ impl World {
         ensures sound { AllOf IsElement (table_of self.now) }
     {
         // The contract of this call says that the table is sound.
-        let _count = self.elements.len();
-        &self.elements
+        let _count = self.decider.elements.len();
+        &self.decider.elements
     }
 }

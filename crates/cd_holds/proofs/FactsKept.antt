@@ -6,7 +6,8 @@ use Rattle.std.proofs.lemmas.Bool.Decides.{nat_tests}
 use Rattle.std.proofs.lemmas.List.{get_or_append_left}
 use Rattle.cd_sets.specs.declared.node_id.NodeId.{NodeId}
 use Rattle.cd_model.specs.Thing.{Thing, Atom}
-use Rattle.cd_model.specs.Formula.{Formula, Graph, IsGraph, formula_at}
+use Rattle.cd_syntax.specs.Name.{Name}
+use Rattle.cd_model.specs.Formula.{Formula, Field, Record, Graph, IsGraph, formula_at}
 use Rattle.cd_model.specs.Membership.{answers, holds, reader}
 use Rattle.cd_model.proofs.Extending.{kept_elements}
 use Rattle.cd_rules.proofs.Ones.{each_of_lists, each_weaker}
@@ -99,6 +100,16 @@ found_right graph table facts id node shape form finding right element formula f
     (subst (Justifies (holds (reader graph (element_by table shape)) form)) (sym found)
     (finding_right graph table (known facts) (facts_are_knowledge graph table facts right) shape form)))
 
+-- and so of the element and a record type
+pub found_right_of_type : (graph : Graph) (table : List Thing) (facts : List Fact) (id : ElementId) (shape : Shape)
+    (named : List (Name × Field)) (rest : NodeId) (finding : Finding) → AreRight graph table facts
+    → element_by table shape ≡ element_at table id → finding ≡ finding_of (known facts) shape (Record named rest)
+    → Justifies (reader graph (element_at table id) (Record named rest)) finding
+found_right_of_type graph table facts id shape named rest finding right element found =
+    subst (λ (is : Thing). Justifies (reader graph is (Record named rest)) finding) element
+    (subst (Justifies (reader graph (element_by table shape) (Record named rest))) (sym found)
+    (finding_right graph table (known facts) (facts_are_knowledge graph table facts right) shape (Record named rest)))
+
 -- facts that are as they were, and with one more at their end
 pub none_added : (facts : List Fact) → Grows facts facts
 none_added facts = ([], sym (append-nil facts))
@@ -107,4 +118,10 @@ pub one_added : (old facts new : List Fact) (fact : Fact) → Grows old facts �
 one_added old facts new fact grows added = (
   grows.0 ++ fact ∷ [],
   added ∙ ap (λ facts. facts ++ fact ∷ []) grows.1 ∙ append_assoc old grows.0 (fact ∷ []),
+)
+
+pub grown_on : (old facts new : List Fact) → Grows old facts → Grows facts new → Grows old new
+grown_on old facts new grows more = (
+  grows.0 ++ more.0,
+  more.1 ∙ ap (λ facts. facts ++ more.0) grows.1 ∙ append_assoc old grows.0 more.0,
 )

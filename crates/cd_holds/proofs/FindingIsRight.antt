@@ -19,7 +19,8 @@ use Rattle.cd_elements.specs.declared.shape.Shape.TheVariants.{Int, Char, Atom, 
 use Rattle.cd_elements.specs.Table.{element_at, element_by, fields_of, pairs_of}
 use Rattle.cd_holds.specs.declared.finding.Finding.{Finding}
 use Rattle.cd_holds.specs.declared.finding.Finding.TheVariants.{Known, Unknown}
-use Rattle.cd_holds.specs.Inner.Finding.{both, one_of, opposite, part_at, labels, look, look_by, finding_at_field}
+use Rattle.cd_holds.specs.Inner.Rising.{item_at}
+use Rattle.cd_holds.specs.Inner.Finding.{both, one_of, opposite, labels, look, look_by, finding_at_field}
 use Rattle.cd_holds.specs.Inner.Finding.{finding_at_labels, finding_at_result, finding_at_pairs, finding_of}
 use Rattle.cd_holds.specs.Inner.Finding.{finding_of_all, finding_of_any, Justifies}
 use Rattle.cd_holds.specs.Inner.Known.{IsKnowledge}
@@ -67,13 +68,13 @@ leads_on one other leads (Unknown id node) is = tt
 abbrev names : List (Name × ElementId) → List Name
 names parts = map (λ part. part.0) parts
 
-part_or_none : (parts : List (Name × ElementId)) (label : Name) → IsOneOf (names parts) label ⊎ (part_at parts label ≡ None)
+part_or_none : (parts : List (Name × ElementId)) (label : Name) → IsOneOf (names parts) label ⊎ (item_at parts label ≡ None)
 part_or_none [] label = inr refl
 part_or_none (part ∷ parts) label = by_test (cases_Bool (bytes_eq part.0 label)) (part_or_none parts label)
   where
     by_test : (bytes_eq part.0 label ≡ true) ⊎ (bytes_eq part.0 label ≡ false)
-        → IsOneOf (names parts) label ⊎ (part_at parts label ≡ None)
-        → IsOneOf (names (part ∷ parts)) label ⊎ (part_at (part ∷ parts) label ≡ None)
+        → IsOneOf (names parts) label ⊎ (item_at parts label ≡ None)
+        → IsOneOf (names (part ∷ parts)) label ⊎ (item_at (part ∷ parts) label ≡ None)
     by_test (inl same) rest = inl (inl ((bytes_eq-Decides part.0 label).0 same))
     by_test (inr differ) (inl one) = inl (inr one)
     by_test (inr differ) (inr none) = inr (rw differ none)
@@ -94,16 +95,16 @@ module _ (graph : Graph) (table : List Thing) (known : ElementId → NodeId → 
 
   -- what a record says of a label
   field_right : (parts : List (Name × ElementId)) (label : Name) (field : Field)
-      → Justifies (labelled graph (fields_of table parts) label field) (finding_at_field known (part_at parts label) field)
+      → Justifies (labelled graph (fields_of table parts) label field) (finding_at_field known (item_at parts label) field)
   field_right [] label field = refl
   field_right (part ∷ parts) label field = by_test (bytes_eq part.0 label) (field_right parts label field)
     where
       by_test : (test : Bool)
           → Justifies (labelled graph (fields_of table parts) label field)
-          (finding_at_field known (part_at parts label) field)
+          (finding_at_field known (item_at parts label) field)
           → Justifies (λ answer. either test (AtNode part.1 field.type answer)
           (labelled graph (fields_of table parts) label field answer))
-          (finding_at_field known (if test then Some part.1 else part_at parts label) field)
+          (finding_at_field known (if test then Some part.1 else item_at parts label) field)
       by_test true later = look_right part.1 field.type
       by_test false later = later
 
@@ -120,7 +121,7 @@ module _ (graph : Graph) (table : List Thing) (known : ElementId → NodeId → 
     labels_right [] = λ label none. elim none [ ]
     labels_right (label ∷ these) =
         both_right (At label) (AtEach these) (AtEach (label ∷ these)) leads
-        (finding_at_field known (part_at parts label) (field_of named rest label))
+        (finding_at_field known (item_at parts label) (field_of named rest label))
         (finding_at_labels known parts named rest these) (field_right parts label (field_of named rest label))
         (labels_right these)
       where
@@ -134,7 +135,7 @@ module _ (graph : Graph) (table : List Thing) (known : ElementId → NodeId → 
 
     -- a record is as the type says of a label that the type does not name and at which there is nothing
     free_is_right : (label : Name) → field_of named rest label ≡ record { optional = true; type = rest }
-        → part_at parts label ≡ None → At label true
+        → item_at parts label ≡ None → At label true
     free_is_right label free none =
         subst (At label) (ap (λ (field : Field). field.optional) free)
         (subst (λ what. Justifies (At label) (finding_at_field known what (field_of named rest label))) none
@@ -145,7 +146,7 @@ module _ (graph : Graph) (table : List Thing) (known : ElementId → NodeId → 
     each_label each label = by_both (named_or_free named rest label) (part_or_none parts label)
       where
         by_both : IsOneOf (names_of named) label ⊎ (field_of named rest label ≡ record { optional = true; type = rest })
-            → IsOneOf (names parts) label ⊎ (part_at parts label ≡ None) → At label true
+            → IsOneOf (names parts) label ⊎ (item_at parts label ≡ None) → At label true
         by_both (inl one) part = each label (one_on_left (λ name. name ≡ label) (names_of named) (names parts) one)
         by_both (inr free) (inl one) =
             each label (one_on_right (λ name. name ≡ label) (names_of named) (names parts) one)

@@ -1,5 +1,7 @@
 pub mod FindingIsRight
 pub mod UnknownParts
 mod Labels
+mod RisingLabels
+mod FieldsInTurn
 pub mod FactsKept
 mod Waiting

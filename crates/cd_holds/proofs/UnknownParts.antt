@@ -11,7 +11,8 @@ use Rattle.cd_elements.specs.declared.shape.Shape.TheVariants.{Int, Char, Atom, 
 use Rattle.cd_elements.specs.Table.{ArePartsBelow, IsResultBelow}
 use Rattle.cd_holds.specs.declared.finding.Finding.{Finding}
 use Rattle.cd_holds.specs.declared.finding.Finding.TheVariants.{Known, Unknown}
-use Rattle.cd_holds.specs.Inner.Finding.{both, one_of, opposite, part_at, look, look_by, finding_at_field, finding_at_labels}
+use Rattle.cd_holds.specs.Inner.Rising.{item_at}
+use Rattle.cd_holds.specs.Inner.Finding.{both, one_of, opposite, look, look_by, finding_at_field, finding_at_labels}
 use Rattle.cd_holds.specs.Inner.Finding.{finding_at_result, finding_at_pairs, finding_of, finding_of_all, finding_of_any}
 use Rattle.cd_holds.specs.Inner.Finding.{AsksPart}
 
@@ -55,13 +56,13 @@ module _ (known : ElementId → NodeId → Option Bool) (bound size : ℕ) where
 
   field_asks : (parts : List (Name × ElementId)) (label : Name) (field : Field) → AllOf (λ part. part.1.0 < bound) parts
       → field.type.0 < size
-      → Asks (finding_at_field known (part_at parts label) field)
+      → Asks (finding_at_field known (item_at parts label) field)
   field_asks [] label field below within = tt
   field_asks (part ∷ parts) label field below within =
       by_test (bytes_eq part.0 label) (field_asks parts label field below.1 within)
     where
-      by_test : (test : Bool) → Asks (finding_at_field known (part_at parts label) field)
-          → Asks (finding_at_field known (if test then Some part.1 else part_at parts label) field)
+      by_test : (test : Bool) → Asks (finding_at_field known (item_at parts label) field)
+          → Asks (finding_at_field known (if test then Some part.1 else item_at parts label) field)
       by_test true later = look_asks part.1 field.type below.0 within
       by_test false later = later
 
@@ -70,7 +71,7 @@ module _ (known : ElementId → NodeId → Option Bool) (bound size : ℕ) where
       → Asks (finding_at_labels known parts named rest labels)
   labels_ask parts named rest [] below within last = tt
   labels_ask parts named rest (label ∷ labels) below within last =
-      both_ask (finding_at_field known (part_at parts label) (field_of named rest label))
+      both_ask (finding_at_field known (item_at parts label) (field_of named rest label))
       (finding_at_labels known parts named rest labels)
       (field_asks parts label (field_of named rest label) below (field_within named rest label within last))
       (labels_ask parts named rest labels below within last)
@@ -90,6 +91,19 @@ module _ (known : ElementId → NodeId → Option Bool) (bound size : ℕ) where
       (one_asks (opposite (look known pair.0 argument)) (finding_at_result known pair.1 result)
       (opposite_asks (look known pair.0 argument) (look_asks pair.0 argument below.0.0 one))
       (result_asks pair.1 result below.0.1 other)) (pairs_ask pairs argument result below.1 one other)
+
+  -- a record type asks of the parts of records alone
+  pub type_asks : (shape : Shape) (named : List (Name × Field)) (rest : NodeId) → ArePartsBelow bound shape
+      → AllOf (λ field. field.1.type.0 < size) named → rest.0 < size
+      → Asks (finding_of known shape (formula.Record named rest))
+  type_asks (Record parts) named rest below within last =
+      labels_ask parts named rest (map (λ field. field.0) named ++ map (λ part. part.0) parts) below within last
+  type_asks (Int n) named rest below within last = tt
+  type_asks (Char c) named rest below within last = tt
+  type_asks (Atom name) named rest below within last = tt
+  type_asks (Pair first second) named rest below within last = tt
+  type_asks (Xml tag attributes content) named rest below within last = tt
+  type_asks (Fun pairs) named rest below within last = tt
 
   mutual
     pub finding_asks : (shape : Shape) (is : Formula) → ArePartsBelow bound shape → IsFormula size is

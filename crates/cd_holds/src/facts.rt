@@ -1,15 +1,21 @@
 ghost use Rattle.std.specs.Prelude.{◌≡◌, ◌<◌, ◌^◌, ◌∷◌, ◌++◌, [], None, length, IfOk, OnOk, OnErr};
 ghost use Rattle.cd_graph.specs.Nodes.{nodes};
-ghost use Rattle.cd_model.specs.Membership.{answers};
+ghost use Rattle.cd_graph.specs.PlainFormula.{plain_named};
+ghost use Rattle.cd_model.specs.Formula.{Record};
+ghost use Rattle.cd_model.specs.Membership.{answers, reader};
+ghost use Rattle.cd_needs.specs.RecordType.{record_type};
+ghost use Rattle.cd_rules.specs.Within.{IsTypeWithin};
 ghost use Rattle.cd_elements.specs.Elements.{table};
 ghost use Rattle.cd_elements.specs.Table.{element_at};
 ghost use Rattle.cd_holds.specs.Facts.{AreRight, Grows};
 ghost use Rattle.cd_holds.specs.Inner.Known.{known};
 
+use crate::finding::Finding;
 use crate::membership::Membership;
-use crate::search::find_out;
+use crate::search::{find_out, finding_of_type};
 use cd_elements::{ElementId, Elements};
 use cd_graph::Graph;
+use cd_graph::fields::Fields;
 use cd_sets::node_id::NodeId;
 use indexmap::IndexMap;
 use std::alloc::{AllocError, Global};
@@ -61,6 +67,34 @@ impl Facts {
             return Ok(answer);
         }
         find_out(self, graph, elements, Membership { id, node })
+    }
+
+    /// Whether an element is as a record type says. What is found out on the way is added to the
+    /// facts, also where memory runs out.
+    pub fn is_in_type(
+        &mut self,
+        graph: &Graph,
+        elements: &Elements,
+        id: ElementId,
+        fields: &Fields,
+    ) -> Result<bool, AllocError>
+        requires id { id.0 < length (table elements.now) }
+        requires nodes { IsTypeWithin (length (nodes graph.now)) (record_type fields.now) }
+        requires right { AreRight (nodes graph.now) (table elements.now) self.old }
+        ensures answer { let all = table elements.now in
+            IfOk result (reader (nodes graph.now) (element_at all id)
+            (Record (plain_named fields.now.named) fields.now.rest)) }
+        ensures right { AreRight (nodes graph.now) (table elements.now) self.new }
+        ensures grows { Grows self.old self.new }
+    {
+        loop {
+            match finding_of_type(self, elements, id, fields) {
+                Finding::Known(answer) => return Ok(answer),
+                Finding::Unknown(part, node) => {
+                    find_out(self, graph, elements, Membership { id: part, node })?;
+                }
+            }
+        }
     }
 
     // Whether an element is in a node, if it is known.

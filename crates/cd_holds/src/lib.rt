@@ -7,6 +7,7 @@ mod formula;
 pub mod laws;
 pub mod membership;
 mod parts;
+mod rising;
 mod search;
 
 pub use facts::Facts;

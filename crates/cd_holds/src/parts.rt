@@ -1,17 +1,18 @@
 //! Whether an element is in a formula that speaks of its parts.
-ghost use Rattle.std.specs.Prelude.{◌≡◌, map};
+ghost use Rattle.std.specs.Prelude.{◌≡◌, map, option_copied};
 ghost use Rattle.cd_graph.specs.PlainFormula.{plain_named, plain_field};
-ghost use Rattle.cd_model.specs.Types.{field_of};
 ghost use Rattle.cd_model.specs.Formula as formula;
-ghost use Rattle.cd_holds.specs.Inner.Finding.{finding_of, finding_at_pairs};
-ghost use Rattle.cd_holds.specs.Inner.Finding.{finding_at_labels, finding_at_field, labels};
-ghost use Rattle.cd_holds.specs.Inner.Finding.{part_at as part_of};
+ghost use Rattle.cd_elements.specs.Parts.{HasLabels};
+ghost use Rattle.cd_holds.specs.Inner.Finding.{finding_of, finding_at_pairs, labels};
+ghost use Rattle.cd_holds.specs.Inner.Finding.{finding_at_labels, finding_at_field};
+ghost use Rattle.cd_holds.specs.Inner.Finding.{finding_at_other, finding_at_others};
 ghost use Rattle.cd_holds.specs.Inner.Known.{known};
 
 use crate::facts::Facts;
 use crate::finding::{Finding, both, look, look_at_result, one_of, opposite};
+use crate::rising::{first_at, from_label};
 use cd_elements::{ElementId, Shape};
-use cd_graph::fields::{Field, Fields, is_same};
+use cd_graph::fields::{Field, Fields};
 use cd_sets::node_id::NodeId;
 use cd_syntax::name::Name;
 
@@ -86,26 +87,30 @@ pub(crate) fn at_record(facts: &Facts, shape: &Shape, fields: &Fields) -> Findin
 }
 
 // Whether a record is as a record type says of each label: those that one of both has are enough.
-#[tactic(auto, using(crate::proofs::Labels::labels_in_turn))]
 fn at_fields(facts: &Facts, parts: &[(Name, ElementId)], fields: &Fields) -> Finding
+    requires { HasLabels parts.now }
     ensures { let named = plain_named fields.now.named in
         result ≡ finding_at_labels (known facts.now) parts.now named fields.now.rest
         (labels named parts.now) }
 {
-    both(
-        at_named(facts, parts, fields),
-        at_parts(facts, parts, fields),
-    )
+    match at_named(facts, parts, fields) {
+        Finding::Known(true) => at_others(facts, parts, fields),
+        Finding::Known(false) => Finding::Known(false),
+        Finding::Unknown(id, node) => Finding::Unknown(id, node),
+    }
 }
 
 // Whether a record is as a record type says of the labels that the type names.
 fn at_named(facts: &Facts, parts: &[(Name, ElementId)], fields: &Fields) -> Finding
+    requires { HasLabels parts.now }
     ensures { let named = plain_named fields.now.named in
         result ≡ finding_at_labels (known facts.now) parts.now named fields.now.rest
         (map (λ field. field.0) named) }
 {
-    for (label, _) in fields.named.items() {
-        match at_label(facts, parts, fields, label) {
+    let mut left = parts;
+    for (label, field) in fields.named.items() {
+        left = from_label(left, label);
+        match at_field(facts, first_at(left, label).copied(), field) {
             Finding::Known(true) => {}
             Finding::Known(false) => return Finding::Known(false),
             Finding::Unknown(id, node) => return Finding::Unknown(id, node),
@@ -114,14 +119,16 @@ fn at_named(facts: &Facts, parts: &[(Name, ElementId)], fields: &Fields) -> Find
     Finding::Known(true)
 }
 
-// Whether a record is as a record type says of the labels that the record has.
-fn at_parts(facts: &Facts, parts: &[(Name, ElementId)], fields: &Fields) -> Finding
-    ensures { let named = plain_named fields.now.named in
-        result ≡ finding_at_labels (known facts.now) parts.now named fields.now.rest
-        (map (λ part. part.0) parts.now) }
+// Whether a record is as a record type says of the labels that the record alone has.
+fn at_others(facts: &Facts, parts: &[(Name, ElementId)], fields: &Fields) -> Finding
+    requires { HasLabels parts.now }
+    ensures { result ≡ finding_at_others (known facts.now) fields.now.named fields.now.rest
+        parts.now }
 {
-    for (label, _) in parts {
-        match at_label(facts, parts, fields, label) {
+    let mut left = fields.named.items();
+    for (label, id) in parts {
+        left = from_label(left, label);
+        match at_other(facts, first_at(left, label), *id, fields.rest) {
             Finding::Known(true) => {}
             Finding::Known(false) => return Finding::Known(false),
             Finding::Unknown(id, node) => return Finding::Unknown(id, node),
@@ -130,12 +137,14 @@ fn at_parts(facts: &Facts, parts: &[(Name, ElementId)], fields: &Fields) -> Find
     Finding::Known(true)
 }
 
-// Whether a record is as a record type says of one label.
-fn at_label(facts: &Facts, parts: &[(Name, ElementId)], fields: &Fields, label: &Name) -> Finding
-    ensures { result ≡ finding_at_field (known facts.now) (part_of parts.now label.now)
-        (field_of (plain_named fields.now.named) fields.now.rest label.now) }
+// Whether a part is in the rest of a record type, if the type has no field at its label.
+fn at_other(facts: &Facts, field: Option<&Field>, id: ElementId, rest: NodeId) -> Finding
+    ensures { result ≡ finding_at_other (known facts.now) (option_copied field.entry) id rest }
 {
-    at_field(facts, part_at(parts, label), &fields.at(label))
+    match field {
+        Some(_) => Finding::Known(true),
+        None => look(facts, id, rest),
+    }
 }
 
 // Whether what is at a label, if anything is, is as a field says.
@@ -146,16 +155,4 @@ fn at_field(facts: &Facts, part: Option<ElementId>, field: &Field) -> Finding
         Some(id) => look(facts, id, field.node),
         None => Finding::Known(field.optional),
     }
-}
-
-// What is at a label.
-fn part_at(parts: &[(Name, ElementId)], label: &Name) -> Option<ElementId>
-    ensures { result ≡ part_of parts.now label.now }
-{
-    for (name, id) in parts {
-        if is_same(name, label) {
-            return Some(*id);
-        }
-    }
-    None
 }

@@ -1,19 +1,13 @@
-pub mod Alongs
-pub mod MarksOf
-pub mod MadeOfWays
-pub mod MadeFunctions
-pub mod MadeRecords
-pub mod Made
-pub mod Stuck
-pub mod LabelsOnce
-pub mod Fit
-pub mod Kept
-pub mod Found
-pub mod MarksOfWays
-pub mod ShapesOfWays
-pub mod PutFields
-pub mod StuckRows
-pub mod PartsOfRows
-pub mod CellsOfRows
-pub mod OthersOfRows
-pub mod ShapesMade
+mod AtomTexts
+mod Basics
+mod Lists
+mod Ready
+mod PairAttempts
+mod XmlAttempts
+mod ArrowAttempts
+mod PutFields
+mod LabelsOnce
+mod FieldsOnce
+mod RecordsForRows
+mod RecordAttempts
+mod Growing

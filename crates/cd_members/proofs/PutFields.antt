@@ -1,6 +1,6 @@
 -- Fields in which an element was put: what they have at each label, that their labels rise, and that they are of the table.
 use Rattle.std.proofs.Common.{◌≡◌, refl, sym, ◌∙◌, ap, subst, true, false, bytes_eq, if◌then◌else◌}
-use Rattle.std.proofs.Common.{List, [], ◌∷◌, Option, Some}
+use Rattle.std.proofs.Common.{List, [], ◌∷◌, Option, Some, None, inl, inr}
 use Rattle.std.specs.Ordering.{nat_cmp, is_eq, match_ordering, ordering_reverse}
 use Rattle.std.specs.Cmp.Lexicographic.{slice_cmp}
 use Rattle.std.specs.declared.cmp.Ordering.{Ordering}
@@ -10,15 +10,15 @@ use Rattle.std.proofs.lemmas.Map.Text.{is_eq-slice_cmp}
 use Rattle.std.proofs.lemmas.Slice.Eq.{bytes_eq-Decides}
 use Rattle.cd_syntax.specs.Name.{Name, IsLabel, IsAbove}
 use Rattle.cd_model.specs.Thing.{Thing, Fields, NoField, Field}
-use Rattle.cd_model.specs.AllOf.{AllOf}
+use Rattle.cd_model.specs.AllOf.{AllOf, AnyOf}
 use Rattle.cd_elements.specs.declared.shape.ElementId.{ElementId}
-use Rattle.cd_elements.specs.Parts.{AreRisingLabels}
+use Rattle.cd_elements.specs.Parts.{AreRisingLabels, HasLabels}
 use Rattle.cd_elements.specs.Table as table
 use Rattle.cd_elements.specs.Table.{fields_of}
 use Rattle.cd_rules.specs.InRow.{thing_at}
 use Rattle.cd_rules.proofs.MembersFields as members
 use Rattle.cd_rules.proofs.MembersFields.{found, found_there, found_elsewhere}
-use Rattle.cd_members.specs.Inner.Shapes.{put}
+use Rattle.cd_members.specs.Inner.RecordFields.{put, put_all}
 
 -- names that are not equal differ
 pub names_differ : (one other : Name) → (one ≡ other → ⊥) → bytes_eq one other ≡ false
@@ -71,6 +71,21 @@ put_keeps fact label id (part ∷ parts) is each =
     by_order Equal later = (is, each.1)
     by_order Greater later = (each.0, later)
 
+-- so it is with several
+pub all_rise : (labels : List Name) (ids : List ElementId) (parts : List (Name × ElementId)) → AllOf IsLabel labels
+    → HasLabels parts → HasLabels (put_all labels ids parts)
+all_rise [] ids parts are rise = rise
+all_rise (label ∷ labels) [] parts are rise = rise
+all_rise (label ∷ labels) (id ∷ ids) parts are rise =
+    all_rise labels ids (put label id parts) are.1 (put_rises None label id parts are.0 tt rise)
+
+pub all_keep : (fact : ElementId → Type 0) (labels : List Name) (ids : List ElementId) (parts : List (Name × ElementId))
+    → AllOf fact ids → AllOf (λ part. fact part.1) parts → AllOf (λ part. fact part.1) (put_all labels ids parts)
+all_keep fact [] ids parts are each = each
+all_keep fact (label ∷ labels) [] parts are each = each
+all_keep fact (label ∷ labels) (id ∷ ids) parts are each =
+    all_keep fact labels ids (put label id parts) are.1 (put_keeps fact label id parts are.0 each)
+
 module _ (elements : List Thing) where
   -- an element is put among the fields
   put_is : (label : Name) (id : ElementId) (parts : List (Name × ElementId))
@@ -107,3 +122,11 @@ module _ (elements : List Thing) where
         ∙ found_is (members.put label (table.element_at elements id) (fields_of elements parts)) other
         ∙ found_elsewhere label (table.element_at elements id) (fields_of elements parts) other (names_differ label other differ)
         ∙ sym (found_is (fields_of elements parts) other)
+
+  -- after several they have at each other label what they had
+  pub at_others : (labels : List Name) (ids : List ElementId) (parts : List (Name × ElementId)) (other : Name)
+      → (AnyOf (λ label. label ≡ other) labels → ⊥) → at (put_all labels ids parts) other ≡ at parts other
+  at_others [] ids parts other none = refl
+  at_others (label ∷ labels) [] parts other none = refl
+  at_others (label ∷ labels) (id ∷ ids) parts other none =
+      at_others labels ids (put label id parts) other (λ one. none (inr one)) ∙ at_elsewhere label id parts other (λ same. none (inl same))

@@ -1,3 +1,5 @@
 -- What serves private functions. No public clause speaks of it.
-pub mod Living
-pub mod Shapes
+pub mod Basic
+pub mod Ready
+pub mod Holding
+pub mod RecordFields

@@ -1,3 +1,2 @@
-pub mod Marks
-pub mod Making
+pub mod Attempts
 pub mod Inner

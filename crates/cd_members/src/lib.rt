@@ -1,13 +1,17 @@
-//! Elements of clauses, made of the elements of their questions.
+//! Elements that are made for tasks, of elements of their questions.
 #![tactic(auto)]
 
+mod arrow;
+mod attempt;
+mod basic;
 mod compare;
 mod fresh;
-mod function;
-mod living;
+mod labels;
 mod making;
+mod pair;
 mod parts;
 mod record;
-mod tuple;
+mod xml;
 
-pub use making::member;
+pub use attempt::{Attempt, attempt_task};
+pub use basic::basic_element;

@@ -1,57 +1,32 @@
-ghost use Rattle.std.specs.Prelude.{◌≡◌, ◌<◌, ◌++◌, List, length, IfOk, MatchOption};
-ghost use Rattle.cd_model.specs.Thing.{Thing};
+//! Elements that are added to the table.
+ghost use Rattle.std.specs.Prelude.{◌≡◌, ◌++◌, List, IfOk};
+ghost use Rattle.cd_graph.specs.Nodes.{nodes};
+ghost use Rattle.cd_model.specs.Thing.{Thing, IsElement};
 ghost use Rattle.cd_elements.specs.Elements.{table};
-ghost use Rattle.cd_elements.specs.Table.{Names, element_at};
-ghost use Rattle.cd_members.specs.Marks.{AreNumbers};
-ghost use Rattle.cd_members.specs.Making.{IsFit, IsMade, IsStuck};
-ghost use Rattle.cd_members.specs.Inner.Shapes.{shape_of, IsLabelled};
+ghost use Rattle.cd_elements.specs.Table.{Names, IsShape, element_at, element_by};
+ghost use Rattle.cd_holds.specs.Facts.{Fact, AreRight};
 
-use crate::function::function;
-use crate::record::record;
-use crate::tuple::{pair, xml};
 use cd_elements::{ElementId, Elements, Shape};
-use cd_expand::Needs;
-use std::alloc::{AllocError, Global};
+use cd_graph::Graph;
+use std::alloc::AllocError;
 
-/// An element that has what is needed, made of the elements that questions are marked with; none
-/// where some need, or each row, has a question without a mark that cannot be done without.
-///
-/// # Errors
-///
-/// Want of memory. The table may have new elements.
-pub fn member(
-    alloc: Global,
+/// The number of the element of a shape, which is added if it is not there. Facts stay right.
+pub(crate) fn make(
+    graph: &Graph,
     elements: &mut Elements,
-    marks: &[Option<ElementId>],
-    needs: &Needs,
-) -> Result<Option<ElementId>, AllocError>
-    requires marks { AreNumbers (table elements.old) marks.now }
-    requires fit { IsFit (table elements.old) marks.now needs.now }
-    ensures made { IfOk result
-        (λ found. MatchOption found (IsStuck marks.now needs.now)
-        (λ id. Names (table elements.new) id
-        × IsMade (table elements.old) marks.now needs.now (element_at (table elements.new) id))) }
+    shape: Shape,
+) -> Result<ElementId, AllocError>
+    requires { IsShape (table elements.old) shape }
+    ensures made { let all = table elements.new in
+        IfOk result (λ id. Names all id × IsElement (element_at all id)
+        × (element_at all id ≡ element_by (table elements.old) shape)) }
     ensures grows { (more : List Thing) × (table elements.new ≡ table elements.old ++ more) }
+    ensures right { (facts : List Fact) → AreRight (nodes graph.now) (table elements.old) facts
+        → AreRight (nodes graph.now) (table elements.new) facts }
 {
-    match shape_of(alloc, marks, needs)? {
-        Some(shape) => Ok(Some(elements.make(shape)?)),
-        None => Ok(None),
-    }
-}
-
-// The shape of such an element, if one can be made.
-fn shape_of(
-    alloc: Global,
-    marks: &[Option<ElementId>],
-    needs: &Needs,
-) -> Result<Option<Shape>, AllocError>
-    requires { IsLabelled needs.now }
-    ensures { IfOk result (λ found. found ≡ shape_of marks.now needs.now) }
-{
-    match needs {
-        Needs::Pair(ways) => pair(alloc, marks, ways.as_slice()),
-        Needs::Xml(ways) => xml(alloc, marks, ways.as_slice()),
-        Needs::Function(needs) => function(alloc, marks, needs.as_slice()),
-        Needs::Record(rows) => record(alloc, marks, rows.as_slice()),
-    }
+    // The contracts of these calls say that the graph is sound, and that each element is one.
+    let _graph = graph.len();
+    let id = elements.make(shape)?;
+    let _elements = elements.len();
+    Ok(id)
 }

@@ -1,7 +1,7 @@
 //! Fields of a record that is being made, by rising label.
 ghost use Rattle.std.specs.Prelude.{◌≡◌, ◌<◌, ◌≤◌, length, MatchResult, OnOk};
 ghost use Rattle.cd_elements.specs.declared.shape.ElementId.{ElementId as AnId};
-ghost use Rattle.cd_members.specs.Inner.Shapes.{put, put_at};
+ghost use Rattle.cd_members.specs.Inner.RecordFields.{put, put_at};
 
 use crate::compare::compare;
 use cd_elements::ElementId;

@@ -1,101 +1,128 @@
-//! Records of the first row that has the elements.
-ghost use Rattle.std.specs.Prelude.{◌≡◌, [], IfOk};
-ghost use Rattle.std.specs.Option.{option_map};
-ghost use Rattle.cd_elements.specs.declared.shape.Shape.TheVariants.{Record};
-ghost use Rattle.cd_members.specs.Inner.Shapes.{with_cells, with_others, parts_of, parts_of_one};
-ghost use Rattle.cd_members.specs.Inner.Shapes.{HaveLabels};
+//! Attempts at records.
+ghost use Rattle.std.specs.Prelude.{◌≡◌, ◌++◌, [], List, length, IfOk};
+ghost use Rattle.cd_graph.specs.Nodes.{nodes};
+ghost use Rattle.cd_model.specs.AllOf.{AllOf};
+ghost use Rattle.cd_model.specs.Membership.{answers};
+ghost use Rattle.cd_model.specs.Thing.{Thing, Fields as ThingFields, IsElement, Record as ARecord};
+ghost use Rattle.cd_needs.specs.RecordType.{record_type, record_types};
+ghost use Rattle.cd_records.specs.PlainReasons.{plain_reasons};
+ghost use Rattle.cd_rules.specs.InRow.{IsForRow, thing_at};
+ghost use Rattle.cd_rules.specs.Tasks.{row_of_given};
+ghost use Rattle.cd_rules.specs.Within.{IsTypeWithin};
+ghost use Rattle.cd_elements.specs.Elements.{table};
+ghost use Rattle.cd_elements.specs.Table.{Names, element_at};
+ghost use Rattle.cd_holds.specs.Facts.{Fact, AreRight};
+ghost use Rattle.cd_tasks.specs.PlainTask.{plain_task};
+ghost use Rattle.cd_tasks.specs.declared.task.Task.TheVariants.{Record};
+ghost use Rattle.cd_members.specs.Attempts.{IsAttempt};
+ghost use Rattle.cd_members.specs.Inner.Holding.{IsPlace, record_in};
+ghost use Rattle.cd_members.specs.Inner.Ready.{IsReady};
+ghost use Rattle.cd_members.specs.Inner.RecordFields.{put_all};
 
-use crate::fresh::fresh_label;
-use crate::living::mark;
+use crate::attempt::Attempt;
+use crate::labels::labels_of;
+use crate::making::make;
 use crate::parts::put;
-use cd_asked::QuestionId;
-use cd_elements::{ElementId, Parts, Shape};
-use cd_expand::{Cell, Row};
+use cd_elements::{ElementId, Elements, Parts, Shape};
+use cd_graph::Graph;
+use cd_graph::fields::Fields;
+use cd_holds::Facts;
 use cd_syntax::name::Name;
+use cd_tasks::RecordTask;
 use std::alloc::{AllocError, Global};
 
-/// A record of the first row that has the elements, if one has.
-pub(crate) fn record(
+/// Attempts a task for a record: makes a record of the elements for the row of what was given.
+pub(crate) fn attempt_record(
     alloc: Global,
-    marks: &[Option<ElementId>],
-    rows: &[Row],
-) -> Result<Option<Shape>, AllocError>
-    requires { HaveLabels rows.now }
-    ensures { IfOk result (λ found. found ≡ option_map Record (parts_of_one marks.now rows.now)) }
+    graph: &Graph,
+    elements: &mut Elements,
+    facts: &mut Facts,
+    task: &RecordTask<'_>,
+    ids: &[ElementId],
+) -> Result<Attempt, AllocError>
+    requires ready { let all = table elements.old in
+        IsReady (nodes graph.now) all (plain_task (Record task.now)) ids.now }
+    requires right { AreRight (nodes graph.now) (table elements.old) facts.old }
+    ensures attempt { IfOk result
+        (IsAttempt (nodes graph.now) (table elements.new) (plain_task (Record task.now))) }
+    ensures right { AreRight (nodes graph.now) (table elements.new) facts.new }
+    ensures grows { (more : List Thing) × (table elements.new ≡ table elements.old ++ more) }
 {
-    for row in rows {
-        if let Some(parts) = parts_of(alloc, marks, row)? {
-            return Ok(Some(Shape::Record(Parts::of(parts))));
+    let id = make_record(alloc, graph, elements, task, ids)?;
+    match place_of(graph, elements, facts, task.left.as_slice(), id)? {
+        Some(place) => Ok(Attempt::Held(place)),
+        None => Ok(Attempt::Made(id)),
+    }
+}
+
+// Makes a record of the elements for the row of what was given. Facts stay right.
+fn make_record(
+    alloc: Global,
+    graph: &Graph,
+    elements: &mut Elements,
+    task: &RecordTask<'_>,
+    ids: &[ElementId],
+) -> Result<ElementId, AllocError>
+    requires { let all = table elements.old in
+        IsReady (nodes graph.now) all (plain_task (Record task.now)) ids.now }
+    ensures made { let wanted = record_types task.now.wanted.value.items in
+        let refused = record_types task.now.refused.value.items in
+        let row = row_of_given wanted refused (plain_reasons task.now.given.items) in
+        let all = table elements.new in
+        IfOk result (λ id. Names all id × IsElement (element_at all id)
+        × ((fields : ThingFields) × (element_at all id ≡ ARecord fields)
+        × IsForRow (answers (nodes graph.now)) (thing_at fields) row)) }
+    ensures grows { (more : List Thing) × (table elements.new ≡ table elements.old ++ more) }
+    ensures right { (facts : List Fact) → AreRight (nodes graph.now) (table elements.old) facts
+        → AreRight (nodes graph.now) (table elements.new) facts }
+{
+    let row = task.row(alloc)?;
+    let labels = labels_of(alloc, &row)?;
+    let parts = parts_of(alloc, labels, ids)?;
+    Ok(make(graph, elements, Shape::Record(Parts::of(parts)))?)
+}
+
+// The fields that have these elements at these labels.
+fn parts_of(
+    alloc: Global,
+    labels: Vec<Name>,
+    ids: &[ElementId],
+) -> Result<Vec<(Name, ElementId)>, AllocError>
+    ensures { IfOk result (λ parts. parts.items ≡ put_all labels.items ids.now []) }
+{
+    let mut parts = Vec::new(alloc);
+    let mut rest = ids;
+    for label in labels {
+        match rest {
+            [] => return Ok(parts),
+            [id, others @ ..] => {
+                put(&mut parts, label, *id)?;
+                rest = others;
+            }
+        }
+    }
+    Ok(parts)
+}
+
+// The place of the first of these record types that an element is in, if it is in one.
+fn place_of(
+    graph: &Graph,
+    elements: &Elements,
+    facts: &mut Facts,
+    left: &[&Fields],
+    id: ElementId,
+) -> Result<Option<usize>, AllocError>
+    requires left { AllOf (IsTypeWithin (length (nodes graph.now))) (record_types left.now) }
+    requires id { Names (table elements.now) id }
+    requires right { AreRight (nodes graph.now) (table elements.now) facts.old }
+    ensures place { let e = element_at (table elements.now) id in
+        IfOk result (IsPlace (record_in (nodes graph.now) e) (record_types left.now)) }
+    ensures right { AreRight (nodes graph.now) (table elements.now) facts.new }
+{
+    for place in 0..left.len() {
+        if facts.is_in_type(graph, elements, id, left[place])? {
+            return Ok(Some(place));
         }
     }
     Ok(None)
-}
-
-// The fields of a row, if it has the elements: those of the cells, and those of its other questions
-// at fresh labels.
-fn parts_of(
-    alloc: Global,
-    marks: &[Option<ElementId>],
-    row: &Row,
-) -> Result<Option<Vec<(Name, ElementId)>>, AllocError>
-    ensures { IfOk result (λ found.
-        option_map (λ parts. parts.items) found ≡ parts_of marks.now row.now) }
-{
-    let cells = row.cells.as_slice();
-    let Some(parts) = of_cells(alloc, marks, cells)? else {
-        return Ok(None);
-    };
-    let label = fresh_label(alloc, cells)?;
-    with_others(alloc, marks, row.some.as_slice(), label, parts)
-}
-
-// The elements of the cells, each at its label. A cell that may be absent is left out.
-fn of_cells(
-    alloc: Global,
-    marks: &[Option<ElementId>],
-    cells: &[Cell],
-) -> Result<Option<Vec<(Name, ElementId)>>, AllocError>
-    ensures { IfOk result (λ found.
-        option_map (λ parts. parts.items) found ≡ with_cells marks.now cells.now []) }
-{
-    let mut parts = Vec::new(alloc);
-    for cell in cells {
-        if cell.absent {
-            continue;
-        }
-        match mark(marks, cell.value) {
-            Some(id) => put(&mut parts, cell.label.copy()?, id)?,
-            None => return Ok(None),
-        }
-    }
-    Ok(Some(parts))
-}
-
-// These fields and the elements of more questions, each at a label of its own, of which this is the
-// first.
-fn with_others(
-    alloc: Global,
-    marks: &[Option<ElementId>],
-    others: &[QuestionId],
-    first: Vec<char>,
-    fields: Vec<(Name, ElementId)>,
-) -> Result<Option<Vec<(Name, ElementId)>>, AllocError>
-    ensures { IfOk result (λ found.
-        option_map (λ parts. parts.items) found
-        ≡ with_others marks.now others.now first.items fields.items) }
-{
-    let mut label = first;
-    let mut parts = fields;
-    for question in others {
-        match mark(marks, *question) {
-            Some(id) => put(
-                &mut parts,
-                Name::of_characters(alloc, label.as_slice())?,
-                id,
-            )?,
-            None => return Ok(None),
-        }
-        label.push('a')?;
-    }
-    Ok(Some(parts))
 }

@@ -3,6 +3,6 @@
 
 pub mod asking;
 pub mod parts;
-mod parts_of;
+pub mod parts_of;
 mod split;
 mod split_in_three;

@@ -4,9 +4,9 @@ ghost use Rattle.cd_rules.specs.Needs.{question, pair_way, xml_way, arrow_way, r
 ghost use Rattle.cd_rules.specs.Needs.{splits, splits_in_three};
 
 use crate::asking::question;
-use crate::parts_of::{after, attributes, contents, firsts, seconds, tags};
+use crate::parts_of::{attributes, contents, firsts, seconds, tags};
 use crate::split::{Split, splits};
-use crate::split_in_three::{SplitInThree, splits_in_three};
+use crate::split_in_three::splits_in_three;
 use cd_graph::built_in::{ATOM, RECORD};
 use cd_sets::node_id::NodeId;
 use cd_sets::question::{Question, Questions};
@@ -27,7 +27,8 @@ pub fn pair_ways(
 {
     let mut ways = Vec::new(alloc);
     for split in splits(alloc, refused)?.iter() {
-        ways.push(pair_way(alloc, wanted, split)?)?;
+        let questions = pair_questions(alloc, wanted, split.one(), split.other())?;
+        ways.push(Questions::of(questions))?;
     }
     Ok(ways)
 }
@@ -47,7 +48,8 @@ pub fn xml_ways(
 {
     let mut ways = Vec::new(alloc);
     for split in splits_in_three(alloc, refused)?.iter() {
-        ways.push(xml_way(alloc, wanted, split)?)?;
+        let questions = xml_questions(alloc, wanted, split.first(), split.middle(), split.last())?;
+        ways.push(Questions::of(questions))?;
     }
     Ok(ways)
 }
@@ -85,23 +87,31 @@ fn arrow_ways(
 {
     let mut ways = Vec::new(alloc);
     for split in splits {
-        ways.push(arrow_way(alloc, refused, split)?)?;
+        let questions = arrow_questions(alloc, refused, split.one(), split.other())?;
+        ways.push(Questions::of(questions))?;
     }
     Ok(ways)
 }
 
-// The questions of the two parts of a pair, where each refused pair is given to one part.
-fn pair_way(
+/// The questions of the two parts of a pair: `firsts` are the refused pairs that the first part is
+/// outside, and `seconds` those that the second part is outside.
+///
+/// # Errors
+///
+/// Want of memory.
+pub fn pair_questions(
     alloc: Global,
     wanted: &[(NodeId, NodeId)],
-    given: &Split,
-) -> Result<Questions, AllocError>
-    ensures { IfOk result (λ way. way ≡ pair_way wanted.now given.now) }
+    firsts: &[(NodeId, NodeId)],
+    seconds: &[(NodeId, NodeId)],
+) -> Result<Vec<Question>, AllocError>
+    ensures { IfOk result
+        (λ questions. questions.items ≡ pair_way wanted.now (firsts.now, seconds.now)) }
 {
-    let mut way = Vec::new(alloc);
-    way.push(question_of_firsts(alloc, wanted, given.one())?)?;
-    way.push(question_of_seconds(alloc, wanted, given.other())?)?;
-    Ok(Questions::of(way))
+    let mut questions = Vec::new(alloc);
+    questions.push(question_of_firsts(alloc, wanted, firsts)?)?;
+    questions.push(question_of_seconds(alloc, wanted, seconds)?)?;
+    Ok(questions)
 }
 
 // What is in the first part of each wanted pair and in that of no refused one.
@@ -132,19 +142,27 @@ fn question_of_seconds(
     question(alloc, pos.as_slice(), neg.as_slice())
 }
 
-// The questions of the three parts of an XML element, where each refused one is given to one part.
-fn xml_way(
+/// The questions of the three parts of an XML element: `tags` are the refused ones that the tag is
+/// outside, and so on.
+///
+/// # Errors
+///
+/// Want of memory.
+pub fn xml_questions(
     alloc: Global,
     wanted: &[(NodeId, NodeId, NodeId)],
-    given: &SplitInThree,
-) -> Result<Questions, AllocError>
-    ensures { IfOk result (λ way. way ≡ xml_way wanted.now given.now) }
+    tags: &[(NodeId, NodeId, NodeId)],
+    attributes: &[(NodeId, NodeId, NodeId)],
+    contents: &[(NodeId, NodeId, NodeId)],
+) -> Result<Vec<Question>, AllocError>
+    ensures { IfOk result (λ questions.
+        questions.items ≡ xml_way wanted.now (tags.now, attributes.now, contents.now)) }
 {
-    let mut way = Vec::new(alloc);
-    way.push(question_of_tags(alloc, ATOM, wanted, given.first())?)?;
-    way.push(question_of_attributes(alloc, RECORD, wanted, given.middle())?)?;
-    way.push(question_of_contents(alloc, wanted, given.last())?)?;
-    Ok(Questions::of(way))
+    let mut questions = Vec::new(alloc);
+    questions.push(question_of_tags(alloc, ATOM, wanted, tags)?)?;
+    questions.push(question_of_attributes(alloc, RECORD, wanted, attributes)?)?;
+    questions.push(question_of_contents(alloc, wanted, contents)?)?;
+    Ok(questions)
 }
 
 // What is in a node, and in the tag of each wanted element and in that of no refused one.
@@ -157,8 +175,8 @@ fn question_of_tags(
     ensures { IfOk result (λ asked. asked
         ≡ question (all ∷ map (λ parts. parts.0) wanted.now) (map (λ parts. parts.0) refused.now)) }
 {
-    let wanted = tags(alloc, wanted)?;
-    let pos = after(alloc, all, wanted.as_slice())?;
+    let mut pos = tags(alloc, wanted)?;
+    pos.insert(0, all)?;
     let neg = tags(alloc, refused)?;
     question(alloc, pos.as_slice(), neg.as_slice())
 }
@@ -173,8 +191,8 @@ fn question_of_attributes(
     ensures { IfOk result (λ asked. asked
         ≡ question (all ∷ map (λ parts. parts.1) wanted.now) (map (λ parts. parts.1) refused.now)) }
 {
-    let wanted = attributes(alloc, wanted)?;
-    let pos = after(alloc, all, wanted.as_slice())?;
+    let mut pos = attributes(alloc, wanted)?;
+    pos.insert(0, all)?;
     let neg = attributes(alloc, refused)?;
     question(alloc, pos.as_slice(), neg.as_slice())
 }
@@ -193,21 +211,27 @@ fn question_of_contents(
     question(alloc, pos.as_slice(), neg.as_slice())
 }
 
-// The questions of a pair by which a function is outside a refused arrow: its argument is outside
-// those of the wanted arrows on the one side, and its result is in the results of those on the
-// other.
-fn arrow_way(
+/// The questions of a pair by which a function is outside a refused arrow: its argument is outside
+/// those of the wanted arrows `outside`, and its result is in the results of `results`. Where these
+/// are none the pair may have no result.
+///
+/// # Errors
+///
+/// Want of memory.
+pub fn arrow_questions(
     alloc: Global,
     refused: (NodeId, NodeId),
-    given: &Split,
-) -> Result<Questions, AllocError>
-    ensures { IfOk result (λ way. way ≡ arrow_way refused given.now) }
+    outside: &[(NodeId, NodeId)],
+    results: &[(NodeId, NodeId)],
+) -> Result<Vec<Question>, AllocError>
+    ensures { IfOk result
+        (λ questions. questions.items ≡ arrow_way refused (outside.now, results.now)) }
 {
-    let mut way = Vec::new(alloc);
-    let outside = firsts(alloc, given.one())?;
-    way.push(question(alloc, &[refused.0], outside.as_slice())?)?;
-    ask_of_result(alloc, refused, given.other(), &mut way)?;
-    Ok(Questions::of(way))
+    let mut questions = Vec::new(alloc);
+    let arguments = firsts(alloc, outside)?;
+    questions.push(question(alloc, &[refused.0], arguments.as_slice())?)?;
+    ask_of_result(alloc, refused, results, &mut questions)?;
+    Ok(questions)
 }
 
 // Adds what the pair's result is to be. Where no wanted arrow speaks of it the pair may have none.
@@ -215,15 +239,16 @@ fn ask_of_result(
     alloc: Global,
     refused: (NodeId, NodeId),
     others: &[(NodeId, NodeId)],
-    way: &mut Vec<Question>,
+    questions: &mut Vec<Question>,
 ) -> Result<(), AllocError>
-    ensures { OnOk result (way.new.items ≡ way.old.items ++ result_questions refused others.now) }
+    ensures { OnOk result
+        (questions.new.items ≡ questions.old.items ++ result_questions refused others.now) }
 {
     match others {
         [] => Ok(()),
         [_, ..] => {
             let results = seconds(alloc, others)?;
-            way.push(question(alloc, results.as_slice(), &[refused.1])?)?;
+            questions.push(question(alloc, results.as_slice(), &[refused.1])?)?;
             Ok(())
         }
     }

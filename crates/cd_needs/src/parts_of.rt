@@ -1,34 +1,48 @@
+//! The nodes of one part of each of some pairs or XML types.
 ghost use Rattle.std.specs.Prelude.{◌≡◌, ◌∷◌, map, IfOk};
 
 use cd_sets::node_id::NodeId;
 use std::alloc::{AllocError, Global};
 
 /// The first parts of pairs.
-pub(crate) fn firsts(alloc: Global, pairs: &[(NodeId, NodeId)]) -> Result<Vec<NodeId>, AllocError>
+///
+/// # Errors
+///
+/// Want of memory.
+pub fn firsts(alloc: Global, pairs: &[(NodeId, NodeId)]) -> Result<Vec<NodeId>, AllocError>
     ensures { IfOk result (λ ids. ids.items ≡ map (λ parts. parts.0) pairs.now) }
 {
     pairs.iter().map(|parts| parts.0).collect(alloc)
 }
 
 /// The second parts of pairs.
-pub(crate) fn seconds(alloc: Global, pairs: &[(NodeId, NodeId)]) -> Result<Vec<NodeId>, AllocError>
+///
+/// # Errors
+///
+/// Want of memory.
+pub fn seconds(alloc: Global, pairs: &[(NodeId, NodeId)]) -> Result<Vec<NodeId>, AllocError>
     ensures { IfOk result (λ ids. ids.items ≡ map (λ parts. parts.1) pairs.now) }
 {
     pairs.iter().map(|parts| parts.1).collect(alloc)
 }
 
 /// The tags of XML types.
-pub(crate) fn tags(
-    alloc: Global,
-    triples: &[(NodeId, NodeId, NodeId)],
-) -> Result<Vec<NodeId>, AllocError>
+///
+/// # Errors
+///
+/// Want of memory.
+pub fn tags(alloc: Global, triples: &[(NodeId, NodeId, NodeId)]) -> Result<Vec<NodeId>, AllocError>
     ensures { IfOk result (λ ids. ids.items ≡ map (λ parts. parts.0) triples.now) }
 {
     triples.iter().map(|parts| parts.0).collect(alloc)
 }
 
 /// The attributes of XML types.
-pub(crate) fn attributes(
+///
+/// # Errors
+///
+/// Want of memory.
+pub fn attributes(
     alloc: Global,
     triples: &[(NodeId, NodeId, NodeId)],
 ) -> Result<Vec<NodeId>, AllocError>
@@ -38,7 +52,11 @@ pub(crate) fn attributes(
 }
 
 /// The contents of XML types.
-pub(crate) fn contents(
+///
+/// # Errors
+///
+/// Want of memory.
+pub fn contents(
     alloc: Global,
     triples: &[(NodeId, NodeId, NodeId)],
 ) -> Result<Vec<NodeId>, AllocError>
@@ -48,7 +66,11 @@ pub(crate) fn contents(
 }
 
 /// These with a number before them.
-pub(crate) fn after(alloc: Global, id: NodeId, ids: &[NodeId]) -> Result<Vec<NodeId>, AllocError>
+///
+/// # Errors
+///
+/// Want of memory.
+pub fn after(alloc: Global, id: NodeId, ids: &[NodeId]) -> Result<Vec<NodeId>, AllocError>
     ensures { IfOk result (λ all. all.items ≡ id ∷ ids.now) }
 {
     let mut all = Vec::from_slice(alloc, ids)?;

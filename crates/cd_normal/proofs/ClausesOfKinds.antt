@@ -1,25 +1,27 @@
 -- The clauses of the code for the choices of each kind are those of the question, but for the basic ones.
-use Rattle.std.proofs.Common.{◌≡◌, ◌⊎◌, Option, true, false, List, [], ◌∷◌, map, inl, inr, refl, sym, ap, ap₂, subst}
+use Rattle.std.proofs.Common.{◌≡◌, ◌⊎◌, Option, true, false, List, [], ◌∷◌, map, inl, inr, sym, ap, ap₂, subst}
 use Rattle.cd_sets.specs.declared.question.Question.{Question}
 use Rattle.cd_model.specs.AllOf.{AllOf, AnyOf}
 use Rattle.cd_model.specs.Formula.{Formula, Graph}
+use Rattle.cd_model.specs.Kinds.{APair, AnXml, ARecord, AFunction}
 use Rattle.cd_rules.specs.BasicSets.{IsBasic}
 use Rattle.cd_rules.specs.Choices.{Choice}
 use Rattle.cd_rules.specs.Clauses as rules
 use Rattle.cd_rules.specs.Clauses.{Triple, RecordType, Clause, Ints, Chars, Atoms, Pairs, Xmls, Records, Arrows, IsClauseOfQuestion}
 use Rattle.cd_rules.specs.Clauses.{parts_in, pair_of, xml_of, record_of, arrow_of}
 use Rattle.cd_rules.specs.KindChoices.{kind_choices_of}
+use Rattle.cd_rules.specs.PartialChoices.{clause_by}
 use Rattle.cd_rules.proofs.Among.{each_of_its}
+use Rattle.cd_rules.proofs.Answered.{map_of_each}
 use Rattle.cd_rules.proofs.Asking.{each_of_map}
 use Rattle.cd_rules.proofs.ClausesOfKind.{HasParts, pairs_of_kind, xmls_of_kind, records_of_kind, arrows_of_kind}
 use Rattle.cd_rules.proofs.Ones.{each_of_lists, one_weaker, one_of_map, map_of_one, one_on_left, one_on_right}
 use Rattle.cd_normal.specs.declared.clause.Clause.{Clause as CodeClause}
-use Rattle.cd_normal.specs.declared.clause.Clause.TheVariants as code
 use Rattle.cd_normal.specs.declared.kind.Kind.{Kind}
 use Rattle.cd_normal.specs.declared.kind.Kind.TheVariants.{Pair, Xml, Record, Function}
-use Rattle.cd_normal.specs.Standing.{Stands}
 use Rattle.cd_normal.specs.Inner.PlainKind.{plain_kind, kinds}
-use Rattle.cd_normal.specs.Inner.PlainClause.{plain_clause, clause_for, clauses_of_kind, clauses_of_kinds, clauses_of_all}
+use Rattle.cd_normal.specs.PlainClause.{plain_clause}
+use Rattle.cd_normal.specs.Inner.ClausesOfKinds.{clauses_of_kind, clauses_of_kinds, clauses_of_all}
 
 module _ (graph : Graph) (question : Question) where
   -- what a choice of a kind says of it is a clause of the question
@@ -30,7 +32,7 @@ module _ (graph : Graph) (question : Question) where
       (λ other same. (ap (parts_in parts_of true) (sym same), ap (parts_in parts_of false) (sym same))) all
 
   clause_in : (kind : Kind) (choice : Choice) → AnyOf (λ other. other ≡ choice) (kind_choices_of (plain_kind kind) graph question)
-      → IsClauseOfQuestion graph question (clause_for kind choice)
+      → IsClauseOfQuestion graph question (clause_by (plain_kind kind) choice)
   clause_in Pair choice there = (pairs_of_kind graph question (parts_in pair_of true choice) (parts_in pair_of false choice)).1
       (same_parts pair_of (kind_choices_of (plain_kind Pair) graph question) choice there)
   clause_in Xml choice there = (xmls_of_kind graph question (parts_in xml_of true choice) (parts_in xml_of false choice)).1
@@ -46,7 +48,7 @@ module _ (graph : Graph) (question : Question) where
       let choices = kind_choices_of (plain_kind kind) graph question in
       let Is = IsClauseOfQuestion graph question in
       each_of_lists Is (clauses_of_kind graph question kind) (clauses_of_kinds graph question some)
-      (each_of_map (clause_for kind) Is choices (each_of_its (λ choice. Is (clause_for kind choice)) choices (clause_in kind)))
+      (each_of_map (clause_by (plain_kind kind)) Is choices (each_of_its (λ choice. Is (clause_by (plain_kind kind) choice)) choices (clause_in kind)))
       (all_in some)
 
   -- and each clause of a kind is what one of its choices says
@@ -56,32 +58,32 @@ module _ (graph : Graph) (question : Question) where
   pairs_among : (wanted refused : List rules.Pair) → IsClauseOfQuestion graph question (Pairs wanted refused)
       → Among (clauses_of_kind graph question Pair) (Pairs wanted refused)
   pairs_among wanted refused of =
-      one_of_map (clause_for Pair) (λ one. one ≡ Pairs wanted refused) (kind_choices_of (plain_kind Pair) graph question)
-      (one_weaker (HasParts pair_of wanted refused) (λ choice. clause_for Pair choice ≡ Pairs wanted refused)
+      one_of_map (clause_by APair) (λ one. one ≡ Pairs wanted refused) (kind_choices_of (plain_kind Pair) graph question)
+      (one_weaker (HasParts pair_of wanted refused) (λ choice. clause_by APair choice ≡ Pairs wanted refused)
       (λ choice parts. ap₂ Pairs (sym parts.0) (sym parts.1)) (kind_choices_of (plain_kind Pair) graph question)
       ((pairs_of_kind graph question wanted refused).0 of))
 
   xmls_among : (wanted refused : List Triple) → IsClauseOfQuestion graph question (Xmls wanted refused)
       → Among (clauses_of_kind graph question Xml) (Xmls wanted refused)
   xmls_among wanted refused of =
-      one_of_map (clause_for Xml) (λ one. one ≡ Xmls wanted refused) (kind_choices_of (plain_kind Xml) graph question)
-      (one_weaker (HasParts xml_of wanted refused) (λ choice. clause_for Xml choice ≡ Xmls wanted refused)
+      one_of_map (clause_by AnXml) (λ one. one ≡ Xmls wanted refused) (kind_choices_of (plain_kind Xml) graph question)
+      (one_weaker (HasParts xml_of wanted refused) (λ choice. clause_by AnXml choice ≡ Xmls wanted refused)
       (λ choice parts. ap₂ Xmls (sym parts.0) (sym parts.1)) (kind_choices_of (plain_kind Xml) graph question)
       ((xmls_of_kind graph question wanted refused).0 of))
 
   records_among : (wanted refused : List RecordType) → IsClauseOfQuestion graph question (Records wanted refused)
       → Among (clauses_of_kind graph question Record) (Records wanted refused)
   records_among wanted refused of =
-      one_of_map (clause_for Record) (λ one. one ≡ Records wanted refused) (kind_choices_of (plain_kind Record) graph question)
-      (one_weaker (HasParts record_of wanted refused) (λ choice. clause_for Record choice ≡ Records wanted refused)
+      one_of_map (clause_by ARecord) (λ one. one ≡ Records wanted refused) (kind_choices_of (plain_kind Record) graph question)
+      (one_weaker (HasParts record_of wanted refused) (λ choice. clause_by ARecord choice ≡ Records wanted refused)
       (λ choice parts. ap₂ Records (sym parts.0) (sym parts.1)) (kind_choices_of (plain_kind Record) graph question)
       ((records_of_kind graph question wanted refused).0 of))
 
   arrows_among : (wanted refused : List rules.Pair) → IsClauseOfQuestion graph question (Arrows wanted refused)
       → Among (clauses_of_kind graph question Function) (Arrows wanted refused)
   arrows_among wanted refused of =
-      one_of_map (clause_for Function) (λ one. one ≡ Arrows wanted refused) (kind_choices_of (plain_kind Function) graph question)
-      (one_weaker (HasParts arrow_of wanted refused) (λ choice. clause_for Function choice ≡ Arrows wanted refused)
+      one_of_map (clause_by AFunction) (λ one. one ≡ Arrows wanted refused) (kind_choices_of (plain_kind Function) graph question)
+      (one_weaker (HasParts arrow_of wanted refused) (λ choice. clause_by AFunction choice ≡ Arrows wanted refused)
       (λ choice parts. ap₂ Arrows (sym parts.0) (sym parts.1)) (kind_choices_of (plain_kind Function) graph question)
       ((arrows_of_kind graph question wanted refused).0 of))
 
@@ -111,30 +113,17 @@ module _ (graph : Graph) (question : Question) where
       (of_later Record (Function ∷ []) (Arrows wanted refused)
       (of_first Function [] (Arrows wanted refused) (arrows_among wanted refused of)))))
 
--- a clause of the code stands for itself as plain data
-stands_itself : (clause : CodeClause) → Stands clause (plain_clause clause)
-stands_itself (code.Pairs pos neg) = (refl, refl)
-stands_itself (code.Xmls pos neg) = (refl, refl)
-stands_itself (code.Records pos neg) = (refl, refl)
-stands_itself (code.Arrows pos neg) = (refl, refl)
-
-each_stands : (Is : Clause → Type 0) (clauses : List CodeClause) → AllOf Is (map plain_clause clauses)
-    → AllOf (λ clause. (is : Clause) × Is is × Stands clause is) clauses
-each_stands Is [] each = tt
-each_stands Is (clause ∷ clauses) each = ((plain_clause clause, each.0, stands_itself clause), each_stands Is clauses each.1)
-
 module _ (graph : Graph) (question : Question) (clauses : List CodeClause)
     (all : map plain_clause clauses ≡ clauses_of_all graph question) where
-  pub sound : AllOf (λ clause. (is : Clause) × IsClauseOfQuestion graph question is × Stands clause is) clauses
-  sound = each_stands (IsClauseOfQuestion graph question) clauses
+  pub sound : AllOf (λ clause. IsClauseOfQuestion graph question (plain_clause clause)) clauses
+  sound = map_of_each plain_clause (IsClauseOfQuestion graph question) clauses
       (subst (AllOf (IsClauseOfQuestion graph question)) (sym all) (all_in graph question kinds))
 
-  pub complete : (is : Clause) → IsClauseOfQuestion graph question is → IsBasic is ⊎ AnyOf (λ clause. Stands clause is) clauses
+  pub complete : (is : Clause) → IsClauseOfQuestion graph question is → IsBasic is ⊎ AnyOf (λ clause. plain_clause clause ≡ is) clauses
   complete is of = by_kind (among_all graph question is of)
     where
       by_kind : IsBasic is ⊎ AnyOf (λ one. one ≡ is) (clauses_of_all graph question)
-          → IsBasic is ⊎ AnyOf (λ clause. Stands clause is) clauses
+          → IsBasic is ⊎ AnyOf (λ clause. plain_clause clause ≡ is) clauses
       by_kind (inl basic) = inl basic
-      by_kind (inr among) = inr (one_weaker (λ clause. plain_clause clause ≡ is) (λ clause. Stands clause is)
-          (λ clause same. subst (Stands clause) same (stands_itself clause)) clauses
-          (map_of_one plain_clause (λ one. one ≡ is) clauses (subst (AnyOf (λ one. one ≡ is)) (sym all) among)))
+      by_kind (inr among) = inr (map_of_one plain_clause (λ one. one ≡ is) clauses
+          (subst (AnyOf (λ one. one ≡ is)) (sym all) among))

@@ -1,6 +1,11 @@
-mod Sizes
+mod Halves
 mod Lists
+mod Stacks
 mod ExactSets
 mod ChoicesJoined
 pub mod BasicsOfQuestions
 mod ClausesOfKinds
+mod NextChoices
+mod ChoicesOfNodes
+mod NeedsOfChoices
+mod FieldNeeds

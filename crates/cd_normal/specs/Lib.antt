@@ -1,3 +1,5 @@
-pub mod Standing
+pub mod PlainClause
 pub mod HoldNothing
+pub mod Partials
+pub mod ChoicesGoOn
 pub mod Inner

@@ -1,16 +1,17 @@
 use cd_graph::fields::Fields;
 use cd_sets::node_id::NodeId;
+use std::rc::Rc;
 
 /// What a question says of the things of one kind: the formulas that a thing is in, and those that
-/// it is outside.
+/// it is outside. Whoever works at a clause shares its lists.
 #[derive(Drop)]
-pub enum Clause {
+pub enum Clause<'g> {
     /// The pairs in each of the first, and in none of the second.
-    Pairs(Vec<(NodeId, NodeId)>, Vec<(NodeId, NodeId)>),
+    Pairs(Rc<Vec<(NodeId, NodeId)>>, Rc<Vec<(NodeId, NodeId)>>),
     /// The XML elements likewise.
-    Xmls(Vec<(NodeId, NodeId, NodeId)>, Vec<(NodeId, NodeId, NodeId)>),
+    Xmls(Rc<Vec<(NodeId, NodeId, NodeId)>>, Rc<Vec<(NodeId, NodeId, NodeId)>>),
     /// The records likewise.
-    Records(Vec<Fields>, Vec<Fields>),
+    Records(Rc<Vec<&'g Fields>>, Rc<Vec<&'g Fields>>),
     /// The functions likewise.
-    Arrows(Vec<(NodeId, NodeId)>, Vec<(NodeId, NodeId)>),
+    Arrows(Rc<Vec<(NodeId, NodeId)>>, Rc<Vec<(NodeId, NodeId)>>),
 }

@@ -1,16 +1,21 @@
 //! What is in questions: their integers, characters and atoms, and clauses for the other kinds.
 #![tactic(auto)]
 
+pub mod advance;
 pub mod basic_sets;
 mod choice;
+pub mod choices;
 pub mod clause;
+mod going_on;
 mod holding;
 mod joining;
 mod kind;
 mod literal;
+mod needs;
 mod normal;
 mod of_choice;
 mod part;
+mod partial;
 mod side;
 
 pub use holding::basics;

@@ -4,8 +4,8 @@ ghost use Rattle.cd_model.specs.AllOf.{AllOf, AnyOf};
 ghost use Rattle.cd_graph.specs.Nodes.{nodes};
 ghost use Rattle.cd_rules.specs.BasicSets.{IsBasic};
 ghost use Rattle.cd_rules.specs.Clauses.{Clause as PlainClause, IsClauseOfQuestion};
-ghost use Rattle.cd_normal.specs.Standing.{Stands};
-ghost use Rattle.cd_normal.specs.Inner.PlainClause.{plain_clause, clauses_of_kind, clauses_of_all};
+ghost use Rattle.cd_normal.specs.PlainClause.{plain_clause};
+ghost use Rattle.cd_normal.specs.Inner.ClausesOfKinds.{clauses_of_kind, clauses_of_all};
 
 use crate::choice::choices_of;
 use crate::clause::Clause;
@@ -20,24 +20,29 @@ use std::alloc::{AllocError, Global};
 /// # Errors
 ///
 /// Want of memory.
-pub fn clauses(alloc: Global, graph: &Graph, question: &Question) -> Result<Vec<Clause>, AllocError>
+pub fn clauses<'g>(
+    alloc: Global,
+    graph: &'g Graph,
+    question: &Question,
+) -> Result<Vec<Clause<'g>>, AllocError>
     requires pos { AllOf (λ id. id.0 < length (nodes graph.now)) question.now.pos }
     requires neg { AllOf (λ id. id.0 < length (nodes graph.now)) question.now.neg }
-    ensures sound { IfOk result (λ clauses. AllOf (λ clause. (is : PlainClause)
-        × IsClauseOfQuestion (nodes graph.now) question.now is × Stands clause is) clauses.items) }
+    ensures sound { IfOk result (λ clauses. AllOf
+        (λ clause. IsClauseOfQuestion (nodes graph.now) question.now (plain_clause clause))
+        clauses.items) }
     ensures complete { IfOk result
         (λ clauses. (is : PlainClause) → IsClauseOfQuestion (nodes graph.now) question.now is
-        → IsBasic is ⊎ AnyOf (λ clause. Stands clause is) clauses.items) }
+        → IsBasic is ⊎ AnyOf (λ clause. plain_clause clause ≡ is) clauses.items) }
 {
     clauses_by_kind(alloc, graph, question)
 }
 
 // Those of one kind, and then those of the next.
-fn clauses_by_kind(
+fn clauses_by_kind<'g>(
     alloc: Global,
-    graph: &Graph,
+    graph: &'g Graph,
     question: &Question,
-) -> Result<Vec<Clause>, AllocError>
+) -> Result<Vec<Clause<'g>>, AllocError>
     requires pos { AllOf (λ id. id.0 < length (nodes graph.now)) question.now.pos }
     requires neg { AllOf (λ id. id.0 < length (nodes graph.now)) question.now.neg }
     ensures { IfOk result (λ clauses.
@@ -51,9 +56,9 @@ fn clauses_by_kind(
 }
 
 // Adds those of a kind.
-fn add_clauses(
-    found: &mut Vec<Clause>,
-    graph: &Graph,
+fn add_clauses<'g>(
+    found: &mut Vec<Clause<'g>>,
+    graph: &'g Graph,
     kind: Kind,
     question: &Question,
 ) -> Result<(), AllocError>

@@ -1,23 +1,26 @@
 //! The clause of one choice.
 ghost use Rattle.std.specs.Prelude.{◌≡◌, IfOk};
+ghost use Rattle.cd_model.specs.Kinds.{APair, AnXml, ARecord, AFunction};
+ghost use Rattle.cd_rules.specs.PartialChoices.{clause_by};
+ghost use Rattle.cd_normal.specs.PlainClause.{plain_clause};
 ghost use Rattle.cd_normal.specs.Inner.PlainChoice.{plain_choice};
-ghost use Rattle.cd_normal.specs.Inner.PlainClause.{plain_clause, clause_for};
-ghost use Rattle.cd_normal.specs.declared.kind.Kind.TheVariants as kind;
+ghost use Rattle.cd_normal.specs.Inner.PlainKind.{plain_kind};
 
 use crate::clause::Clause;
 use crate::kind::Kind;
 use crate::literal::Literal;
 use crate::side::{arrows, pairs, records, xmls};
 use std::alloc::{AllocError, Global};
+use std::rc::Rc;
 
 /// What a choice says of the things of a kind.
-pub(crate) fn clause_of(
+pub(crate) fn clause_of<'g>(
     alloc: Global,
     kind: Kind,
-    choice: &[Literal<'_>],
-) -> Result<Clause, AllocError>
+    choice: &[Literal<'g>],
+) -> Result<Clause<'g>, AllocError>
     ensures { IfOk result
-        (λ clause. plain_clause clause ≡ clause_for kind (plain_choice choice.now)) }
+        (λ clause. plain_clause clause ≡ clause_by (plain_kind kind) (plain_choice choice.now)) }
 {
     match kind {
         Kind::Pair => clause_of_pairs(alloc, choice),
@@ -27,34 +30,38 @@ pub(crate) fn clause_of(
     }
 }
 
-fn clause_of_pairs(alloc: Global, choice: &[Literal<'_>]) -> Result<Clause, AllocError>
+fn clause_of_pairs<'g>(alloc: Global, choice: &[Literal<'g>]) -> Result<Clause<'g>, AllocError>
     ensures { IfOk result
-        (λ clause. plain_clause clause ≡ clause_for kind.Pair (plain_choice choice.now)) }
+        (λ clause. plain_clause clause ≡ clause_by APair (plain_choice choice.now)) }
 {
-    let wanted = pairs(alloc, true, choice)?;
-    Ok(Clause::Pairs(wanted, pairs(alloc, false, choice)?))
+    let wanted = Rc::new(alloc, pairs(alloc, true, choice)?)?;
+    let refused = Rc::new(alloc, pairs(alloc, false, choice)?)?;
+    Ok(Clause::Pairs(wanted, refused))
 }
 
-fn clause_of_xmls(alloc: Global, choice: &[Literal<'_>]) -> Result<Clause, AllocError>
+fn clause_of_xmls<'g>(alloc: Global, choice: &[Literal<'g>]) -> Result<Clause<'g>, AllocError>
     ensures { IfOk result
-        (λ clause. plain_clause clause ≡ clause_for kind.Xml (plain_choice choice.now)) }
+        (λ clause. plain_clause clause ≡ clause_by AnXml (plain_choice choice.now)) }
 {
-    let wanted = xmls(alloc, true, choice)?;
-    Ok(Clause::Xmls(wanted, xmls(alloc, false, choice)?))
+    let wanted = Rc::new(alloc, xmls(alloc, true, choice)?)?;
+    let refused = Rc::new(alloc, xmls(alloc, false, choice)?)?;
+    Ok(Clause::Xmls(wanted, refused))
 }
 
-fn clause_of_records(alloc: Global, choice: &[Literal<'_>]) -> Result<Clause, AllocError>
+fn clause_of_records<'g>(alloc: Global, choice: &[Literal<'g>]) -> Result<Clause<'g>, AllocError>
     ensures { IfOk result
-        (λ clause. plain_clause clause ≡ clause_for kind.Record (plain_choice choice.now)) }
+        (λ clause. plain_clause clause ≡ clause_by ARecord (plain_choice choice.now)) }
 {
-    let wanted = records(alloc, true, choice)?;
-    Ok(Clause::Records(wanted, records(alloc, false, choice)?))
+    let wanted = Rc::new(alloc, records(alloc, true, choice)?)?;
+    let refused = Rc::new(alloc, records(alloc, false, choice)?)?;
+    Ok(Clause::Records(wanted, refused))
 }
 
-fn clause_of_arrows(alloc: Global, choice: &[Literal<'_>]) -> Result<Clause, AllocError>
+fn clause_of_arrows<'g>(alloc: Global, choice: &[Literal<'g>]) -> Result<Clause<'g>, AllocError>
     ensures { IfOk result
-        (λ clause. plain_clause clause ≡ clause_for kind.Function (plain_choice choice.now)) }
+        (λ clause. plain_clause clause ≡ clause_by AFunction (plain_choice choice.now)) }
 {
-    let wanted = arrows(alloc, true, choice)?;
-    Ok(Clause::Arrows(wanted, arrows(alloc, false, choice)?))
+    let wanted = Rc::new(alloc, arrows(alloc, true, choice)?)?;
+    let refused = Rc::new(alloc, arrows(alloc, false, choice)?)?;
+    Ok(Clause::Arrows(wanted, refused))
 }

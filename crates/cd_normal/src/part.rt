@@ -2,8 +2,8 @@
 ghost use Rattle.std.specs.Prelude.{◌≡◌};
 ghost use Rattle.std.specs.Option.{option_map};
 ghost use Rattle.cd_graph.specs.PlainFormula.{plain};
+ghost use Rattle.cd_needs.specs.RecordType.{record_type};
 ghost use Rattle.cd_rules.specs.Clauses.{pair_of, xml_of, record_of, arrow_of};
-ghost use Rattle.cd_normal.specs.Standing.{record_type};
 
 use cd_graph::Formula;
 use cd_graph::fields::Fields;

@@ -1,8 +1,8 @@
 //! The parts of the wanted literals of a choice, and of the refused ones.
-ghost use Rattle.std.specs.Prelude.{◌≡◌, ◌++◌, [], map, IfOk, OnOk};
+ghost use Rattle.std.specs.Prelude.{◌≡◌, ◌++◌, [], IfOk, OnOk};
 ghost use Rattle.std.specs.Option.{option_map};
+ghost use Rattle.cd_needs.specs.RecordType.{record_type, record_types};
 ghost use Rattle.cd_rules.specs.Clauses.{one_more, parts_in, pair_of, xml_of, record_of, arrow_of};
-ghost use Rattle.cd_normal.specs.Standing.{record_type};
 ghost use Rattle.cd_normal.specs.Inner.PlainChoice.{plain_choice};
 
 use crate::literal::Literal;
@@ -47,13 +47,13 @@ pub(crate) fn xmls(
 
 /// The fields of the records that are wanted, or of those that are refused.
 #[tactic(auto, using(crate::proofs::Lists::one_more_before))]
-pub(crate) fn records(
+pub(crate) fn records<'g>(
     alloc: Global,
     wanted: bool,
-    choice: &[Literal<'_>],
-) -> Result<Vec<Fields>, AllocError>
+    choice: &[Literal<'g>],
+) -> Result<Vec<&'g Fields>, AllocError>
     ensures { IfOk result (λ parts.
-        map record_type parts.items ≡ parts_in record_of wanted (plain_choice choice.now)) }
+        record_types parts.items ≡ parts_in record_of wanted (plain_choice choice.now)) }
 {
     let mut parts = Vec::new(alloc);
     for literal in choice {
@@ -95,19 +95,19 @@ fn add<T: Copy>(
     }
 }
 
-// Adds a copy of the fields of a literal likewise.
-fn add_fields(
-    parts: &mut Vec<Fields>,
+// Adds the fields of a literal likewise.
+fn add_fields<'g>(
+    parts: &mut Vec<&'g Fields>,
     side: bool,
     wanted: bool,
-    part: Option<&Fields>,
+    part: Option<&'g Fields>,
 ) -> Result<(), AllocError>
-    ensures { OnOk result (map record_type parts.new.items
-        ≡ map record_type parts.old.items
+    ensures { OnOk result (record_types parts.new.items
+        ≡ record_types parts.old.items
         ++ one_more side wanted (option_map (λ fields. record_type fields.now) part.entry) []) }
 {
     match part {
-        Some(fields) if side == wanted => Ok(parts.push(fields.copy()?)?),
+        Some(fields) if side == wanted => Ok(parts.push(fields)?),
         Some(_) => Ok(()),
         None => Ok(()),
     }

@@ -2,7 +2,7 @@
 use Rattle.std.proofs.Common.{◌≡◌, refl, ap, List, [], ◌∷◌, ◌++◌, map}
 use Rattle.cd_rules.specs.Clauses.{RecordType}
 use Rattle.cd_rules.specs.Rows.{labels_after, labels_of}
-use Rattle.cd_records.specs.Inner.PlainReasons.{labels_before}
+use Rattle.cd_records.specs.Inner.PlainChoices.{labels_before}
 
 pub labels_of_all : (types more : List RecordType) → labels_before types (labels_before more []) ≡ labels_of (types ++ more)
 labels_of_all [] [] = refl

@@ -5,7 +5,7 @@ use Rattle.std.proofs.lemmas.List.{at_drop_more}
 use Rattle.cd_syntax.specs.Name.{Name}
 use Rattle.cd_rules.specs.Clauses.{RecordType}
 use Rattle.cd_rules.specs.Rows.{Reasons, each_with}
-use Rattle.cd_records.specs.Inner.PlainReasons.{plain_labels}
+use Rattle.cd_records.specs.PlainReasons.{plain_labels}
 
 -- a function of what is left of a list, where the next item is known
 pub at_item : {X Y : Type 0} (F : List X → Y) (items : List X) (index : ℕ) (item : X) → item ≡ get_or items index item

@@ -1,2 +1,3 @@
 pub mod RecordTypes
+pub mod PlainReasons
 pub mod Inner

@@ -1,17 +1,8 @@
--- Record types and rows of the code as plain data.
-use Rattle.std.specs.Prelude.{List, map}
-use Rattle.cd_graph.specs.PlainFormula.{plain_named}
-use Rattle.cd_graph.specs.declared.fields.Fields.{Fields}
-use Rattle.cd_rules.specs.Clauses.{RecordType}
+-- Rows of the code as plain data.
+use Rattle.std.specs.Prelude.{map}
 use Rattle.cd_rules.specs.Rows.{Cell, Row}
 use Rattle.cd_records.specs.declared.row.FieldCell.{FieldCell}
 use Rattle.cd_records.specs.declared.row.Row.{Row as CodeRow}
-
-abbrev pub record_type : Fields → RecordType
-record_type fields = record { named = plain_named fields.named; rest = fields.rest }
-
-abbrev pub record_types : List Fields → List RecordType
-record_types types = map record_type types
 
 abbrev pub plain_cell : FieldCell → Cell
 plain_cell cell = record { absent = cell.absent; value = cell.value }

@@ -2,15 +2,17 @@
 ghost use Rattle.std.specs.Prelude.{◌≡◌, map, not, IfOk};
 ghost use Rattle.std.specs.List.{list_all};
 ghost use Rattle.cd_rules.specs.Rows.{field_at as field_at_of, is_reason as is_reason_of, types_at};
-ghost use Rattle.cd_rules.specs.Rows.{cell_at as cell_at_of};
-ghost use Rattle.cd_records.specs.RecordTypes.{record_types, plain_cell};
-ghost use Rattle.cd_records.specs.Inner.PlainReasons.{plain_chosen, plain_reasons};
+ghost use Rattle.cd_rules.specs.Rows.{cell_at};
+ghost use Rattle.cd_needs.specs.RecordType.{record_types};
+ghost use Rattle.cd_records.specs.RecordTypes.{plain_cell};
+ghost use Rattle.cd_records.specs.PlainReasons.{plain_chosen, plain_reasons};
 
 use crate::reasons::Chosen;
 use crate::row::FieldCell;
 use cd_graph::fields::{Fields, is_same};
 use cd_needs::asking::question;
 use cd_sets::node_id::NodeId;
+use cd_sets::question::Question;
 use cd_syntax::name::Name;
 use std::alloc::{AllocError, Global};
 
@@ -25,7 +27,7 @@ fn is_reason(label: &Name, chosen: &Chosen<'_>) -> bool
 }
 
 // The nodes of the wanted types at a label.
-fn wanted_nodes(alloc: Global, wanted: &[Fields], label: &Name) -> Result<Vec<NodeId>, AllocError>
+fn wanted_nodes(alloc: Global, wanted: &[&Fields], label: &Name) -> Result<Vec<NodeId>, AllocError>
     ensures { IfOk result (λ nodes.
         nodes.items ≡ map (λ type. (field_at_of type label.now).type) (record_types wanted.now)) }
 {
@@ -56,7 +58,7 @@ fn refused_nodes(
 }
 
 // Whether each wanted type lets the field of a label be absent.
-fn all_optional(wanted: &[Fields], label: &Name) -> bool
+fn all_optional(wanted: &[&Fields], label: &Name) -> bool
     ensures { result ≡ list_all (λ type. (field_at_of type label.now).optional)
         (record_types wanted.now) }
 {
@@ -81,22 +83,43 @@ fn none_optional(reasons: &[Chosen<'_>], label: &Name) -> bool
     true
 }
 
-/// What may stand at a label in the records of the wanted types that are outside the refused ones
-/// for these reasons.
+/// Whether nothing may stand at a label in the records of the wanted types that are outside the
+/// refused ones for these reasons.
+pub(crate) fn may_be_absent(wanted: &[&Fields], reasons: &[Chosen<'_>], label: &Name) -> bool
+    ensures { let cell = cell_at (record_types wanted.now) (plain_reasons reasons.now) label.now in
+        result ≡ cell.absent }
+{
+    all_optional(wanted, label) && none_optional(reasons, label)
+}
+
+/// What a value at a label is in, in these records.
+pub(crate) fn value_at(
+    alloc: Global,
+    wanted: &[&Fields],
+    reasons: &[Chosen<'_>],
+    label: &Name,
+) -> Result<Question, AllocError>
+    ensures { let cell = cell_at (record_types wanted.now) (plain_reasons reasons.now) label.now in
+        IfOk result (λ asked. asked ≡ cell.value) }
+{
+    let pos = wanted_nodes(alloc, wanted, label)?;
+    let neg = refused_nodes(alloc, reasons, label)?;
+    question(alloc, pos.as_slice(), neg.as_slice())
+}
+
+/// What may stand at a label in these records.
 pub(crate) fn cell_at(
     alloc: Global,
-    wanted: &[Fields],
+    wanted: &[&Fields],
     reasons: &[Chosen<'_>],
     label: &Name,
 ) -> Result<FieldCell, AllocError>
     ensures { IfOk result (λ cell.
-        plain_cell cell ≡ cell_at_of (record_types wanted.now)
+        plain_cell cell ≡ cell_at (record_types wanted.now)
         (plain_reasons reasons.now) label.now) }
 {
-    let pos = wanted_nodes(alloc, wanted, label)?;
-    let neg = refused_nodes(alloc, reasons, label)?;
     Ok(FieldCell {
-        absent: all_optional(wanted, label) && none_optional(reasons, label),
-        value: question(alloc, pos.as_slice(), neg.as_slice())?,
+        absent: may_be_absent(wanted, reasons, label),
+        value: value_at(alloc, wanted, reasons, label)?,
     })
 }

@@ -4,8 +4,9 @@ ghost use Rattle.std.specs.List.{list_any};
 ghost use Rattle.cd_graph.specs.PlainFormula.{plain_named};
 ghost use Rattle.cd_rules.specs.Rows.{with_label as with_label_of, labels_after};
 ghost use Rattle.cd_rules.specs.Rows.{labels_of as labels_of_types};
-ghost use Rattle.cd_records.specs.RecordTypes.{record_types};
-ghost use Rattle.cd_records.specs.Inner.PlainReasons.{plain_labels, labels_before};
+ghost use Rattle.cd_needs.specs.RecordType.{record_types};
+ghost use Rattle.cd_records.specs.Inner.PlainChoices.{labels_before};
+ghost use Rattle.cd_records.specs.PlainReasons.{plain_labels};
 
 use cd_graph::fields::{Field, Fields, is_same};
 use cd_syntax::name::Name;
@@ -54,7 +55,7 @@ fn with_fields<'t>(
 }
 
 // These labels, with those of some record types before them, each once.
-fn with_types<'t>(labels: Vec<&'t Name>, types: &'t [Fields]) -> Result<Vec<&'t Name>, AllocError>
+fn with_types<'t>(labels: Vec<&'t Name>, types: &[&'t Fields]) -> Result<Vec<&'t Name>, AllocError>
     ensures { IfOk result (λ all.
         plain_labels all.items ≡ labels_before (record_types types.now)
         (plain_labels labels.entry.items)) }
@@ -69,10 +70,14 @@ fn with_types<'t>(labels: Vec<&'t Name>, types: &'t [Fields]) -> Result<Vec<&'t 
 }
 
 /// The labels that some type names of those that are wanted and those that are refused, each once.
-pub(crate) fn labels_of<'t>(
+///
+/// # Errors
+///
+/// Want of memory.
+pub fn labels_of<'t>(
     alloc: Global,
-    wanted: &'t [Fields],
-    refused: &'t [Fields],
+    wanted: &[&'t Fields],
+    refused: &[&'t Fields],
 ) -> Result<Vec<&'t Name>, AllocError>
     ensures { IfOk result (λ labels.
         plain_labels labels.items

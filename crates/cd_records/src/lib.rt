@@ -2,7 +2,10 @@
 #![tactic(auto)]
 
 mod cell;
-mod labels;
-mod reasons;
+pub mod labels;
+mod needed;
+pub mod reasons;
 pub mod row;
 pub mod split;
+
+pub use needed::needed_questions;

@@ -1,9 +1,9 @@
 //! The choices of reasons for which a record is outside refused types.
 ghost use Rattle.std.specs.Prelude.{◌≡◌, ◌∷◌, ◌++◌, map, [], None, Some, IfOk};
 ghost use Rattle.cd_rules.specs.Rows.{each_with as each_with_of, reasons_of as reasons_of_types};
-ghost use Rattle.cd_records.specs.RecordTypes.{record_type, record_types};
-ghost use Rattle.cd_records.specs.Inner.PlainReasons.{plain_labels, plain_chosen, plain_reasons};
-ghost use Rattle.cd_records.specs.Inner.PlainReasons.{plain_choices};
+ghost use Rattle.cd_needs.specs.RecordType.{record_type, record_types};
+ghost use Rattle.cd_records.specs.PlainReasons.{plain_labels, plain_chosen, plain_reasons};
+ghost use Rattle.cd_records.specs.Inner.PlainChoices.{plain_choices};
 
 use cd_graph::fields::Fields;
 use cd_syntax::name::Name;
@@ -12,9 +12,11 @@ use std::alloc::{AllocError, Global};
 /// A refused record type, and the label for which a record is outside it; without one that is a
 /// label that no type names.
 #[derive(Clone, Copy)]
-pub(crate) struct Chosen<'t> {
-    pub(crate) refused: &'t Fields,
-    pub(crate) reason: Option<&'t Name>,
+pub struct Chosen<'t> {
+    /// The type.
+    pub refused: &'t Fields,
+    /// The label, if it is one that a type names.
+    pub reason: Option<&'t Name>,
 }
 
 /// Each refused type, with its reason.
@@ -100,7 +102,7 @@ fn none<'t>(alloc: Global) -> Result<Vec<Choice<'t>>, AllocError>
 pub(crate) fn reasons_of<'t>(
     alloc: Global,
     labels: &[&'t Name],
-    refused: &'t [Fields],
+    refused: &[&'t Fields],
 ) -> Result<Vec<Choice<'t>>, AllocError>
     ensures { IfOk result (λ all.
         plain_choices all.items ≡ reasons_of_types (plain_labels labels.now)
@@ -110,7 +112,7 @@ pub(crate) fn reasons_of<'t>(
     let mut index = refused.len();
     while index > 0 {
         index -= 1;
-        choices = each_with(alloc, &refused[index], labels, choices.as_slice())?;
+        choices = each_with(alloc, refused[index], labels, choices.as_slice())?;
     }
     Ok(choices)
 }

@@ -1,7 +1,7 @@
 -- Whether the element of a shape is in a formula, as far as it follows from what is known of the
 -- shape's parts; or else the first part and node of which this has to be known.
 use Rattle.std.specs.Prelude.{◌≡◌, ℕ, ◌<◌, Bool, true, false, not, ◌++◌, List, [], ◌∷◌}
-use Rattle.std.specs.Prelude.{Option, Some, None, map, bytes_eq, if◌then◌else◌}
+use Rattle.std.specs.Prelude.{Option, Some, None, map}
 use Rattle.cd_sets.specs.declared.node_id.NodeId.{NodeId}
 use Rattle.cd_intervals.specs.Interval as integers
 use Rattle.cd_intervals.specs.Characters.{holds_character}
@@ -15,6 +15,7 @@ use Rattle.cd_elements.specs.declared.shape.Shape.TheVariants.{Int, Char, Atom, 
 use Rattle.cd_elements.specs.declared.shape.Shape.TheVariants.{Fun}
 use Rattle.cd_holds.specs.declared.finding.Finding.{Finding}
 use Rattle.cd_holds.specs.declared.finding.Finding.TheVariants.{Known, Unknown}
+use Rattle.cd_holds.specs.Inner.Rising.{item_at}
 
 -- both, one of both, and the opposite; the second does not count where the first decides
 abbrev pub both : Finding → Finding → Finding
@@ -30,11 +31,6 @@ one_of (Unknown id node) other = Unknown id node
 abbrev pub opposite : Finding → Finding
 opposite (Known answer) = Known (not answer)
 opposite (Unknown id node) = Unknown id node
-
--- what is at a label
-abbrev pub part_at : List (Name × ElementId) → Name → Option ElementId
-part_at [] label = None
-part_at (part ∷ parts) label = if bytes_eq part.0 label then Some part.1 else part_at parts label
 
 -- the labels of a record type and of a record
 abbrev pub labels : List (Name × Field) → List (Name × ElementId) → List Name
@@ -57,8 +53,20 @@ module _ (known : ElementId → NodeId → Option Bool) where
       → List Name → Finding
   finding_at_labels parts named rest [] = Known true
   finding_at_labels parts named rest (label ∷ labels) =
-      both (finding_at_field (part_at parts label) (field_of named rest label))
+      both (finding_at_field (item_at parts label) (field_of named rest label))
       (finding_at_labels parts named rest labels)
+
+  -- a part at a label that a type does not name is in its rest
+  abbrev pub finding_at_other : {X : Type 0} → Option X → ElementId → (rest : NodeId) → Finding
+  finding_at_other None id rest = look id rest
+  finding_at_other (Some field) id rest = Known true
+
+  abbrev pub finding_at_others : {X : Type 0} → List (Name × X) → (rest : NodeId)
+      → List (Name × ElementId) → Finding
+  finding_at_others named rest [] = Known true
+  finding_at_others named rest (part ∷ parts) =
+      both (finding_at_other (item_at named part.0) part.1 rest)
+      (finding_at_others named rest parts)
 
   -- each pair maps the one node into the other
   abbrev pub finding_at_result : Option ElementId → NodeId → Finding

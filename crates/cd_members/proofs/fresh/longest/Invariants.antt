@@ -3,6 +3,6 @@ use Rattle.cd_rules.proofs.FreshLabels.{longest}
 use Rattle.cd_members.proofs.fresh.longest.Given as goal
 
 -- so far, with what is left, it is the longest of all
-abbrev pub invariant-loop-cell : goal.invariant-loop-cell
-invariant-loop-cell l = max l.longest (longest (map (λ cell. cell.label) (drop l.cell-index l.cells)))
-    ≡ longest (map (λ cell. cell.label) l.cells)
+abbrev pub invariant-loop-label : goal.invariant-loop-label
+invariant-loop-label l = max l.longest (longest (map (λ cell. cell.0) (drop l.label-index l.cells)))
+    ≡ longest (map (λ cell. cell.0) l.cells)

@@ -1,6 +1,6 @@
 use Rattle.std.proofs.Common.{◌∙◌, sym, ap, add-one, [], ◌∷◌, ◌++◌}
 use Rattle.cd_rules.proofs.FreshLabels.{row_of_a}
-use Rattle.cd_members.proofs.PartsOfRows.{row_more}
+use Rattle.cd_members.proofs.FieldsOnce.{row_more}
 use Rattle.cd_members.proofs.fresh.row_of_a.Goals as goal
 
 -- one letter more

@@ -5,7 +5,7 @@ use Rattle.std.specs.declared.cmp.Ordering.TheVariants.{Equal}
 use Rattle.std.proofs.lemmas.List.{at_drop_more, set_split}
 use Rattle.cd_syntax.specs.Name.{Name}
 use Rattle.cd_elements.specs.declared.shape.ElementId.{ElementId}
-use Rattle.cd_members.specs.Inner.Shapes.{put}
+use Rattle.cd_members.specs.Inner.RecordFields.{put}
 use Rattle.cd_members.proofs.parts.place_of.Goals as goal
 
 -- an element is put in the place of the first field of what is left, where that has its label

@@ -1,6 +1,6 @@
 use Rattle.std.proofs.Common.{◌≡◌, ◌++◌, take, drop}
 use Rattle.cd_elements.specs.declared.shape.ElementId.{ElementId}
-use Rattle.cd_members.specs.Inner.Shapes.{put}
+use Rattle.cd_members.specs.Inner.RecordFields.{put}
 use Rattle.cd_members.proofs.parts.place_of.Given as goal
 
 -- the label belongs among what is left

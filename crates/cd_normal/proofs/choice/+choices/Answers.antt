@@ -4,7 +4,7 @@ use Rattle.cd_graph.specs.PlainFormula.{plain}
 use Rattle.cd_rules.specs.KindChoices.{kind_of_each}
 use Rattle.cd_normal.specs.Inner.PlainKind.{plain_kind}
 use Rattle.cd_normal.proofs.Lists.{all_left}
-use Rattle.cd_normal.proofs.Sizes.{items_fall}
+use Rattle.cd_graph.proofs.Sizes.{items_fall}
 use Rattle.cd_normal.proofs.choice.+choices.Goals as goal
 
 -- each item of a list is smaller than the list

@@ -4,7 +4,7 @@ use Rattle.cd_graph.specs.PlainFormula.{plain, plain_formulas}
 use Rattle.cd_normal.specs.Inner.PlainChoice.{plain_choices}
 use Rattle.cd_rules.specs.KindChoices.{kind_of_each, kind_of_one}
 use Rattle.cd_normal.specs.Inner.PlainKind.{plain_kind}
-use Rattle.cd_normal.proofs.Sizes.{size, size_list}
+use Rattle.cd_graph.proofs.Sizes.{size, size_list}
 use Rattle.cd_normal.proofs.choice.+choices.Given as goal
 
 -- each formula is smaller than the one or the list that it stands in

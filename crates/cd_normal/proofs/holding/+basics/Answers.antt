@@ -7,7 +7,7 @@ use Rattle.cd_graph.proofs.Reading.{plain_not}
 use Rattle.cd_normal.specs.Inner.ExactSets.{AreExact}
 use Rattle.cd_normal.proofs.Lists.{from_place, two_or_more}
 use Rattle.cd_normal.proofs.ExactSets.{exact_so, all_of_halves, one_of_halves}
-use Rattle.cd_normal.proofs.Sizes.{first_falls, second_falls}
+use Rattle.cd_normal.proofs.Halves.{first_falls, second_falls}
 use Rattle.cd_normal.proofs.holding.+basics.Goals as goal
 
 pub of_formula-returns-in_ok-of_formula-in-Not : goal.of_formula-returns-in_ok-of_formula-in-Not

@@ -1,7 +1,7 @@
 use Rattle.std.proofs.Common.{map}
 use Rattle.cd_model.specs.Formula.{formulas_of}
 use Rattle.cd_graph.specs.PlainFormula.{plain}
-use Rattle.cd_normal.proofs.Sizes.{size, size_list}
+use Rattle.cd_graph.proofs.Sizes.{size, size_list}
 use Rattle.cd_normal.proofs.holding.+basics.Given as goal
 
 -- each formula is smaller than the one or the list that it stands in

@@ -1,6 +1,7 @@
 use Rattle.std.proofs.Common.{◌≡◌, ◌++◌, drop, map}
 use Rattle.cd_graph.specs.Nodes.{nodes}
-use Rattle.cd_normal.specs.Inner.PlainClause.{plain_clause, clauses_of_kinds, clauses_of_all}
+use Rattle.cd_normal.specs.PlainClause.{plain_clause}
+use Rattle.cd_normal.specs.Inner.ClausesOfKinds.{clauses_of_kinds, clauses_of_all}
 use Rattle.cd_normal.proofs.normal.clauses_by_kind.Given as goal
 
 -- the clauses so far, and those of the kinds that are left, are all

@@ -1,7 +1,7 @@
 use Rattle.std.proofs.Common.{◌≡◌, drop}
 use Rattle.std.specs.List.{list_all}
 use Rattle.cd_rules.specs.Rows.{field_at}
-use Rattle.cd_records.specs.RecordTypes.{record_types}
+use Rattle.cd_needs.specs.RecordType.{record_types}
 use Rattle.cd_records.proofs.cell.all_optional.Given as goal
 
 -- all types let the field be absent where those that are left do

@@ -1,7 +1,7 @@
 use Rattle.std.proofs.Common.{◌≡◌, drop, not}
 use Rattle.std.specs.List.{list_all}
 use Rattle.cd_rules.specs.Rows.{field_at, types_at}
-use Rattle.cd_records.specs.Inner.PlainReasons.{plain_reasons}
+use Rattle.cd_records.specs.PlainReasons.{plain_reasons}
 use Rattle.cd_records.proofs.cell.none_optional.Given as goal
 
 -- none of the types lets the field be absent where none of those that are left does

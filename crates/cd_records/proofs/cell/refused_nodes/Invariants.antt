@@ -1,6 +1,6 @@
 use Rattle.std.proofs.Common.{◌≡◌, ◌++◌, map, drop}
 use Rattle.cd_rules.specs.Rows.{field_at, types_at}
-use Rattle.cd_records.specs.Inner.PlainReasons.{plain_reasons}
+use Rattle.cd_records.specs.PlainReasons.{plain_reasons}
 use Rattle.cd_records.proofs.cell.refused_nodes.Given as goal
 
 -- the nodes so far, and those of the types that are left, are all

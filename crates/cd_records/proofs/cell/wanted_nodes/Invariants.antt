@@ -1,6 +1,6 @@
 use Rattle.std.proofs.Common.{◌≡◌, ◌++◌, map, drop}
 use Rattle.cd_rules.specs.Rows.{field_at}
-use Rattle.cd_records.specs.RecordTypes.{record_types}
+use Rattle.cd_needs.specs.RecordType.{record_types}
 use Rattle.cd_records.proofs.cell.wanted_nodes.Given as goal
 
 -- the nodes so far, and those of the types that are left, are all

@@ -1,6 +1,6 @@
 use Rattle.std.proofs.Common.{◌≡◌, drop, bytes_eq}
 use Rattle.std.specs.List.{list_any}
-use Rattle.cd_records.specs.Inner.PlainReasons.{plain_labels}
+use Rattle.cd_records.specs.PlainReasons.{plain_labels}
 use Rattle.cd_records.proofs.labels.is_among.Given as goal
 
 -- the label is among what is left where it is among all

@@ -1,7 +1,7 @@
 use Rattle.std.proofs.Common.{◌≡◌, ◌≤◌, drop, length, map}
 use Rattle.cd_graph.specs.PlainFormula.{plain_named}
 use Rattle.cd_rules.specs.Rows.{labels_after}
-use Rattle.cd_records.specs.Inner.PlainReasons.{plain_labels}
+use Rattle.cd_records.specs.PlainReasons.{plain_labels}
 use Rattle.cd_records.proofs.labels.with_fields.Given as goal
 
 -- the labels are those of the fields from the index on, before the first ones

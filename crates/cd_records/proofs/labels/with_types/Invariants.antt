@@ -1,6 +1,7 @@
 use Rattle.std.proofs.Common.{◌≡◌, ◌≤◌, drop, length}
-use Rattle.cd_records.specs.RecordTypes.{record_types}
-use Rattle.cd_records.specs.Inner.PlainReasons.{plain_labels, labels_before}
+use Rattle.cd_needs.specs.RecordType.{record_types}
+use Rattle.cd_records.specs.Inner.PlainChoices.{labels_before}
+use Rattle.cd_records.specs.PlainReasons.{plain_labels}
 use Rattle.cd_records.proofs.labels.with_types.Given as goal
 
 -- the labels are those of the types from the index on, before the first ones

@@ -1,8 +1,9 @@
 use Rattle.std.proofs.Common.{◌∙◌, sym, ap, ◌+◌, ◌∷◌, ◌++◌, map, drop, Some}
 use Rattle.std.proofs.lemmas.List.{append_assoc}
 use Rattle.cd_rules.specs.Rows.{each_with}
-use Rattle.cd_records.specs.RecordTypes.{record_type}
-use Rattle.cd_records.specs.Inner.PlainReasons.{plain_labels, plain_choices}
+use Rattle.cd_needs.specs.RecordType.{record_type}
+use Rattle.cd_records.specs.Inner.PlainChoices.{plain_choices}
+use Rattle.cd_records.specs.PlainReasons.{plain_labels}
 use Rattle.cd_records.proofs.LeftOfLists.{next_label}
 use Rattle.cd_records.proofs.reasons.each_with.Goals as goal
 

@@ -1,7 +1,8 @@
 use Rattle.std.proofs.Common.{◌≡◌, ◌++◌, ◌∷◌, map, drop, None, Some}
 use Rattle.cd_rules.specs.Rows.{each_with}
-use Rattle.cd_records.specs.RecordTypes.{record_type}
-use Rattle.cd_records.specs.Inner.PlainReasons.{plain_labels, plain_choices}
+use Rattle.cd_needs.specs.RecordType.{record_type}
+use Rattle.cd_records.specs.Inner.PlainChoices.{plain_choices}
+use Rattle.cd_records.specs.PlainReasons.{plain_labels}
 use Rattle.cd_records.proofs.reasons.each_with.Given as goal
 
 -- the choices so far, and those with the labels that are left, are all

@@ -1,5 +1,6 @@
 use Rattle.std.proofs.Common.{◌≡◌, ◌++◌, ◌∷◌, map, drop}
-use Rattle.cd_records.specs.Inner.PlainReasons.{plain_chosen, plain_choices}
+use Rattle.cd_records.specs.Inner.PlainChoices.{plain_choices}
+use Rattle.cd_records.specs.PlainReasons.{plain_chosen}
 use Rattle.cd_records.proofs.reasons.joined.Given as goal
 
 -- the choices so far, and those with the others that are left, are all

@@ -1,7 +1,8 @@
 use Rattle.std.proofs.Common.{◌≡◌, ◌≤◌, drop, length}
 use Rattle.cd_rules.specs.Rows.{reasons_of}
-use Rattle.cd_records.specs.RecordTypes.{record_types}
-use Rattle.cd_records.specs.Inner.PlainReasons.{plain_labels, plain_choices}
+use Rattle.cd_needs.specs.RecordType.{record_types}
+use Rattle.cd_records.specs.Inner.PlainChoices.{plain_choices}
+use Rattle.cd_records.specs.PlainReasons.{plain_labels}
 use Rattle.cd_records.proofs.reasons.reasons_of.Given as goal
 
 -- the choices are those of the types from the index on

@@ -1,7 +1,7 @@
 use Rattle.std.proofs.Common.{◌≡◌, ◌++◌, drop}
-use Rattle.cd_records.specs.RecordTypes.{record_types}
+use Rattle.cd_needs.specs.RecordType.{record_types}
 use Rattle.cd_records.specs.Inner.PlainCells.{plain_cells, cells_at}
-use Rattle.cd_records.specs.Inner.PlainReasons.{plain_labels, plain_reasons}
+use Rattle.cd_records.specs.PlainReasons.{plain_labels, plain_reasons}
 use Rattle.cd_records.proofs.split.cells.Given as goal
 
 -- the cells so far, and those of the labels that are left, are all

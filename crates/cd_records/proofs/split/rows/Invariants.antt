@@ -1,7 +1,9 @@
 use Rattle.std.proofs.Common.{◌≡◌, ◌++◌, map, drop}
 use Rattle.cd_rules.specs.Rows.{row_of, rows_of}
-use Rattle.cd_records.specs.RecordTypes.{record_types, plain_row}
-use Rattle.cd_records.specs.Inner.PlainReasons.{plain_labels, plain_choices}
+use Rattle.cd_needs.specs.RecordType.{record_types}
+use Rattle.cd_records.specs.RecordTypes.{plain_row}
+use Rattle.cd_records.specs.Inner.PlainChoices.{plain_choices}
+use Rattle.cd_records.specs.PlainReasons.{plain_labels}
 use Rattle.cd_records.proofs.split.rows.Given as goal
 
 -- the rows so far, and those of the choices that are left, are all

@@ -1,7 +1,0 @@
-pub mod PartsWithin
-mod PartsBelow
-mod Emptying
-mod HeldByOne
-mod SeenEmpty
-mod Leaving
-mod ReducedForms

@@ -1,0 +1,44 @@
+use Rattle.std.proofs.Common.{subst}
+use Rattle.std.proofs.lemmas.Result.{IfOk-weaker}
+use Rattle.cd_graph.specs.Nodes.{nodes}
+use Rattle.cd_members.specs.Attempts.{IsAttempt}
+use Rattle.cd_tasks.specs.PlainTask.{plain_task}
+use Rattle.cd_empty.specs.Inner.Working.{IsReady, with_branch}
+use Rattle.cd_empty.specs.Kept.{table}
+use Rattle.cd_empty.proofs.BranchesTried.{split, made}
+use Rattle.cd_empty.proofs.PairsAdded.{pair_worked}
+use Rattle.cd_empty.proofs.SoundDeciders.{ready_again, sound_with_more}
+use Rattle.cd_empty.proofs.decider.Decider.try_branch.Goals as goal
+use Rattle.cd_empty.proofs.decider.Decider.try_branch.Goals.{After-attempt}
+
+-- after the attempt all is as it has to be
+ready : (c : After-attempt) → IsReady (nodes c.args.graph.now) c.attempt.new.self (with_branch c.args.branch c.args.frame.now)
+ready c = ready_again (nodes c.args.graph.now) c.args.self.now c.attempt.new.self (with_branch c.args.branch c.args.frame.now)
+    c.attempt.ensures.keeps c.attempt.ensures.sound c.requires.ready
+
+pub returns-in-Held-clause-doing : goal.returns-in-Held-clause-doing
+returns-in-Held-clause-doing c =
+    split (nodes c.args.graph.now) c.attempt.new.self c.args.frame.now c.args.branch c.in_ok-cases-in-Held.cases.items
+    c.push_all.new.self c.in_ok-push_all-in-Held.ensures (ready (goal.at.returns-in-Held-clause-doing c).After-attempt).fit c.in_ok-cases-in-Held.ensures
+
+pub returns-in-Made-clause-doing : goal.returns-in-Made-clause-doing
+returns-in-Made-clause-doing c =
+    let graph = nodes c.args.graph.now in
+    let tried = subst (IsAttempt graph (table c.attempt.new.self) (plain_task c.args.branch)) c.in-Made.is c.in_ok-place.ensures.attempt in
+    made graph c.attempt.new.self c.args.frame.now c.args.branch c.args.frame.now c.in-Made.id
+    (ready (goal.at.returns-in-Made-clause-doing c).After-attempt) tried.0 tried.1
+
+pub add_pair-requires-clause-named : goal.add_pair-requires-clause-named
+add_pair-requires-clause-named c = (ready (goal.at.add_pair-requires-clause-named c).After-attempt).fit.named
+
+pub returns-clause-doing : goal.returns-clause-doing
+returns-clause-doing c =
+    let graph = nodes c.args.graph.now in
+    let tried = subst (IsAttempt graph (table c.attempt.new.self) (plain_task c.args.branch)) c.in-Maps.is c.in_ok-place.ensures.attempt in
+    IfOk-weaker c.add_pair.result _ _ (λ doing adds.
+    pair_worked graph c.attempt.new.self c.add_pair.new.self c.args.frame.now c.add_pair.new.frame c.args.branch c.in-Maps.from
+    c.in-Maps.to doing (ready (goal.at.returns-clause-doing c).After-attempt) tried c.add_pair.ensures.adds adds) c.add_pair.ensures.adds_pair
+
+pub returns-clause-sound : goal.returns-clause-sound
+returns-clause-sound c =
+    sound_with_more (nodes c.args.graph.now) c.attempt.new.self c.add_pair.new.self c.add_pair.ensures.adds c.attempt.ensures.sound

@@ -1,0 +1,35 @@
+-- What is known of questions.
+use Rattle.std.specs.Prelude.{◌≡◌, List, [], ◌∷◌}
+use Rattle.cd_sets.specs.declared.question.Question.{Question}
+use Rattle.cd_model.specs.AllOf.{AnyOf}
+use Rattle.cd_elements.specs.declared.shape.ElementId.{ElementId}
+use Rattle.cd_rules.specs.Family.{IsCovered, IsOfFamily}
+use Rattle.cd_empty.specs.declared.decider.Decider.{Decider}
+use Rattle.cd_empty.specs.declared.look.Look.{Look}
+use Rattle.cd_empty.specs.declared.look.Look.TheVariants as look
+use Rattle.cd_empty.specs.declared.look.Parts.{Parts}
+use Rattle.cd_empty.specs.declared.look.Parts.TheVariants.{Missing, Unknown, Are}
+use Rattle.cd_empty.specs.declared.verdict.Verdict.TheVariants.{Inhabited}
+use Rattle.cd_empty.specs.Inner.PlainFrame.{known}
+use Rattle.cd_empty.specs.Inner.Doing.{IsUnknown}
+use Rattle.cd_empty.specs.Kept.{kept}
+use Rattle.cd_empty.specs.Verdicts.{IsKept}
+
+abbrev pub IsSeen : Decider → Question → Look → Type 0
+IsSeen decider question look.Empty = IsOfFamily question (known decider)
+IsSeen decider question (look.Has id) = IsKept (kept decider) question (Inhabited id)
+IsSeen decider question look.Unknown = IsUnknown decider question
+
+-- these elements are kept for the questions, in their order
+abbrev pub HaveElements : Decider → List ElementId → List Question → Type 0
+HaveElements decider [] [] = Unit {0}
+HaveElements decider (id ∷ ids) (question ∷ questions) =
+    IsKept (kept decider) question (Inhabited id) × HaveElements decider ids questions
+HaveElements decider _ _ = ⊥
+
+abbrev pub AreParts : Decider → List Question → Parts → Type 0
+AreParts decider questions Missing =
+    AnyOf (λ question. IsCovered question (known decider)) questions
+AreParts decider questions (Unknown question) =
+    AnyOf (λ other. other ≡ question) questions × IsUnknown decider question
+AreParts decider questions (Are ids) = HaveElements decider ids.items questions

@@ -1,0 +1,56 @@
+-- Facts of the members of lists by their places.
+use Rattle.std.proofs.Common.{◌≡◌, ℕ, zero, suc, ◌+◌, ◌<◌, ◌≤◌, Bool, true, false, List, [], ◌∷◌, length, get_or, take, map, slice_get, Option, Some, None, refl, ap, sym, ◌∙◌, subst, arith}
+use Rattle.std.proofs.lemmas.List.{take_more}
+use Rattle.std.specs.Borrow.{Bor}
+use Rattle.std.specs.Option.{option_map}
+use Rattle.std.specs.Slice.{IsItemAt}
+use Rattle.std.proofs.lemmas.Option.{slice_get-get_or, slice_get_past, slice_get_within}
+use Rattle.cd_model.specs.AllOf.{AllOf}
+use Rattle.cd_rules.proofs.Ones.{each_of_lists}
+use Rattle.cd_members.specs.Inner.Holding.{IsPlace}
+
+-- what holds of each holds of that at a place
+pub each_at : {X : Type 0} (fact : X → Type 0) (all : List X) (place : ℕ) (default : X) → AllOf fact all → place < length all
+    → fact (get_or all place default)
+each_at fact [] place default each within = absurd (omega arith)
+each_at fact (one ∷ all) zero default each within = each.0
+each_at fact (one ∷ all) (suc place) default each within = each_at fact all place default each.1 (omega arith)
+
+-- a fact is so of no member before a place, so it is so of none before the next, and in the end of none
+pub none_of_more : {X : Type 0} (fact : X → Bool → Type 0) (members : List X) (place : ℕ) (default : X) → place < length members
+    → AllOf (λ x. fact x false) (take place members) → fact (get_or members place default) false
+    → AllOf (λ x. fact x false) (take (place + 1) members)
+none_of_more fact members place default within before here =
+    subst (AllOf (λ x. fact x false)) (sym (take_more members place default within))
+    (each_of_lists (λ x. fact x false) (take place members) (get_or members place default ∷ []) before (here, tt))
+
+pub none_of_all : {X : Type 0} (fact : X → Bool → Type 0) (members : List X) (place : ℕ) → length members ≤ place
+    → AllOf (λ x. fact x false) (take place members) → AllOf (λ x. fact x false) members
+none_of_all fact [] place past each = tt
+none_of_all fact (x ∷ members) zero past each = absurd (omega arith)
+none_of_all fact (x ∷ members) (suc place) past each = (each.0, none_of_all fact members place (omega arith) each.1)
+
+-- the place of a member of which it is so
+pub place_here : {X : Type 0} (fact : X → Bool → Type 0) (members : List X) (place : ℕ) (default : X) → place < length members
+    → fact (get_or members place default) true → IsPlace fact members (Some place)
+place_here fact members place default within is = (get_or members place default, slice_get-get_or members place default within, is)
+
+pub place_below : {X : Type 0} (fact : X → Bool → Type 0) (members : List X) (place : ℕ) → IsPlace fact members (Some place)
+    → place < length members
+place_below fact members place found = slice_get_within members place found.0 found.1
+
+-- what a look at a place finds
+pub looked_up : {X : Type 0} (all : List X) (place : ℕ) (found : Option (Bor X)) → IsItemAt all place found
+    → option_map (λ x. x.now) found ≡ slice_get all place
+looked_up all place None is = sym (slice_get_past all place is.3)
+looked_up all place (Some x) is = ap Some is.1 ∙ sym (slice_get-get_or all place x.now is.3.0)
+
+-- what is made of the members, at a place
+pub made_at : {X Y : Type 0} (f : X → Y) (all : List X) (place : ℕ) (x : X) → x ≡ get_or all place x
+    → get_or (map f all) place (f x) ≡ f x
+made_at f all place x is = at_map all place ∙ ap f (sym is)
+  where
+    at_map : (all : List _) (place : ℕ) → get_or (map f all) place (f x) ≡ f (get_or all place x)
+    at_map [] place = refl
+    at_map (first ∷ all) zero = refl
+    at_map (first ∷ all) (suc place) = at_map all place

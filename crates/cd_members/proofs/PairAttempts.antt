@@ -1,0 +1,50 @@
+-- The pair of elements that are ready for a task is an element for it, where it is in no pair of nodes that is left.
+use Rattle.std.proofs.Common.{◌≡◌, false, List, [], ◌∷◌, get_or, sym, subst}
+use Rattle.cd_model.specs.AllOf.{AllOf}
+use Rattle.cd_model.specs.Formula.{Graph}
+use Rattle.cd_model.specs.Kinds.{APair, kind_of}
+use Rattle.cd_model.specs.Membership.{reader}
+use Rattle.cd_model.specs.Thing as thing
+use Rattle.cd_model.specs.Thing.{Thing, IsElement}
+use Rattle.cd_rules.specs.Clauses.{Clause, Pair, Pairs, IsInClause}
+use Rattle.cd_rules.specs.Tasks.{PairTask, IsTaskOf}
+use Rattle.cd_rules.proofs.MembersOfTasks.{pair_of_task}
+use Rattle.cd_elements.specs.declared.shape.ElementId.{ElementId}
+use Rattle.cd_elements.specs.Table.{element_at}
+use Rattle.cd_members.specs.Attempts.{IsElementFor}
+use Rattle.cd_members.specs.Inner.Holding.{pair_in}
+use Rattle.cd_members.specs.Inner.Ready.{IsReady}
+use Rattle.cd_members.proofs.Ready.{is_task}
+
+module _ (graph : Graph) (wanted refused : List Pair) (given : List Pair × List Pair) (left : List Pair) where
+  in_each_clause : (e : Thing) → IsInClause APair (reader graph e) (Pairs wanted refused) → (clause : Clause)
+      → IsTaskOf clause (PairTask wanted refused given left) → IsInClause APair (reader graph e) clause
+  in_each_clause e is (Pairs some others) ((same, same_too), task) =
+      subst (λ (some : List Pair). IsInClause APair (reader graph e) (Pairs some others)) same
+      (subst (λ (others : List Pair). IsInClause APair (reader graph e) (Pairs wanted others)) same_too is)
+  in_each_clause e is _ (none, task) = absurd none
+
+  pub pair_is_for : (table : List Thing) (first second : ElementId)
+      → IsReady graph table (PairTask wanted refused given left) (first ∷ second ∷ [])
+      → AllOf (λ parts. pair_in graph (element_at table first) (element_at table second) parts false) left
+      → (e : Thing) → IsElement e → e ≡ thing.Pair (element_at table first) (element_at table second)
+      → IsElementFor graph (PairTask wanted refused given left) e
+  pair_is_for table first second ready outside e is made = (
+    is,
+    subst (λ (e : Thing). (clause : Clause) → IsTaskOf clause (PairTask wanted refused given left)
+        → IsInClause (kind_of e) (reader graph e) clause) (sym made)
+        (in_each_clause (thing.Pair (element_at table first) (element_at table second))
+        (pair_of_task graph (element_at table first) (element_at table second) wanted refused given left (is_task ready)
+        ready.parts.0 ready.parts.1.0 outside)),
+  )
+
+  -- so it is with the elements at the first two places
+  pub pair_attempted : (table : List Thing) (ids : List ElementId) (default : ElementId)
+      → IsReady graph table (PairTask wanted refused given left) ids
+      → AllOf (λ parts. pair_in graph (element_at table (get_or ids 0 default)) (element_at table (get_or ids 1 default)) parts false) left
+      → (e : Thing) → IsElement e → e ≡ thing.Pair (element_at table (get_or ids 0 default)) (element_at table (get_or ids 1 default))
+      → IsElementFor graph (PairTask wanted refused given left) e
+  pair_attempted table [] default ready = absurd ready.parts
+  pair_attempted table (first ∷ []) default ready = absurd ready.parts.1
+  pair_attempted table (first ∷ second ∷ []) default ready = pair_is_for table first second ready
+  pair_attempted table (first ∷ second ∷ third ∷ ids) default ready = absurd ready.parts.1.1

@@ -1,0 +1,15 @@
+use Rattle.std.proofs.Common.{false, take}
+use Rattle.cd_graph.specs.Nodes.{nodes}
+use Rattle.cd_model.specs.AllOf.{AllOf}
+use Rattle.cd_elements.specs.Elements.{table}
+use Rattle.cd_elements.specs.Table.{element_at}
+use Rattle.cd_holds.specs.Facts.{AreRight}
+use Rattle.cd_members.specs.Inner.Holding.{pair_in}
+use Rattle.cd_members.proofs.pair.place_of.Given as goal
+
+-- the pair is in none of those before
+abbrev pub invariant-loop-place : goal.invariant-loop-place
+invariant-loop-place l =
+    AllOf (λ parts. pair_in (nodes l.graph) (element_at (table l.elements) l.first) (element_at (table l.elements) l.second) parts false)
+    (take l.place l.left)
+    × AreRight (nodes l.graph) (table l.elements) l.facts

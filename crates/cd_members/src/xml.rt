@@ -1,0 +1,115 @@
+//! Attempts at XML elements.
+ghost use Rattle.std.specs.Prelude.{◌≡◌, ◌++◌, List, length, IfOk};
+ghost use Rattle.cd_graph.specs.Nodes.{nodes};
+ghost use Rattle.cd_model.specs.AllOf.{AllOf};
+ghost use Rattle.cd_model.specs.Thing.{Thing};
+ghost use Rattle.cd_rules.specs.Within.{IsXmlWithin};
+ghost use Rattle.cd_elements.specs.Elements.{table};
+ghost use Rattle.cd_elements.specs.Table.{Names, element_at};
+ghost use Rattle.cd_holds.specs.Facts.{AreRight};
+ghost use Rattle.cd_tasks.specs.PlainTask.{plain_task};
+ghost use Rattle.cd_tasks.specs.declared.task.Task.TheVariants.{Xml};
+ghost use Rattle.cd_members.specs.Attempts.{IsAttempt};
+ghost use Rattle.cd_members.specs.Inner.Holding.{IsPlace, xml_in};
+ghost use Rattle.cd_members.specs.Inner.Ready.{IsReady};
+
+use crate::attempt::Attempt;
+use crate::making::make;
+use cd_elements::{ElementId, Elements, Shape};
+use cd_graph::Graph;
+use cd_holds::Facts;
+use cd_sets::node_id::NodeId;
+use cd_tasks::XmlTask;
+use std::alloc::AllocError;
+
+/// Attempts a task for an XML element: makes the one of the elements.
+pub(crate) fn attempt_xml(
+    graph: &Graph,
+    elements: &mut Elements,
+    facts: &mut Facts,
+    task: &XmlTask,
+    ids: &[ElementId],
+) -> Result<Attempt, AllocError>
+    requires ready { let all = table elements.old in
+        IsReady (nodes graph.now) all (plain_task (Xml task.now)) ids.now }
+    requires right { AreRight (nodes graph.now) (table elements.old) facts.old }
+    ensures attempt { IfOk result
+        (IsAttempt (nodes graph.now) (table elements.new) (plain_task (Xml task.now))) }
+    ensures right { AreRight (nodes graph.now) (table elements.new) facts.new }
+    ensures grows { (more : List Thing) × (table elements.new ≡ table elements.old ++ more) }
+{
+    // The contract of this call says that the graph begins with the built-in nodes.
+    let _built_in = graph.len();
+    let (tag, attributes, content) = (ids[0], ids[1], ids[2]);
+    let left = task.left.as_slice();
+    match place_of(graph, elements, facts, left, tag, attributes, content)? {
+        Some(place) => Ok(Attempt::Held(place)),
+        None => Ok(Attempt::Made(make(graph, elements, Shape::Xml(tag, attributes, content))?)),
+    }
+}
+
+// The place of the first of these formulas that the XML element of three elements is in, if it is
+// in one.
+fn place_of(
+    graph: &Graph,
+    elements: &Elements,
+    facts: &mut Facts,
+    left: &[(NodeId, NodeId, NodeId)],
+    tag: ElementId,
+    attributes: ElementId,
+    content: ElementId,
+) -> Result<Option<usize>, AllocError>
+    requires left { AllOf (IsXmlWithin (length (nodes graph.now))) left.now }
+    requires tag { Names (table elements.now) tag }
+    requires attributes { Names (table elements.now) attributes }
+    requires content { Names (table elements.now) content }
+    requires right { AreRight (nodes graph.now) (table elements.now) facts.old }
+    ensures place { let all = table elements.now in
+        IfOk result (IsPlace (xml_in (nodes graph.now) (element_at all tag)
+        (element_at all attributes) (element_at all content)) left.now) }
+    ensures right { AreRight (nodes graph.now) (table elements.now) facts.new }
+{
+    for place in 0..left.len() {
+        if is_in(
+            graph,
+            elements,
+            facts,
+            left[place],
+            tag,
+            attributes,
+            content,
+        )? {
+            return Ok(Some(place));
+        }
+    }
+    Ok(None)
+}
+
+// Whether the XML element of three elements is in an XML formula of nodes.
+fn is_in(
+    graph: &Graph,
+    elements: &Elements,
+    facts: &mut Facts,
+    parts: (NodeId, NodeId, NodeId),
+    tag: ElementId,
+    attributes: ElementId,
+    content: ElementId,
+) -> Result<bool, AllocError>
+    requires parts { IsXmlWithin (length (nodes graph.now)) parts }
+    requires tag { Names (table elements.now) tag }
+    requires attributes { Names (table elements.now) attributes }
+    requires content { Names (table elements.now) content }
+    requires right { AreRight (nodes graph.now) (table elements.now) facts.old }
+    ensures answer { let all = table elements.now in
+        IfOk result (xml_in (nodes graph.now) (element_at all tag) (element_at all attributes)
+        (element_at all content) parts) }
+    ensures right { AreRight (nodes graph.now) (table elements.now) facts.new }
+{
+    if !facts.is_in(graph, elements, tag, parts.0)? {
+        return Ok(false);
+    }
+    if !facts.is_in(graph, elements, attributes, parts.1)? {
+        return Ok(false);
+    }
+    facts.is_in(graph, elements, content, parts.2)
+}

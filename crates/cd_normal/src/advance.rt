@@ -1,0 +1,12 @@
+use crate::clause::Clause;
+
+/// What became of the choice on the top.
+#[derive(Drop)]
+pub enum Advance<'g> {
+    /// There was no choice.
+    Nothing,
+    /// It went on by its next formula.
+    Went,
+    /// No formula was left of it. It was taken away, and this is its clause.
+    Complete(Clause<'g>),
+}

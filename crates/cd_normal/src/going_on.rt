@@ -1,0 +1,208 @@
+//! How choices in the making go on. Of a list of them the last is worked at.
+ghost use Rattle.std.specs.Prelude.{◌≡◌, [], ◌∷◌, ◌++◌, map, IfOk, OnOk};
+ghost use Rattle.cd_graph.specs.PlainFormula.{plain, plain_formulas};
+ghost use Rattle.cd_model.specs.Formula.{formulas_of};
+ghost use Rattle.cd_rules.specs.Choices.{when};
+ghost use Rattle.cd_rules.specs.KindChoices.{is_of as is_of_kind, literal_by};
+ghost use Rattle.cd_rules.specs.PartialChoices.{each_signed};
+ghost use Rattle.cd_normal.specs.ChoicesGoOn.{GoesBy};
+ghost use Rattle.cd_normal.specs.Inner.NextChoices.{with_left, with_each, with_choices};
+ghost use Rattle.cd_normal.specs.Inner.NextChoices.{next_choices};
+ghost use Rattle.cd_normal.specs.Inner.PlainChoice.{plain_literal};
+ghost use Rattle.cd_normal.specs.Inner.PlainPartial.{plain_partial, plain_partials};
+
+use crate::advance::Advance;
+use crate::kind::is_of;
+use crate::literal::Literal;
+use crate::of_choice::clause_of;
+use crate::partial::PartialChoice;
+use cd_graph::{Formula, Formulas};
+use std::alloc::AllocError;
+
+/// Goes on with the last choice by its next formula. Where none is left of it, it is taken away,
+/// and its clause is given.
+pub(crate) fn go_on<'g>(choices: &mut Vec<PartialChoice<'g>>) -> Result<Advance<'g>, AllocError>
+    ensures { IfOk result
+        (GoesBy (plain_partials choices.old.items) (plain_partials choices.new.items)) }
+{
+    match choices.pop() {
+        None => Ok(Advance::Nothing),
+        Some(top) => go_on_with(choices, top),
+    }
+}
+
+// Goes on with a choice that was taken off the others.
+fn go_on_with<'g>(
+    choices: &mut Vec<PartialChoice<'g>>,
+    top: PartialChoice<'g>,
+) -> Result<Advance<'g>, AllocError>
+    ensures { IfOk result (GoesBy (plain_partial top.entry ∷ plain_partials choices.old.items)
+        (plain_partials choices.new.items)) }
+{
+    let mut top = top;
+    match top.left.pop() {
+        None => Ok(Advance::Complete(clause_of(
+            *choices.allocator(),
+            top.kind,
+            top.choice.as_slice(),
+        )?)),
+        Some(next) => {
+            meet(choices, top, next)?;
+            Ok(Advance::Went)
+        }
+    }
+}
+
+// Puts on the others what a choice becomes by its next formula.
+fn meet<'g>(
+    choices: &mut Vec<PartialChoice<'g>>,
+    top: PartialChoice<'g>,
+    next: Literal<'g>,
+) -> Result<(), AllocError>
+    ensures { OnOk result (plain_partials choices.new.items
+        ≡ next_choices (plain_partial top.entry) (plain next.entry.formula.now) next.entry.wanted
+        ++ plain_partials choices.old.items) }
+{
+    match next.formula {
+        Formula::None => keep_if(choices, top, !next.wanted),
+        Formula::All => keep_if(choices, top, next.wanted),
+        Formula::And(formulas) if next.wanted => unfold(choices, top, formulas, true),
+        Formula::And(formulas) => divide(choices, top, formulas, false),
+        Formula::Or(formulas) if next.wanted => divide(choices, top, formulas, true),
+        Formula::Or(formulas) => unfold(choices, top, formulas, false),
+        Formula::Not(inner) => ask(choices, top, inner, !next.wanted),
+        Formula::Ints(_)
+        | Formula::Chars(_)
+        | Formula::Atoms(_)
+        | Formula::Pair(_, _)
+        | Formula::Xml(_, _, _)
+        | Formula::Record(_)
+        | Formula::Arrow(_, _) => extend(choices, top, next),
+    }
+}
+
+// Puts a choice on the others, or drops it.
+fn keep_if<'g>(
+    choices: &mut Vec<PartialChoice<'g>>,
+    top: PartialChoice<'g>,
+    kept: bool,
+) -> Result<(), AllocError>
+    ensures { OnOk result (plain_partials choices.new.items
+        ≡ with_choices (when kept) (plain_partial top.entry)
+        ++ plain_partials choices.old.items) }
+{
+    if kept {
+        choices.push(top)?;
+    }
+    Ok(())
+}
+
+// Puts a choice on the others that has these formulas before those that are left.
+fn unfold<'g>(
+    choices: &mut Vec<PartialChoice<'g>>,
+    top: PartialChoice<'g>,
+    formulas: &'g Formulas,
+    wanted: bool,
+) -> Result<(), AllocError>
+    ensures { OnOk result (plain_partials choices.new.items
+        ≡ with_left (each_signed (plain_formulas formulas.now) wanted) (plain_partial top.entry)
+        ∷ plain_partials choices.old.items) }
+{
+    let mut top = top;
+    top.ask_each(formulas, wanted)?;
+    Ok(choices.push(top)?)
+}
+
+// Puts a choice on the others that has this formula before those that are left.
+fn ask<'g>(
+    choices: &mut Vec<PartialChoice<'g>>,
+    top: PartialChoice<'g>,
+    formula: &'g Formula,
+    wanted: bool,
+) -> Result<(), AllocError>
+    ensures { OnOk result (plain_partials choices.new.items
+        ≡ with_left ((plain formula.now, wanted) ∷ []) (plain_partial top.entry)
+        ∷ plain_partials choices.old.items) }
+{
+    let mut top = top;
+    top.ask(Literal { wanted, formula })?;
+    Ok(choices.push(top)?)
+}
+
+// Puts a choice on the others for each of the formulas, with that of the first at the end.
+fn divide<'g>(
+    choices: &mut Vec<PartialChoice<'g>>,
+    top: PartialChoice<'g>,
+    formulas: &'g Formulas,
+    wanted: bool,
+) -> Result<(), AllocError>
+    ensures { OnOk result (plain_partials choices.new.items
+        ≡ with_each (each_signed (plain_formulas formulas.now) wanted) (plain_partial top.entry)
+        ++ plain_partials choices.old.items) }
+{
+    match formulas.items() {
+        [] => Ok(()),
+        [first, rest @ ..] => {
+            ask_copies(choices, &top, rest, wanted)?;
+            ask(choices, top, first, wanted)
+        }
+    }
+}
+
+// Puts a copy of a choice on the others for each of the formulas, likewise.
+fn ask_copies<'g>(
+    choices: &mut Vec<PartialChoice<'g>>,
+    top: &PartialChoice<'g>,
+    formulas: &'g [Formula],
+    wanted: bool,
+) -> Result<(), AllocError>
+    ensures { OnOk result (plain_partials choices.new.items
+        ≡ with_each (each_signed (formulas_of (map plain formulas.now)) wanted)
+        (plain_partial top.now)
+        ++ plain_partials choices.old.items) }
+{
+    let mut index = formulas.len();
+    while index > 0 {
+        index -= 1;
+        choices.push(top.copy_with(Literal {
+            wanted,
+            formula: &formulas[index],
+        })?)?;
+    }
+    Ok(())
+}
+
+// Puts on the others a choice that meets a literal: where its formula is of another kind it is
+// dropped, if the literal is wanted, and else stays as it is.
+fn extend<'g>(
+    choices: &mut Vec<PartialChoice<'g>>,
+    top: PartialChoice<'g>,
+    literal: Literal<'g>,
+) -> Result<(), AllocError>
+    ensures { OnOk result (plain_partials choices.new.items
+        ≡ with_choices (literal_by
+        (is_of_kind (plain_partial top.entry).kind (plain literal.entry.formula.now))
+        literal.entry.wanted (plain literal.entry.formula.now)) (plain_partial top.entry)
+        ++ plain_partials choices.old.items) }
+{
+    if is_of(top.kind, literal.formula) {
+        choose(choices, top, literal)
+    } else {
+        keep_if(choices, top, !literal.wanted)
+    }
+}
+
+// Puts on the others a choice with this literal.
+fn choose<'g>(
+    choices: &mut Vec<PartialChoice<'g>>,
+    top: PartialChoice<'g>,
+    literal: Literal<'g>,
+) -> Result<(), AllocError>
+    ensures { OnOk result (plain_partials choices.new.items
+        ≡ with_choices ((plain_literal literal.entry ∷ []) ∷ []) (plain_partial top.entry)
+        ++ plain_partials choices.old.items) }
+{
+    let mut top = top;
+    top.choose(literal)?;
+    Ok(choices.push(top)?)
+}

@@ -1,0 +1,123 @@
+//! One choice in the making.
+ghost use Rattle.std.specs.Prelude.{◌≡◌, [], ◌∷◌, ◌++◌, IfOk, OnOk};
+ghost use Rattle.cd_graph.specs.PlainFormula.{plain_formulas};
+ghost use Rattle.cd_rules.specs.PartialChoices.{partial, each_signed};
+ghost use Rattle.cd_normal.specs.Inner.NextChoices.{with_left};
+ghost use Rattle.cd_normal.specs.Inner.PlainChoice.{plain_literal};
+ghost use Rattle.cd_normal.specs.Inner.PlainKind.{plain_kind};
+ghost use Rattle.cd_normal.specs.Inner.PlainPartial.{signed, plain_left, plain_partial};
+
+use crate::kind::Kind;
+use crate::literal::Literal;
+use cd_graph::Formulas;
+use std::alloc::{AllocError, Global};
+
+/// A choice in the making. The next one of the formulas that are left is the last of their list.
+#[derive(Drop)]
+pub(crate) struct PartialChoice<'g> {
+    pub(crate) kind: Kind,
+    pub(crate) choice: Vec<Literal<'g>>,
+    pub(crate) left: Vec<Literal<'g>>,
+    /// Whether something was chosen since the choice was looked at.
+    pub(crate) changed: bool,
+}
+
+impl<'g> PartialChoice<'g> {
+    /// A choice of which nothing is chosen yet.
+    pub(crate) fn of(
+        alloc: Global,
+        kind: Kind,
+        left: &[Literal<'g>],
+    ) -> Result<PartialChoice<'g>, AllocError>
+        ensures { IfOk result (λ is.
+            plain_partial is ≡ partial (plain_kind kind) [] (plain_left left.now)) }
+    {
+        Ok(PartialChoice {
+            kind,
+            choice: Vec::new(alloc),
+            left: Vec::from_slice(alloc, left)?,
+            changed: false,
+        })
+    }
+
+    /// The same choice, with this formula before those that are left.
+    pub(crate) fn copy_with(&self, next: Literal<'g>) -> Result<PartialChoice<'g>, AllocError>
+        ensures { IfOk result (λ copy. plain_partial copy
+            ≡ with_left (signed next.entry ∷ []) (plain_partial self.now)) }
+    {
+        let alloc = *self.left.allocator();
+        let choice = Vec::from_slice(alloc, self.choice.as_slice())?;
+        let mut left = Vec::with_capacity(alloc, self.left.len() + 1)?;
+        left.extend_from_slice(self.left.as_slice())?;
+        left.push(next)?;
+        Ok(PartialChoice {
+            kind: self.kind,
+            choice,
+            left,
+            changed: self.changed,
+        })
+    }
+
+    /// Adds a literal to what is chosen.
+    pub(crate) fn choose(&mut self, literal: Literal<'g>) -> Result<(), AllocError>
+        ensures { OnOk result (plain_partial self.new
+            ≡ partial (plain_partial self.old).kind
+            ((plain_partial self.old).choice ++ plain_literal literal.entry ∷ [])
+            (plain_partial self.old).left) }
+    {
+        self.choice.push(literal)?;
+        self.changed = self.changed || is_looked_at(self.kind, literal.wanted);
+        Ok(())
+    }
+
+    /// Puts a formula before those that are left.
+    pub(crate) fn ask(&mut self, next: Literal<'g>) -> Result<(), AllocError>
+        ensures { OnOk result (plain_partial self.new
+            ≡ with_left (signed next.entry ∷ []) (plain_partial self.old)) }
+    {
+        Ok(self.left.push(next)?)
+    }
+
+    /// Puts formulas before those that are left.
+    pub(crate) fn ask_each(
+        &mut self,
+        formulas: &'g Formulas,
+        wanted: bool,
+    ) -> Result<(), AllocError>
+        ensures { OnOk result (plain_partial self.new
+            ≡ with_left (each_signed (plain_formulas formulas.now) wanted)
+            (plain_partial self.old)) }
+    {
+        add_each(&mut self.left, formulas, wanted)
+    }
+}
+
+// Whether a literal of the things of this kind may change what the choice needs: a wanted one, and
+// of functions a refused one.
+fn is_looked_at(kind: Kind, wanted: bool) -> bool {
+    match kind {
+        Kind::Pair | Kind::Xml | Kind::Record => wanted,
+        Kind::Function => true,
+    }
+}
+
+// Puts formulas before those that are left.
+fn add_each<'g>(
+    left: &mut Vec<Literal<'g>>,
+    formulas: &'g Formulas,
+    wanted: bool,
+) -> Result<(), AllocError>
+    ensures { OnOk result (plain_left left.new.items
+        ≡ each_signed (plain_formulas formulas.now) wanted ++ plain_left left.old.items) }
+{
+    let formulas = formulas.items();
+    let mut index = formulas.len();
+    while index > 0 {
+        index -= 1;
+        left.push(Literal {
+            wanted,
+            formula: &formulas[index],
+        })?;
+    }
+    Ok(())
+}

@@ -1,0 +1,2 @@
+mod CasesMade
+mod Taken

@@ -1,0 +1,110 @@
+//! Tasks for refused arrows.
+ghost use Rattle.std.specs.Prelude.{◌≡◌, ◌<◌, [], ◌∷◌, length, map, IfOk};
+ghost use Rattle.std.specs.List.{remove};
+ghost use Rattle.cd_rules.specs.Tasks as rules;
+ghost use Rattle.cd_rules.specs.Tasks.{AreCases};
+ghost use Rattle.cd_tasks.specs.PlainTask.{plain_task};
+
+use crate::lists::{prepended, without};
+use crate::task::{ArrowTask, Task};
+use cd_sets::node_id::NodeId;
+use std::alloc::{AllocError, Global};
+use std::rc::Rc;
+
+impl ArrowTask {
+    /// What is to do for the pair by which a function of the wanted arrows is outside a refused
+    /// one. Nothing is given yet.
+    pub(crate) fn of(
+        alloc: Global,
+        refused: (NodeId, NodeId),
+        wanted: &Rc<Vec<(NodeId, NodeId)>>,
+    ) -> Result<ArrowTask, AllocError>
+        ensures { let all = wanted.now.value.items in
+            IfOk result (λ task. plain_task (Task.Arrow task)
+            ≡ rules.ArrowTask refused all ([], []) all) }
+    {
+        let left = Vec::from_slice(alloc, wanted.as_slice())?;
+        let wanted = wanted.clone()?;
+        Ok(ArrowTask {
+            refused,
+            wanted,
+            outside: Vec::new(alloc),
+            results: Vec::new(alloc),
+            left,
+        })
+    }
+
+    // The case where these are given, and all that were left but the one at this place are left.
+    fn case(
+        &self,
+        alloc: Global,
+        place: usize,
+        outside: Vec<(NodeId, NodeId)>,
+        results: Vec<(NodeId, NodeId)>,
+    ) -> Result<ArrowTask, AllocError>
+        requires { place < length self.now.left.items }
+        ensures { IfOk result (λ task. plain_task (Task.Arrow task)
+            ≡ rules.ArrowTask self.now.refused self.now.wanted.value.items
+            (outside.items, results.items) (remove self.now.left.items place)) }
+    {
+        let left = without(alloc, self.left.as_slice(), place)?;
+        let wanted = self.wanted.clone()?;
+        Ok(ArrowTask {
+            refused: self.refused,
+            wanted,
+            outside,
+            results,
+            left,
+        })
+    }
+
+    // The case where the pair's argument is outside that of this member, which is left at this
+    // place.
+    fn to_outside(
+        &self,
+        alloc: Global,
+        member: (NodeId, NodeId),
+        place: usize,
+    ) -> Result<ArrowTask, AllocError>
+        requires { place < length self.now.left.items }
+        ensures { IfOk result (λ task. plain_task (Task.Arrow task)
+            ≡ rules.ArrowTask self.now.refused self.now.wanted.value.items
+            (member ∷ self.now.outside.items, self.now.results.items)
+            (remove self.now.left.items place)) }
+    {
+        let outside = prepended(alloc, member, self.outside.as_slice())?;
+        let results = Vec::from_slice(alloc, self.results.as_slice())?;
+        self.case(alloc, place, outside, results)
+    }
+
+    // The case where the pair's result is in that of this member.
+    fn to_results(
+        &self,
+        alloc: Global,
+        member: (NodeId, NodeId),
+        place: usize,
+    ) -> Result<ArrowTask, AllocError>
+        requires { place < length self.now.left.items }
+        ensures { IfOk result (λ task. plain_task (Task.Arrow task)
+            ≡ rules.ArrowTask self.now.refused self.now.wanted.value.items
+            (self.now.outside.items, member ∷ self.now.results.items)
+            (remove self.now.left.items place)) }
+    {
+        let outside = Vec::from_slice(alloc, self.outside.as_slice())?;
+        let results = prepended(alloc, member, self.results.as_slice())?;
+        self.case(alloc, place, outside, results)
+    }
+
+    /// The cases of the task, where the pair's argument is outside that of the member at this place
+    /// of those left, and where its result is in that of the member.
+    pub(crate) fn cases<'g>(&self, alloc: Global, place: usize) -> Result<Vec<Task<'g>>, AllocError>
+        requires { place < length self.now.left.items }
+        ensures { IfOk result
+            (λ cases. AreCases (plain_task (Task.Arrow self.now)) (map plain_task cases.items)) }
+    {
+        let member = self.left[place];
+        let outside = self.to_outside(alloc, member, place)?;
+        let result = self.to_results(alloc, member, place)?;
+        Ok(vec![in alloc; Task::Arrow(outside), Task::Arrow(result)]?)
+    }
+}

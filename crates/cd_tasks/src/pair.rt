@@ -1,0 +1,110 @@
+//! Tasks for pairs.
+ghost use Rattle.std.specs.Prelude.{◌≡◌, ◌<◌, [], ◌∷◌, length, map, IfOk};
+ghost use Rattle.std.specs.List.{remove};
+ghost use Rattle.cd_rules.specs.Tasks as rules;
+ghost use Rattle.cd_rules.specs.Tasks.{AreCases};
+ghost use Rattle.cd_tasks.specs.PlainTask.{plain_task};
+
+use crate::lists::{prepended, without};
+use crate::task::{PairTask, Task};
+use cd_sets::node_id::NodeId;
+use std::alloc::{AllocError, Global};
+use std::rc::Rc;
+
+impl PairTask {
+    /// What is to do for a pair that is in each of the wanted pairs and in none of the refused
+    /// ones. Nothing is given yet.
+    pub(crate) fn of(
+        alloc: Global,
+        wanted: &Rc<Vec<(NodeId, NodeId)>>,
+        refused: &Rc<Vec<(NodeId, NodeId)>>,
+    ) -> Result<PairTask, AllocError>
+        ensures { let all = refused.now.value.items in
+            IfOk result (λ task. plain_task (Task.Pair task)
+            ≡ rules.PairTask wanted.now.value.items all ([], []) all) }
+    {
+        let left = Vec::from_slice(alloc, refused.as_slice())?;
+        let wanted = wanted.clone()?;
+        let refused = refused.clone()?;
+        Ok(PairTask {
+            wanted,
+            refused,
+            firsts: Vec::new(alloc),
+            seconds: Vec::new(alloc),
+            left,
+        })
+    }
+
+    // The case where these are given, and all that were left but the one at this place are left.
+    fn case(
+        &self,
+        alloc: Global,
+        place: usize,
+        firsts: Vec<(NodeId, NodeId)>,
+        seconds: Vec<(NodeId, NodeId)>,
+    ) -> Result<PairTask, AllocError>
+        requires { place < length self.now.left.items }
+        ensures { IfOk result (λ task. plain_task (Task.Pair task)
+            ≡ rules.PairTask self.now.wanted.value.items self.now.refused.value.items
+            (firsts.items, seconds.items) (remove self.now.left.items place)) }
+    {
+        let left = without(alloc, self.left.as_slice(), place)?;
+        let wanted = self.wanted.clone()?;
+        let refused = self.refused.clone()?;
+        Ok(PairTask {
+            wanted,
+            refused,
+            firsts,
+            seconds,
+            left,
+        })
+    }
+
+    // The case where this member, which is left at this place, is given to the first part.
+    fn to_first(
+        &self,
+        alloc: Global,
+        member: (NodeId, NodeId),
+        place: usize,
+    ) -> Result<PairTask, AllocError>
+        requires { place < length self.now.left.items }
+        ensures { IfOk result (λ task. plain_task (Task.Pair task)
+            ≡ rules.PairTask self.now.wanted.value.items self.now.refused.value.items
+            (member ∷ self.now.firsts.items, self.now.seconds.items)
+            (remove self.now.left.items place)) }
+    {
+        let firsts = prepended(alloc, member, self.firsts.as_slice())?;
+        let seconds = Vec::from_slice(alloc, self.seconds.as_slice())?;
+        self.case(alloc, place, firsts, seconds)
+    }
+
+    // The case where it is given to the second part.
+    fn to_second(
+        &self,
+        alloc: Global,
+        member: (NodeId, NodeId),
+        place: usize,
+    ) -> Result<PairTask, AllocError>
+        requires { place < length self.now.left.items }
+        ensures { IfOk result (λ task. plain_task (Task.Pair task)
+            ≡ rules.PairTask self.now.wanted.value.items self.now.refused.value.items
+            (self.now.firsts.items, member ∷ self.now.seconds.items)
+            (remove self.now.left.items place)) }
+    {
+        let firsts = Vec::from_slice(alloc, self.firsts.as_slice())?;
+        let seconds = prepended(alloc, member, self.seconds.as_slice())?;
+        self.case(alloc, place, firsts, seconds)
+    }
+
+    /// The cases of the task, where the member at this place of those left is given to each part.
+    pub(crate) fn cases<'g>(&self, alloc: Global, place: usize) -> Result<Vec<Task<'g>>, AllocError>
+        requires { place < length self.now.left.items }
+        ensures { IfOk result
+            (λ cases. AreCases (plain_task (Task.Pair self.now)) (map plain_task cases.items)) }
+    {
+        let member = self.left[place];
+        let first = self.to_first(alloc, member, place)?;
+        let second = self.to_second(alloc, member, place)?;
+        Ok(vec![in alloc; Task::Pair(first), Task::Pair(second)]?)
+    }
+}
