@@ -71,7 +71,7 @@ fn of_question(alloc: Global, table: &str, row: &Value) -> Option<String> {
     match table {
         "clauses" => clauses_of(alloc, &*session, of),
         "element_copies" => copy(alloc, &mut *session, of),
-        "formulas" => formula(alloc, &*session, of, number(row, "depth")),
+        "formulas" => formula(alloc, &*session, of),
         _ => None,
     }
 }

@@ -23,7 +23,7 @@ pub(crate) fn clauses_of(alloc: Global, session: &Session, of: &str) -> Option<S
 }
 
 // Sets and clauses as sorted texts.
-fn joined(alloc: Global, sets: &Basics, clauses: &[Clause]) -> Result<String, AllocError> {
+fn joined(alloc: Global, sets: &Basics, clauses: &[Clause<'_>]) -> Result<String, AllocError> {
     let mut texts = Vec::new(alloc);
     add_sets(&mut texts, sets)?;
     for clause in clauses {
@@ -62,7 +62,7 @@ fn add_sets(texts: &mut Vec<String>, sets: &Basics) -> Result<(), AllocError> {
 }
 
 // Puts a clause after a text.
-fn push_clause(text: &mut String, clause: &Clause) -> Result<(), AllocError> {
+fn push_clause(text: &mut String, clause: &Clause<'_>) -> Result<(), AllocError> {
     match clause {
         Clause::Pairs(wanted, refused) => {
             push_pairs(text, "pairs &", wanted.as_slice())?;
@@ -105,7 +105,7 @@ fn push_triples(
     Ok(())
 }
 
-fn push_types(text: &mut String, sign: &str, types: &[Fields]) -> Result<(), AllocError> {
+fn push_types(text: &mut String, sign: &str, types: &[&Fields]) -> Result<(), AllocError> {
     text.push_str(sign)?;
     for fields in types {
         text.push_str(" {")?;

@@ -1,6 +1,5 @@
 //! Graphs of declared types.
 use crate::worlds::{Session, asks_nodes, declarations};
-use cd_apart::are_apart;
 use cd_graph::{Formula, Graph};
 use cd_resolve::resolve;
 use cd_sets::question::Question;
@@ -25,13 +24,11 @@ fn members(formulas: &[Formula]) -> usize {
     count
 }
 
-/// How many parts the formula has of what a text asks, and whether it is seen that no element is in
-/// all nodes that it wants.
-pub(crate) fn formula(alloc: Global, session: &Session, of: &str, depth: usize) -> Option<String> {
+/// How many parts the formula has of what a text asks.
+pub(crate) fn formula(alloc: Global, session: &Session, of: &str) -> Option<String> {
     let question = session.question(alloc, of)?;
     let parts = parts(session.world.graph(), &question)?;
-    let apart = apart(alloc, session.world.graph(), &question, depth)?;
-    format!(in alloc; "{parts} {apart}").ok()
+    format!(in alloc; "{parts}").ok()
 }
 
 // How many parts the formula of a question has.
@@ -43,12 +40,4 @@ fn parts(graph: &Graph, question: &Question) -> Option<usize> {
         Formula::And(parts) => Some(parts.items().len()),
         _ => None,
     }
-}
-
-// Whether it is seen that no element is in all nodes that a question wants.
-fn apart(alloc: Global, graph: &Graph, question: &Question, depth: usize) -> Option<bool> {
-    if !asks_nodes(question, graph.len()) {
-        return None;
-    }
-    are_apart(alloc, graph, question.pos.ids(), depth).ok()
 }

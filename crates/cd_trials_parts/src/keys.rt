@@ -9,7 +9,7 @@ const KEYS: [(&str, &str); 16] = [
     ("declared_names", "with"),
     ("deep", "count"),
     ("element_copies", "types"),
-    ("formulas", "types depth"),
+    ("formulas", "types"),
     ("fronts", "from depth"),
     ("integers", "with"),
     ("memory_files", "held"),
