@@ -1,7 +1,7 @@
 -- Verdicts after which the questions of a list are settled, as those that have no element.
-use Rattle.std.proofs.Common.{◌≡◌, ◌⊎◌, ◌+◌, ℕ, List, [], ◌∷◌, ◌++◌, Some, map, take, slice_get}
+use Rattle.std.proofs.Common.{◌≡◌, ◌⊎◌, ◌+◌, ℕ, List, [], ◌∷◌, ◌++◌, Some, length, map, take, drop, slice_get}
 use Rattle.std.proofs.Common.{inl, inr, refl, sym, ap, subst, ◌∙◌, append_assoc, add-one}
-use Rattle.std.proofs.lemmas.List.{map-append}
+use Rattle.std.proofs.lemmas.List.{map-append, take-append-drop, take_at}
 use Rattle.cd_sets.specs.declared.question.Question.{Question}
 use Rattle.cd_model.specs.AllOf.{AllOf, AnyOf}
 use Rattle.cd_model.specs.Thing.{Thing}
@@ -29,11 +29,26 @@ family_alone : (list : List Question) → family (without_elements list) ≡ lis
 family_alone [] = refl
 family_alone (question ∷ list) = ap (λ rest. question ∷ rest) (family_alone list)
 
+pub family_joined : (kept more : List (Question × Verdict)) → family (kept ++ more) ≡ family kept ++ family more
+family_joined [] more = refl
+family_joined ((question, Empty) ∷ kept) more = ap (λ rest. question ∷ rest) (family_joined kept more)
+family_joined ((question, Inhabited id) ∷ kept) more = family_joined kept more
+
 pub family_settled : (kept : List (Question × Verdict)) (list : List Question)
     → family (kept ++ without_elements list) ≡ family kept ++ list
-family_settled [] list = family_alone list
-family_settled ((question, Empty) ∷ kept) list = ap (λ rest. question ∷ rest) (family_settled kept list)
-family_settled ((question, Inhabited id) ∷ kept) list = family_settled kept list
+family_settled kept list = family_joined kept (without_elements list) ∙ ap (λ more. family kept ++ more) (family_alone list)
+
+-- where verdicts begin with some others, their questions without elements begin with those of the others
+pub family_begins : (before kept : List (Question × Verdict)) → take (length before) kept ≡ before
+    → take (length (family before)) (family kept) ≡ family before
+family_begins before kept begins =
+    ap (λ (all : List (Question × Verdict)). take (length (family before)) (family all))
+    (sym (take-append-drop (length before) kept) ∙ ap (λ (first : List (Question × Verdict)). first ++ rest) begins)
+    ∙ ap (take (length (family before))) (family_joined before rest)
+    ∙ take_at (family before) (family rest) _ refl
+  where
+    rest : List (Question × Verdict)
+    rest = drop (length before) kept
 
 no_witnesses : (table : List Thing) (list : List Question) → witnesses_in table (without_elements list) ≡ []
 no_witnesses table [] = refl

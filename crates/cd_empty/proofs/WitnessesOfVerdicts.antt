@@ -1,5 +1,5 @@
 -- The questions of verdicts, and those of them that have elements.
-use Rattle.std.proofs.Common.{◌≡◌, ◌≤◌, ◌⊎◌, List, [], ◌∷◌, ◌++◌, length, map, inl, inr, refl, ap, arith}
+use Rattle.std.proofs.Common.{◌≡◌, ◌≤◌, ◌⊎◌, List, [], ◌∷◌, ◌++◌, length, map, inl, inr, refl, ap, ◌∙◌, append-nil, arith}
 use Rattle.cd_sets.specs.declared.question.Question.{Question}
 use Rattle.cd_model.specs.AllOf.{AnyOf}
 use Rattle.cd_model.specs.Thing.{Thing}
@@ -14,7 +14,7 @@ use Rattle.cd_empty.specs.declared.verdict.Verdict.TheVariants.{Empty, Inhabited
 use Rattle.cd_empty.specs.Kept.{witnesses_in}
 use Rattle.cd_empty.specs.Verdicts.{family}
 use Rattle.cd_empty.proofs.QuestionsDiffer.{differ_joined, differ_on_left, differ_on_right, differ_apart}
-use Rattle.cd_empty.proofs.SettledLists.{with_or_without, witness_is_asked}
+use Rattle.cd_empty.proofs.SettledLists.{family_joined, with_or_without, witness_is_asked}
 use Rattle.cd_empty.proofs.VerdictsFound.{asked}
 
 -- the questions that have elements
@@ -31,9 +31,7 @@ one_witness_more table ((other, Inhabited one) ∷ kept) question id =
 
 pub none_empty_more : (kept : List (Question × Verdict)) (question : Question) (id : ElementId)
     → family (kept ++ (question, Inhabited id) ∷ []) ≡ family kept
-none_empty_more [] question id = refl
-none_empty_more ((other, Empty) ∷ kept) question id = ap (λ all. other ∷ all) (none_empty_more kept question id)
-none_empty_more ((other, Inhabited one) ∷ kept) question id = none_empty_more kept question id
+none_empty_more kept question id = family_joined kept ((question, Inhabited id) ∷ []) ∙ append-nil (family kept)
 
 pub one_asked_more : (kept : List (Question × Verdict)) (question : Question) (verdict : Verdict)
     → asked (kept ++ (question, verdict) ∷ []) ≡ asked kept ++ question ∷ []

@@ -16,7 +16,6 @@ use crate::decider::Decider;
 use crate::doing::Doing;
 use crate::frame::Frame;
 use crate::stack::Stack;
-use crate::verdict::Verdict;
 use crate::went::Went;
 use cd_elements::ElementId;
 use cd_graph::Graph;
@@ -169,7 +168,7 @@ impl Decider {
             question,
             ..
         } = frame;
-        self.verdicts.add(question, Verdict::Inhabited(id))?;
+        self.verdicts.add_element(question, id)?;
         self.list.truncate(place);
         Ok(())
     }
@@ -213,7 +212,7 @@ impl Decider {
         let alloc = self.allocator();
         match basic_element(alloc, graph, &mut self.elements, question)? {
             Some(id) => {
-                self.verdicts.add(question.copy()?, Verdict::Inhabited(id))?;
+                self.verdicts.add_element(question.copy()?, id)?;
                 Ok(true)
             }
             None => Ok(false),

@@ -5,29 +5,36 @@ ghost use Rattle.cd_sets.specs.declared.question.Question.{Question as AQuestion
 ghost use Rattle.cd_machine.specs.Machine.{NotIn};
 ghost use Rattle.cd_machine.specs.Right.{Differ};
 ghost use Rattle.cd_empty.specs.declared.verdict.Verdict.{Verdict as AVerdict};
-ghost use Rattle.cd_empty.specs.Verdicts.{IsKept, without_elements};
+ghost use Rattle.cd_empty.specs.declared.verdict.Verdict.TheVariants.{Empty, Inhabited};
+ghost use Rattle.cd_empty.specs.Verdicts.{IsKept, family, without_elements};
 
 use crate::verdict::Verdict;
 use cd_asked::{Asked, QuestionId};
+use cd_elements::ElementId;
 use cd_sets::question::Question;
 use indexmap::IndexMap;
 use std::alloc::{AllocError, Global};
 use std::marker::Model;
 
-/// Verdicts on questions, one for each. A contract sees them in a list.
+/// Verdicts on questions, one for each, and the questions among these that have no element, once
+/// more in a list of their own. A contract sees the verdicts in a list.
 #[derive(Drop)]
 pub(crate) struct Verdicts {
     verdicts: IndexMap<Question, Verdict>,
+    family: Vec<Question>,
 }
 
 impl Model for Verdicts {
-    ghost use Rattle.std.specs.Prelude.{List};
+    ghost use Rattle.std.specs.Prelude.{◌≡◌, List};
     ghost use Rattle.cd_sets.specs.declared.question.Question.{Question as AQuestion};
     ghost use Rattle.cd_empty.specs.declared.verdict.Verdict.{Verdict as AVerdict};
+    ghost use Rattle.cd_empty.specs.Verdicts.{family as family_in};
 
     ghost Value = { List (AQuestion × AVerdict) };
 
     ghost view = { λ verdicts. verdicts.verdicts.entries };
+
+    ghost invariant = { λ verdicts. verdicts.family.items ≡ family_in verdicts.verdicts.entries };
 }
 
 impl Verdicts {
@@ -37,6 +44,7 @@ impl Verdicts {
     {
         Verdicts {
             verdicts: IndexMap::new(alloc),
+            family: Vec::new(alloc),
         }
     }
 
@@ -48,13 +56,17 @@ impl Verdicts {
         self.verdicts.get(question).copied()
     }
 
-    /// Adds a verdict on a question that has none. Where memory runs out nothing is added.
-    pub(crate) fn add(&mut self, question: Question, verdict: Verdict) -> Result<(), AllocError>
+    /// Adds an element of a question that has no verdict. Where memory runs out nothing is added.
+    pub(crate) fn add_element(
+        &mut self,
+        question: Question,
+        id: ElementId,
+    ) -> Result<(), AllocError>
         requires { NotIn (map (λ one. one.0) self.old) question }
-        ensures added { OnOk result (self.new ≡ self.old ++ (question, verdict) ∷ []) }
+        ensures added { OnOk result (self.new ≡ self.old ++ (question, Inhabited id) ∷ []) }
         ensures kept { OnErr result (self.new ≡ self.old) }
     {
-        self.verdicts.insert(question, verdict)?;
+        self.verdicts.insert(question, Verdict::Inhabited(id))?;
         Ok(())
     }
 
@@ -66,10 +78,11 @@ impl Verdicts {
         ensures kept { OnErr result (self.new ≡ self.old) }
     {
         let before = self.len();
+        let family_before = self.family().len();
         match self.settle_each(questions) {
             Ok(()) => Ok(()),
             Err(error) => {
-                self.truncate(before);
+                self.take_back(before, family_before);
                 Err(error)
             }
         }
@@ -83,17 +96,37 @@ impl Verdicts {
     {
         for place in 0..questions.len() {
             if let Some(question) = questions.get(QuestionId(place)) {
-                self.add(question.copy()?, Verdict::Empty)?;
+                self.add_empty(question.copy()?)?;
             }
         }
         Ok(())
     }
 
-    /// Keeps the first verdicts, so many, alone.
-    pub(crate) fn truncate(&mut self, len: usize)
+    // Adds that a question that has no verdict has no element. Where memory runs out nothing is
+    // added.
+    fn add_empty(&mut self, question: Question) -> Result<(), AllocError>
+        requires { NotIn (map (λ one. one.0) self.old) question }
+        ensures added { OnOk result (self.new ≡ self.old ++ (question, Empty) ∷ []) }
+        ensures kept { OnErr result (self.new ≡ self.old) }
+    {
+        let before = self.family.len();
+        self.family.push(question.copy()?)?;
+        match self.verdicts.insert(question, Verdict::Empty) {
+            Ok(_) => Ok(()),
+            Err(_) => {
+                self.family.truncate(before);
+                Err(AllocError)
+            }
+        }
+    }
+
+    // Keeps the first verdicts, so many, alone, among which so many questions have no element.
+    fn take_back(&mut self, len: usize, family_len: usize)
+        requires { family (take len self.old) ≡ take family_len (family self.old) }
         ensures { self.new ≡ take len self.old }
     {
         self.verdicts.truncate(len);
+        self.family.truncate(family_len);
     }
 
     /// The question at a place, and the verdict on it.
@@ -103,6 +136,13 @@ impl Verdicts {
     {
         let (question, verdict) = self.verdicts.get_index(place)?;
         Some((question, *verdict))
+    }
+
+    /// The questions that have no element, in the order of their verdicts.
+    pub(crate) fn family(&self) -> &[Question]
+        ensures { result.now ≡ family self.now }
+    {
+        self.family.as_slice()
     }
 
     /// How many verdicts there are: one for each question.

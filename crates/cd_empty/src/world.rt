@@ -152,8 +152,16 @@ impl World {
         self.decider.verdicts.get(question)
     }
 
-    /// The question at a place among those whose verdicts are kept, and its verdict. So the
-    /// questions without elements can be gone over.
+    /// The questions that are settled to have no element, in the order in which they were settled:
+    /// a closed family.
+    pub fn family(&self) -> &[Question]
+        ensures family { result.now ≡ family (kept self.now) }
+        ensures closed { IsClosed (graph_of self.now) result.now }
+    {
+        self.decider.verdicts.family()
+    }
+
+    /// The question at a place among those whose verdicts are kept, and its verdict.
     pub fn kept_at(&self, place: usize) -> Option<(&Question, Verdict)>
         ensures { MatchOption result (slice_get (kept self.now) place ≡ None)
             (λ one. slice_get (kept self.now) place ≡ Some (one.0.now, one.1)) }
