@@ -1,5 +1,5 @@
 -- The pair of elements that are ready for a task makes a function right for one arrow more, where it breaks no arrow that is left.
-use Rattle.std.proofs.Common.{◌≡◌, ◌<◌, false, List, [], ◌∷◌, length, get_or, Option, slice_get, refl, sym, subst, arith}
+use Rattle.std.proofs.Common.{◌≡◌, false, List, [], ◌∷◌, get_or, Option, slice_get, refl, sym, subst, arith}
 use Rattle.cd_model.specs.AllOf.{AllOf}
 use Rattle.cd_model.specs.Formula.{Graph}
 use Rattle.cd_model.specs.Thing as thing
@@ -14,17 +14,12 @@ use Rattle.cd_members.specs.Attempts.{IsAttempt, IsPairFor}
 use Rattle.cd_members.specs.declared.attempt.Attempt.TheVariants.{Maps}
 use Rattle.cd_members.specs.Inner.Holding.{breaks}
 use Rattle.cd_members.specs.Inner.Ready.{IsReady}
-use Rattle.cd_members.proofs.Ready.{is_task}
+use Rattle.cd_members.proofs.Ready.{is_task, names_at}
 use Rattle.cd_members.proofs.Lists.{each_at}
 
 module _ (graph : Graph) (table : List Thing) where
-  -- there is an argument, and what is after it is a result
-  pub is_argument : (one : Pair) (wanted : List Pair) (given : List Pair × List Pair) (left : List Pair) (ids : List ElementId)
-      → IsReady graph table (ArrowTask one wanted given left) ids → 0 < length ids
-  is_argument one wanted given left [] ready = absurd ready.parts
-  is_argument one wanted given left (from ∷ ids) ready = omega arith
-
-  pub is_result : (ids : List ElementId) → AllOf (Names table) ids → IsResult table (slice_get ids 1)
+  -- what is after the argument is a result
+  is_result : (ids : List ElementId) → AllOf (Names table) ids → IsResult table (slice_get ids 1)
   is_result [] named = tt
   is_result (from ∷ []) named = tt
   is_result (from ∷ to ∷ ids) named = named.1.0
@@ -42,7 +37,7 @@ module _ (graph : Graph) (table : List Thing) where
     is_element : (id : ElementId) → Names table id → IsElement (element_at table id)
     is_element id names = each_at IsElement table id.0 (thing.Atom []) elements names
 
-    pub pair_is_for : (given : List Pair × List Pair) (ids : List ElementId) (default : ElementId)
+    pair_is_for : (given : List Pair × List Pair) (ids : List ElementId) (default : ElementId)
         → IsReady graph table (ArrowTask one wanted given left) ids
         → AllOf (λ arrow. breaks graph (element_at table (get_or ids 0 default)) (result_at table (slice_get ids 1)) arrow false) left
         → IsPairFor graph (ArrowTask one wanted given left)
@@ -61,17 +56,18 @@ module _ (graph : Graph) (table : List Thing) where
     pair_is_for (outside, arrow ∷ results) (from ∷ to ∷ more ∷ ids) default ready right = absurd ready.parts.1.1
     pair_is_for given [] default ready right = absurd ready.parts
 
-    -- so the attempt is what it says it is
-    pub arrow_attempted : (given : List Pair × List Pair) (ids : List ElementId) (default : ElementId)
-        → IsReady graph table (ArrowTask one wanted given left) ids → (to : Option ElementId) → to ≡ slice_get ids 1
-        → AllOf (λ arrow. breaks graph (element_at table (get_or ids 0 default)) (result_at table to) arrow false) left
-        → IsAttempt graph table (ArrowTask one wanted given left) (Maps (get_or ids 0 default) to)
-    arrow_attempted given ids default ready to same right = subst (λ (to : Option ElementId).
-        AllOf (λ arrow. breaks graph (element_at table (get_or ids 0 default)) (result_at table to) arrow false) left
-        → IsAttempt graph table (ArrowTask one wanted given left) (Maps (get_or ids 0 default) to)) (sym same)
-        (λ right. (
-          each_at (Names table) ids 0 default ready.named (is_argument one wanted given left ids ready),
-          is_result ids ready.named,
-          (one, refl),
-          pair_is_for given ids default ready right,
-        )) right
+-- so the attempt gives such a pair
+pub arrow_attempted : {graph : Graph} {table : List Thing} {one : Pair} {wanted : List Pair} {given : List Pair × List Pair}
+    {left : List Pair} {ids : List ElementId} {to : Option ElementId} → IsReady graph table (ArrowTask one wanted given left) ids
+    → (default : ElementId) → AllOf IsElement table → to ≡ slice_get ids 1
+    → AllOf (λ arrow. breaks graph (element_at table (get_or ids 0 default)) (result_at table to) arrow false) left
+    → IsAttempt graph table (ArrowTask one wanted given left) (Maps (get_or ids 0 default) to)
+arrow_attempted {graph} {table} {one} {wanted} {given} {left} {ids} {to} ready default elements same = subst (λ (to : Option ElementId).
+    AllOf (λ arrow. breaks graph (element_at table (get_or ids 0 default)) (result_at table to) arrow false) left
+    → IsAttempt graph table (ArrowTask one wanted given left) (Maps (get_or ids 0 default) to)) (sym same)
+    (λ right. (
+      names_at ready 0 default (omega arith),
+      is_result graph table ids ready.named,
+      (one, refl),
+      pair_is_for graph table elements one wanted left given ids default ready right,
+    ))

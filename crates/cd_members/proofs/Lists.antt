@@ -1,5 +1,6 @@
 -- Facts of the members of lists by their places.
-use Rattle.std.proofs.Common.{◌≡◌, ℕ, zero, suc, ◌+◌, ◌<◌, ◌≤◌, Bool, true, false, List, [], ◌∷◌, length, get_or, take, map, slice_get, Option, Some, None, refl, ap, sym, ◌∙◌, subst, arith}
+use Rattle.std.proofs.Common.{◌≡◌, ℕ, zero, suc, ◌+◌, ◌<◌, Bool, true, false, List, [], ◌∷◌, length, get_or}
+use Rattle.std.proofs.Common.{take, map, slice_get, Option, Some, None, refl, ap, sym, ◌∙◌, subst, arith}
 use Rattle.std.proofs.lemmas.List.{take_more}
 use Rattle.std.specs.Borrow.{Bor}
 use Rattle.std.specs.Option.{option_map}
@@ -16,19 +17,13 @@ each_at fact [] place default each within = absurd (omega arith)
 each_at fact (one ∷ all) zero default each within = each.0
 each_at fact (one ∷ all) (suc place) default each within = each_at fact all place default each.1 (omega arith)
 
--- a fact is so of no member before a place, so it is so of none before the next, and in the end of none
+-- a fact that is so of no member before a place is so of none before the next
 pub none_of_more : {X : Type 0} (fact : X → Bool → Type 0) (members : List X) (place : ℕ) (default : X) → place < length members
     → AllOf (λ x. fact x false) (take place members) → fact (get_or members place default) false
     → AllOf (λ x. fact x false) (take (place + 1) members)
 none_of_more fact members place default within before here =
     subst (AllOf (λ x. fact x false)) (sym (take_more members place default within))
     (each_of_lists (λ x. fact x false) (take place members) (get_or members place default ∷ []) before (here, tt))
-
-pub none_of_all : {X : Type 0} (fact : X → Bool → Type 0) (members : List X) (place : ℕ) → length members ≤ place
-    → AllOf (λ x. fact x false) (take place members) → AllOf (λ x. fact x false) members
-none_of_all fact [] place past each = tt
-none_of_all fact (x ∷ members) zero past each = absurd (omega arith)
-none_of_all fact (x ∷ members) (suc place) past each = (each.0, none_of_all fact members place (omega arith) each.1)
 
 -- the place of a member of which it is so
 pub place_here : {X : Type 0} (fact : X → Bool → Type 0) (members : List X) (place : ℕ) (default : X) → place < length members
@@ -48,9 +43,9 @@ looked_up all place (Some x) is = ap Some is.1 ∙ sym (slice_get-get_or all pla
 -- what is made of the members, at a place
 pub made_at : {X Y : Type 0} (f : X → Y) (all : List X) (place : ℕ) (x : X) → x ≡ get_or all place x
     → get_or (map f all) place (f x) ≡ f x
-made_at f all place x is = at_map all place ∙ ap f (sym is)
+made_at {X} f all place x is = at_map all place ∙ ap f (sym is)
   where
-    at_map : (all : List _) (place : ℕ) → get_or (map f all) place (f x) ≡ f (get_or all place x)
+    at_map : (all : List X) (place : ℕ) → get_or (map f all) place (f x) ≡ f (get_or all place x)
     at_map [] place = refl
     at_map (first ∷ all) zero = refl
     at_map (first ∷ all) (suc place) = at_map all place

@@ -24,7 +24,7 @@ module _ (graph : Graph) (wanted refused : List Pair) (given : List Pair × List
       (subst (λ (others : List Pair). IsInClause APair (reader graph e) (Pairs wanted others)) same_too is)
   in_each_clause e is _ (none, task) = absurd none
 
-  pub pair_is_for : (table : List Thing) (first second : ElementId)
+  pair_is_for : (table : List Thing) (first second : ElementId)
       → IsReady graph table (PairTask wanted refused given left) (first ∷ second ∷ [])
       → AllOf (λ parts. pair_in graph (element_at table first) (element_at table second) parts false) left
       → (e : Thing) → IsElement e → e ≡ thing.Pair (element_at table first) (element_at table second)
@@ -38,13 +38,14 @@ module _ (graph : Graph) (wanted refused : List Pair) (given : List Pair × List
         ready.parts.0 ready.parts.1.0 outside)),
   )
 
-  -- so it is with the elements at the first two places
-  pub pair_attempted : (table : List Thing) (ids : List ElementId) (default : ElementId)
-      → IsReady graph table (PairTask wanted refused given left) ids
-      → AllOf (λ parts. pair_in graph (element_at table (get_or ids 0 default)) (element_at table (get_or ids 1 default)) parts false) left
-      → (e : Thing) → IsElement e → e ≡ thing.Pair (element_at table (get_or ids 0 default)) (element_at table (get_or ids 1 default))
-      → IsElementFor graph (PairTask wanted refused given left) e
-  pair_attempted table [] default ready = absurd ready.parts
-  pair_attempted table (first ∷ []) default ready = absurd ready.parts.1
-  pair_attempted table (first ∷ second ∷ []) default ready = pair_is_for table first second ready
-  pair_attempted table (first ∷ second ∷ third ∷ ids) default ready = absurd ready.parts.1.1
+-- so it is with the elements at the first two places
+pub pair_attempted : {graph : Graph} {table : List Thing} {wanted refused : List Pair} {given : List Pair × List Pair} {left : List Pair}
+    {ids : List ElementId} {e : Thing} → IsReady graph table (PairTask wanted refused given left) ids → (default : ElementId)
+    → AllOf (λ parts. pair_in graph (element_at table (get_or ids 0 default)) (element_at table (get_or ids 1 default)) parts false) left
+    → IsElement e → e ≡ thing.Pair (element_at table (get_or ids 0 default)) (element_at table (get_or ids 1 default))
+    → IsElementFor graph (PairTask wanted refused given left) e
+pair_attempted {graph} {table} {wanted} {refused} {given} {left} {ids = first ∷ second ∷ []} {e} ready default outside =
+    pair_is_for graph wanted refused given left table first second ready outside e
+pair_attempted {ids = []} ready default outside = absurd ready.parts
+pair_attempted {ids = first ∷ []} ready default outside = absurd ready.parts.1
+pair_attempted {ids = first ∷ second ∷ third ∷ ids} ready default outside = absurd ready.parts.1.1

@@ -22,6 +22,7 @@ use Rattle.cd_members.specs.Inner.Ready.{IsReady}
 use Rattle.cd_members.specs.Inner.RecordFields.{put_all, record_fields, labels}
 use Rattle.cd_members.proofs.FieldsOnce.{cell_labels, fields_asked, fields_labelled}
 use Rattle.cd_members.proofs.LabelsOnce.{AreOnce, labels_once}
+use Rattle.cd_members.proofs.Ready.{is_task}
 use Rattle.cd_members.proofs.PutFields.{all_rise, all_keep}
 use Rattle.cd_members.proofs.RecordsForRows.{record_is_for_row}
 
@@ -39,30 +40,17 @@ module _ (graph : Graph) (wanted refused : List RecordType) (given : Reasons) (l
 
   module _ (table : List Thing) (ids : List ElementId) (ready : IsReady graph table (RecordTask wanted refused given left) ids) where
     -- what is made is a record of the table, for the row
-    pub record_is_shape : IsShape table (Record (put_all (labels (record_fields row)) ids []))
+    record_is_shape : IsShape table (Record (put_all (labels (record_fields row)) ids []))
     record_is_shape = (
       all_rise (labels (record_fields row)) ids [] (fields_labelled row
           (subst (AllOf IsLabel) (sym (cells_at (cell_at wanted given) names)) ready.sound.labels)) tt,
       all_keep (Names table) (labels (record_fields row)) ids [] ready.named tt,
     )
 
-    pub record_is_of_row : IsForRow (answers graph) (thing_at (fields_of table (put_all (labels (record_fields row)) ids []))) row
+    record_is_of_row : IsForRow (answers graph) (thing_at (fields_of table (put_all (labels (record_fields row)) ids []))) row
     record_is_of_row = record_is_for_row graph table row
         (subst AreOnce (sym (cells_at (cell_at wanted given) names)) (labels_once (wanted ++ refused))) ids
         (subst (AreInWay (map (λ id. answers graph (element_at table id)) ids)) (sym (fields_asked row)) ready.parts)
-
-    -- so it is with fields that are found equal to these
-    module _ (found : Row) (names : List Name) (parts : List (Name × ElementId)) (of_row : found ≡ row)
-        (named : names ≡ labels (record_fields found)) (put : parts ≡ put_all names ids []) where
-      same_parts : parts ≡ put_all (labels (record_fields row)) ids []
-      same_parts = put ∙ ap (λ (names : List Name). put_all names ids []) (named ∙ ap (λ (row : Row). labels (record_fields row)) of_row)
-
-      pub parts_are_shape : IsShape table (Record parts)
-      parts_are_shape = subst (λ (parts : List (Name × ElementId)). IsShape table (Record parts)) (sym same_parts) record_is_shape
-
-      pub parts_are_of_row : IsForRow (answers graph) (thing_at (fields_of table parts)) row
-      parts_are_of_row = subst (λ (parts : List (Name × ElementId)). IsForRow (answers graph) (thing_at (fields_of table parts)) row)
-          (sym same_parts) record_is_of_row
 
   in_each_clause : (e : Thing) → IsInClause ARecord (reader graph e) (Records wanted refused) → (clause : Clause)
       → IsTaskOf clause (RecordTask wanted refused given left) → IsInClause ARecord (reader graph e) clause
@@ -71,7 +59,7 @@ module _ (graph : Graph) (wanted refused : List RecordType) (given : Reasons) (l
       (subst (λ (others : List RecordType). IsInClause ARecord (reader graph e) (Records wanted others)) same_too is)
   in_each_clause e is _ (none, task) = absurd none
 
-  pub record_is_for : IsTask (RecordTask wanted refused given left) → (fields : thing.Fields)
+  record_is_for : IsTask (RecordTask wanted refused given left) → (fields : thing.Fields)
       → IsForRow (answers graph) (thing_at fields) row → (e : Thing) → IsElement e → e ≡ thing.Record fields
       → AllOf (λ type. record_in graph e type false) left → IsElementFor graph (RecordTask wanted refused given left) e
   record_is_for task fields for_row e is made outside = (
@@ -82,3 +70,30 @@ module _ (graph : Graph) (wanted refused : List RecordType) (given : Reasons) (l
         (record_in_row (answers graph) (thing_at fields) names wanted given for_row)
         (subst (λ (e : Thing). AllOf (λ type. record_in graph e type false) left) made outside))),
   )
+
+-- fields that are put at the labels of the row
+module _ {graph : Graph} {table : List Thing} {wanted refused : List RecordType} {given : Reasons} {left : List RecordType}
+    {ids : List ElementId} (ready : IsReady graph table (RecordTask wanted refused given left) ids)
+    {found : Row} {labelled : List Name} {parts : List (Name × ElementId)} (of_row : found ≡ row_of_given wanted refused given)
+    (named : labelled ≡ labels (record_fields found)) (put : parts ≡ put_all labelled ids []) where
+  same_parts : put_all (labels (record_fields (row_of_given wanted refused given))) ids [] ≡ parts
+  same_parts = sym (put ∙ ap (λ (labelled : List Name). put_all labelled ids [])
+      (named ∙ ap (λ (row : Row). labels (record_fields row)) of_row))
+
+  pub parts_shaped : IsShape table (Record parts)
+  parts_shaped = subst (λ (parts : List (Name × ElementId)). IsShape table (Record parts)) same_parts
+      (record_is_shape graph wanted refused given left table ids ready)
+
+  pub parts_for_row : IsForRow (answers graph) (thing_at (fields_of table parts)) (row_of_given wanted refused given)
+  parts_for_row = subst (λ (parts : List (Name × ElementId)).
+      IsForRow (answers graph) (thing_at (fields_of table parts)) (row_of_given wanted refused given)) same_parts
+      (record_is_of_row graph wanted refused given left table ids ready)
+
+-- a record that is made for the row, and is in no type that is left
+pub record_attempted : {graph : Graph} {table : List Thing} {wanted refused : List RecordType} {given : Reasons}
+    {left : List RecordType} {ids : List ElementId} {e : Thing} {fields : thing.Fields}
+    → IsReady graph table (RecordTask wanted refused given left) ids
+    → IsForRow (answers graph) (thing_at fields) (row_of_given wanted refused given) → IsElement e → e ≡ thing.Record fields
+    → AllOf (λ type. record_in graph e type false) left → IsElementFor graph (RecordTask wanted refused given left) e
+record_attempted {graph} {wanted} {refused} {given} {left} {e} {fields} ready for_row is made outside =
+    record_is_for graph wanted refused given left (is_task ready) fields for_row e is made outside

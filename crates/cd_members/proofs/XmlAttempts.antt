@@ -31,7 +31,7 @@ module _ (graph : Graph) (wanted refused : List Triple) (given : List Triple × 
   module _ (table : List Thing) (tag attributes content : ElementId)
       (ready : IsReady graph table (XmlTask wanted refused given left) (tag ∷ attributes ∷ content ∷ [])) where
     -- its tag is an atom, and its attributes are a record
-    pub xml_is_shape : (more : Graph) → graph ≡ built_ins ++ more → IsShape table (Xml tag attributes content)
+    xml_is_shape : (more : Graph) → graph ≡ built_ins ++ more → IsShape table (Xml tag attributes content)
     xml_is_shape more begins =
         let of_tag = parts_of_asked_more (answers graph (element_at table tag)) ATOM (λ (parts : Triple). parts.0) wanted given.0
         ready.parts.0 in
@@ -46,7 +46,7 @@ module _ (graph : Graph) (wanted refused : List Triple) (given : List Triple × 
               (subst (λ (graph : Graph). answers graph (element_at table attributes) RECORD true) begins of_attributes.0),
         )
 
-    pub xml_is_for :
+    xml_is_for :
         AllOf (λ parts. xml_in graph (element_at table tag) (element_at table attributes) (element_at table content) parts false) left
         → (e : Thing) → IsElement e → e ≡ thing.Xml (element_at table tag) (element_at table attributes) (element_at table content)
         → IsElementFor graph (XmlTask wanted refused given left) e
@@ -59,26 +59,30 @@ module _ (graph : Graph) (wanted refused : List Triple) (given : List Triple × 
           (is_task ready) ready.parts.0 ready.parts.1.0 ready.parts.1.1.0 outside)),
     )
 
-  -- so it is with the elements at the first three places
-  module _ (table : List Thing) where
-    pub xml_shaped : (more : Graph) → graph ≡ built_ins ++ more → (ids : List ElementId) (default : ElementId)
-        → IsReady graph table (XmlTask wanted refused given left) ids
-        → IsShape table (Xml (get_or ids 0 default) (get_or ids 1 default) (get_or ids 2 default))
-    xml_shaped more begins [] default ready = absurd ready.parts
-    xml_shaped more begins (tag ∷ []) default ready = absurd ready.parts.1
-    xml_shaped more begins (tag ∷ attributes ∷ []) default ready = absurd ready.parts.1.1
-    xml_shaped more begins (tag ∷ attributes ∷ content ∷ []) default ready = xml_is_shape table tag attributes content ready more begins
-    xml_shaped more begins (tag ∷ attributes ∷ content ∷ other ∷ ids) default ready = absurd ready.parts.1.1.1
+-- so it is with the elements at the first three places
+pub xml_shaped : {graph : Graph} {table : List Thing} {wanted refused : List Triple} {given : List Triple × List Triple × List Triple}
+    {left : List Triple} {ids : List ElementId} {more : Graph} → IsReady graph table (XmlTask wanted refused given left) ids
+    → (default : ElementId) → graph ≡ built_ins ++ more
+    → IsShape table (Xml (get_or ids 0 default) (get_or ids 1 default) (get_or ids 2 default))
+xml_shaped {graph} {table} {wanted} {refused} {given} {left} {ids = tag ∷ attributes ∷ content ∷ []} {more} ready default =
+    xml_is_shape graph wanted refused given left table tag attributes content ready more
+xml_shaped {ids = []} ready default = absurd ready.parts
+xml_shaped {ids = tag ∷ []} ready default = absurd ready.parts.1
+xml_shaped {ids = tag ∷ attributes ∷ []} ready default = absurd ready.parts.1.1
+xml_shaped {ids = tag ∷ attributes ∷ content ∷ other ∷ ids} ready default = absurd ready.parts.1.1.1
 
-    pub xml_attempted : (ids : List ElementId) (default : ElementId) → IsReady graph table (XmlTask wanted refused given left) ids
-        → AllOf (λ parts. xml_in graph (element_at table (get_or ids 0 default)) (element_at table (get_or ids 1 default))
-        (element_at table (get_or ids 2 default)) parts false) left
-        → (e : Thing) → IsElement e
-        → e ≡ thing.Xml (element_at table (get_or ids 0 default)) (element_at table (get_or ids 1 default))
-        (element_at table (get_or ids 2 default))
-        → IsElementFor graph (XmlTask wanted refused given left) e
-    xml_attempted [] default ready = absurd ready.parts
-    xml_attempted (tag ∷ []) default ready = absurd ready.parts.1
-    xml_attempted (tag ∷ attributes ∷ []) default ready = absurd ready.parts.1.1
-    xml_attempted (tag ∷ attributes ∷ content ∷ []) default ready = xml_is_for table tag attributes content ready
-    xml_attempted (tag ∷ attributes ∷ content ∷ other ∷ ids) default ready = absurd ready.parts.1.1.1
+pub xml_attempted : {graph : Graph} {table : List Thing} {wanted refused : List Triple} {given : List Triple × List Triple × List Triple}
+    {left : List Triple} {ids : List ElementId} {e : Thing} → IsReady graph table (XmlTask wanted refused given left) ids
+    → (default : ElementId)
+    → AllOf (λ parts. xml_in graph (element_at table (get_or ids 0 default)) (element_at table (get_or ids 1 default))
+    (element_at table (get_or ids 2 default)) parts false) left
+    → IsElement e
+    → e ≡ thing.Xml (element_at table (get_or ids 0 default)) (element_at table (get_or ids 1 default))
+    (element_at table (get_or ids 2 default))
+    → IsElementFor graph (XmlTask wanted refused given left) e
+xml_attempted {graph} {table} {wanted} {refused} {given} {left} {ids = tag ∷ attributes ∷ content ∷ []} {e} ready default outside =
+    xml_is_for graph wanted refused given left table tag attributes content ready outside e
+xml_attempted {ids = []} ready default outside = absurd ready.parts
+xml_attempted {ids = tag ∷ []} ready default outside = absurd ready.parts.1
+xml_attempted {ids = tag ∷ attributes ∷ []} ready default outside = absurd ready.parts.1.1
+xml_attempted {ids = tag ∷ attributes ∷ content ∷ other ∷ ids} ready default outside = absurd ready.parts.1.1.1

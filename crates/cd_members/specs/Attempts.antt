@@ -16,7 +16,7 @@ abbrev pub IsElementFor : Graph → Task → Thing → Type 0
 IsElementFor graph task e = IsElement e
     × ((clause : Clause) → IsTaskOf clause task → IsInClause (kind_of e) (reader graph e) clause)
 
--- with one more pair, a function that is outside the arrows of no later task is outside this one too
+-- where this task and later ones are left for a function, with one more pair the later ones are
 abbrev pub IsPairFor : Graph → Task → (pair : Pairs → Pairs) → Type 0
 IsPairFor graph task pair = (wanted refused : List Pair) (later : List Task) (pairs : Pairs)
     → IsTaskOf (Arrows wanted refused) task
@@ -29,6 +29,7 @@ IsForArrow task = (arrow : Pair) × (arrows_of (task ∷ []) ≡ arrow ∷ [])
 
 abbrev pub IsAttempt : Graph → (table : List Thing) → Task → Attempt → Type 0
 IsAttempt graph table task (Held place) = place < count_left task
-IsAttempt graph table task (Made id) = Names table id × IsElementFor graph task (element_at table id)
+IsAttempt graph table task (Made id) =
+    Names table id × IsElementFor graph task (element_at table id)
 IsAttempt graph table task (Maps from to) = Names table from × IsResult table to × IsForArrow task
     × IsPairFor graph task (pair_before (element_at table from) (result_at table to))

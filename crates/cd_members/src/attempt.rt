@@ -29,7 +29,8 @@ pub enum Attempt {
     Held(usize),
     /// This element is in the clause.
     Made(ElementId),
-    /// A function that has this pair too is outside the task's arrow. Without a result it fails there.
+    /// A function that has this pair too is outside the task's arrow. Without a result it fails
+    /// there.
     Maps(ElementId, Option<ElementId>),
 }
 
