@@ -2,9 +2,13 @@
 use Rattle.std.proofs.Common.{◌≡◌, ◌≤◌, ℕ, List, [], ◌∷◌, ◌++◌, map, drop, length, Bor, None, Some, sym, ap, ◌∙◌, subst, append-nil}
 use Rattle.std.proofs.lemmas.List.{drop_all}
 use Rattle.cd_syntax.specs.Name.{Name}
+use Rattle.cd_model.specs.AllOf.{AllOf}
 use Rattle.cd_rules.specs.Clauses.{RecordType}
 use Rattle.cd_rules.specs.Rows.{Reason, Reasons, labels_of}
-use Rattle.cd_rules.specs.Tasks.{Task, RecordTask, Takes, AreCases, record_cases}
+use Rattle.cd_rules.specs.Tasks.{Task, RecordTask, AreCases}
+use Rattle.cd_rules.proofs.Answered.{map_of_each}
+use Rattle.cd_rules.proofs.Asking.{each_of_map}
+use Rattle.cd_rules.proofs.Ones.{each_of_all}
 use Rattle.cd_records.specs.PlainReasons.{plain_labels}
 
 pub two_cases : (task : Task) (cases : List Task) (first second one other : Task) → cases ≡ first ∷ second ∷ []
@@ -24,16 +28,27 @@ abbrev pub record_case : (wanted refused : List RecordType) → Reasons → (lef
 record_case wanted refused given left type reason = RecordTask wanted refused ((type, reason) ∷ given) left
 
 -- where no label is left, the cases of all reasons are made
-pub record_cases_made : (wanted refused : List RecordType) (given : Reasons) (left rest : List RecordType) (type : RecordType)
-    (labels : List (Bor Name)) (index : ℕ) (made : List Task) → Takes type left rest
+pub record_cases_made : (wanted refused : List RecordType) (given : Reasons) (rest : List RecordType) (type : RecordType)
+    (labels : List (Bor Name)) (index : ℕ) (made : List Task)
     → made ++ map (record_case wanted refused given rest type) (map Some (plain_labels (drop index labels)))
     ≡ map (record_case wanted refused given rest type) (None ∷ map Some (plain_labels labels))
     → length labels ≤ index → plain_labels labels ≡ labels_of (wanted ++ refused)
-    → AreCases (RecordTask wanted refused given left) made
-record_cases_made wanted refused given left rest type labels index made taken so_far past named =
-    subst (AreCases (RecordTask wanted refused given left)) (sym all_made) (record_cases wanted refused given left rest type taken)
-  where
-    all_made : made ≡ map (record_case wanted refused given rest type) (None ∷ map Some (labels_of (wanted ++ refused)))
-    all_made = sym (append-nil made)
-        ∙ ap (λ left. made ++ map (record_case wanted refused given rest type) (map Some (plain_labels left))) (sym (drop_all index labels past))
-        ∙ so_far ∙ ap (λ names. map (record_case wanted refused given rest type) (None ∷ map Some names)) named
+    → made ≡ map (record_case wanted refused given rest type) (None ∷ map Some (labels_of (wanted ++ refused)))
+record_cases_made wanted refused given rest type labels index made so_far past named = sym (append-nil made)
+    ∙ ap (λ left. made ++ map (record_case wanted refused given rest type) (map Some (plain_labels left))) (sym (drop_all index labels past))
+    ∙ so_far ∙ ap (λ names. map (record_case wanted refused given rest type) (None ∷ map Some names)) named
+
+-- a fact of each of two things, and of each of three
+pub each_of_two : {X : Type 0} (fact : X → Type 0) {all : List X} {first second : X} → all ≡ first ∷ second ∷ []
+    → fact first → fact second → AllOf fact all
+each_of_two fact same is is_too = subst (AllOf fact) (sym same) (is, (is_too, tt))
+
+pub each_of_three : {X : Type 0} (fact : X → Type 0) {all : List X} {first second third : X} → all ≡ first ∷ second ∷ third ∷ []
+    → fact first → fact second → fact third → AllOf fact all
+each_of_three fact same is is_too is_last = subst (AllOf fact) (sym same) (is, (is_too, (is_last, tt)))
+
+-- what is so of all that a function makes is so of things of which such are made
+pub each_of_made : {X Y Z : Type 0} (f : X → Y) (make : Z → Y) (fact : Y → Type 0) → ((z : Z) → fact (make z)) → (xs : List X) (zs : List Z)
+    → map f xs ≡ map make zs → AllOf (λ x. fact (f x)) xs
+each_of_made f make fact all xs zs same =
+    map_of_each f fact xs (subst (AllOf fact) (sym same) (each_of_map make fact zs (each_of_all (λ z. fact (make z)) all zs)))

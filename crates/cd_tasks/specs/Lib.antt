@@ -1,1 +1,2 @@
+pub mod LeftWithout
 pub mod PlainTask

@@ -1,8 +1,10 @@
 //! Tasks for refused arrows.
 ghost use Rattle.std.specs.Prelude.{◌≡◌, ◌<◌, [], ◌∷◌, length, map, IfOk};
 ghost use Rattle.std.specs.List.{remove};
+ghost use Rattle.cd_model.specs.AllOf.{AllOf};
 ghost use Rattle.cd_rules.specs.Tasks as rules;
-ghost use Rattle.cd_rules.specs.Tasks.{AreCases};
+ghost use Rattle.cd_rules.specs.Tasks.{AreCases, left_of};
+ghost use Rattle.cd_tasks.specs.LeftWithout.{left_without};
 ghost use Rattle.cd_tasks.specs.PlainTask.{plain_task};
 
 use crate::lists::{prepended, without};
@@ -99,8 +101,10 @@ impl ArrowTask {
     /// of those left, and where its result is in that of the member.
     pub(crate) fn cases<'g>(&self, alloc: Global, place: usize) -> Result<Vec<Task<'g>>, AllocError>
         requires { place < length self.now.left.items }
-        ensures { IfOk result
+        ensures cases { IfOk result
             (λ cases. AreCases (plain_task (Task.Arrow self.now)) (map plain_task cases.items)) }
+        ensures taken { IfOk result (λ cases. AllOf (λ case. left_of (plain_task case)
+            ≡ left_without place (plain_task (Task.Arrow self.now))) cases.items) }
     {
         let member = self.left[place];
         let outside = self.to_outside(alloc, member, place)?;

@@ -1,6 +1,8 @@
 //! The cases of tasks.
-ghost use Rattle.std.specs.Prelude.{◌<◌, map, IfOk};
-ghost use Rattle.cd_rules.specs.Tasks.{AreCases, count_left};
+ghost use Rattle.std.specs.Prelude.{◌≡◌, ◌<◌, map, IfOk};
+ghost use Rattle.cd_model.specs.AllOf.{AllOf};
+ghost use Rattle.cd_rules.specs.Tasks.{AreCases, count_left, left_of};
+ghost use Rattle.cd_tasks.specs.LeftWithout.{left_without};
 ghost use Rattle.cd_tasks.specs.PlainTask.{plain_task};
 
 use crate::task::Task;
@@ -15,8 +17,10 @@ impl<'g> Task<'g> {
     /// Want of memory.
     pub fn cases(&self, alloc: Global, place: usize) -> Result<Vec<Task<'g>>, AllocError>
         requires { place < count_left (plain_task self.now) }
-        ensures { IfOk result
+        ensures cases { IfOk result
             (λ cases. AreCases (plain_task self.now) (map plain_task cases.items)) }
+        ensures taken { IfOk result (λ cases. AllOf (λ case. left_of (plain_task case)
+            ≡ left_without place (plain_task self.now)) cases.items) }
     {
         match self {
             Task::Pair(task) => task.cases(alloc, place),

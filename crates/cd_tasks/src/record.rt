@@ -1,10 +1,12 @@
 //! Tasks for records.
 ghost use Rattle.std.specs.Prelude.{◌≡◌, ◌<◌, [], ◌∷◌, length, map, IfOk};
 ghost use Rattle.std.specs.List.{remove};
+ghost use Rattle.cd_model.specs.AllOf.{AllOf};
 ghost use Rattle.cd_needs.specs.RecordType.{record_types};
 ghost use Rattle.cd_records.specs.PlainReasons.{plain_chosen, plain_reasons};
 ghost use Rattle.cd_rules.specs.Tasks as rules;
-ghost use Rattle.cd_rules.specs.Tasks.{AreCases};
+ghost use Rattle.cd_rules.specs.Tasks.{AreCases, left_of};
+ghost use Rattle.cd_tasks.specs.LeftWithout.{left_without};
 ghost use Rattle.cd_tasks.specs.PlainTask.{plain_task};
 
 use crate::lists::{prepended, without};
@@ -72,8 +74,10 @@ impl<'g> RecordTask<'g> {
     /// The cases of the task, where the type at this place of those left has each reason.
     pub(crate) fn cases(&self, alloc: Global, place: usize) -> Result<Vec<Task<'g>>, AllocError>
         requires { place < length self.now.left.items }
-        ensures { IfOk result
+        ensures cases { IfOk result
             (λ cases. AreCases (plain_task (Task.Record self.now)) (map plain_task cases.items)) }
+        ensures taken { IfOk result (λ cases. AllOf (λ case. left_of (plain_task case)
+            ≡ left_without place (plain_task (Task.Record self.now))) cases.items) }
     {
         let refused = self.left[place];
         let reason = None;
