@@ -1,5 +1,5 @@
 -- The pair of elements that are ready for a task makes a function right for one arrow more, where it breaks no arrow that is left.
-use Rattle.std.proofs.Common.{◌≡◌, false, List, [], ◌∷◌, get_or, Option, slice_get, refl, sym, subst, arith}
+use Rattle.std.proofs.Common.{◌≡◌, ℕ, false, List, [], ◌∷◌, map, get_or, Option, slice_get, refl, sym, subst, arith}
 use Rattle.cd_model.specs.AllOf.{AllOf}
 use Rattle.cd_model.specs.Formula.{Graph}
 use Rattle.cd_model.specs.Thing as thing
@@ -12,7 +12,7 @@ use Rattle.cd_elements.specs.declared.shape.ElementId.{ElementId}
 use Rattle.cd_elements.specs.Table.{Names, IsResult, element_at, result_at, pair_before}
 use Rattle.cd_members.specs.Attempts.{IsAttempt, IsPairFor}
 use Rattle.cd_members.specs.declared.attempt.Attempt.TheVariants.{Maps}
-use Rattle.cd_members.specs.Inner.Holding.{breaks}
+use Rattle.cd_members.specs.Held.{IsHeldAt, IsSoAt, breaks}
 use Rattle.cd_members.specs.Inner.Ready.{IsReady}
 use Rattle.cd_members.proofs.Ready.{is_task, names_at}
 use Rattle.cd_members.proofs.Lists.{each_at}
@@ -61,13 +61,32 @@ pub arrow_attempted : {graph : Graph} {table : List Thing} {one : Pair} {wanted 
     {left : List Pair} {ids : List ElementId} {to : Option ElementId} → IsReady graph table (ArrowTask one wanted given left) ids
     → (default : ElementId) → AllOf IsElement table → to ≡ slice_get ids 1
     → AllOf (λ arrow. breaks graph (element_at table (get_or ids 0 default)) (result_at table to) arrow false) left
-    → IsAttempt graph table (ArrowTask one wanted given left) (Maps (get_or ids 0 default) to)
+    → IsAttempt graph table (ArrowTask one wanted given left) (map (element_at table) ids) (Maps (get_or ids 0 default) to)
 arrow_attempted {graph} {table} {one} {wanted} {given} {left} {ids} {to} ready default elements same = subst (λ (to : Option ElementId).
     AllOf (λ arrow. breaks graph (element_at table (get_or ids 0 default)) (result_at table to) arrow false) left
-    → IsAttempt graph table (ArrowTask one wanted given left) (Maps (get_or ids 0 default) to)) (sym same)
+    → IsAttempt graph table (ArrowTask one wanted given left) (map (element_at table) ids) (Maps (get_or ids 0 default) to)) (sym same)
     (λ right. (
       names_at ready 0 default (omega arith),
       is_result graph table ids ready.named,
       (one, refl),
       pair_is_for graph table elements one wanted left given ids default ready right,
     ))
+
+-- an arrow that is left is broken by the pair
+pub arrow_held : {graph : Graph} {table : List Thing} {one : Pair} {wanted : List Pair} {given : List Pair × List Pair}
+    {left : List Pair} {ids : List ElementId} {to : Option ElementId}
+    → IsReady graph table (ArrowTask one wanted given left) ids → (default : ElementId) (place : ℕ) → to ≡ slice_get ids 1
+    → IsSoAt (breaks graph (element_at table (get_or ids 0 default)) (result_at table to)) left place
+    → IsHeldAt graph (map (element_at table) ids) (ArrowTask one wanted given left) place
+arrow_held {graph} {table} {one} {wanted} {given} {left} {ids} {to} ready default place same held = by_ids given ids ready
+    (subst (λ (to : Option ElementId). IsSoAt (breaks graph (element_at table (get_or ids 0 default)) (result_at table to)) left place)
+    same held)
+  where
+    by_ids : (given : List Pair × List Pair) (ids : List ElementId) → IsReady graph table (ArrowTask one wanted given left) ids
+        → IsSoAt (breaks graph (element_at table (get_or ids 0 default)) (result_at table (slice_get ids 1))) left place
+        → IsHeldAt graph (map (element_at table) ids) (ArrowTask one wanted given left) place
+    by_ids given (from ∷ []) ready held = held
+    by_ids given (from ∷ to ∷ []) ready held = held
+    by_ids given [] ready held = absurd ready.parts
+    by_ids (outside, []) (from ∷ to ∷ more ∷ ids) ready held = absurd ready.parts.1
+    by_ids (outside, arrow ∷ results) (from ∷ to ∷ more ∷ ids) ready held = absurd ready.parts.1.1

@@ -11,3 +11,4 @@ mod FieldsOnce
 mod RecordsForRows
 mod RecordAttempts
 mod Growing
+pub mod HeldIsLeft

@@ -5,7 +5,7 @@ use Rattle.std.proofs.lemmas.List.{take_more}
 use Rattle.std.specs.Borrow.{Bor}
 use Rattle.std.specs.Option.{option_map}
 use Rattle.std.specs.Slice.{IsItemAt}
-use Rattle.std.proofs.lemmas.Option.{slice_get-get_or, slice_get_past, slice_get_within}
+use Rattle.std.proofs.lemmas.Option.{slice_get-get_or, slice_get_past}
 use Rattle.cd_model.specs.AllOf.{AllOf}
 use Rattle.cd_rules.proofs.Ones.{each_of_lists}
 use Rattle.cd_members.specs.Inner.Holding.{IsPlace}
@@ -29,10 +29,6 @@ none_of_more fact members place default within before here =
 pub place_here : {X : Type 0} (fact : X → Bool → Type 0) (members : List X) (place : ℕ) (default : X) → place < length members
     → fact (get_or members place default) true → IsPlace fact members (Some place)
 place_here fact members place default within is = (get_or members place default, slice_get-get_or members place default within, is)
-
-pub place_below : {X : Type 0} (fact : X → Bool → Type 0) (members : List X) (place : ℕ) → IsPlace fact members (Some place)
-    → place < length members
-place_below fact members place found = slice_get_within members place found.0 found.1
 
 -- what a look at a place finds
 pub looked_up : {X : Type 0} (all : List X) (place : ℕ) (found : Option (Bor X)) → IsItemAt all place found

@@ -1,5 +1,5 @@
 -- The pair of elements that are ready for a task is an element for it, where it is in no pair of nodes that is left.
-use Rattle.std.proofs.Common.{◌≡◌, false, List, [], ◌∷◌, get_or, sym, subst}
+use Rattle.std.proofs.Common.{◌≡◌, ℕ, false, List, [], ◌∷◌, map, get_or, sym, subst}
 use Rattle.cd_model.specs.AllOf.{AllOf}
 use Rattle.cd_model.specs.Formula.{Graph}
 use Rattle.cd_model.specs.Kinds.{APair, kind_of}
@@ -12,7 +12,7 @@ use Rattle.cd_rules.proofs.MembersOfTasks.{pair_of_task}
 use Rattle.cd_elements.specs.declared.shape.ElementId.{ElementId}
 use Rattle.cd_elements.specs.Table.{element_at}
 use Rattle.cd_members.specs.Attempts.{IsElementFor}
-use Rattle.cd_members.specs.Inner.Holding.{pair_in}
+use Rattle.cd_members.specs.Held.{IsHeldAt, IsSoAt, pair_in}
 use Rattle.cd_members.specs.Inner.Ready.{IsReady}
 use Rattle.cd_members.proofs.Ready.{is_task}
 
@@ -49,3 +49,13 @@ pair_attempted {graph} {table} {wanted} {refused} {given} {left} {ids = first �
 pair_attempted {ids = []} ready default outside = absurd ready.parts
 pair_attempted {ids = first ∷ []} ready default outside = absurd ready.parts.1
 pair_attempted {ids = first ∷ second ∷ third ∷ ids} ready default outside = absurd ready.parts.1.1
+
+-- a pair of nodes that is left holds the pair
+pub pair_held : {graph : Graph} {table : List Thing} {wanted refused : List Pair} {given : List Pair × List Pair} {left : List Pair}
+    {ids : List ElementId} → IsReady graph table (PairTask wanted refused given left) ids → (default : ElementId) (place : ℕ)
+    → IsSoAt (pair_in graph (element_at table (get_or ids 0 default)) (element_at table (get_or ids 1 default))) left place
+    → IsHeldAt graph (map (element_at table) ids) (PairTask wanted refused given left) place
+pair_held {ids = first ∷ second ∷ []} ready default place held = held
+pair_held {ids = []} ready default place held = absurd ready.parts
+pair_held {ids = first ∷ []} ready default place held = absurd ready.parts.1
+pair_held {ids = first ∷ second ∷ third ∷ ids} ready default place held = absurd ready.parts.1.1

@@ -1,5 +1,5 @@
 -- The record of elements that are ready for a task is an element for it, where it is in no record type that is left.
-use Rattle.std.proofs.Common.{◌≡◌, false, List, [], ◌∷◌, ◌++◌, map, refl, sym, ap, ◌∙◌, subst}
+use Rattle.std.proofs.Common.{◌≡◌, ℕ, false, List, [], ◌∷◌, ◌++◌, map, refl, sym, ap, ◌∙◌, subst}
 use Rattle.cd_syntax.specs.Name.{Name, IsLabel}
 use Rattle.cd_model.specs.AllOf.{AllOf}
 use Rattle.cd_model.specs.Formula.{Graph}
@@ -17,7 +17,7 @@ use Rattle.cd_elements.specs.declared.shape.ElementId.{ElementId}
 use Rattle.cd_elements.specs.declared.shape.Shape.TheVariants.{Record}
 use Rattle.cd_elements.specs.Table.{Names, IsShape, element_at, fields_of}
 use Rattle.cd_members.specs.Attempts.{IsElementFor}
-use Rattle.cd_members.specs.Inner.Holding.{record_in}
+use Rattle.cd_members.specs.Held.{IsHeldAt, IsSoAt, record_in}
 use Rattle.cd_members.specs.Inner.Ready.{IsReady}
 use Rattle.cd_members.specs.Inner.RecordFields.{put_all, record_fields, labels}
 use Rattle.cd_members.proofs.FieldsOnce.{cell_labels, fields_asked, fields_labelled}
@@ -97,3 +97,13 @@ pub record_attempted : {graph : Graph} {table : List Thing} {wanted refused : Li
     → AllOf (λ type. record_in graph e type false) left → IsElementFor graph (RecordTask wanted refused given left) e
 record_attempted {graph} {wanted} {refused} {given} {left} {e} {fields} ready for_row is made outside =
     record_is_for graph wanted refused given left (is_task ready) fields for_row e is made outside
+
+-- a record type that is left holds such a record
+pub record_held : {graph : Graph} {table : List Thing} {wanted refused : List RecordType} {given : Reasons}
+    {left : List RecordType} {ids : List ElementId} {e : Thing} {fields : thing.Fields}
+    → IsReady graph table (RecordTask wanted refused given left) ids
+    → IsForRow (answers graph) (thing_at fields) (row_of_given wanted refused given) → e ≡ thing.Record fields → (place : ℕ)
+    → IsSoAt (record_in graph e) left place
+    → IsHeldAt graph (map (element_at table) ids) (RecordTask wanted refused given left) place
+record_held {graph} {left} {fields} ready for_row made place held =
+    (fields, for_row, subst (λ (e : Thing). IsSoAt (record_in graph e) left place) made held)

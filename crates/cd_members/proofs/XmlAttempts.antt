@@ -1,5 +1,5 @@
 -- The XML element of elements that are ready for a task is an element for it, where it is in no XML formula that is left.
-use Rattle.std.proofs.Common.{◌≡◌, true, false, List, [], ◌∷◌, ◌++◌, get_or, sym, subst}
+use Rattle.std.proofs.Common.{◌≡◌, ℕ, true, false, List, [], ◌∷◌, ◌++◌, map, get_or, sym, subst}
 use Rattle.cd_model.specs.AllOf.{AllOf}
 use Rattle.cd_model.specs.BuiltIns.{built_ins, ATOM, RECORD}
 use Rattle.cd_model.specs.Formula.{Graph}
@@ -16,7 +16,7 @@ use Rattle.cd_elements.specs.declared.shape.ElementId.{ElementId}
 use Rattle.cd_elements.specs.declared.shape.Shape.TheVariants.{Xml}
 use Rattle.cd_elements.specs.Table.{IsShape, element_at}
 use Rattle.cd_members.specs.Attempts.{IsElementFor}
-use Rattle.cd_members.specs.Inner.Holding.{xml_in}
+use Rattle.cd_members.specs.Held.{IsHeldAt, IsSoAt, xml_in}
 use Rattle.cd_members.specs.Inner.Ready.{IsReady}
 use Rattle.cd_members.proofs.Ready.{is_task}
 
@@ -86,3 +86,16 @@ xml_attempted {ids = []} ready default outside = absurd ready.parts
 xml_attempted {ids = tag ∷ []} ready default outside = absurd ready.parts.1
 xml_attempted {ids = tag ∷ attributes ∷ []} ready default outside = absurd ready.parts.1.1
 xml_attempted {ids = tag ∷ attributes ∷ content ∷ other ∷ ids} ready default outside = absurd ready.parts.1.1.1
+
+-- an XML formula that is left holds the XML element
+pub xml_held : {graph : Graph} {table : List Thing} {wanted refused : List Triple} {given : List Triple × List Triple × List Triple}
+    {left : List Triple} {ids : List ElementId} → IsReady graph table (XmlTask wanted refused given left) ids
+    → (default : ElementId) (place : ℕ)
+    → IsSoAt (xml_in graph (element_at table (get_or ids 0 default)) (element_at table (get_or ids 1 default))
+    (element_at table (get_or ids 2 default))) left place
+    → IsHeldAt graph (map (element_at table) ids) (XmlTask wanted refused given left) place
+xml_held {ids = tag ∷ attributes ∷ content ∷ []} ready default place held = held
+xml_held {ids = []} ready default place held = absurd ready.parts
+xml_held {ids = tag ∷ []} ready default place held = absurd ready.parts.1
+xml_held {ids = tag ∷ attributes ∷ []} ready default place held = absurd ready.parts.1.1
+xml_held {ids = tag ∷ attributes ∷ content ∷ other ∷ ids} ready default place held = absurd ready.parts.1.1.1

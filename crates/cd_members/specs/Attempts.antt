@@ -1,13 +1,14 @@
 -- What an attempt at a task gives.
-use Rattle.std.specs.Prelude.{◌≡◌, ◌<◌, List, [], ◌∷◌}
+use Rattle.std.specs.Prelude.{◌≡◌, List, [], ◌∷◌}
 use Rattle.cd_model.specs.Formula.{Graph}
 use Rattle.cd_model.specs.Kinds.{kind_of}
 use Rattle.cd_model.specs.Membership.{reader}
 use Rattle.cd_model.specs.Thing.{Thing, Pairs, IsElement}
 use Rattle.cd_rules.specs.Clauses.{Clause, Arrows, Pair, IsInClause}
 use Rattle.cd_rules.specs.MadeForTasks.{IsFunctionBut, arrows_of}
-use Rattle.cd_rules.specs.Tasks.{Task, IsTaskOf, count_left}
+use Rattle.cd_rules.specs.Tasks.{Task, IsTaskOf}
 use Rattle.cd_elements.specs.Table.{Names, IsResult, element_at, result_at, pair_before}
+use Rattle.cd_members.specs.Held.{IsHeldAt}
 use Rattle.cd_members.specs.declared.attempt.Attempt.{Attempt}
 use Rattle.cd_members.specs.declared.attempt.Attempt.TheVariants.{Held, Made, Maps}
 
@@ -27,9 +28,12 @@ IsPairFor graph task pair = (wanted refused : List Pair) (later : List Task) (pa
 abbrev pub IsForArrow : Task → Type 0
 IsForArrow task = (arrow : Pair) × (arrows_of (task ∷ []) ≡ arrow ∷ [])
 
-abbrev pub IsAttempt : Graph → (table : List Thing) → Task → Attempt → Type 0
-IsAttempt graph table task (Held place) = place < count_left task
-IsAttempt graph table task (Made id) =
+-- what is made of parts for a task
+abbrev pub IsAttempt : Graph → (table : List Thing) → Task → (parts : List Thing) → Attempt
+    → Type 0
+IsAttempt graph table task parts (Held place) = IsHeldAt graph parts task place
+IsAttempt graph table task parts (Made id) =
     Names table id × IsElementFor graph task (element_at table id)
-IsAttempt graph table task (Maps from to) = Names table from × IsResult table to × IsForArrow task
+IsAttempt graph table task parts (Maps from to) =
+    Names table from × IsResult table to × IsForArrow task
     × IsPairFor graph task (pair_before (element_at table from) (result_at table to))

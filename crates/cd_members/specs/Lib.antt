@@ -1,2 +1,3 @@
 pub mod Attempts
+pub mod Held
 pub mod Inner

@@ -1,5 +1,5 @@
 //! Attempts at the pairs by which functions are outside arrows.
-ghost use Rattle.std.specs.Prelude.{◌≡◌, ◌++◌, List, length, IfOk};
+ghost use Rattle.std.specs.Prelude.{◌≡◌, ◌++◌, List, length, map, IfOk};
 ghost use Rattle.cd_graph.specs.Nodes.{nodes};
 ghost use Rattle.cd_model.specs.AllOf.{AllOf};
 ghost use Rattle.cd_model.specs.Thing.{Thing};
@@ -10,7 +10,8 @@ ghost use Rattle.cd_holds.specs.Facts.{AreRight};
 ghost use Rattle.cd_tasks.specs.PlainTask.{plain_task};
 ghost use Rattle.cd_tasks.specs.declared.task.Task.TheVariants.{Arrow};
 ghost use Rattle.cd_members.specs.Attempts.{IsAttempt};
-ghost use Rattle.cd_members.specs.Inner.Holding.{IsPlace, breaks};
+ghost use Rattle.cd_members.specs.Held.{breaks};
+ghost use Rattle.cd_members.specs.Inner.Holding.{IsPlace};
 ghost use Rattle.cd_members.specs.Inner.Ready.{IsReady};
 
 use crate::attempt::Attempt;
@@ -33,8 +34,8 @@ pub(crate) fn attempt_arrow(
     requires ready { let all = table elements.now in
         IsReady (nodes graph.now) all (plain_task (Arrow task.now)) ids.now }
     requires right { AreRight (nodes graph.now) (table elements.now) facts.old }
-    ensures attempt { IfOk result
-        (IsAttempt (nodes graph.now) (table elements.now) (plain_task (Arrow task.now))) }
+    ensures attempt { let parts = map (element_at (table elements.now)) ids.now in IfOk result
+        (IsAttempt (nodes graph.now) (table elements.now) (plain_task (Arrow task.now)) parts) }
     ensures right { AreRight (nodes graph.now) (table elements.now) facts.new }
 {
     // The contract of this call says that each element of the table is one.

@@ -25,7 +25,7 @@ use std::alloc::{AllocError, Global};
 /// What an attempt at a task gives.
 #[derive(Drop)]
 pub enum Attempt {
-    /// The member at this place of those left is not yet done justice to.
+    /// The member at this place of those left holds what was made.
     Held(usize),
     /// This element is in the clause.
     Made(ElementId),
@@ -35,7 +35,8 @@ pub enum Attempt {
 }
 
 /// Makes of elements of a task's questions, one of each, a thing for the task, or the pair of a
-/// function, and looks whether it is right by each member that is left.
+/// function, and looks whether it is right by each member that is left. The elements are those that
+/// the numbers name in the table as it was.
 ///
 /// # Errors
 ///
@@ -54,8 +55,8 @@ pub fn attempt_task(
         (map (λ id. answers (nodes graph.now) (element_at (table elements.old) id)) ids.now)
         (questions_of (plain_task task.now)) }
     requires right { AreRight (nodes graph.now) (table elements.old) facts.old }
-    ensures attempt { IfOk result
-        (IsAttempt (nodes graph.now) (table elements.new) (plain_task task.now)) }
+    ensures attempt { let parts = map (element_at (table elements.old)) ids.now in IfOk result
+        (IsAttempt (nodes graph.now) (table elements.new) (plain_task task.now) parts) }
     ensures right { AreRight (nodes graph.now) (table elements.new) facts.new }
     ensures grows { (more : List Thing) × (table elements.new ≡ table elements.old ++ more) }
 {

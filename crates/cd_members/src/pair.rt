@@ -1,5 +1,5 @@
 //! Attempts at pairs.
-ghost use Rattle.std.specs.Prelude.{◌≡◌, ◌++◌, List, length, IfOk};
+ghost use Rattle.std.specs.Prelude.{◌≡◌, ◌++◌, List, length, map, IfOk};
 ghost use Rattle.cd_graph.specs.Nodes.{nodes};
 ghost use Rattle.cd_model.specs.AllOf.{AllOf};
 ghost use Rattle.cd_model.specs.Thing.{Thing};
@@ -10,7 +10,8 @@ ghost use Rattle.cd_holds.specs.Facts.{AreRight};
 ghost use Rattle.cd_tasks.specs.PlainTask.{plain_task};
 ghost use Rattle.cd_tasks.specs.declared.task.Task.TheVariants.{Pair};
 ghost use Rattle.cd_members.specs.Attempts.{IsAttempt};
-ghost use Rattle.cd_members.specs.Inner.Holding.{IsPlace, pair_in};
+ghost use Rattle.cd_members.specs.Held.{pair_in};
+ghost use Rattle.cd_members.specs.Inner.Holding.{IsPlace};
 ghost use Rattle.cd_members.specs.Inner.Ready.{IsReady};
 
 use crate::attempt::Attempt;
@@ -33,8 +34,8 @@ pub(crate) fn attempt_pair(
     requires ready { let all = table elements.old in
         IsReady (nodes graph.now) all (plain_task (Pair task.now)) ids.now }
     requires right { AreRight (nodes graph.now) (table elements.old) facts.old }
-    ensures attempt { IfOk result
-        (IsAttempt (nodes graph.now) (table elements.new) (plain_task (Pair task.now))) }
+    ensures attempt { let parts = map (element_at (table elements.old)) ids.now in IfOk result
+        (IsAttempt (nodes graph.now) (table elements.new) (plain_task (Pair task.now)) parts) }
     ensures right { AreRight (nodes graph.now) (table elements.new) facts.new }
     ensures grows { (more : List Thing) × (table elements.new ≡ table elements.old ++ more) }
 {

@@ -1,5 +1,5 @@
 //! Attempts at records.
-ghost use Rattle.std.specs.Prelude.{◌≡◌, ◌++◌, [], List, length, IfOk};
+ghost use Rattle.std.specs.Prelude.{◌≡◌, ◌++◌, [], List, length, map, IfOk};
 ghost use Rattle.cd_graph.specs.Nodes.{nodes};
 ghost use Rattle.cd_model.specs.AllOf.{AllOf};
 ghost use Rattle.cd_model.specs.Membership.{answers};
@@ -15,7 +15,8 @@ ghost use Rattle.cd_holds.specs.Facts.{Fact, AreRight};
 ghost use Rattle.cd_tasks.specs.PlainTask.{plain_task};
 ghost use Rattle.cd_tasks.specs.declared.task.Task.TheVariants.{Record};
 ghost use Rattle.cd_members.specs.Attempts.{IsAttempt};
-ghost use Rattle.cd_members.specs.Inner.Holding.{IsPlace, record_in};
+ghost use Rattle.cd_members.specs.Held.{record_in};
+ghost use Rattle.cd_members.specs.Inner.Holding.{IsPlace};
 ghost use Rattle.cd_members.specs.Inner.Ready.{IsReady};
 ghost use Rattle.cd_members.specs.Inner.RecordFields.{put_all};
 
@@ -43,8 +44,8 @@ pub(crate) fn attempt_record(
     requires ready { let all = table elements.old in
         IsReady (nodes graph.now) all (plain_task (Record task.now)) ids.now }
     requires right { AreRight (nodes graph.now) (table elements.old) facts.old }
-    ensures attempt { IfOk result
-        (IsAttempt (nodes graph.now) (table elements.new) (plain_task (Record task.now))) }
+    ensures attempt { let parts = map (element_at (table elements.old)) ids.now in IfOk result
+        (IsAttempt (nodes graph.now) (table elements.new) (plain_task (Record task.now)) parts) }
     ensures right { AreRight (nodes graph.now) (table elements.new) facts.new }
     ensures grows { (more : List Thing) × (table elements.new ≡ table elements.old ++ more) }
 {

@@ -4,7 +4,7 @@ use Rattle.cd_model.specs.AllOf.{AllOf}
 use Rattle.cd_elements.specs.Elements.{table}
 use Rattle.cd_elements.specs.Table.{element_at, result_at}
 use Rattle.cd_holds.specs.Facts.{AreRight}
-use Rattle.cd_members.specs.Inner.Holding.{breaks}
+use Rattle.cd_members.specs.Held.{breaks}
 use Rattle.cd_members.proofs.arrow.place_of.Given as goal
 
 -- the pair breaks none of those before

@@ -2,7 +2,7 @@ use Rattle.std.proofs.Common.{arith}
 use Rattle.cd_graph.specs.Nodes.{nodes}
 use Rattle.cd_elements.specs.Elements.{table}
 use Rattle.cd_elements.specs.Table.{element_at}
-use Rattle.cd_members.specs.Inner.Holding.{pair_in}
+use Rattle.cd_members.specs.Held.{pair_in}
 use Rattle.cd_members.proofs.Lists.{none_of_more}
 use Rattle.cd_members.proofs.pair.place_of.Goals as goal
 

@@ -4,7 +4,7 @@ use Rattle.cd_model.specs.AllOf.{AllOf}
 use Rattle.cd_elements.specs.Elements.{table}
 use Rattle.cd_elements.specs.Table.{element_at}
 use Rattle.cd_holds.specs.Facts.{AreRight}
-use Rattle.cd_members.specs.Inner.Holding.{pair_in}
+use Rattle.cd_members.specs.Held.{pair_in}
 use Rattle.cd_members.proofs.pair.place_of.Given as goal
 
 -- the pair is in none of those before

@@ -8,7 +8,7 @@ use Rattle.cd_rules.specs.Clauses.{RecordType}
 use Rattle.cd_rules.specs.Within.{IsTypeWithin}
 use Rattle.cd_elements.specs.Elements.{table}
 use Rattle.cd_elements.specs.Table.{element_at}
-use Rattle.cd_members.specs.Inner.Holding.{record_in}
+use Rattle.cd_members.specs.Held.{record_in}
 use Rattle.cd_members.proofs.Lists.{each_at, none_of_more, place_here, made_at}
 use Rattle.cd_members.proofs.record.place_of.Goals as goal
 

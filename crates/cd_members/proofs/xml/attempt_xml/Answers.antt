@@ -1,10 +1,5 @@
-use Rattle.std.proofs.Common.{◌≡◌, ℕ, length, get_or, arith}
-use Rattle.cd_graph.specs.Nodes.{nodes}
-use Rattle.cd_elements.specs.Elements.{table}
-use Rattle.cd_elements.specs.Table.{element_at}
-use Rattle.cd_members.specs.Inner.Holding.{xml_in}
-use Rattle.cd_members.proofs.Lists.{place_below}
-use Rattle.cd_members.proofs.XmlAttempts.{xml_shaped, xml_attempted}
+use Rattle.std.proofs.Common.{◌≡◌, length, arith}
+use Rattle.cd_members.proofs.XmlAttempts.{xml_shaped, xml_attempted, xml_held}
 use Rattle.cd_members.proofs.Ready.{as_many, names_at}
 use Rattle.cd_members.proofs.xml.attempt_xml.Goals as goal
 
@@ -25,11 +20,10 @@ place_of-requires-clause-content c = names_at c.requires.ready 2 (record { 0 = 0
 pub make-requires : goal.make-requires
 make-requires c = xml_shaped c.requires.ready (record { 0 = 0 }) c.len-built_in.ensures.built_in.1
 
+-- an XML formula that is left holds the XML element
 pub returns-in-Some-clause-attempt : goal.returns-in-Some-clause-attempt
 returns-in-Some-clause-attempt c =
-    let at = λ (place : ℕ). element_at (table c.args.elements.now) (get_or c.args.ids.now place (record { 0 = 0 })) in
-    place_below (xml_in (nodes c.args.graph.now) (at 0) (at 1) (at 2)) c.args.task.now.left.items c.in-Some.place
-    (rw (c.in-Some.is, c.as_slice-left.ensures.value) at c.in_ok-place.ensures.place)
+    xml_held c.requires.ready (record { 0 = 0 }) c.in-Some.place (rw (c.in-Some.is, c.as_slice-left.ensures.value) at c.in_ok-place.ensures.place)
 
 -- the XML element is in no XML formula that is left
 pub returns-in_ok-make-in-None-clause-attempt : goal.returns-in_ok-make-in-None-clause-attempt
