@@ -126,11 +126,11 @@ pair_longer graph table more task pair named serves = (
 )
 
 -- so where an attempt gave the pair, what comes of it is something that is done for the frame
-pub pair_worked : (graph : Graph) (before after : Decider) (frame last : Frame) (branch : Task) (from : ElementId)
-    (to : Option ElementId) (doing : Doing) → IsReady graph before (with_branch branch frame)
-    → IsAttempt graph (table before) (plain_task branch) (Maps from to) → AddsElements before after
+pub pair_worked : (graph : Graph) (before after : Decider) (frame last : Frame) (branch : Task) (parts : List Thing)
+    (from : ElementId) (to : Option ElementId) (doing : Doing) → IsReady graph before (with_branch branch frame)
+    → IsAttempt graph (table before) (plain_task branch) parts (Maps from to) → AddsElements before after
     → AddsPair after (from, to) frame last doing → IsDoing graph after (with_branch branch frame) last doing
-pair_worked graph before after frame last branch from to doing ready (names, result, arrow, serves) adds is =
+pair_worked graph before after frame last branch parts from to doing ready (names, result, arrow, serves) adds is =
     pair_added graph after frame last branch (from, to) again both.0 both.1 doing is
   where
     again : IsReady graph after (with_branch branch frame)

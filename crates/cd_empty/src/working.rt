@@ -1,5 +1,5 @@
 //! What is done for the question of a frame, one thing at a time.
-ghost use Rattle.std.specs.Prelude.{◌≡◌, List, [], ◌∷◌, length, IfOk};
+ghost use Rattle.std.specs.Prelude.{◌≡◌, List, [], ◌∷◌, length, map, IfOk};
 ghost use Rattle.cd_graph.specs.Nodes.{nodes};
 ghost use Rattle.cd_model.specs.AllOf.{AllOf};
 ghost use Rattle.cd_elements.specs.Table.{Names, element_at, pairs_of};
@@ -130,8 +130,8 @@ impl Decider {
         requires sound { IsSound (nodes graph.now) self.old }
         requires nodes { IsTaskOfNodes (length (nodes graph.now)) (plain_task branch.now) }
         requires have { HaveElements self.old ids.now (questions_of (plain_task branch.now)) }
-        ensures attempt { IfOk result
-            (IsAttempt (nodes graph.now) (table self.new) (plain_task branch.now)) }
+        ensures attempt { let parts = map (element_at (table self.old)) ids.now in IfOk result
+            (IsAttempt (nodes graph.now) (table self.new) (plain_task branch.now) parts) }
         ensures sound { IsSound (nodes graph.now) self.new }
         ensures keeps { KeepsKnown self.old self.new }
     {

@@ -1,7 +1,9 @@
-use Rattle.std.proofs.Common.{subst}
+use Rattle.std.proofs.Common.{map, subst}
 use Rattle.std.proofs.lemmas.Result.{IfOk-weaker}
 use Rattle.cd_graph.specs.Nodes.{nodes}
+use Rattle.cd_elements.specs.Table.{element_at}
 use Rattle.cd_members.specs.Attempts.{IsAttempt}
+use Rattle.cd_members.proofs.HeldIsLeft.{held_is_left}
 use Rattle.cd_tasks.specs.PlainTask.{plain_task}
 use Rattle.cd_empty.specs.Inner.Working.{IsReady, with_branch}
 use Rattle.cd_empty.specs.Kept.{table}
@@ -16,15 +18,22 @@ ready : (c : After-attempt) → IsReady (nodes c.args.graph.now) c.attempt.new.s
 ready c = ready_again (nodes c.args.graph.now) c.args.self.now c.attempt.new.self (with_branch c.args.branch c.args.frame.now)
     c.attempt.ensures.keeps c.attempt.ensures.sound c.requires.ready
 
+-- the member that holds what was made is one of those left
+pub cases-requires : goal.cases-requires
+cases-requires c =
+    let graph = nodes c.args.graph.now in
+    held_is_left graph _ (plain_task c.args.branch) c.in-Held.place
+    (subst (IsAttempt graph (table c.attempt.new.self) (plain_task c.args.branch) _) c.in-Held.is c.in_ok-place.ensures.attempt)
+
 pub returns-in-Held-clause-doing : goal.returns-in-Held-clause-doing
 returns-in-Held-clause-doing c =
     split (nodes c.args.graph.now) c.attempt.new.self c.args.frame.now c.args.branch c.in_ok-cases-in-Held.cases.items
-    c.push_all.new.self c.in_ok-push_all-in-Held.ensures (ready (goal.at.returns-in-Held-clause-doing c).After-attempt).fit c.in_ok-cases-in-Held.ensures
+    c.push_all.new.self c.in_ok-push_all-in-Held.ensures (ready (goal.at.returns-in-Held-clause-doing c).After-attempt).fit c.in_ok-cases-in-Held.ensures.cases
 
 pub returns-in-Made-clause-doing : goal.returns-in-Made-clause-doing
 returns-in-Made-clause-doing c =
     let graph = nodes c.args.graph.now in
-    let tried = subst (IsAttempt graph (table c.attempt.new.self) (plain_task c.args.branch)) c.in-Made.is c.in_ok-place.ensures.attempt in
+    let tried = subst (IsAttempt graph (table c.attempt.new.self) (plain_task c.args.branch) _) c.in-Made.is c.in_ok-place.ensures.attempt in
     made graph c.attempt.new.self c.args.frame.now c.args.branch c.args.frame.now c.in-Made.id
     (ready (goal.at.returns-in-Made-clause-doing c).After-attempt) tried.0 tried.1
 
@@ -34,9 +43,11 @@ add_pair-requires-clause-named c = (ready (goal.at.add_pair-requires-clause-name
 pub returns-clause-doing : goal.returns-clause-doing
 returns-clause-doing c =
     let graph = nodes c.args.graph.now in
-    let tried = subst (IsAttempt graph (table c.attempt.new.self) (plain_task c.args.branch)) c.in-Maps.is c.in_ok-place.ensures.attempt in
+    let parts = map (element_at (table c.args.self.now)) c.args.ids.now in
+    let tried = subst (IsAttempt graph (table c.attempt.new.self) (plain_task c.args.branch) parts) c.in-Maps.is
+    c.in_ok-place.ensures.attempt in
     IfOk-weaker c.add_pair.result _ _ (λ doing adds.
-    pair_worked graph c.attempt.new.self c.add_pair.new.self c.args.frame.now c.add_pair.new.frame c.args.branch c.in-Maps.from
+    pair_worked graph c.attempt.new.self c.add_pair.new.self c.args.frame.now c.add_pair.new.frame c.args.branch parts c.in-Maps.from
     c.in-Maps.to doing (ready (goal.at.returns-clause-doing c).After-attempt) tried c.add_pair.ensures.adds adds) c.add_pair.ensures.adds_pair
 
 pub returns-clause-sound : goal.returns-clause-sound
