@@ -1,4 +1,5 @@
 ghost use Rattle.std.specs.Prelude.{◌≡◌, ◌<◌, ◌^◌, ◌∷◌, ◌++◌, [], None, length, IfOk, OnOk, OnErr};
+ghost use Rattle.std.specs.Prelude.{IfSome};
 ghost use Rattle.cd_graph.specs.Nodes.{nodes};
 ghost use Rattle.cd_graph.specs.PlainFormula.{plain_named};
 ghost use Rattle.cd_model.specs.Formula.{Record};
@@ -7,12 +8,13 @@ ghost use Rattle.cd_needs.specs.RecordType.{record_type};
 ghost use Rattle.cd_rules.specs.Within.{IsTypeWithin};
 ghost use Rattle.cd_elements.specs.Elements.{table};
 ghost use Rattle.cd_elements.specs.Table.{element_at};
-ghost use Rattle.cd_holds.specs.Facts.{AreRight, Grows};
+ghost use Rattle.cd_holds.specs.Facts.{AreRight, Grows, IsNamed};
 ghost use Rattle.cd_holds.specs.Inner.Known.{known};
 
 use crate::finding::Finding;
+use crate::formula::has_few_parts;
 use crate::membership::Membership;
-use crate::search::{find_out, finding_of_type};
+use crate::search::{find_out, finding, finding_of_type};
 use cd_elements::{ElementId, Elements};
 use cd_graph::Graph;
 use cd_graph::fields::Fields;
@@ -63,10 +65,31 @@ impl Facts {
         ensures right { AreRight (nodes graph.now) (table elements.now) self.new }
         ensures grows { Grows self.old self.new }
     {
+        let asked = Membership { id, node };
+        if let Some(answer) = self.at_once(graph, elements, asked) {
+            return Ok(answer);
+        }
         if let Some(answer) = self.get(id, node) {
             return Ok(answer);
         }
-        find_out(self, graph, elements, Membership { id, node })
+        find_out(self, graph, elements, asked)
+    }
+
+    // Whether an element is in a node, where few steps tell, as of an element with another tag. So
+    // most facts need not be kept.
+    fn at_once(&self, graph: &Graph, elements: &Elements, asked: Membership) -> Option<bool>
+        requires named { IsNamed (nodes graph.now) (table elements.now) asked }
+        requires right { AreRight (nodes graph.now) (table elements.now) self.now }
+        ensures { let all = table elements.now in
+            IfSome result (answers (nodes graph.now) (element_at all asked.id) asked.node) }
+    {
+        if !has_few_parts(graph.formula(asked.node)) {
+            return None;
+        }
+        match finding(self, graph, elements, asked) {
+            Finding::Known(answer) => Some(answer),
+            Finding::Unknown(_, _) => None,
+        }
     }
 
     /// Whether an element is as a record type says. What is found out on the way is added to the

@@ -1,6 +1,6 @@
 //! What follows from what is known.
 ghost use Rattle.std.specs.Prelude.{◌≡◌};
-ghost use Rattle.cd_holds.specs.Inner.Finding.{look as look_of, both as both_of};
+ghost use Rattle.cd_holds.specs.Inner.Finding.{look as look_of};
 ghost use Rattle.cd_holds.specs.Inner.Finding.{one_of as one_of_both, opposite as opposite_of};
 ghost use Rattle.cd_holds.specs.Inner.Finding.{finding_at_result};
 ghost use Rattle.cd_holds.specs.Inner.Known.{known};
@@ -44,17 +44,6 @@ pub(crate) fn opposite(finding: Finding) -> Finding
 {
     match finding {
         Finding::Known(answer) => Finding::Known(!answer),
-        Finding::Unknown(id, node) => Finding::Unknown(id, node),
-    }
-}
-
-// Whether both are so.
-pub(crate) fn both(first: Finding, second: Finding) -> Finding
-    ensures { result ≡ both_of first second }
-{
-    match first {
-        Finding::Known(true) => second,
-        Finding::Known(false) => Finding::Known(false),
         Finding::Unknown(id, node) => Finding::Unknown(id, node),
     }
 }

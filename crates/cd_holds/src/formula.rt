@@ -42,6 +42,24 @@ pub(crate) fn finding_of(facts: &Facts, shape: &Shape, formula: &Formula) -> Fin
     }
 }
 
+/// Whether a formula speaks of few parts, so that a finding takes few steps.
+pub(crate) fn has_few_parts(formula: &Formula) -> bool {
+    match formula {
+        Formula::None
+        | Formula::All
+        | Formula::Ints(_)
+        | Formula::Chars(_)
+        | Formula::Atoms(_)
+        | Formula::Pair(_, _)
+        | Formula::Xml(_, _, _) => true,
+        Formula::Record(_)
+        | Formula::Arrow(_, _)
+        | Formula::And(_)
+        | Formula::Or(_)
+        | Formula::Not(_) => false,
+    }
+}
+
 // Whether it is in each of these formulas.
 #[cycle(finding_of)]
 fn of_all(facts: &Facts, shape: &Shape, formulas: &Formulas) -> Finding

@@ -4,12 +4,13 @@ ghost use Rattle.cd_graph.specs.PlainFormula.{plain_named, plain_field};
 ghost use Rattle.cd_model.specs.Formula as formula;
 ghost use Rattle.cd_elements.specs.Parts.{HasLabels};
 ghost use Rattle.cd_holds.specs.Inner.Finding.{finding_of, finding_at_pairs, labels};
+ghost use Rattle.cd_holds.specs.Inner.Finding.{look as look_of, both as both_of};
 ghost use Rattle.cd_holds.specs.Inner.Finding.{finding_at_labels, finding_at_field};
 ghost use Rattle.cd_holds.specs.Inner.Finding.{finding_at_other, finding_at_others};
 ghost use Rattle.cd_holds.specs.Inner.Known.{known};
 
 use crate::facts::Facts;
-use crate::finding::{Finding, both, look, look_at_result, one_of, opposite};
+use crate::finding::{Finding, look, look_at_result, one_of, opposite};
 use crate::rising::{first_at, from_label};
 use cd_elements::{ElementId, Shape};
 use cd_graph::fields::{Field, Fields};
@@ -21,7 +22,7 @@ pub(crate) fn at_pair(facts: &Facts, shape: &Shape, one: NodeId, other: NodeId) 
     ensures { result ≡ finding_of (known facts.now) shape.now (formula.Pair one other) }
 {
     match shape {
-        Shape::Pair(first, second) => both(look(facts, *first, one), look(facts, *second, other)),
+        Shape::Pair(first, second) => look_at_both(facts, (*first, one), (*second, other)),
         _ => Finding::Known(false),
     }
 }
@@ -37,11 +38,24 @@ pub(crate) fn at_xml(
     ensures { result ≡ finding_of (known facts.now) shape.now (formula.Xml one other last) }
 {
     match shape {
-        Shape::Xml(tag, attributes, content) => {
-            let inside = both(look(facts, *attributes, other), look(facts, *content, last));
-            both(look(facts, *tag, one), inside)
-        }
+        Shape::Xml(tag, attributes, content) => match look(facts, *tag, one) {
+            Finding::Known(true) => look_at_both(facts, (*attributes, other), (*content, last)),
+            Finding::Known(false) => Finding::Known(false),
+            Finding::Unknown(id, node) => Finding::Unknown(id, node),
+        },
         _ => Finding::Known(false),
+    }
+}
+
+// Whether two parts are in two nodes. The second is looked up where the first is in its node.
+fn look_at_both(facts: &Facts, first: (ElementId, NodeId), second: (ElementId, NodeId)) -> Finding
+    ensures { result ≡ both_of (look_of (known facts.now) first.0 first.1)
+        (look_of (known facts.now) second.0 second.1) }
+{
+    match look(facts, first.0, first.1) {
+        Finding::Known(true) => look(facts, second.0, second.1),
+        Finding::Known(false) => Finding::Known(false),
+        Finding::Unknown(id, node) => Finding::Unknown(id, node),
     }
 }
 

@@ -59,8 +59,13 @@ pub(crate) fn find_out(
     }
 }
 
-// Whether an element is in a node, as far as it follows from what is known.
-fn finding(facts: &Facts, graph: &Graph, elements: &Elements, asked: Membership) -> Finding
+/// Whether an element is in a node, as far as it follows from what is known.
+pub(crate) fn finding(
+    facts: &Facts,
+    graph: &Graph,
+    elements: &Elements,
+    asked: Membership,
+) -> Finding
     requires named { IsNamed (nodes graph.now) (table elements.now) asked }
     requires right { AreRight (nodes graph.now) (table elements.now) facts.now }
     ensures right { let all = table elements.now in

@@ -5,6 +5,7 @@ mod ExactSets
 mod ChoicesJoined
 pub mod BasicsOfQuestions
 mod ClausesOfKinds
+mod Refusals
 mod NextChoices
 mod ChoicesOfNodes
 mod NeedsOfChoices

@@ -4,10 +4,10 @@ ghost use Rattle.cd_graph.specs.PlainFormula.{plain, plain_formulas};
 ghost use Rattle.cd_model.specs.Formula.{formulas_of};
 ghost use Rattle.cd_rules.specs.Choices.{when};
 ghost use Rattle.cd_rules.specs.KindChoices.{is_of as is_of_kind, literal_by};
-ghost use Rattle.cd_rules.specs.PartialChoices.{each_signed};
+ghost use Rattle.cd_rules.specs.PartialChoices.{partial, each_signed};
 ghost use Rattle.cd_normal.specs.ChoicesGoOn.{GoesBy};
 ghost use Rattle.cd_normal.specs.Inner.NextChoices.{with_left, with_each, with_choices};
-ghost use Rattle.cd_normal.specs.Inner.NextChoices.{next_choices};
+ghost use Rattle.cd_normal.specs.Inner.NextChoices.{next_choices, refused_of, is_literal, are_literals};
 ghost use Rattle.cd_normal.specs.Inner.PlainChoice.{plain_literal};
 ghost use Rattle.cd_normal.specs.Inner.PlainPartial.{plain_partial, plain_partials};
 
@@ -69,6 +69,7 @@ fn meet<'g>(
         Formula::And(formulas) if next.wanted => unfold(choices, top, formulas, true),
         Formula::And(formulas) => divide(choices, top, formulas, false),
         Formula::Or(formulas) if next.wanted => divide(choices, top, formulas, true),
+        Formula::Or(formulas) if are_literals(formulas) => refuse_each(choices, top, formulas),
         Formula::Or(formulas) => unfold(choices, top, formulas, false),
         Formula::Not(inner) => ask(choices, top, inner, !next.wanted),
         Formula::Ints(_)
@@ -78,6 +79,34 @@ fn meet<'g>(
         | Formula::Xml(_, _, _)
         | Formula::Record(_)
         | Formula::Arrow(_, _) => extend(choices, top, next),
+    }
+}
+
+// Whether none of the formulas is a connective.
+fn are_literals(formulas: &Formulas) -> bool
+    ensures { result ≡ are_literals (plain_formulas formulas.now) }
+{
+    for formula in formulas.items() {
+        if !is_literal(formula) {
+            return false;
+        }
+    }
+    true
+}
+
+// Whether a formula is no connective.
+fn is_literal(formula: &Formula) -> bool
+    ensures { result ≡ is_literal (plain formula.now) }
+{
+    match formula {
+        Formula::None | Formula::All | Formula::And(_) | Formula::Or(_) | Formula::Not(_) => false,
+        Formula::Ints(_)
+        | Formula::Chars(_)
+        | Formula::Atoms(_)
+        | Formula::Pair(_, _)
+        | Formula::Xml(_, _, _)
+        | Formula::Record(_)
+        | Formula::Arrow(_, _) => true,
     }
 }
 
@@ -110,6 +139,24 @@ fn unfold<'g>(
 {
     let mut top = top;
     top.ask_each(formulas, wanted)?;
+    Ok(choices.push(top)?)
+}
+
+// Puts a choice on the others that refuses each of these literals.
+fn refuse_each<'g>(
+    choices: &mut Vec<PartialChoice<'g>>,
+    top: PartialChoice<'g>,
+    formulas: &'g Formulas,
+) -> Result<(), AllocError>
+    ensures { OnOk result (plain_partials choices.new.items
+        ≡ partial (plain_partial top.entry).kind
+        ((plain_partial top.entry).choice
+        ++ refused_of (plain_partial top.entry).kind (plain_formulas formulas.now))
+        (plain_partial top.entry).left
+        ∷ plain_partials choices.old.items) }
+{
+    let mut top = top;
+    top.refuse_each(formulas)?;
     Ok(choices.push(top)?)
 }
 

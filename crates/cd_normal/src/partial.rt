@@ -2,12 +2,12 @@
 ghost use Rattle.std.specs.Prelude.{◌≡◌, [], ◌∷◌, ◌++◌, IfOk, OnOk};
 ghost use Rattle.cd_graph.specs.PlainFormula.{plain_formulas};
 ghost use Rattle.cd_rules.specs.PartialChoices.{partial, each_signed};
-ghost use Rattle.cd_normal.specs.Inner.NextChoices.{with_left};
-ghost use Rattle.cd_normal.specs.Inner.PlainChoice.{plain_literal};
+ghost use Rattle.cd_normal.specs.Inner.NextChoices.{with_left, refused_of};
+ghost use Rattle.cd_normal.specs.Inner.PlainChoice.{plain_literal, plain_choice};
 ghost use Rattle.cd_normal.specs.Inner.PlainKind.{plain_kind};
 ghost use Rattle.cd_normal.specs.Inner.PlainPartial.{signed, plain_left, plain_partial};
 
-use crate::kind::Kind;
+use crate::kind::{Kind, is_of};
 use crate::literal::Literal;
 use cd_graph::Formulas;
 use std::alloc::{AllocError, Global};
@@ -70,6 +70,19 @@ impl<'g> PartialChoice<'g> {
         Ok(())
     }
 
+    /// Adds the literals of the kind among these, which are refused, to what is chosen.
+    pub(crate) fn refuse_each(&mut self, formulas: &'g Formulas) -> Result<(), AllocError>
+        ensures { OnOk result (plain_partial self.new
+            ≡ partial (plain_partial self.old).kind
+            ((plain_partial self.old).choice
+            ++ refused_of (plain_partial self.old).kind (plain_formulas formulas.now))
+            (plain_partial self.old).left) }
+    {
+        add_refused(&mut self.choice, self.kind, formulas)?;
+        self.changed = self.changed || is_looked_at(self.kind, false);
+        Ok(())
+    }
+
     /// Puts a formula before those that are left.
     pub(crate) fn ask(&mut self, next: Literal<'g>) -> Result<(), AllocError>
         ensures { OnOk result (plain_partial self.new
@@ -99,6 +112,27 @@ fn is_looked_at(kind: Kind, wanted: bool) -> bool {
         Kind::Pair | Kind::Xml | Kind::Record => wanted,
         Kind::Function => true,
     }
+}
+
+// Adds the literals of a kind among these, which are refused.
+#[tactic(auto, using(crate::proofs::Refusals::refused_next))]
+fn add_refused<'g>(
+    choice: &mut Vec<Literal<'g>>,
+    kind: Kind,
+    formulas: &'g Formulas,
+) -> Result<(), AllocError>
+    ensures { OnOk result (plain_choice choice.new.items ≡ plain_choice choice.old.items
+        ++ refused_of (plain_kind kind) (plain_formulas formulas.now)) }
+{
+    for formula in formulas.items() {
+        if is_of(kind, formula) {
+            choice.push(Literal {
+                wanted: false,
+                formula,
+            })?;
+        }
+    }
+    Ok(())
 }
 
 // Puts formulas before those that are left.

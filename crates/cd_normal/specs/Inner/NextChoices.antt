@@ -1,8 +1,11 @@
 -- What a choice in the making becomes by its next formula.
-use Rattle.std.specs.Prelude.{Bool, true, false, not, List, [], ◌∷◌, ◌++◌, map}
+use Rattle.std.specs.Prelude.{Bool, true, false, not, ◌&&◌, List, [], ◌∷◌, ◌++◌, map}
+use Rattle.std.specs.Prelude.{if◌then◌else◌}
 use Rattle.cd_model.specs.Formula as formula
-use Rattle.cd_model.specs.Formula.{Formula}
+use Rattle.cd_model.specs.Formula.{Formula, Formulas, NoFormula, AFormula}
+use Rattle.cd_model.specs.Kinds.{Kind}
 use Rattle.cd_rules.specs.Choices.{Choice}
+use Rattle.cd_rules.specs.KindChoices.{is_of}
 use Rattle.cd_rules.specs.PartialChoices.{Partial, Signed, partial, each_signed, extensions}
 
 -- the choice with these formulas before those that are left
@@ -17,11 +20,34 @@ with_choices choices is = map (λ more. partial is.kind (is.choice ++ more) is.l
 abbrev pub with_each : List Signed → Partial → List Partial
 with_each members is = map (λ member. partial is.kind is.choice (member ∷ is.left)) members
 
--- what a choice becomes by a formula that it is to meet before those that are left
+-- formulas that are no connectives, and speak of things of some kind
+abbrev pub is_literal : Formula → Bool
+is_literal formula.Nothing = false
+is_literal formula.Everything = false
+is_literal (formula.And formulas) = false
+is_literal (formula.Or formulas) = false
+is_literal (formula.Not one) = false
+is_literal one = true
+
+abbrev pub are_literals : Formulas → Bool
+are_literals NoFormula = true
+are_literals (AFormula is rest) = is_literal is && are_literals rest
+
+-- those of a kind, refused
+abbrev pub refused_of : Kind → Formulas → Choice
+refused_of kind NoFormula = []
+refused_of kind (AFormula is rest) =
+    if is_of kind is then record { wanted = false; is = is } ∷ refused_of kind rest
+    else refused_of kind rest
+
+-- what a choice becomes by a formula that it is to meet before those that are left: literals that
+-- are refused together are met at once
 abbrev pub next_choices : Partial → Formula → (wanted : Bool) → List Partial
 next_choices is (formula.And formulas) true = with_left (each_signed formulas true) is ∷ []
 next_choices is (formula.And formulas) false = with_each (each_signed formulas false) is
 next_choices is (formula.Or formulas) true = with_each (each_signed formulas true) is
-next_choices is (formula.Or formulas) false = with_left (each_signed formulas false) is ∷ []
+next_choices is (formula.Or formulas) false = if are_literals formulas
+    then partial is.kind (is.choice ++ refused_of is.kind formulas) is.left ∷ []
+    else with_left (each_signed formulas false) is ∷ []
 next_choices is (formula.Not one) wanted = with_left ((one, not wanted) ∷ []) is ∷ []
 next_choices is one wanted = extensions is.kind is.choice (one, wanted) is.left

@@ -5,7 +5,7 @@ use Rattle.cd_holds.proofs.FactsKept.{facts_are_knowledge}
 use Rattle.cd_holds.proofs.facts.Facts.is_in.Goals as goal
 
 -- what is known is right
-pub returns-in-Some-clause-answer : goal.returns-in-Some-clause-answer
-returns-in-Some-clause-answer c =
+pub returns-in-Some-get-clause-answer : goal.returns-in-Some-get-clause-answer
+returns-in-Some-get-clause-answer c =
     facts_are_knowledge (nodes c.args.graph.now) (table c.args.elements.now) c.args.self.now c.requires.right c.args.id c.args.node
-    c.in-Some.answer (sym c.get.ensures ∙ c.in-Some.is)
+    c.in-Some-get.answer (sym c.get.ensures ∙ c.in-Some-get.is)
