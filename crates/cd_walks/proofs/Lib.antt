@@ -1,0 +1,10 @@
+mod Lists
+mod NextWords
+mod Odometers
+mod Skipping
+mod ToldOnce
+mod FullWords
+mod WaysOfWords
+mod RowsOfWords
+mod WaysWithin
+mod RowsWithin

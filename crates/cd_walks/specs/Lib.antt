@@ -1,0 +1,5 @@
+pub mod Assignments
+pub mod Inner
+pub mod RowWalks
+pub mod Walks
+pub mod Within
