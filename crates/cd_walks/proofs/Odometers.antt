@@ -1,8 +1,8 @@
 -- What an odometer tells next, and what it skips.
-use Rattle.std.proofs.Common.{◌≡◌, ◌∙◌, ap, sym, refl, ℕ, suc, ◌<◌, ◌≤◌, List, [], ◌∷◌, ◌++◌, length, Option, Some, None, true≢false}
+use Rattle.std.proofs.Common.{◌≡◌, ◌∙◌, ap, sym, refl, ℕ, ◌<◌, ◌≤◌, [], ◌∷◌, ◌++◌, length, true≢false}
 use Rattle.std.specs.Option.{IfSome, IsSome}
 use Rattle.cd_walks.specs.Assignments.{Word, without_those_from}
-use Rattle.cd_walks.specs.Inner.AfterWords.{after, later, below, next_later, words_from}
+use Rattle.cd_walks.specs.Inner.AfterWords.{after, later, next_later, words_from}
 use Rattle.cd_walks.specs.Inner.Odometers.{word_told, words_left}
 use Rattle.cd_walks.specs.declared.odometer.Next.{Next}
 use Rattle.cd_walks.specs.declared.odometer.Next.TheVariants.{First, Below, Later}

@@ -1,5 +1,5 @@
 -- The full words make the rows of a clause of records.
-use Rattle.std.proofs.Common.{◌≡◌, ◌∙◌, sym, ap, subst, refl, ℕ, zero, suc, ◌+◌, ◌-◌, ◌==◌, false, List, [], ◌∷◌, ◌++◌, map, length, Option, Some, None, if◌then◌else◌, append_assoc, arith}
+use Rattle.std.proofs.Common.{◌≡◌, ◌∙◌, sym, ap, subst, refl, ℕ, ◌+◌, ◌-◌, ◌==◌, false, List, [], ◌∷◌, ◌++◌, map, length, Some, None, if◌then◌else◌, append_assoc, arith}
 use Rattle.std.proofs.lemmas.Bool.Decides.{nat_tests}
 use Rattle.std.proofs.lemmas.List.{map-append, length-append, length-map}
 use Rattle.std.specs.List.{slice_get}
@@ -31,10 +31,11 @@ are_labels before [] = tt
 are_labels before (label ∷ labels) =
     let longer = are_labels (before ++ label ∷ []) labels in
     let all : (before ++ label ∷ []) ++ labels ≡ before ++ label ∷ labels = append_assoc before (label ∷ []) labels in
-    let count : length (before ++ label ∷ []) ≡ length before + 1 = length-append before (label ∷ []) in
-    (label_of before label labels,
-    subst (λ count. AreReasons (before ++ label ∷ labels) (count + 1) (map Some labels)) count
-    (subst (λ names. AreReasons names (length (before ++ label ∷ []) + 1) (map Some labels)) all longer))
+    let count : length (before ++ label ∷ []) ≡ length before + 1 = length-append before (label ∷ []) in (
+      label_of before label labels,
+      subst (λ count. AreReasons (before ++ label ∷ labels) (count + 1) (map Some labels)) count
+          (subst (λ names. AreReasons names (length (before ++ label ∷ []) + 1) (map Some labels)) all longer),
+    )
 
 -- each word with the sides before it, and each choice of reasons with the reasons before it
 each_reason : (type : RecordType) (labels : List Name) (refused : List RecordType) (reasons : List Reason) (first : ℕ)

@@ -1,5 +1,5 @@
 -- The reasons of a word begin those of a longer one, so its row is within the longer word's.
-use Rattle.std.proofs.Common.{◌≡◌, ◌∙◌, ap, sym, subst, refl, Bool, true, false, ◌&&◌, not, List, [], ◌∷◌, ◌++◌, map, Option, Some, None, if◌then◌else◌, true≢false}
+use Rattle.std.proofs.Common.{◌≡◌, ◌∙◌, ap, sym, subst, refl, Bool, true, false, ◌&&◌, not, List, [], ◌∷◌, ◌++◌, map, Some, None, if◌then◌else◌, true≢false}
 use Rattle.std.proofs.lemmas.Bool.{and_parts}
 use Rattle.std.proofs.lemmas.List.Folds.{list_all-append}
 use Rattle.std.specs.List.{list_all}
@@ -8,7 +8,7 @@ use Rattle.cd_rules.proofs.Among.{among_itself, among_longer, among_map}
 use Rattle.cd_rules.specs.Clauses.{RecordType}
 use Rattle.cd_rules.specs.Family.{AreAmong}
 use Rattle.cd_rules.specs.Needs.{question}
-use Rattle.cd_rules.specs.Rows.{Reason, Reasons, cell_at, field_at, is_reason, labels_of, row_of, types_at, types_elsewhere}
+use Rattle.cd_rules.specs.Rows.{Reasons, cell_at, field_at, is_reason, labels_of, row_of, types_at, types_elsewhere}
 use Rattle.cd_walks.specs.Assignments.{Word, begins_with, reason_of, reasons_by, row_by}
 use Rattle.cd_walks.specs.Within.{AreCellsWithin, IsCellWithin, IsRowWithin}
 use Rattle.cd_walks.proofs.WaysWithin.{asks_no_less, begins_later, same_side}
@@ -19,9 +19,11 @@ reasons_begin labels [] longer refused begins = (reasons_by labels longer refuse
 reasons_begin labels (side ∷ word) [] refused begins = absurd (true≢false (sym begins))
 reasons_begin labels (side ∷ word) (other ∷ longer) [] begins = ([], refl)
 reasons_begin labels (side ∷ word) (other ∷ longer) (type ∷ refused) begins =
-    let rest = reasons_begin labels word longer refused (begins_later side other word longer begins) in
-    (rest.0, ap (λ (side : _). (type, reason_of labels side) ∷ reasons_by labels longer refused) (sym (same_side side other word longer begins))
-    ∙ ap (λ (reasons : Reasons). (type, reason_of labels side) ∷ reasons) rest.1)
+    let rest = reasons_begin labels word longer refused (begins_later side other word longer begins) in (
+      rest.0,
+      ap (λ (side : _). (type, reason_of labels side) ∷ reasons_by labels longer refused) (sym (same_side side other word longer begins))
+          ∙ ap (λ (reasons : Reasons). (type, reason_of labels side) ∷ reasons) rest.1,
+    )
 
 -- the types of the first reasons come first
 types_both : (label : Name) (reasons more : Reasons) → types_at label (reasons ++ more) ≡ types_at label reasons ++ types_at label more

@@ -1,12 +1,12 @@
 -- The full words make the ways of a need.
-use Rattle.std.proofs.Common.{◌≡◌, ◌∙◌, sym, ap, subst, refl, ℕ, zero, suc, ◌<◌, List, [], ◌∷◌, ◌++◌, map, length, Option, Some, append-nil, append_assoc, arith}
+use Rattle.std.proofs.Common.{◌≡◌, ◌∙◌, sym, ap, refl, ℕ, zero, suc, ◌<◌, List, [], ◌∷◌, ◌++◌, map, length, Some, append-nil, append_assoc, arith}
 use Rattle.std.proofs.lemmas.List.{map-append}
 use Rattle.std.proofs.lemmas.Option.{slice_get-map}
 use Rattle.std.specs.List.{slice_get}
 use Rattle.std.specs.Option.{option_map}
-use Rattle.cd_rules.specs.Clauses.{Clause, Ints, Chars, Atoms, Pairs, Xmls, Records, Arrows, Pair, Triple}
+use Rattle.cd_rules.specs.Clauses.{Clause, Ints, Chars, Atoms, Pairs, Xmls, Records, Arrows, Pair}
 use Rattle.cd_rules.specs.Needs.{Need, AreNeeds, pair_way, xml_way, arrow_way, splits, splits_in_three, to_one, to_other, to_first, to_middle, to_last}
-use Rattle.cd_walks.specs.Assignments.{HasWays, Word, count_needs, each_side, full_words, given, given_in_three, members_of, sides_of, way_of, way_outside}
+use Rattle.cd_walks.specs.Assignments.{HasWays, Word, count_needs, full_words, given, given_in_three, members_of, sides_of, way_of, way_outside}
 use Rattle.cd_walks.proofs.FullWords.{full_more}
 use Rattle.cd_walks.proofs.Lists.{map_map, map_twice}
 

@@ -1,5 +1,5 @@
 -- What a word gives to a side is among what a longer one gives to it, so its way is within the longer word's.
-use Rattle.std.proofs.Common.{◌≡◌, subst, ℕ, ◌==◌, Bool, true, false, List, [], ◌∷◌, map, Option, Some, None, if◌then◌else◌, arith, true≢false, sym}
+use Rattle.std.proofs.Common.{◌≡◌, subst, ℕ, ◌==◌, Bool, true, false, List, [], ◌∷◌, map, Option, Some, None, if◌then◌else◌, true≢false, sym}
 use Rattle.std.proofs.lemmas.Bool.{and_parts}
 use Rattle.std.proofs.lemmas.Bool.Decides.{Decides-eqb}
 use Rattle.std.specs.List.{slice_get}
@@ -8,7 +8,7 @@ use Rattle.cd_model.specs.BuiltIns.{ATOM, RECORD}
 use Rattle.cd_rules.proofs.Among.{among_both, among_itself, among_map, among_sets}
 use Rattle.cd_rules.specs.Clauses.{Clause, Ints, Chars, Atoms, Pairs, Xmls, Records, Arrows, Pair, Triple}
 use Rattle.cd_rules.specs.Family.{AreAmong, AsksNoLess}
-use Rattle.cd_rules.specs.Needs.{question, pair_way, xml_way, arrow_way, result_questions, to_one, to_other, to_first, to_middle, to_last}
+use Rattle.cd_rules.specs.Needs.{question, pair_way, xml_way, result_questions, to_one, to_other, to_first, to_middle, to_last}
 use Rattle.cd_walks.specs.Assignments.{Word, begins_with, given, given_in_three, to_side, to_side_of_three, way_of, way_outside}
 use Rattle.cd_walks.specs.Within.{IsWayWithin}
 
@@ -25,14 +25,14 @@ record AreTwoAmong {X : Type 0} (sides longer : List X × List X) : Type 0 where
 
 two_with : {X : Type 0} (x : X) (sides longer : List X × List X) (first : Bool) → AreTwoAmong sides longer
     → AreTwoAmong (if first then to_one x sides else to_other x sides) (if first then to_one x longer else to_other x longer)
-two_with x sides longer true are = record { one = among_both x sides.0 longer.0 are.one; other = are.other; }
-two_with x sides longer false are = record { one = are.one; other = among_both x sides.1 longer.1 are.other; }
+two_with x sides longer true are = record { one = among_both x sides.0 longer.0 are.one; other = are.other }
+two_with x sides longer false are = record { one = are.one; other = among_both x sides.1 longer.1 are.other }
 
 given_within : {X : Type 0} (word longer : Word) (members : List X) → begins_with word longer ≡ true
     → AreTwoAmong (given word members) (given longer members)
-given_within [] longer members begins = record { one = tt; other = tt; }
+given_within [] longer members begins = record { one = tt; other = tt }
 given_within (side ∷ word) [] members begins = absurd (true≢false (sym begins))
-given_within (side ∷ word) (other ∷ longer) [] begins = record { one = tt; other = tt; }
+given_within (side ∷ word) (other ∷ longer) [] begins = record { one = tt; other = tt }
 given_within (side ∷ word) (other ∷ longer) (x ∷ members) begins =
     subst (λ same. AreTwoAmong (to_side side x (given word members)) (to_side same x (given longer members)))
     (same_side side other word longer begins)
@@ -48,17 +48,17 @@ three_with : {X : Type 0} (x : X) (sides longer : List X × List X × List X) (i
     → AreThreeAmong (if is_first then to_first x sides else (if is_middle then to_middle x sides else to_last x sides))
     (if is_first then to_first x longer else (if is_middle then to_middle x longer else to_last x longer))
 three_with x sides longer true is_middle are =
-    record { first = among_both x sides.0 longer.0 are.first; middle = are.middle; last = are.last; }
+    record { first = among_both x sides.0 longer.0 are.first; middle = are.middle; last = are.last }
 three_with x sides longer false true are =
-    record { first = are.first; middle = among_both x sides.1 longer.1 are.middle; last = are.last; }
+    record { first = are.first; middle = among_both x sides.1 longer.1 are.middle; last = are.last }
 three_with x sides longer false false are =
-    record { first = are.first; middle = are.middle; last = among_both x sides.2 longer.2 are.last; }
+    record { first = are.first; middle = are.middle; last = among_both x sides.2 longer.2 are.last }
 
 three_within : {X : Type 0} (word longer : Word) (members : List X) → begins_with word longer ≡ true
     → AreThreeAmong (given_in_three word members) (given_in_three longer members)
-three_within [] longer members begins = record { first = tt; middle = tt; last = tt; }
+three_within [] longer members begins = record { first = tt; middle = tt; last = tt }
 three_within (side ∷ word) [] members begins = absurd (true≢false (sym begins))
-three_within (side ∷ word) (other ∷ longer) [] begins = record { first = tt; middle = tt; last = tt; }
+three_within (side ∷ word) (other ∷ longer) [] begins = record { first = tt; middle = tt; last = tt }
 three_within (side ∷ word) (other ∷ longer) (x ∷ members) begins =
     subst (λ same. AreThreeAmong (to_side_of_three side x (given_in_three word members)) (to_side_of_three same x (given_in_three longer members)))
     (same_side side other word longer begins)
@@ -78,25 +78,31 @@ parts_within part pos members more among =
 
 pair_within : (wanted : List Pair) (sides longer : List Pair × List Pair) → AreTwoAmong sides longer
     → IsWayWithin (pair_way wanted sides) (pair_way wanted longer)
-pair_within wanted sides longer are =
-    (parts_within (λ parts. parts.0) (map (λ parts. parts.0) wanted) sides.0 longer.0 are.one,
-    (parts_within (λ parts. parts.1) (map (λ parts. parts.1) wanted) sides.1 longer.1 are.other, tt))
+pair_within wanted sides longer are = (
+  parts_within (λ parts. parts.0) (map (λ parts. parts.0) wanted) sides.0 longer.0 are.one,
+  (parts_within (λ parts. parts.1) (map (λ parts. parts.1) wanted) sides.1 longer.1 are.other, tt),
+)
 
 xml_within : (wanted : List Triple) (sides longer : List Triple × List Triple × List Triple) → AreThreeAmong sides longer
     → IsWayWithin (xml_way wanted sides) (xml_way wanted longer)
-xml_within wanted sides longer are =
-    (parts_within (λ parts. parts.0) (ATOM ∷ map (λ parts. parts.0) wanted) sides.0 longer.0 are.first,
-    (parts_within (λ parts. parts.1) (RECORD ∷ map (λ parts. parts.1) wanted) sides.1 longer.1 are.middle,
-    (parts_within (λ parts. parts.2) (map (λ parts. parts.2) wanted) sides.2 longer.2 are.last, tt)))
+xml_within wanted sides longer are = (
+  parts_within (λ parts. parts.0) (ATOM ∷ map (λ parts. parts.0) wanted) sides.0 longer.0 are.first,
+  (
+    parts_within (λ parts. parts.1) (RECORD ∷ map (λ parts. parts.1) wanted) sides.1 longer.1 are.middle,
+    (parts_within (λ parts. parts.2) (map (λ parts. parts.2) wanted) sides.2 longer.2 are.last, tt),
+  ),
+)
 
 result_within : (refused : Pair) (results longer : List Pair) → AreAmong results longer
     → IsWayWithin (result_questions refused results) (result_questions refused longer)
 result_within refused [] longer among = tt
 result_within refused (one ∷ others) [] among = absurd among.0
 result_within refused (one ∷ others) (first ∷ longer) among =
-    let result : Pair → NodeId = λ parts. parts.1 in
-    (asks_no_less (map result (one ∷ others)) (refused.1 ∷ []) (map result (first ∷ longer)) (refused.1 ∷ [])
-    (among_map result (one ∷ others) (first ∷ longer) among) (among_itself (refused.1 ∷ [])), tt)
+    let result : Pair → NodeId = λ parts. parts.1 in (
+      asks_no_less (map result (one ∷ others)) (refused.1 ∷ []) (map result (first ∷ longer)) (refused.1 ∷ [])
+          (among_map result (one ∷ others) (first ∷ longer) among) (among_itself (refused.1 ∷ [])),
+      tt,
+    )
 
 arrow_within : (refused : Option Pair) (sides longer : List Pair × List Pair) → AreTwoAmong sides longer
     → IsWayWithin (way_outside refused sides) (way_outside refused longer)

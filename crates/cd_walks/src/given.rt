@@ -5,6 +5,7 @@ use cd_sets::node_id::NodeId;
 use std::alloc::{AllocError, Global};
 
 type Pair = (NodeId, NodeId);
+
 type Triple = (NodeId, NodeId, NodeId);
 
 /// What a word gives to each of two sides.

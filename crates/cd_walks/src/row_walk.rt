@@ -1,9 +1,10 @@
 //! The rows of a clause of records, one after the other.
-ghost use Rattle.std.specs.Prelude.{◌≡◌, ◌+◌, ◌++◌, length, None, IfOk, OnErr, IsSome, IfSome};
+ghost use Rattle.std.specs.Prelude.{◌≡◌, ◌≤◌, ◌+◌, ◌++◌, length, None, IfOk, OnErr, IsSome, IfSome};
 ghost use Rattle.cd_needs.specs.RecordType.{record_types};
 ghost use Rattle.cd_records.specs.PlainReasons.{plain_labels};
+ghost use Rattle.cd_records.specs.RecordTypes.{plain_row};
 ghost use Rattle.cd_rules.specs.Rows.{labels_of as labels_of_types};
-ghost use Rattle.cd_walks.specs.Assignments.{all_words, without_those_from};
+ghost use Rattle.cd_walks.specs.Assignments.{all_words, row_by as row_of_word, without_those_from};
 
 use crate::odometer::Odometer;
 use crate::reasons::reasons_by;
@@ -90,18 +91,26 @@ impl<'g> RowWalk<'g> {
         let Some(word) = self.words.next_word()? else {
             return Ok(RowStep::Done);
         };
-        let alloc = self.words.allocator();
-        let refused = self.refused.as_slice();
-        let labels = self.labels.as_slice();
-        let reasons = reasons_by(alloc, labels, word.as_slice(), refused)?;
-        let row = row(alloc, labels, self.wanted.as_slice(), reasons.as_slice())?;
-        let is_full = word.as_slice().len() == refused.len();
+        let row = self.row_by(word.as_slice())?;
+        let is_full = word.as_slice().len() == self.refused.as_slice().len();
         self.words.tell(word);
         if is_full {
             Ok(RowStep::Full(row))
         } else {
             Ok(RowStep::Partial(row))
         }
+    }
+
+    // The row that a word makes.
+    fn row_by(&self, word: &[usize]) -> Result<Row, AllocError>
+        requires { length word.now ≤ length (refused_of self.now) }
+        ensures { IfOk result (λ row.
+            plain_row row ≡ row_of_word (wanted_of self.now) (refused_of self.now) word.now) }
+    {
+        let alloc = self.words.allocator();
+        let labels = self.labels.as_slice();
+        let reasons = reasons_by(alloc, labels, word, self.refused.as_slice())?;
+        row(alloc, labels, self.wanted.as_slice(), reasons.as_slice())
     }
 
     /// Skips the words that begin with the one that was told last.

@@ -1,7 +1,5 @@
 -- What an odometer has told, and what it has not.
-use Rattle.std.specs.Prelude.{◌≡◌, ℕ, suc, ◌+◌, List, ◌++◌, Option, Some, None}
-use Rattle.std.specs.Option.{option_map}
-use Rattle.std.specs.declared.vec.Vec.{Vec}
+use Rattle.std.specs.Prelude.{ℕ, suc, List, Option, Some, None}
 use Rattle.cd_walks.specs.Assignments.{Word, all_words}
 use Rattle.cd_walks.specs.Inner.AfterWords.{after, later}
 use Rattle.cd_walks.specs.declared.odometer.Next.{Next}
