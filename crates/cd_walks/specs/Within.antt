@@ -12,8 +12,8 @@ IsWayWithin (question ∷ way) [] = ⊥
 IsWayWithin (question ∷ way) (other ∷ longer) =
     AsksNoLess other question × IsWayWithin way longer
 
--- a value of the longer cell's question is one of this cell's, and where nothing may stand at that
--- cell, nothing may stand at this one
+-- the longer cell's question asks no less; and where the longer cell lets the label be absent, so
+-- does this one
 abbrev pub IsCellWithin : (cell longer : Cell) → Type 0
 IsCellWithin cell longer =
     AsksNoLess longer.value cell.value × (longer.absent ≡ true → cell.absent ≡ true)
