@@ -1,5 +1,5 @@
-//! The ways of the needs of a clause, and the rows of a clause of records, one after the other: each
-//! begins with what fewer members ask, so that all that begin alike can be skipped at once.
+//! The ways of the needs of a clause, and the rows of a clause of records, one after the other.
+//! What fewer members ask comes first, so that all that begins with it can be skipped at once.
 #![tactic(auto)]
 
 mod clauses;
