@@ -6,7 +6,7 @@ use Rattle.cd_rules.specs.PartialChoices.{Partial, GoesOn, unfolds, divides, ext
 use Rattle.cd_rules.specs.PartialChoices.{wants_each, refuses_each, denies, wants_one, refuses_one}
 use Rattle.cd_normal.specs.ChoicesGoOn.{TopGoesOn}
 use Rattle.cd_normal.specs.Inner.NextChoices.{next_choices, are_literals}
-use Rattle.cd_normal.proofs.Refusals.{goes_on_refusing}
+use Rattle.cd_normal.proofs.Refusals.{goes_on_refusing, goes_on_wanting}
 
 pub next_goes_on : (is : Partial) (one : Formula) (wanted : Bool)
     → GoesOn (partial is.kind is.choice ((one, wanted) ∷ is.left)) (next_choices is one wanted)
@@ -14,8 +14,7 @@ next_goes_on is (formula.And formulas) true =
     unfolds is.kind is.choice (formula.And formulas, true) (each_signed formulas true) is.left (wants_each formulas)
 next_goes_on is (formula.And formulas) false =
     divides is.kind is.choice (formula.And formulas, false) (each_signed formulas false) is.left (refuses_one formulas)
-next_goes_on is (formula.Or formulas) true =
-    divides is.kind is.choice (formula.Or formulas, true) (each_signed formulas true) is.left (wants_one formulas)
+next_goes_on is (formula.Or formulas) true = goes_on_wanting is formulas (are_literals formulas) refl
 next_goes_on is (formula.Or formulas) false = goes_on_refusing is formulas (are_literals formulas) refl
 next_goes_on is (formula.Not one) wanted =
     unfolds is.kind is.choice (formula.Not one, wanted) ((one, not wanted) ∷ []) is.left (denies one wanted)

@@ -1,13 +1,14 @@
 //! How choices in the making go on. Of a list of them the last is worked at.
-ghost use Rattle.std.specs.Prelude.{◌≡◌, [], ◌∷◌, ◌++◌, map, IfOk, OnOk};
+ghost use Rattle.std.specs.Prelude.{◌≡◌, [], ◌∷◌, ◌++◌, true, map, IfOk, OnOk};
 ghost use Rattle.cd_graph.specs.PlainFormula.{plain, plain_formulas};
-ghost use Rattle.cd_model.specs.Formula.{formulas_of};
+ghost use Rattle.cd_model.specs.Formula.{Or, formulas_of};
 ghost use Rattle.cd_rules.specs.Choices.{when};
 ghost use Rattle.cd_rules.specs.KindChoices.{is_of as is_of_kind, literal_by};
 ghost use Rattle.cd_rules.specs.PartialChoices.{partial, each_signed};
 ghost use Rattle.cd_normal.specs.ChoicesGoOn.{GoesBy};
 ghost use Rattle.cd_normal.specs.Inner.NextChoices.{with_left, with_each, with_choices};
-ghost use Rattle.cd_normal.specs.Inner.NextChoices.{next_choices, refused_of, is_literal, are_literals};
+ghost use Rattle.cd_normal.specs.Inner.NextChoices.{next_choices, refused_of, wanted_of};
+ghost use Rattle.cd_normal.specs.Inner.NextChoices.{is_literal, are_literals};
 ghost use Rattle.cd_normal.specs.Inner.PlainChoice.{plain_literal};
 ghost use Rattle.cd_normal.specs.Inner.PlainPartial.{plain_partial, plain_partials};
 
@@ -68,7 +69,7 @@ fn meet<'g>(
         Formula::All => keep_if(choices, top, next.wanted),
         Formula::And(formulas) if next.wanted => unfold(choices, top, formulas, true),
         Formula::And(formulas) => divide(choices, top, formulas, false),
-        Formula::Or(formulas) if next.wanted => divide(choices, top, formulas, true),
+        Formula::Or(formulas) if next.wanted => want_one(choices, top, formulas),
         Formula::Or(formulas) if are_literals(formulas) => refuse_each(choices, top, formulas),
         Formula::Or(formulas) => unfold(choices, top, formulas, false),
         Formula::Not(inner) => ask(choices, top, inner, !next.wanted),
@@ -174,6 +175,47 @@ fn ask<'g>(
     let mut top = top;
     top.ask(Literal { wanted, formula })?;
     Ok(choices.push(top)?)
+}
+
+// Puts a choice on the others for each of the formulas, of which one is wanted. Of literals only
+// those of the kind get one.
+fn want_one<'g>(
+    choices: &mut Vec<PartialChoice<'g>>,
+    top: PartialChoice<'g>,
+    formulas: &'g Formulas,
+) -> Result<(), AllocError>
+    ensures { OnOk result (plain_partials choices.new.items
+        ≡ next_choices (plain_partial top.entry) (Or (plain_formulas formulas.now)) true
+        ++ plain_partials choices.old.items) }
+{
+    if are_literals(formulas) {
+        choose_copies(choices, &top, formulas.items())
+    } else {
+        divide(choices, top, formulas, true)
+    }
+}
+
+// Puts a copy of a choice on the others for each of these literals that is of the kind, with that
+// literal.
+fn choose_copies<'g>(
+    choices: &mut Vec<PartialChoice<'g>>,
+    top: &PartialChoice<'g>,
+    formulas: &'g [Formula],
+) -> Result<(), AllocError>
+    ensures { OnOk result (plain_partials choices.new.items
+        ≡ with_choices (wanted_of (plain_partial top.now).kind
+        (formulas_of (map plain formulas.now))) (plain_partial top.now)
+        ++ plain_partials choices.old.items) }
+{
+    let mut index = formulas.len();
+    while index > 0 {
+        index -= 1;
+        let formula = &formulas[index];
+        if is_of(top.kind, formula) {
+            choices.push(top.copy_choosing(formula)?)?;
+        }
+    }
+    Ok(())
 }
 
 // Puts a choice on the others for each of the formulas, with that of the first at the end.

@@ -1,6 +1,6 @@
 //! One choice in the making.
-ghost use Rattle.std.specs.Prelude.{◌≡◌, [], ◌∷◌, ◌++◌, IfOk, OnOk};
-ghost use Rattle.cd_graph.specs.PlainFormula.{plain_formulas};
+ghost use Rattle.std.specs.Prelude.{◌≡◌, [], ◌∷◌, ◌++◌, true, IfOk, OnOk};
+ghost use Rattle.cd_graph.specs.PlainFormula.{plain, plain_formulas};
 ghost use Rattle.cd_rules.specs.PartialChoices.{partial, each_signed};
 ghost use Rattle.cd_normal.specs.Inner.NextChoices.{with_left, refused_of};
 ghost use Rattle.cd_normal.specs.Inner.PlainChoice.{plain_literal, plain_choice};
@@ -9,7 +9,7 @@ ghost use Rattle.cd_normal.specs.Inner.PlainPartial.{signed, plain_left, plain_p
 
 use crate::kind::{Kind, is_of};
 use crate::literal::Literal;
-use cd_graph::Formulas;
+use cd_graph::{Formula, Formulas};
 use std::alloc::{AllocError, Global};
 
 /// A choice in the making. The next one of the formulas that are left is the last of their list.
@@ -55,6 +55,32 @@ impl<'g> PartialChoice<'g> {
             choice,
             left,
             changed: self.changed,
+        })
+    }
+
+    /// The same choice, with this formula, which is wanted, in what is chosen.
+    pub(crate) fn copy_choosing(
+        &self,
+        formula: &'g Formula,
+    ) -> Result<PartialChoice<'g>, AllocError>
+        ensures { IfOk result (λ copy. plain_partial copy
+            ≡ partial (plain_partial self.now).kind
+            ((plain_partial self.now).choice
+            ++ record { wanted = true; is = plain formula.now } ∷ [])
+            (plain_partial self.now).left) }
+    {
+        let alloc = *self.left.allocator();
+        let mut choice = Vec::with_capacity(alloc, self.choice.len() + 1)?;
+        choice.extend_from_slice(self.choice.as_slice())?;
+        choice.push(Literal {
+            wanted: true,
+            formula,
+        })?;
+        Ok(PartialChoice {
+            kind: self.kind,
+            choice,
+            left: Vec::from_slice(alloc, self.left.as_slice())?,
+            changed: true,
         })
     }
 

@@ -21,7 +21,7 @@ pub(crate) fn pairs(
     ensures { IfOk result (λ parts.
         parts.items ≡ parts_in pair_of wanted (plain_choice choice.now)) }
 {
-    let mut parts = Vec::new(alloc);
+    let mut parts = Vec::with_capacity(alloc, choice.len())?;
     for literal in choice {
         add(&mut parts, wanted, literal.wanted, pair(literal.formula))?;
     }
@@ -38,7 +38,7 @@ pub(crate) fn xmls(
     ensures { IfOk result (λ parts.
         parts.items ≡ parts_in xml_of wanted (plain_choice choice.now)) }
 {
-    let mut parts = Vec::new(alloc);
+    let mut parts = Vec::with_capacity(alloc, choice.len())?;
     for literal in choice {
         add(&mut parts, wanted, literal.wanted, xml(literal.formula))?;
     }
@@ -55,7 +55,7 @@ pub(crate) fn records<'g>(
     ensures { IfOk result (λ parts.
         record_types parts.items ≡ parts_in record_of wanted (plain_choice choice.now)) }
 {
-    let mut parts = Vec::new(alloc);
+    let mut parts = Vec::with_capacity(alloc, choice.len())?;
     for literal in choice {
         add_fields(&mut parts, wanted, literal.wanted, record(literal.formula))?;
     }
@@ -72,7 +72,7 @@ pub(crate) fn arrows(
     ensures { IfOk result (λ parts.
         parts.items ≡ parts_in arrow_of wanted (plain_choice choice.now)) }
 {
-    let mut parts = Vec::new(alloc);
+    let mut parts = Vec::with_capacity(alloc, choice.len())?;
     for literal in choice {
         add(&mut parts, wanted, literal.wanted, arrow(literal.formula))?;
     }

@@ -40,12 +40,21 @@ refused_of kind (AFormula is rest) =
     if is_of kind is then record { wanted = false; is = is } ∷ refused_of kind rest
     else refused_of kind rest
 
+-- a choice for each one of a kind
+abbrev pub wanted_of : Kind → Formulas → List Choice
+wanted_of kind NoFormula = []
+wanted_of kind (AFormula is rest) =
+    if is_of kind is then (record { wanted = true; is = is } ∷ []) ∷ wanted_of kind rest
+    else wanted_of kind rest
+
 -- what a choice becomes by a formula that it is to meet before those that are left: literals that
--- are refused together are met at once
+-- are refused together are met at once, and of those of which one is wanted only the ones of the
+-- kind are met
 abbrev pub next_choices : Partial → Formula → (wanted : Bool) → List Partial
 next_choices is (formula.And formulas) true = with_left (each_signed formulas true) is ∷ []
 next_choices is (formula.And formulas) false = with_each (each_signed formulas false) is
-next_choices is (formula.Or formulas) true = with_each (each_signed formulas true) is
+next_choices is (formula.Or formulas) true = if are_literals formulas
+    then with_choices (wanted_of is.kind formulas) is else with_each (each_signed formulas true) is
 next_choices is (formula.Or formulas) false = if are_literals formulas
     then partial is.kind (is.choice ++ refused_of is.kind formulas) is.left ∷ []
     else with_left (each_signed formulas false) is ∷ []

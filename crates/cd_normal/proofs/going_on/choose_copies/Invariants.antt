@@ -1,0 +1,16 @@
+use Rattle.std.proofs.Common.{◌≡◌, ◌≤◌, ◌++◌, map, drop, length}
+use Rattle.cd_model.specs.Formula.{formulas_of}
+use Rattle.cd_graph.specs.PlainFormula.{plain}
+use Rattle.cd_normal.specs.Inner.NextChoices.{with_choices, wanted_of}
+use Rattle.cd_normal.specs.Inner.PlainPartial.{plain_partial, plain_partials}
+use Rattle.cd_normal.proofs.going_on.choose_copies.Given as goal
+
+-- the choices for the literals from the index on stand on the others
+abbrev pub invariant-loop-index : goal.invariant-loop-index
+invariant-loop-index l =
+    (l.index ≤ length l.formulas) × (plain_partials l.choices.items
+    ≡ with_choices (wanted_of (plain_partial l.top).kind (formulas_of (map plain (drop l.index l.formulas)))) (plain_partial l.top)
+    ++ plain_partials l.fn.choices.items)
+
+abbrev pub decreases-loop-index : goal.decreases-loop-index
+decreases-loop-index l = l.index
