@@ -7,7 +7,8 @@ use Rattle.std.specs.List.{list_all}
 use Rattle.std.specs.Str.Parse.{ParsesUnsigned}
 use Rattle.std.proofs.lemmas.Str.Parse.{IsNumeralModel, numerals_by_fold, digits_value_short, parse_gives}
 use Rattle.cd_syntax.specs.Digits.{AreDigits, decimal_value}
-use Rattle.cd_driver.specs.Command.{Bytes, texts, Give, Check, Work, Run, RunSteps, Member, SubTypes}
+use Rattle.cd_replies.specs.Bytes.{Bytes}
+use Rattle.cd_driver.specs.Command.{texts, Give, Check, Work, Run, RunSteps, Member, SubTypes}
 use Rattle.cd_driver.specs.Inner.Request.{GiveNotBuilt, WritesUnits, WritesSize}
 
 digits_model : IsNumeralModel (λ digits. list_all is_ascii_digit digits ≡ true) decimal_value
@@ -25,22 +26,22 @@ parse_number word r parses are short =
 
 -- words that give a command that isn't built
 pub asks_check : (name a : Bytes) → name ≡ codes "check" → GiveNotBuilt (name ∷ a ∷ []) (codes "check")
-asks_check name a is = (Check a, rw is refl, tt, refl)
+asks_check name a is = (Check a, rw is refl, λ disk reply says. says)
 
 pub asks_work : (name a : Bytes) → name ≡ codes "work" → WritesSize a → GiveNotBuilt (name ∷ a ∷ []) (codes "work")
-asks_work name a is size = (Work size.0, (a, rw is refl, size.1), tt, refl)
+asks_work name a is size = (Work size.0, (a, rw is refl, size.1), λ disk reply says. says)
 
 pub asks_run : (name a b : Bytes) → name ≡ codes "run" → GiveNotBuilt (name ∷ a ∷ b ∷ []) (codes "run")
-asks_run name a b is = (Run a b, rw is refl, tt, refl)
+asks_run name a b is = (Run a b, rw is refl, λ disk reply says. says)
 
 pub asks_member : (name a b c : Bytes) → name ≡ codes "member" → GiveNotBuilt (name ∷ a ∷ b ∷ c ∷ []) (codes "member")
-asks_member name a b c is = (Member a b c, rw is refl, tt, refl)
+asks_member name a b c is = (Member a b c, rw is refl, λ disk reply says. says)
 
 pub asks_sub_types : (name option a b c : Bytes) → name ≡ codes "sub" → option ≡ codes "--types" → Give (name ∷ option ∷ a ∷ b ∷ c ∷ []) (SubTypes a b c)
 asks_sub_types name option a b c is types = rw (is, types) refl
 
 pub asks_run_steps : (name option a b c : Bytes) → name ≡ codes "run" → option ≡ codes "--steps" → WritesUnits a → GiveNotBuilt (name ∷ option ∷ a ∷ b ∷ c ∷ []) (codes "run")
-asks_run_steps name option a b c is steps units = (RunSteps units.0 b c, (a, rw (is, steps) refl, units.1), tt, refl)
+asks_run_steps name option a b c is steps units = (RunSteps units.0 b c, (a, rw (is, steps) refl, units.1), λ disk reply says. says)
 
 -- the texts of four words, and of five
 pub texts_four : (words : List (String Global)) (a b c d : String Global) (p q r s : Bytes) → 4 ≤ length words → length words < 5

@@ -1,61 +1,42 @@
 -- From the put of a message to the theorem about the whole program.
-use Rattle.std.proofs.Common.{◌≡◌, ℕ, Bool, true, false, List, [], ◌∷◌, ◌++◌, Option, Some, None, refl, ap, inl, inr, ◌⊎◌, rules}
+use Rattle.std.proofs.Common.{◌≡◌, ℕ, Bool, true, false, List, [], ◌++◌, Option, Some, None, refl, sym, ap, subst, inl, inr, ◌⊎◌, rules}
 use Rattle.std.specs.Prelude.{IsTrue, if◌then◌else◌, string_bytes, codes}
 use Rattle.std.specs.Io.KnownBytes.{Appends}
 use Rattle.cd_base.specs.declared.status.Status.{Status}
 use Rattle.cd_base.specs.declared.status.Status.TheVariants.{NoMemory}
 use Rattle.cd_base.specs.FilesState.{FilesState}
 use Rattle.cd_base.specs.SinkState.{SinkState, Puts}
-use Rattle.cd_syntax.specs.declared.tokens.LexError.TheVariants.{BadChar, OpenText, OpenComment, TooWide, Memory}
-use Rattle.cd_driver.specs.Command.{Bytes, name_of}
-use Rattle.cd_driver.specs.Reply.{Reply, line, refusal}
+use Rattle.cd_syntax.specs.TypeTree.{NoDeclaration}
+use Rattle.cd_replies.specs.Bytes.{Bytes}
+use Rattle.cd_driver.specs.Command.{Command, Sub, SubTypes, Member, Check, Run, RunSteps, Work}
+use Rattle.cd_replies.specs.Reply.{Reply, not_built}
 use Rattle.cd_driver.specs.World.{World, world}
-use Rattle.cd_syntax.specs.TypeTree.{Declarations, NoDeclaration}
-use Rattle.cd_driver.specs.Texts.{Against, Lexical, Syntax, TooDeep, Naming}
-use Rattle.cd_driver.specs.Answer.{Disk, Answer, SubAnswer, SubTypesAnswer, FileRefusal, no_form, sub, sub_types, command_not_built, yes, no, first_refused, second_refused, file_refused, on_texts, unread, large, encoding, refused}
-use Rattle.cd_driver.specs.Ending.{Met, unmarked, marked, Delivered, whole, out_refused, err_refused, out_cut, err_cut, Ending, answered, no_memory, Completes}
+use Rattle.cd_replies.specs.Disk.{Disk, Met, unmarked, marked}
+use Rattle.cd_driver.specs.Answer.{Answer, AnswerOf}
+use Rattle.cd_driver.specs.Ending.{Delivered, whole, out_refused, err_refused, out_cut, err_cut, Ending, answered, no_memory, Completes}
 use Rattle.cd_driver.specs.Headline.{NothingFailed, IsAnswered, Headline, told_files}
 use Rattle.cd_driver.specs.Inner.Telling.{Put, whole as put_whole, refused as put_refused, cut as put_cut}
-use Rattle.cd_driver.specs.declared.message.Message.{Message}
-use Rattle.cd_driver.specs.Message.{reply_of}
+use Rattle.cd_replies.specs.declared.message.Message.{Message}
+use Rattle.cd_replies.specs.Message.{reply_of}
+use Rattle.cd_replies.proofs.Speaking.{Speaks, line_some}
+use Rattle.cd_sub.proofs.SubSpeaking.{sub_speaks, sub_types_speaks}
 
--- a line has a line feed
-line_some : (text : Bytes) → line text ≡ [] → ⊥
-line_some [] none = cc
-line_some (c ∷ cs) none = cc
+-- an answer has a text, and not the status of a failed write
+not_built_speaks : (name : Bytes) (reply : Reply) → reply ≡ not_built name → Speaks reply
+not_built_speaks name reply is = subst Speaks (sym is) (record { text = λ out err. line_some (name ++ codes ": not built") err; status = λ failed. cc })
 
--- an answer has a text
-refusal_speaks : (origin text : Bytes) (against : Against) → (refusal origin text against).out ≡ [] → (refusal origin text against).err ≡ [] → ⊥
-refusal_speaks origin text (Lexical (BadChar place)) out err = line_some _ err
-refusal_speaks origin text (Lexical (OpenText place)) out err = line_some _ err
-refusal_speaks origin text (Lexical (OpenComment place)) out err = line_some _ err
-refusal_speaks origin text (Lexical (TooWide place)) out err = line_some _ err
-refusal_speaks origin text (Lexical Memory) out err = line_some _ err
-refusal_speaks origin text (Syntax place) out err = line_some _ err
-refusal_speaks origin text (TooDeep place) out err = line_some _ err
-refusal_speaks origin text (Naming fault) out err = line_some _ err
+command_speaks : (disk : Disk) (command : Command) (reply : Reply) → AnswerOf command disk reply → Speaks reply
+command_speaks disk (Sub text1 text2) reply answers = sub_speaks NoDeclaration text1 text2 reply answers
+command_speaks disk (SubTypes file text1 text2) reply answers = sub_types_speaks disk file text1 text2 reply answers
+command_speaks disk (Member file document type) reply is = not_built_speaks (codes "member") reply is
+command_speaks disk (Check file) reply is = not_built_speaks (codes "check") reply is
+command_speaks disk (Run file document) reply is = not_built_speaks (codes "run") reply is
+command_speaks disk (RunSteps units file document) reply is = not_built_speaks (codes "run") reply is
+command_speaks disk (Work size) reply is = not_built_speaks (codes "work") reply is
 
-file_speaks : (disk : Disk) (name : Bytes) (reply : Reply) → FileRefusal disk name reply → reply.out ≡ [] → reply.err ≡ [] → ⊥
-file_speaks disk name _ (unread is) out err = line_some (codes "cannot read " ++ name) err
-file_speaks disk name _ (large bytes has is) out err = line_some (name ++ codes ": too large") err
-file_speaks disk name _ (encoding bytes has size is) out err = line_some _ err
-file_speaks disk name _ (refused text has against stands) out err = refusal_speaks name text against out err
-
-sub_speaks : (declared : Declarations) (text1 text2 : Bytes) (reply : Reply) → SubAnswer declared text1 text2 reply → reply.out ≡ [] → reply.err ≡ [] → ⊥
-sub_speaks declared text1 text2 _ (yes first second is1 is2 within) out err = cc
-sub_speaks declared text1 text2 _ (no first second is1 is2 element is inside outside) out err = cc
-sub_speaks declared text1 text2 _ (first_refused against stands) out err = refusal_speaks (codes "T1") text1 against out err
-sub_speaks declared text1 text2 _ (second_refused first is1 against stands) out err = refusal_speaks (codes "T2") text2 against out err
-
-sub_types_speaks : (disk : Disk) (file text1 text2 : Bytes) (reply : Reply) → SubTypesAnswer disk file text1 text2 reply → reply.out ≡ [] → reply.err ≡ [] → ⊥
-sub_types_speaks disk file text1 text2 _ (file_refused reply refusal) out err = file_speaks disk file reply refusal out err
-sub_types_speaks disk file text1 text2 _ (on_texts text has declared declares reply answers) out err = sub_speaks declared text1 text2 reply answers out err
-
-speaks : (words : List Bytes) (disk : Disk) (reply : Reply) → Answer words disk reply → reply.out ≡ [] → reply.err ≡ [] → ⊥
-speaks words disk _ (no_form none) out err = cc
-speaks words disk _ (sub text1 text2 give reply answers) out err = sub_speaks NoDeclaration text1 text2 reply answers out err
-speaks words disk _ (sub_types file text1 text2 give reply answers) out err = sub_types_speaks disk file text1 text2 reply answers out err
-speaks words disk _ (command_not_built command give is) out err = line_some (name_of command ++ codes ": not built") err
+pub speaks : (words : List Bytes) (disk : Disk) (reply : Reply) → Answer words disk reply → Speaks reply
+speaks words disk reply (inl none) = subst Speaks (sym none.1) (record { text = λ out err. cc; status = λ failed. cc })
+speaks words disk reply (inr given) = command_speaks disk given.0 reply given.2
 
 -- nothing was put
 appends_nothing : (told : Option (List ℕ)) → Appends told told []
@@ -86,10 +67,10 @@ delivered_message : (words : List Bytes) (disk : Disk) (before after : World) (o
     → Ending words disk before after ending
 delivered_message words disk before after true status text ending answer output errors =
     let put = output refl in
-    answered (record { status = status; out = text; err = [] }) answer ending (delivered_out before after status text (λ none. speaks words disk (record { status = status; out = text; err = [] }) answer none refl) ending put.0 put.1)
+    answered (record { status = status; out = text; err = [] }) answer ending (delivered_out before after status text (λ none. (speaks words disk (record { status = status; out = text; err = [] }) answer).text none refl) ending put.0 put.1)
 delivered_message words disk before after false status text ending answer output errors =
     let put = errors refl in
-    answered (record { status = status; out = []; err = text }) answer ending (delivered_err before after status text (λ none. speaks words disk (record { status = status; out = []; err = text }) answer refl none) ending put.0 put.1)
+    answered (record { status = status; out = []; err = text }) answer ending (delivered_err before after status text (λ none. (speaks words disk (record { status = status; out = []; err = text }) answer).text refl none) ending put.0 put.1)
 
 -- a call ends with the put of a message that answers the words, or with nothing put where memory ran out
 pub ends : (words : List Bytes) (before : World) (files : FilesState) (out err : SinkState) (message : Message) (ending : Status)

@@ -1,11 +1,4 @@
-pub mod Asking
-pub mod Answering
-pub mod Comparing
-pub mod Concluding
-pub mod Causing
-pub mod OneStatus
-pub mod OneDeclarations
-pub mod OneFault
-pub mod OneRefusal
-pub mod Positions
-pub mod TextReading
+mod Asking
+mod Commands
+mod Concluding
+mod Causing

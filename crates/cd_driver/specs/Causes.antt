@@ -1,127 +1,18 @@
 -- When each status comes, whatever the files and sinks do and tell.
-use Rattle.std.specs.Prelude.{◌≡◌, ◌≢◌, ◌<◌, ◌≤◌, List, [], Some, length, ◌⊎◌}
-use Rattle.std.specs.Str.{IsUtf8}
+use Rattle.std.specs.Prelude.{◌≡◌, ◌≢◌, List, [], ◌⊎◌}
 use Rattle.cd_base.specs.declared.status.Status.{Status}
-use Rattle.cd_base.specs.declared.status.Status.TheVariants as status
+use Rattle.cd_base.specs.declared.status.Status.TheVariants.{WriteFault, NoMemory}
 use Rattle.cd_base.specs.Faults.{Rose}
-use Rattle.cd_syntax.specs.declared.tokens.LexError.{LexError}
-use Rattle.cd_model.specs.Thing.{Thing, IsElement}
-use Rattle.cd_syntax.specs.TypeTree.{Declarations, NoDeclaration}
-use Rattle.cd_model.specs.Written.{Written}
-use Rattle.cd_names.specs.Faults.{Fault}
-use Rattle.cd_driver.specs.Command.{Bytes, Command, Sub, SubTypes, Give, HaveNoForm}
-use Rattle.cd_driver.specs.Texts.{Against, Lexical, Syntax, TooDeep, Naming, ReadsAs, Declares}
-use Rattle.cd_driver.specs.Texts.{RefusesType, RefusesDeclarations}
-use Rattle.cd_driver.specs.Within.{IsIn, IsOutside, IsWithin}
-use Rattle.cd_driver.specs.Reply.{Reply}
+use Rattle.cd_replies.specs.Bytes.{Bytes}
+use Rattle.cd_replies.specs.Reply.{Reply}
 use Rattle.cd_driver.specs.World.{World}
-use Rattle.cd_driver.specs.Answer.{Disk, Has, HasText, LARGEST, Answer, CommandIsNotBuilt}
-use Rattle.cd_driver.specs.Ending.{Met}
+use Rattle.cd_replies.specs.Disk.{Disk, Met}
+use Rattle.cd_driver.specs.Answer.{Answer}
 
--- the words ask about two type texts, which see these declarations: none, or those of a file
-pub data GiveTexts (words : List Bytes) (disk : Disk) : Declarations → (text1 text2 : Bytes)
-    → Type 0 where
-  alone : (text1 text2 : Bytes) → Give words (Sub text1 text2)
-      → GiveTexts words disk NoDeclaration text1 text2
-  with_file : (file text1 text2 : Bytes) → Give words (SubTypes file text1 text2) → (text : Bytes)
-      → HasText disk file text
-      → (declared : Declarations) → Declares text declared
-      → GiveTexts words disk declared text1 text2
-
--- the words ask whether the first type is within the second, for the files that were met
-pub record Ask (words : List Bytes) (before after : World) (first second : Written) : Type 0 where
-  pub disk : Disk
-  pub met : Met before.files after.files disk
-  pub declared : Declarations
-  pub text1 : Bytes
-  pub text2 : Bytes
-  pub give : GiveTexts words disk declared text1 text2
-  pub first_is : ReadsAs declared text1 first
-  pub second_is : ReadsAs declared text2 second
-
--- each element of the first type is in the second
-pub record IsYes (words : List Bytes) (before after : World) : Type 0 where
-  pub first : Written
-  pub second : Written
-  pub ask : Ask words before after first second
-  pub within : IsWithin first second
-
--- an element of the first type is outside the second
-pub record IsNo (words : List Bytes) (before after : World) : Type 0 where
-  pub first : Written
-  pub second : Written
-  pub ask : Ask words before after first second
-  pub element : Thing
-  pub exists : IsElement element
-  pub inside : IsIn element first
-  pub outside : IsOutside element second
-
--- this stands against a text that the words give
-pub data StandsAgainst (words : List Bytes) (disk : Disk) (against : Against) : Type 0 where
-  in_file : (file text1 text2 : Bytes) → Give words (SubTypes file text1 text2) → (text : Bytes)
-      → HasText disk file text
-      → RefusesDeclarations text against → StandsAgainst words disk against
-  in_first : (declared : Declarations) (text1 text2 : Bytes)
-      → GiveTexts words disk declared text1 text2
-      → RefusesType declared text1 against → StandsAgainst words disk against
-  in_second : (declared : Declarations) (text1 text2 : Bytes)
-      → GiveTexts words disk declared text1 text2
-      → (first : Written) → ReadsAs declared text1 first → RefusesType declared text2 against
-      → StandsAgainst words disk against
-
--- and it is of this kind
-pub record IsRefused (words : List Bytes) (before after : World)
-    (is : Against → Type 0) : Type 0 where
-  pub disk : Disk
-  pub met : Met before.files after.files disk
-  pub against : Against
-  pub kind : is against
-  pub stands : StandsAgainst words disk against
-
-abbrev pub IsLexical : Against → Type 0
-IsLexical against = (fault : LexError) × (against ≡ Lexical fault)
-
-abbrev pub IsSyntax : Against → Type 0
-IsSyntax against = (place : _) × (against ≡ Syntax place)
-
-abbrev pub IsTooDeep : Against → Type 0
-IsTooDeep against = (place : _) × (against ≡ TooDeep place)
-
-abbrev pub IsNaming : Against → Type 0
-IsNaming against = (fault : Fault) × (against ≡ Naming fault)
-
--- a read of the file that the words name failed
-pub record IsUnread (words : List Bytes) (before after : World) : Type 0 where
-  pub file : Bytes
-  pub text1 : Bytes
-  pub text2 : Bytes
-  pub give : Give words (SubTypes file text1 text2)
-  pub rose : Rose before.files.faults after.files.faults
-  pub last : after.files.last ≡ Some file
-
--- the bytes of the file that the words name are of this kind
-pub record FileIs (words : List Bytes) (before after : World) (kind : Bytes → Type 0) : Type 0 where
-  pub disk : Disk
-  pub met : Met before.files after.files disk
-  pub file : Bytes
-  pub text1 : Bytes
-  pub text2 : Bytes
-  pub give : Give words (SubTypes file text1 text2)
-  pub bytes : Bytes
-  pub has : Has disk file bytes
-  pub is : kind bytes
-
-abbrev pub IsLarge : Bytes → Type 0
-IsLarge bytes = LARGEST < length bytes
-
-abbrev pub IsNotText : Bytes → Type 0
-IsNotText bytes = (length bytes ≤ LARGEST) × (IsUtf8 bytes → ⊥)
-
--- the words give a command that isn't built
-pub record IsNotBuilt (words : List Bytes) : Type 0 where
-  pub command : Command
-  pub give : Give words command
-  pub unbuilt : CommandIsNotBuilt command
+-- an answer to the words has this status, for the files that were met
+abbrev pub IsCause : List Bytes → World → World → Status → Type 0
+IsCause words before after status = (disk : Disk) × Met before.files after.files disk
+    × (reply : Reply) × Answer words disk reply × (reply.status ≡ status)
 
 -- the count of faults rose at a sink for which an answer has a text
 pub record SinkFailed (words : List Bytes) (before after : World) : Type 0 where
@@ -132,19 +23,8 @@ pub record SinkFailed (words : List Bytes) (before after : World) : Type 0 where
   pub at_sink : ((reply.out ≢ []) × Rose before.out.faults after.out.faults)
       ⊎ ((reply.err ≢ []) × Rose before.err.faults after.err.faults)
 
--- the cause of each status; want of memory is free, and the others don't come
+-- the cause of each status; want of memory is free
 abbrev pub Cause : List Bytes → World → World → Status → Type 0
-Cause words before after status.Done = IsYes words before after
-Cause words before after status.No = IsNo words before after
-Cause words before after status.Usage = HaveNoForm words
-Cause words before after status.ReadFault = IsUnread words before after
-Cause words before after status.WriteFault = SinkFailed words before after
-Cause words before after status.NoMemory = Unit {0}
-Cause words before after status.TooLarge = FileIs words before after IsLarge
-Cause words before after status.NotUtf8 = FileIs words before after IsNotText
-Cause words before after status.Lexical = IsRefused words before after IsLexical
-Cause words before after status.Syntax = IsRefused words before after IsSyntax
-Cause words before after status.TooDeep = IsRefused words before after IsTooDeep
-Cause words before after status.Naming = IsRefused words before after IsNaming
-Cause words before after status.NotBuilt = IsNotBuilt words
-Cause words before after other = ⊥
+Cause words before after NoMemory = Unit {0}
+Cause words before after WriteFault = SinkFailed words before after
+Cause words before after status = IsCause words before after status

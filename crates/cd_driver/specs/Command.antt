@@ -2,9 +2,7 @@
 use Rattle.std.specs.Prelude.{◌≡◌, ℕ, ◌≤◌, List, [], ◌∷◌, length, map, codes, String, string_bytes}
 use Rattle.std.specs.Global.{Global}
 use Rattle.cd_syntax.specs.Digits.{AreDigits, decimal_value}
-
-abbrev pub Bytes : Type 0
-Bytes = List ℕ
+use Rattle.cd_replies.specs.Bytes.{Bytes}
 
 -- the texts of words
 abbrev pub texts : List (String Global) → List Bytes
@@ -65,3 +63,8 @@ name_of (Check file) = codes "check"
 name_of (Run file document) = codes "run"
 name_of (RunSteps units file document) = codes "run"
 name_of (Work size) = codes "work"
+
+-- the files that a command reads, in this order; one that isn't built reads none
+abbrev pub files_of : Command → List Bytes
+files_of (SubTypes file first second) = file ∷ []
+files_of command = []

@@ -1,23 +1,13 @@
 -- How a call ends, whatever the files and sinks do.
-use Rattle.std.specs.Prelude.{◌≡◌, ◌≢◌, List, [], Some, None}
+use Rattle.std.specs.Prelude.{◌≡◌, ◌≢◌, List, []}
 use Rattle.cd_base.specs.declared.status.Status.{Status}
 use Rattle.cd_base.specs.declared.status.Status.TheVariants.{WriteFault, NoMemory}
-use Rattle.cd_base.specs.Faults.{Rose}
-use Rattle.cd_base.specs.FilesState.{FilesState}
 use Rattle.cd_base.specs.SinkState.{Puts, PutsPrefix, FailsToPut}
-use Rattle.cd_driver.specs.Command.{Bytes}
-use Rattle.cd_driver.specs.Reply.{Reply}
+use Rattle.cd_replies.specs.Bytes.{Bytes}
+use Rattle.cd_replies.specs.Reply.{Reply}
 use Rattle.cd_driver.specs.World.{World}
-use Rattle.cd_driver.specs.Answer.{Disk, Answer}
-
--- the files that a call met, by what is known of them before and after it
-pub data Met (before after : FilesState) : Disk → Type 0 where
-  -- where the count of faults is as it was, no name is marked
-  unmarked : after.faults ≡ before.faults
-      → Met before after (record { told = before.told; marked = None })
-  -- where it rose, the name of the latest read that failed is marked
-  marked : (name : Bytes) → Rose before.faults after.faults → after.last ≡ Some name
-      → Met before after (record { told = before.told; marked = Some name })
+use Rattle.cd_replies.specs.Disk.{Disk, Met}
+use Rattle.cd_driver.specs.Answer.{Answer}
 
 -- the ways to deliver a reply to the sinks, and the status that each ends with
 pub data Delivered (before after : World) (reply : Reply) : Status → Type 0 where

@@ -4,10 +4,11 @@ use Rattle.std.specs.Io.KnownBytes.{Appends}
 use Rattle.cd_base.specs.declared.status.Status.{Status}
 use Rattle.cd_base.specs.declared.status.Status.TheVariants.{NoMemory}
 use Rattle.cd_base.specs.Faults.{Rose}
-use Rattle.cd_driver.specs.Command.{Bytes}
-use Rattle.cd_driver.specs.Reply.{Reply}
+use Rattle.cd_replies.specs.Bytes.{Bytes}
+use Rattle.cd_replies.specs.Reply.{Reply}
 use Rattle.cd_driver.specs.World.{World}
-use Rattle.cd_driver.specs.Answer.{Disk, Answer}
+use Rattle.cd_replies.specs.Disk.{Disk}
+use Rattle.cd_driver.specs.Answer.{Answer}
 
 -- no count of faults rose
 pub record NothingFailed (before after : World) : Type 0 where

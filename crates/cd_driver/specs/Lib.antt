@@ -1,14 +1,8 @@
 pub mod Command
-pub mod Reply
 pub mod World
 pub mod Answer
+pub mod FilesRead
 pub mod Ending
 pub mod Headline
 pub mod Causes
-pub mod Message
-pub mod Position
-pub mod Texts
-pub mod Within
-pub mod File
-pub mod Answering
 pub mod Inner

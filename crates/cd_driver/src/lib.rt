@@ -2,11 +2,10 @@
 #![tactic(auto)]
 
 ghost use Rattle.std.specs.Prelude.{◌≡◌, false, IsTrue, string_bytes};
-ghost use Rattle.cd_driver.specs.Answering.{NamesNoFile};
 ghost use Rattle.cd_driver.specs.Causes.{Cause};
-ghost use Rattle.cd_driver.specs.Command.{Bytes, SubTypes, Give, texts};
-ghost use Rattle.cd_driver.specs.File.{ReadsThere};
+ghost use Rattle.cd_driver.specs.Command.{texts};
 ghost use Rattle.cd_driver.specs.Ending.{Completes};
+ghost use Rattle.cd_driver.specs.FilesRead.{ReadsFilesOf};
 ghost use Rattle.cd_driver.specs.Headline.{Headline};
 ghost use Rattle.cd_driver.specs.Inner.Telling.{Put};
 ghost use Rattle.cd_driver.specs.World.{world};
@@ -15,18 +14,11 @@ use answer::answer;
 use cd_base::files::Files;
 use cd_base::sink::{PutError, Sink};
 use cd_base::status::Status;
-use message::Message;
-pub use position::place;
+use cd_replies::message::Message;
+pub use cd_replies::position::place;
 use std::alloc::Global;
 
 mod answer;
-mod compare;
-mod file;
-pub mod laws;
-mod message;
-pub mod position;
-mod reader;
-mod refusal;
 mod request;
 
 /// Does what the words ask, which are the program's arguments without its name, and answers the
@@ -56,13 +48,10 @@ pub fn cduce<F: Files, S: Sink>(
         (world (F.state files.old) (S.state out.old) (S.state err.old))
         (world (F.state files.new) (S.state out.new) (S.state err.new)) result }
 
-    // What is told of files stays. Where the words name a file, what is known of files stays as it
-    // was, or the count of faults rose and this file is the last at which one came; where they name
-    // none, it stays as it was.
+    // What is told of files stays. What is known of files stays as it was; or a fault was counted at
+    // a file that the words' command reads, which is the last at which one came.
     ensures told { (F.state files.new).told ≡ (F.state files.old).told }
-    ensures read { (file text1 text2 : Bytes) → Give (texts words.now) (SubTypes file text1 text2)
-        → ReadsThere (F.state files.old) (F.state files.new) file }
-    ensures unread { NamesNoFile (texts words.now) → F.state files.new ≡ F.state files.old }
+    ensures files { ReadsFilesOf (texts words.now) (F.state files.old) (F.state files.new) }
 {
     match answer(alloc, words, files) {
         Ok(message) => tell(&message, out, err),

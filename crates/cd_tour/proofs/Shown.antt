@@ -1,11 +1,11 @@
 -- A query whose words, answer and ending were written is shown.
-use Rattle.std.proofs.Common.{◌≡◌, List, ◌++◌, Option, Some, None, ap, subst, ◌∙◌, append_assoc}
+use Rattle.std.proofs.Common.{◌≡◌, ◌++◌, Option, Some, None, ap, subst, ◌∙◌, append_assoc}
 use Rattle.std.specs.Io.KnownBytes.{Appends}
 use Rattle.cd_base.specs.FilesState.{FilesState}
 use Rattle.cd_base.specs.SinkState.{SinkState, Puts}
 use Rattle.cd_base.specs.declared.status.Status.{Status}
-use Rattle.cd_driver.specs.Command.{Bytes}
-use Rattle.cd_driver.specs.World.{World, world}
+use Rattle.cd_replies.specs.Bytes.{Bytes}
+use Rattle.cd_driver.specs.World.{world}
 use Rattle.cd_tour.specs.CommandLine.{command_line}
 use Rattle.cd_tour.specs.Showing.{IsAnswered, words_of, meaning_of, ending, IsShown}
 use Rattle.cd_tour.specs.declared.queries.Query.{Query}

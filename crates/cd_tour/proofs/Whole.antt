@@ -2,11 +2,12 @@
 use Rattle.std.proofs.Common.{◌≡◌, List, refl, subst}
 use Rattle.cd_base.specs.declared.status.Status.{Status}
 use Rattle.cd_base.specs.declared.status.Status.TheVariants.{WriteFault, NoMemory}
-use Rattle.cd_driver.specs.Command.{Bytes}
-use Rattle.cd_driver.specs.Reply.{Reply}
+use Rattle.cd_replies.specs.Bytes.{Bytes}
+use Rattle.cd_replies.specs.Reply.{Reply}
 use Rattle.cd_driver.specs.World.{World}
-use Rattle.cd_driver.specs.Answer.{Disk, Answer}
-use Rattle.cd_driver.specs.Ending.{Met, Delivered, whole, out_refused, err_refused, out_cut, err_cut, Ending, answered, no_memory, Completes}
+use Rattle.cd_replies.specs.Disk.{Disk, Met}
+use Rattle.cd_driver.specs.Answer.{Answer}
+use Rattle.cd_driver.specs.Ending.{Delivered, whole, out_refused, err_refused, out_cut, err_cut, Ending, answered, no_memory, Completes}
 use Rattle.cd_tour.specs.Showing.{IsAnswered}
 
 delivered : (words : List Bytes) (disk : Disk) (before after : World) → Met before.files after.files disk → (reply : Reply) → Answer words disk reply

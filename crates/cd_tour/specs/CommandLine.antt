@@ -2,7 +2,7 @@
 use Rattle.std.specs.Prelude.{ℕ, Bool, ◌||◌, ◌==◌, List, [], ◌∷◌, ◌++◌, if◌then◌else◌, codes}
 use Rattle.std.specs.Char.{is_ascii_alphanumeric}
 use Rattle.std.specs.List.{list_all}
-use Rattle.cd_driver.specs.Command.{Bytes}
+use Rattle.cd_replies.specs.Bytes.{Bytes}
 
 -- an ASCII letter or digit, `-` or `.`
 abbrev pub is_plain : ℕ → Bool

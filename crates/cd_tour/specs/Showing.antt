@@ -1,14 +1,14 @@
 -- How queries are shown.
-use Rattle.std.specs.Prelude.{◌≡◌, ℕ, List, [], ◌∷◌, ◌++◌, map, codes}
+use Rattle.std.specs.Prelude.{◌≡◌, List, [], ◌∷◌, ◌++◌, map, codes}
 use Rattle.std.specs.Fmt.{decimal}
 use Rattle.std.specs.Io.KnownBytes.{Appends}
 use Rattle.cd_base.specs.Status.{status_number}
 use Rattle.cd_base.specs.declared.status.Status.{Status}
-use Rattle.cd_driver.specs.Command.{Bytes}
-use Rattle.cd_driver.specs.Reply.{Reply}
+use Rattle.cd_replies.specs.Bytes.{Bytes}
+use Rattle.cd_replies.specs.Reply.{Reply}
 use Rattle.cd_driver.specs.World.{World}
-use Rattle.cd_driver.specs.Answer.{Disk, Answer}
-use Rattle.cd_driver.specs.Ending.{Met}
+use Rattle.cd_replies.specs.Disk.{Disk, Met}
+use Rattle.cd_driver.specs.Answer.{Answer}
 use Rattle.cd_tour.specs.CommandLine.{command_line}
 use Rattle.cd_tour.specs.declared.queries.Query.{Query}
 

@@ -1,8 +1,8 @@
 -- Two versions of a schema as one file.
-use Rattle.std.specs.Prelude.{◌≡◌, ℕ, List, [], ◌∷◌, ◌++◌, Option, codes}
+use Rattle.std.specs.Prelude.{◌≡◌, List, [], ◌∷◌, ◌++◌, Option, codes}
 use Rattle.cd_base.specs.FilesState.{IsFrontOf}
-use Rattle.cd_driver.specs.Answer.{LARGEST}
-use Rattle.cd_driver.specs.Command.{Bytes}
+use Rattle.cd_replies.specs.Disk.{LARGEST}
+use Rattle.cd_replies.specs.Bytes.{Bytes}
 
 -- the one file holds the text of the first version, and then that of the second, where these are
 -- told

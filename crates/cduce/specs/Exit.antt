@@ -1,11 +1,10 @@
 -- How the process exits.
-use Rattle.std.specs.Prelude.{◌≡◌, List, ◌⊎◌}
+use Rattle.std.specs.Prelude.{◌≡◌, List}
 use Rattle.std.specs.Process.{exit_status}
 use Rattle.std.specs.declared.process.ExitCode.{ExitCode}
 use Rattle.cd_base.specs.declared.status.Status.{Status}
-use Rattle.cd_base.specs.declared.status.Status.TheVariants.{NoMemory}
 use Rattle.cd_base.specs.Status.{status_number}
-use Rattle.cd_driver.specs.Command.{Bytes}
+use Rattle.cd_replies.specs.Bytes.{Bytes}
 use Rattle.cd_driver.specs.World.{World}
 use Rattle.cd_driver.specs.Ending.{Completes}
 use Rattle.cd_driver.specs.Headline.{Headline}

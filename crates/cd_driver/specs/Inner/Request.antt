@@ -4,13 +4,16 @@ use Rattle.cd_driver.specs.declared.request.Request.{Request}
 use Rattle.cd_driver.specs.declared.request.Request.TheVariants.{Sub as AsksSub}
 use Rattle.cd_driver.specs.declared.request.Request.TheVariants.{SubTypes as AsksSubTypes}
 use Rattle.cd_driver.specs.declared.request.Request.TheVariants.{NotBuilt as AsksNotBuilt}
-use Rattle.cd_driver.specs.Command.{Bytes, Command, Sub, SubTypes, IsNumeral, IsSize, Give, name_of}
-use Rattle.cd_driver.specs.Answer.{CommandIsNotBuilt}
+use Rattle.cd_replies.specs.Bytes.{Bytes}
+use Rattle.cd_driver.specs.Command.{Command, Sub, SubTypes, IsNumeral, IsSize, Give}
+use Rattle.cd_replies.specs.Reply.{Reply, not_built}
+use Rattle.cd_replies.specs.Disk.{Disk}
+use Rattle.cd_driver.specs.Answer.{AnswerOf}
 
--- the words give a command with this first word that isn't built
+-- the words give a command whose answer is that the one with this first word isn't built
 abbrev pub GiveNotBuilt : List Bytes → Bytes → Type 0
-GiveNotBuilt words name = (command : Command) × Give words command × CommandIsNotBuilt command
-    × (name ≡ name_of command)
+GiveNotBuilt words name = (command : Command) × Give words command
+    × ((disk : Disk) (reply : Reply) → reply ≡ not_built name → AnswerOf command disk reply)
 
 -- the words give the command that the request stands for
 abbrev pub StandsFor : List Bytes → Request → Type 0

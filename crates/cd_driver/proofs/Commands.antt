@@ -1,0 +1,47 @@
+-- What is said to a command is said to the words that give it.
+use Rattle.std.proofs.Common.{◌≡◌, List, None, Result, Ok, Err, refl, inl, inr}
+use Rattle.std.specs.Prelude.{IfOk}
+use Rattle.std.specs.declared.alloc.AllocError.{AllocError}
+use Rattle.cd_base.specs.FilesState.{FilesState}
+use Rattle.cd_replies.specs.Bytes.{Bytes}
+use Rattle.cd_driver.specs.Command.{Command, SubTypes, Give, HaveNoForm}
+use Rattle.cd_replies.specs.Reply.{usage, not_built}
+use Rattle.cd_replies.specs.Disk.{Disk, unmarked}
+use Rattle.cd_driver.specs.Answer.{Answer, AnswerOf}
+use Rattle.cd_replies.specs.Answering.{IsAnswer}
+use Rattle.cd_replies.specs.File.{ReadsThere}
+use Rattle.cd_driver.specs.FilesRead.{ReadsFilesOf}
+use Rattle.cd_driver.specs.Inner.Request.{GiveNotBuilt}
+use Rattle.cd_replies.specs.declared.message.Message.{Message}
+use Rattle.cd_replies.specs.Message.{reply_of}
+
+-- the files that are told, where none was read
+abbrev told_disk : FilesState → Disk
+told_disk files = record { told = files.told; marked = None }
+
+pub answers_usage : (words : List Bytes) (files : FilesState) → HaveNoForm words → (r : Result Message AllocError) → IfOk r (λ message. reply_of message ≡ usage)
+    → IsAnswer (λ disk. Answer words disk) files files r
+answers_usage words files none (Ok message) is = (told_disk files, unmarked refl, inl (none, is))
+answers_usage words files none (Err error) is = (told_disk files, unmarked refl, tt)
+
+pub answers_not_built : (words : List Bytes) (files : FilesState) (name : Bytes) → GiveNotBuilt words name
+    → (r : Result Message AllocError) → IfOk r (λ message. reply_of message ≡ not_built name) → IsAnswer (λ disk. Answer words disk) files files r
+answers_not_built words files name gives (Ok message) is = (told_disk files, unmarked refl, inr (gives.0, gives.1, gives.2 (told_disk files) (reply_of message) is))
+answers_not_built words files name gives (Err error) is = (told_disk files, unmarked refl, tt)
+
+-- a command that reads no file
+pub answers_at_once : (words : List Bytes) (files : FilesState) (command : Command) → Give words command
+    → (r : Result Message AllocError) → IfOk r (λ message. AnswerOf command (told_disk files) (reply_of message)) → IsAnswer (λ disk. Answer words disk) files files r
+answers_at_once words files command give (Ok message) answers = (told_disk files, unmarked refl, inr (command, give, answers))
+answers_at_once words files command give (Err error) answers = (told_disk files, unmarked refl, tt)
+
+pub answers_command : (words : List Bytes) (old new : FilesState) (command : Command) → Give words command
+    → (r : Result Message AllocError) → IsAnswer (AnswerOf command) old new r → IsAnswer (λ disk. Answer words disk) old new r
+answers_command words old new command give (Ok message) answers = (answers.0, answers.1, inr (command, give, answers.2))
+answers_command words old new command give (Err error) answers = (answers.0, answers.1, tt)
+
+-- a read of the file that a command names
+pub reads_file : (words : List Bytes) (old new : FilesState) (file text1 text2 : Bytes) → Give words (SubTypes file text1 text2) → ReadsThere old new file
+    → ReadsFilesOf words old new
+reads_file words old new file text1 text2 give (inl same) = inl same
+reads_file words old new file text1 text2 give (inr fails) = inr (SubTypes file text1 text2, give, inl fails)

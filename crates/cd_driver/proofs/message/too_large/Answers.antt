@@ -1,9 +1,0 @@
-use Rattle.std.proofs.Common.{◌∙◌, sym, ap, [], ◌∷◌, codes}
-use Rattle.std.proofs.lemmas.List.{append_assoc}
-use Rattle.cd_base.specs.declared.status.Status.TheVariants.{TooLarge}
-use Rattle.cd_driver.proofs.message.too_large.Goals as goal
-
--- the line feed stands after the whole line
-pub returns : goal.returns
-returns c =
-    c.complaint.ensures ∙ ap (λ err. record { status = TooLarge; out = []; err = err }) (c.in_ok-text.ensures.ok ∙ sym (append_assoc c.args.name.now (codes ": too large") (10 ∷ [])))

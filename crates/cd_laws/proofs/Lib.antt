@@ -1,0 +1,7 @@
+mod OneCommand
+mod OneFault
+mod OneDeclarations
+mod OneRefusal
+mod OneStatus
+mod Reasoning
+mod NamedFiles

@@ -1,0 +1,115 @@
+-- The cause of each status is its reason.
+use Rattle.std.proofs.Common.{◌≡◌, List, Some, inl, inr, refl, sym, subst}
+use Rattle.std.specs.Prelude.{codes}
+use Rattle.cd_base.specs.declared.status.Status.{Status}
+use Rattle.cd_base.specs.declared.status.Status.TheVariants as status
+use Rattle.cd_base.specs.Faults.{Rose}
+use Rattle.cd_base.specs.FilesState.{FilesState}
+use Rattle.cd_syntax.specs.declared.tokens.LexError.TheVariants.{BadChar, OpenText, OpenComment, TooWide, Memory}
+use Rattle.cd_syntax.specs.TypeTree.{Declarations, NoDeclaration}
+use Rattle.cd_replies.specs.Bytes.{Bytes}
+use Rattle.cd_driver.specs.Command.{Command, Sub, SubTypes, Member, Check, Run, RunSteps, Work, Give, name_of}
+use Rattle.cd_replies.specs.Texts.{Against, Lexical, Syntax, TooDeep, Naming}
+use Rattle.cd_replies.specs.Reply.{Reply, refusal, not_built}
+use Rattle.cd_driver.specs.World.{World}
+use Rattle.cd_replies.specs.Disk.{Disk, Met, unmarked, marked, FileRefusal, unread, large, encoding, refused}
+use Rattle.cd_sub.specs.SubAnswer.{SubAnswer, yes, no, first_refused, second_refused}
+use Rattle.cd_sub.specs.SubTypesAnswer.{SubTypesAnswer, file_refused, on_texts}
+use Rattle.cd_driver.specs.Answer.{Answer, AnswerOf}
+use Rattle.cd_driver.specs.Causes.{IsCause, Cause}
+use Rattle.cd_laws.specs.Reasons.{GiveTexts, alone, with_file, StandsAgainst, in_file, in_first, in_second, CommandIsNotBuilt, Reason}
+
+-- a file that is marked is the latest whose read failed
+read_failed : (before after : FilesState) (disk : Disk) (name : Bytes) → Met before after disk → disk.marked ≡ Some name
+    → Rose before.faults after.faults × (after.last ≡ Some name)
+read_failed before after _ name (unmarked same) is = absurd cc
+read_failed before after _ name (marked other rose last) is = (rose, subst (λ marked. after.last ≡ marked) is last)
+
+module _ (words : List Bytes) (disk : Disk) (before after : World) (met : Met before.files after.files disk) where
+  -- what stands against a text is the reason for what is said of it
+  refused_reason : (origin text : Bytes) (against : Against) → StandsAgainst words disk against → Reason words before after (refusal origin text against).status
+  refused_reason origin text (Lexical (BadChar place)) stands = record { disk = disk; met = met; against = _; kind = (_, refl); stands = stands }
+  refused_reason origin text (Lexical (OpenText place)) stands = record { disk = disk; met = met; against = _; kind = (_, refl); stands = stands }
+  refused_reason origin text (Lexical (OpenComment place)) stands = record { disk = disk; met = met; against = _; kind = (_, refl); stands = stands }
+  refused_reason origin text (Lexical (TooWide place)) stands = record { disk = disk; met = met; against = _; kind = (_, refl); stands = stands }
+  refused_reason origin text (Lexical Memory) stands = record { disk = disk; met = met; against = _; kind = (_, refl); stands = stands }
+  refused_reason origin text (Syntax place) stands = record { disk = disk; met = met; against = _; kind = (_, refl); stands = stands }
+  refused_reason origin text (TooDeep place) stands = record { disk = disk; met = met; against = _; kind = (_, refl); stands = stands }
+  refused_reason origin text (Naming fault) stands = record { disk = disk; met = met; against = _; kind = (_, refl); stands = stands }
+
+  file_reason : (file text1 text2 : Bytes) → Give words (SubTypes file text1 text2) → (reply : Reply) → FileRefusal disk file reply → Reason words before after reply.status
+  file_reason file text1 text2 give _ (unread is) =
+      let failed = read_failed before.files after.files disk file met is in
+      record { file = file; text1 = text1; text2 = text2; give = give; rose = failed.0; last = failed.1 }
+  file_reason file text1 text2 give _ (large bytes has is) =
+      record { disk = disk; met = met; file = file; text1 = text1; text2 = text2; give = give; bytes = bytes; has = has; is = is }
+  file_reason file text1 text2 give _ (encoding bytes has size is) =
+      record { disk = disk; met = met; file = file; text1 = text1; text2 = text2; give = give; bytes = bytes; has = has; is = (size, is) }
+  file_reason file text1 text2 give _ (refused text has against stands) = refused_reason file text against (in_file file text1 text2 give text has stands)
+
+  sub_reason : (declared : Declarations) (text1 text2 : Bytes) → GiveTexts words disk declared text1 text2
+      → (reply : Reply) → SubAnswer declared text1 text2 reply → Reason words before after reply.status
+  sub_reason declared text1 text2 give _ (first_refused against stands) =
+      refused_reason (codes "T1") text1 against (in_first declared text1 text2 give stands)
+  sub_reason declared text1 text2 give _ (second_refused first is1 against stands) =
+      refused_reason (codes "T2") text2 against (in_second declared text1 text2 give first is1 stands)
+  sub_reason declared text1 text2 give _ (yes first second is1 is2 within) = record {
+    first = first;
+    second = second;
+    ask = record { disk = disk; met = met; declared = declared; text1 = text1; text2 = text2; give = give; first_is = is1; second_is = is2 };
+    within = within;
+  }
+  sub_reason declared text1 text2 give _ (no first second is1 is2 element is inside outside) = record {
+    first = first;
+    second = second;
+    ask = record { disk = disk; met = met; declared = declared; text1 = text1; text2 = text2; give = give; first_is = is1; second_is = is2 };
+    element = element;
+    exists = is;
+    inside = inside;
+    outside = outside;
+  }
+
+  sub_types_reason : (file text1 text2 : Bytes) → Give words (SubTypes file text1 text2) → (reply : Reply) → SubTypesAnswer disk file text1 text2 reply → Reason words before after reply.status
+  sub_types_reason file text1 text2 give _ (file_refused reply refusal) = file_reason file text1 text2 give reply refusal
+  sub_types_reason file text1 text2 give _ (on_texts text has declared declares reply answers) =
+      sub_reason declared text1 text2 (with_file file text1 text2 give text has declared declares) reply answers
+
+  unbuilt_reason : (command : Command) → Give words command → CommandIsNotBuilt command → (reply : Reply) → reply ≡ not_built (name_of command)
+      → Reason words before after reply.status
+  unbuilt_reason command give unbuilt reply is = subst (λ reply. Reason words before after reply.status) (sym is) (record { command = command; give = give; unbuilt = unbuilt })
+
+  command_reason : (command : Command) → Give words command → (reply : Reply) → AnswerOf command disk reply → Reason words before after reply.status
+  command_reason (Sub text1 text2) give reply answers = sub_reason NoDeclaration text1 text2 (alone text1 text2 give) reply answers
+  command_reason (SubTypes file text1 text2) give reply answers = sub_types_reason file text1 text2 give reply answers
+  command_reason (Member file document type) give reply is = unbuilt_reason (Member file document type) give tt reply is
+  command_reason (Check file) give reply is = unbuilt_reason (Check file) give tt reply is
+  command_reason (Run file document) give reply is = unbuilt_reason (Run file document) give tt reply is
+  command_reason (RunSteps units file document) give reply is = unbuilt_reason (RunSteps units file document) give tt reply is
+  command_reason (Work size) give reply is = unbuilt_reason (Work size) give tt reply is
+
+  answer_reason : (reply : Reply) → Answer words disk reply → Reason words before after reply.status
+  answer_reason reply (inl none) = subst (λ reply. Reason words before after reply.status) (sym none.1) none.0
+  answer_reason reply (inr given) = command_reason given.0 given.1 reply given.2
+
+by_answer : (words : List Bytes) (before after : World) (is : Status) → IsCause words before after is → Reason words before after is
+by_answer words before after is cause = subst (Reason words before after) cause.4 (answer_reason words cause.0 before after cause.1 cause.2 cause.3)
+
+pub causes : (words : List Bytes) (before after : World) (is : Status) → Cause words before after is → Reason words before after is
+causes words before after status.Done cause = by_answer words before after status.Done cause
+causes words before after status.No cause = by_answer words before after status.No cause
+causes words before after status.Usage cause = by_answer words before after status.Usage cause
+causes words before after status.ReadFault cause = by_answer words before after status.ReadFault cause
+causes words before after status.WriteFault cause = cause
+causes words before after status.NoMemory cause = cause
+causes words before after status.TooLarge cause = by_answer words before after status.TooLarge cause
+causes words before after status.NotUtf8 cause = by_answer words before after status.NotUtf8 cause
+causes words before after status.Lexical cause = by_answer words before after status.Lexical cause
+causes words before after status.Syntax cause = by_answer words before after status.Syntax cause
+causes words before after status.TooDeep cause = by_answer words before after status.TooDeep cause
+causes words before after status.Naming cause = by_answer words before after status.Naming cause
+causes words before after status.IllTyped cause = by_answer words before after status.IllTyped cause
+causes words before after status.NotBuilt cause = by_answer words before after status.NotBuilt cause
+causes words before after status.NotInput cause = by_answer words before after status.NotInput cause
+causes words before after status.Uncaught cause = by_answer words before after status.Uncaught cause
+causes words before after status.Overflow cause = by_answer words before after status.Overflow cause
+causes words before after status.Spent cause = by_answer words before after status.Spent cause

@@ -1,0 +1,4 @@
+mod Positions
+pub mod Saying
+pub mod Speaking
+pub mod TextReading

@@ -1,0 +1,51 @@
+-- The files that a call meets, and what is said of one that has no text.
+use Rattle.std.specs.Prelude.{◌≡◌, ℕ, ◌<◌, ◌≤◌, Option, Some, None, IfSome, length}
+use Rattle.std.specs.Str.{IsUtf8}
+use Rattle.std.specs.Str.Lossy.{utf8_valid_len}
+use Rattle.cd_base.specs.Faults.{Rose}
+use Rattle.cd_base.specs.FilesState.{FilesState}
+use Rattle.cd_replies.specs.Bytes.{Bytes}
+use Rattle.cd_replies.specs.Reply.{Reply, cannot_read, too_large, not_utf8, refusal}
+use Rattle.cd_replies.specs.Texts.{Against, RefusesDeclarations}
+
+-- the files that a call meets: the bytes of each name that are told, and the one name, if there is
+-- one, that can't be read
+pub record Disk : Type 0 where
+  pub told : Bytes → Option Bytes
+  pub marked : Option Bytes
+
+-- the file can be read and has these bytes, as far as it is told
+pub record Has (disk : Disk) (name bytes : Bytes) : Type 0 where
+  pub read : disk.marked ≡ Some name → ⊥
+  pub told : IfSome (disk.told name) (λ all. all ≡ bytes)
+
+-- how many bytes a file may have
+abbrev pub LARGEST : ℕ
+LARGEST = 16777216
+
+-- the file has this text
+pub record HasText (disk : Disk) (name text : Bytes) : Type 0 where
+  pub has : Has disk name text
+  pub size : length text ≤ LARGEST
+  pub encoded : IsUtf8 text
+
+-- the files that a call met, by what is known of them before and after it
+pub data Met (before after : FilesState) : Disk → Type 0 where
+  -- where the count of faults is as it was, no name is marked
+  unmarked : after.faults ≡ before.faults
+      → Met before after (record { told = before.told; marked = None })
+  -- where it rose, the name of the latest read that failed is marked
+  marked : (name : Bytes) → Rose before.faults after.faults → after.last ≡ Some name
+      → Met before after (record { told = before.told; marked = Some name })
+
+-- the replies that refuse a file of declarations
+pub data FileRefusal (disk : Disk) (name : Bytes) : Reply → Type 0 where
+  unread : disk.marked ≡ Some name → FileRefusal disk name (cannot_read name)
+  large : (bytes : Bytes) → Has disk name bytes → LARGEST < length bytes
+      → FileRefusal disk name (too_large name)
+  -- the byte that is told is the length of the longest front that is UTF-8
+  encoding : (bytes : Bytes) → Has disk name bytes → length bytes ≤ LARGEST → (IsUtf8 bytes → ⊥)
+      → FileRefusal disk name (not_utf8 name (utf8_valid_len bytes))
+  refused : (text : Bytes) → HasText disk name text → (against : Against)
+      → RefusesDeclarations text against
+      → FileRefusal disk name (refusal name text against)

@@ -1,0 +1,12 @@
+pub mod Bytes
+pub mod Position
+pub mod Texts
+pub mod Within
+pub mod Reply
+pub mod Disk
+pub mod Message
+pub mod File
+pub mod Answering
+pub mod Refusal
+pub mod Sound
+pub mod Inner

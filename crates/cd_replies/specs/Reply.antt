@@ -1,0 +1,88 @@
+-- Replies: a status, and a text on output or on errors.
+use Rattle.std.specs.Prelude.{ℕ, [], ◌∷◌, ◌++◌, codes, encode_utf8_all}
+use Rattle.std.specs.Fmt.{decimal}
+use Rattle.cd_base.specs.declared.status.Status.{Status}
+use Rattle.cd_base.specs.declared.status.Status.TheVariants.{Usage, ReadFault, TooLarge, NotUtf8}
+use Rattle.cd_base.specs.declared.status.Status.TheVariants.{Lexical as IsLexical}
+use Rattle.cd_base.specs.declared.status.Status.TheVariants.{Syntax as IsSyntax}
+use Rattle.cd_base.specs.declared.status.Status.TheVariants.{TooDeep as IsTooDeep}
+use Rattle.cd_base.specs.declared.status.Status.TheVariants.{Naming as IsNaming}
+use Rattle.cd_base.specs.declared.status.Status.TheVariants.{NotBuilt as IsNotBuilt}
+use Rattle.cd_syntax.specs.declared.tokens.LexError.{LexError}
+use Rattle.cd_syntax.specs.declared.tokens.LexError.TheVariants.{BadChar, OpenText, OpenComment}
+use Rattle.cd_syntax.specs.declared.tokens.LexError.TheVariants.{TooWide, Memory}
+use Rattle.cd_replies.specs.Bytes.{Bytes}
+use Rattle.cd_replies.specs.Position.{position}
+use Rattle.cd_names.specs.Faults.{Fault}
+use Rattle.cd_names.specs.declared.fault.NameFault.{NameFault}
+use Rattle.cd_names.specs.declared.fault.NameFault.TheVariants.{Unknown, Twice, Unguarded}
+use Rattle.cd_replies.specs.Texts.{Against, Lexical, Syntax, TooDeep, Naming}
+
+pub record Reply : Type 0 where
+  pub status : Status
+  pub out : Bytes
+  pub err : Bytes
+
+-- a text and a line feed
+abbrev pub line : Bytes → Bytes
+line text = text ++ 10 ∷ []
+
+-- a line on output
+abbrev pub says : Status → Bytes → Reply
+says status text = record { status = status; out = line text; err = [] }
+
+-- a line on errors
+abbrev pub complains : Status → Bytes → Reply
+complains status text = record { status = status; out = []; err = line text }
+
+abbrev pub usage : Reply
+usage = complains Usage
+    (codes "usage: cduce sub [--types FILE] T1 T2, member FILE DOC T, check FILE, "
+    ++ codes "run [--steps N] FILE DOC, work N")
+
+-- a command that isn't built, by its first word
+abbrev pub not_built : Bytes → Reply
+not_built name = complains IsNotBuilt (name ++ codes ": not built")
+
+-- files that can't be read, that are too large, and that are UTF-8 just up to a byte
+abbrev pub cannot_read : Bytes → Reply
+cannot_read name = complains ReadFault (codes "cannot read " ++ name)
+
+abbrev pub too_large : Bytes → Reply
+too_large name = complains TooLarge (name ++ codes ": too large")
+
+abbrev pub not_utf8 : Bytes → ℕ → Reply
+not_utf8 name byte = complains NotUtf8 (name ++ codes ": not UTF-8 at byte " ++ decimal byte)
+
+-- what is said of a place of a text
+abbrev pub at_place : Status → (origin text : Bytes) → (place : ℕ) → Bytes → Reply
+at_place status origin text place message =
+    complains status (origin ++ codes ":" ++ position text place ++ codes ": " ++ message)
+
+-- a lexical fault. Want of memory is none, and never comes here
+abbrev pub lexical : (origin text : Bytes) → LexError → Reply
+lexical origin text (BadChar place) = at_place IsLexical origin text place (codes "bad character")
+lexical origin text (OpenText place) =
+    at_place IsLexical origin text place (codes "text not closed")
+lexical origin text (OpenComment place) =
+    at_place IsLexical origin text place (codes "comment not closed")
+lexical origin text (TooWide place) = at_place IsLexical origin text place (codes "number too wide")
+lexical origin text Memory = complains IsLexical origin
+
+-- a naming fault of this name
+abbrev pub naming_message : NameFault → Bytes → Bytes
+naming_message Unknown name = codes "unknown name " ++ name
+naming_message Twice name = codes "name " ++ name ++ codes " twice"
+naming_message Unguarded name = codes "type " ++ name ++ codes " is not guarded"
+
+abbrev pub naming : (origin text : Bytes) → Fault → Reply
+naming origin text fault =
+    at_place IsNaming origin text fault.at (naming_message fault.fault (encode_utf8_all fault.name))
+
+-- what is said of a text where this stands against it; its origin is the name of its file, or `T1`
+-- or `T2`
+abbrev pub refusal : (origin text : Bytes) → Against → Reply
+refusal origin text (Lexical fault) = lexical origin text fault
+refusal origin text (Syntax place) = at_place IsSyntax origin text place (codes "syntax")
+refusal origin text (TooDeep place) = at_place IsTooDeep origin text place (codes "too deep")
+refusal origin text (Naming fault) = naming origin text fault

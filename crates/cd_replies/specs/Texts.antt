@@ -1,0 +1,84 @@
+-- What a text says, and what stands against it: a type text, or a file of type declarations.
+use Rattle.std.specs.Prelude.{◌≡◌, ℕ, false, List, [], ◌∷◌, length}
+use Rattle.std.specs.Str.{chars}
+use Rattle.cd_syntax.specs.declared.tokens.Token.{Token}
+use Rattle.cd_syntax.specs.declared.tokens.LexError.{LexError}
+use Rattle.cd_syntax.specs.Tokens.{Spells}
+use Rattle.cd_syntax.specs.Faults.{Fails}
+use Rattle.cd_syntax.specs.TypeTree.{Tree, Declarations}
+use Rattle.cd_syntax.specs.TypeGrammar.{IsTree, AreDeclared}
+use Rattle.cd_syntax.specs.SyntaxFaults.{Form, AType, SomeDeclarations, IsSyntaxFault, IsDepthFault}
+use Rattle.cd_model.specs.Written.{Written}
+use Rattle.cd_names.specs.Faults.{Fault, IsFault, IsFaultOfList, IsTold}
+use Rattle.cd_replies.specs.Bytes.{Bytes}
+
+-- the text is spelled by these tokens
+abbrev pub HasTokens : Bytes → List Token → Type 0
+HasTokens text tokens = Spells false 0 (chars text) tokens
+
+-- the type that a tree is, which sees these declarations
+abbrev pub type_of : Declarations → Tree → Written
+type_of declared is = record { scope = declared ∷ []; tree = is }
+
+-- a naming fault of a type that sees these declarations, and of declarations that see one another
+abbrev pub IsFaultOfType : Declarations → Tree → Fault → Type 0
+IsFaultOfType declared is fault = IsFault (declared ∷ []) (declared ∷ []) is fault
+
+abbrev pub IsFaultOfDeclarations : Declarations → Fault → Type 0
+IsFaultOfDeclarations declared fault = IsFaultOfList [] (declared ∷ []) declared fault
+
+-- the text reads as the type, which sees these declarations, and its names are sound
+pub record ReadsAs (declared : Declarations) (text : Bytes) (type : Written) : Type 0 where
+  pub tokens : List Token
+  pub spelled : HasTokens text tokens
+  pub tree : Tree
+  pub written : IsTree 1000 tokens tree
+  pub sound : (fault : Fault) → IsFaultOfType declared tree fault → ⊥
+  pub means : type ≡ type_of declared tree
+
+-- the text reads as these type declarations, whose names are sound
+pub record Declares (text : Bytes) (declared : Declarations) : Type 0 where
+  pub tokens : List Token
+  pub spelled : HasTokens text tokens
+  pub written : AreDeclared 1000 tokens declared
+  pub sound : (fault : Fault) → IsFaultOfDeclarations declared fault → ⊥
+
+-- what stands against a text, whose tokens are to be of a form: its first lexical fault, the place
+-- of its fault of syntax, or that of a form too deep, or the naming fault that is told of it
+pub data Against : Type 0 where
+  Lexical : LexError → Against
+  Syntax : (place : ℕ) → Against
+  TooDeep : (place : ℕ) → Against
+  Naming : Fault → Against
+
+-- it stands against the text; `told` says of tokens that are of the form which naming fault is told
+-- of what they write
+pub data Refuses (form : Form) (told : List Token → Fault → Type 0) (text : Bytes) : Against
+    → Type 0 where
+  lexical : (fault : LexError) → Fails false 0 (chars text) fault
+      → Refuses form told text (Lexical fault)
+  syntax : (tokens : List Token) → HasTokens text tokens → (place : ℕ)
+      → IsSyntaxFault form 1000 tokens (length text) place
+      → Refuses form told text (Syntax place)
+  too_deep : (tokens : List Token) → HasTokens text tokens → (place : ℕ)
+      → IsDepthFault form 1000 tokens (length text) place
+      → Refuses form told text (TooDeep place)
+  naming : (tokens : List Token) → HasTokens text tokens → (fault : Fault) → told tokens fault
+      → Refuses form told text (Naming fault)
+
+-- the fault is told of the type that the tokens write, and of the declarations
+abbrev pub IsToldOfType : Declarations → List Token → Fault → Type 0
+IsToldOfType declared tokens fault = (is : Tree) × IsTree 1000 tokens is
+    × IsTold (IsFaultOfType declared is) fault
+
+abbrev pub IsToldOfDeclarations : List Token → Fault → Type 0
+IsToldOfDeclarations tokens fault =
+    (declared : Declarations) × AreDeclared 1000 tokens declared
+    × IsTold (IsFaultOfDeclarations declared) fault
+
+-- what stands against a type text that sees these declarations, and against a file of declarations
+abbrev pub RefusesType : Declarations → Bytes → Against → Type 0
+RefusesType declared text against = Refuses AType (IsToldOfType declared) text against
+
+abbrev pub RefusesDeclarations : Bytes → Against → Type 0
+RefusesDeclarations text against = Refuses SomeDeclarations IsToldOfDeclarations text against

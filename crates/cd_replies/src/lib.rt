@@ -1,0 +1,8 @@
+//! What the commands share: files, the reading of texts, and messages.
+#![tactic(auto)]
+
+pub mod file;
+pub mod message;
+pub mod position;
+pub mod reader;
+pub mod refusal;

@@ -1,0 +1,211 @@
+//! Messages, which are the replies of the code.
+ghost use Rattle.std.specs.Prelude.{◌≡◌, [], ◌++◌, IfOk, codes, string_bytes};
+ghost use Rattle.cd_base.specs.declared.status.Status.TheVariants.{Done as IsDone, No as IsNo};
+ghost use Rattle.cd_replies.specs.Reply as reply;
+ghost use Rattle.cd_replies.specs.Reply.{says};
+ghost use Rattle.cd_replies.specs.Message.{reply_of};
+ghost use Rattle.cd_replies.specs.File.{said_of};
+ghost use Rattle.cd_replies.specs.Refusal.{against};
+
+use crate::file::FileFault;
+use crate::position::place;
+use crate::refusal::Refusal;
+use cd_base::status::Status;
+use cd_names::fault::NameFault;
+use cd_syntax::name::Name;
+use cd_syntax::tokens::LexError;
+use std::alloc::{AllocError, Global};
+
+const USAGE: &str =
+    "usage: cduce sub [--types FILE] T1 T2, member FILE DOC T, check FILE, run [--steps N] FILE DOC, work N\n";
+
+/// A status, with a text for output or for errors.
+#[derive(Drop)]
+pub struct Message {
+    /// The status that the program ends with.
+    pub status: Status,
+    /// Whether the text is for output, and not for errors.
+    pub on_output: bool,
+    /// The text, with its line feed.
+    pub text: String,
+}
+
+// A text on errors.
+fn complaint(status: Status, text: String) -> Message
+    ensures { reply_of result ≡ record { status = status; out = []; err = string_bytes text } }
+{
+    Message {
+        status,
+        on_output: false,
+        text,
+    }
+}
+
+/// The line that tells how the program is used.
+///
+/// # Errors
+///
+/// Want of memory.
+pub fn usage(alloc: Global) -> Result<Message, AllocError>
+    ensures { IfOk result (λ message. reply_of message ≡ reply.usage) }
+{
+    Ok(complaint(Status::Usage, String::from_str(alloc, USAGE)?))
+}
+
+/// What is said of a command that is not built, by its first word.
+///
+/// # Errors
+///
+/// Want of memory.
+pub fn not_built(alloc: Global, command: &str) -> Result<Message, AllocError>
+    ensures { IfOk result (λ message. reply_of message ≡ reply.not_built command.now) }
+{
+    let text = format!(in alloc; "{command}: not built\n")?;
+    Ok(complaint(Status::NotBuilt, text))
+}
+
+fn cannot_read(alloc: Global, name: &str) -> Result<Message, AllocError>
+    ensures { IfOk result (λ message. reply_of message ≡ reply.cannot_read name.now) }
+{
+    let text = format!(in alloc; "cannot read {name}\n")?;
+    Ok(complaint(Status::ReadFault, text))
+}
+
+fn too_large(alloc: Global, name: &str) -> Result<Message, AllocError>
+    ensures { IfOk result (λ message. reply_of message ≡ reply.too_large name.now) }
+{
+    let text = format!(in alloc; "{name}: too large\n")?;
+    Ok(complaint(Status::TooLarge, text))
+}
+
+fn not_utf8(alloc: Global, name: &str, byte: usize) -> Result<Message, AllocError>
+    ensures { IfOk result (λ message. reply_of message ≡ reply.not_utf8 name.now byte) }
+{
+    let text = format!(in alloc; "{name}: not UTF-8 at byte {byte}\n")?;
+    Ok(complaint(Status::NotUtf8, text))
+}
+
+/// What is said of a file that has no text.
+///
+/// # Errors
+///
+/// Want of memory.
+pub fn no_text(alloc: Global, name: &str, fault: FileFault) -> Result<Message, AllocError>
+    ensures { IfOk result (λ message. reply_of message ≡ said_of name.now fault) }
+{
+    match fault {
+        FileFault::Unread => cannot_read(alloc, name),
+        FileFault::TooLarge => too_large(alloc, name),
+        FileFault::NotUtf8(valid) => not_utf8(alloc, name, valid),
+    }
+}
+
+/// What is said of a text where this stands against it; its origin is the name of its file, or `T1`
+/// or `T2`.
+///
+/// # Errors
+///
+/// Want of memory.
+pub fn refused(
+    alloc: Global,
+    origin: &str,
+    text: &str,
+    refusal: Refusal,
+) -> Result<Message, AllocError>
+    ensures { IfOk result (λ message.
+        reply_of message ≡ reply.refusal origin.now text.now (against refusal)) }
+{
+    match refusal {
+        Refusal::Lexical(fault) => lexical(alloc, origin, text, fault),
+        Refusal::Syntax(at) => at_place(alloc, Status::Syntax, origin, text, at, "syntax"),
+        Refusal::TooDeep(at) => at_place(alloc, Status::TooDeep, origin, text, at, "too deep"),
+        Refusal::Naming { fault, name, at } => naming(alloc, origin, text, fault, &name, at),
+    }
+}
+
+// What is said of a naming fault.
+fn naming(
+    alloc: Global,
+    origin: &str,
+    text: &str,
+    fault: NameFault,
+    name: &Name,
+    at: usize,
+) -> Result<Message, AllocError>
+    ensures { IfOk result (λ message.
+        reply_of message ≡ reply.naming origin.now text.now
+        (record { fault = fault; name = name.now; at = at })) }
+{
+    let message = naming_message(alloc, fault, name.as_str())?;
+    at_place(alloc, Status::Naming, origin, text, at, message.as_str())
+}
+
+fn naming_message(alloc: Global, fault: NameFault, name: &str) -> Result<String, AllocError>
+    ensures { IfOk result (λ message. string_bytes message ≡ reply.naming_message fault name.now) }
+{
+    match fault {
+        NameFault::Unknown => format!(in alloc; "unknown name {name}"),
+        NameFault::Twice => format!(in alloc; "name {name} twice"),
+        NameFault::Unguarded => format!(in alloc; "type {name} is not guarded"),
+    }
+}
+
+fn lexical(alloc: Global, origin: &str, text: &str, fault: LexError) -> Result<Message, AllocError>
+    ensures { IfOk result (λ message. reply_of message ≡ reply.lexical origin.now text.now fault) }
+{
+    let (at, message) = match fault {
+        LexError::BadChar(at) => (at, "bad character"),
+        LexError::OpenText(at) => (at, "text not closed"),
+        LexError::OpenComment(at) => (at, "comment not closed"),
+        LexError::TooWide(at) => (at, "number too wide"),
+        LexError::Memory => return Err(AllocError),
+    };
+    at_place(alloc, Status::Lexical, origin, text, at, message)
+}
+
+// What is said of a place of a text.
+fn at_place(
+    alloc: Global,
+    status: Status,
+    origin: &str,
+    text: &str,
+    at: usize,
+    message: &str,
+) -> Result<Message, AllocError>
+    ensures { IfOk result (λ told.
+        reply_of told ≡ reply.at_place status origin.now text.now at message.now) }
+{
+    let (line, column) = place(text, at);
+    let told = format!(in alloc; "{origin}:{line}:{column}: {message}\n")?;
+    Ok(complaint(status, told))
+}
+
+/// Yes, on output.
+///
+/// # Errors
+///
+/// Want of memory.
+pub fn yes(alloc: Global) -> Result<Message, AllocError>
+    ensures { IfOk result (λ message. reply_of message ≡ says IsDone (codes "yes")) }
+{
+    Ok(Message {
+        status: Status::Done,
+        on_output: true,
+        text: String::from_str(alloc, "yes\n")?,
+    })
+}
+
+/// No, with the text of an element, on output.
+///
+/// # Errors
+///
+/// Want of memory.
+pub fn no(alloc: Global, element: &str) -> Result<Message, AllocError>
+    ensures { IfOk result (λ message. reply_of message ≡ says IsNo (codes "no: " ++ element.now)) }
+{
+    Ok(Message {
+        status: Status::No,
+        on_output: true,
+        text: format!(in alloc; "no: {element}\n")?,
+    })
+}

@@ -1,0 +1,78 @@
+-- Messages that tell an answer.
+use Rattle.std.proofs.Common.{◌≡◌, Result, Ok, Err, refl, sym, subst}
+use Rattle.std.specs.Prelude.{IfOk, String, string_bytes}
+use Rattle.std.specs.Global.{Global}
+use Rattle.std.specs.declared.alloc.AllocError.{AllocError}
+use Rattle.cd_base.specs.FilesState.{FilesState}
+use Rattle.cd_syntax.specs.TypeTree.{Declarations}
+use Rattle.cd_model.specs.Written.{Written}
+use Rattle.cd_replies.specs.Bytes.{Bytes}
+use Rattle.cd_replies.specs.Reply.{Reply, cannot_read, too_large, not_utf8}
+use Rattle.cd_replies.specs.Texts.{ReadsAs, Declares}
+use Rattle.cd_replies.specs.Disk.{Disk, HasText, marked, FileRefusal, unread, large, encoding}
+use Rattle.cd_replies.proofs.Saying.{replies, told_disk, marked_disk, has_bytes, met_same}
+use Rattle.cd_sub.specs.SubAnswer.{SubAnswer, yes, no}
+use Rattle.cd_sub.specs.SubTypesAnswer.{SubTypesAnswer, file_refused, on_texts}
+use Rattle.cd_sub.specs.Inner.Comparing.{ComparesTypes, within, outside}
+use Rattle.cd_replies.specs.Answering.{IsAnswer}
+use Rattle.cd_replies.specs.File.{IsFileRead, said_of}
+use Rattle.cd_replies.specs.declared.file.FileFault.{FileFault}
+use Rattle.cd_replies.specs.declared.file.FileFault.TheVariants.{Unread, TooLarge, NotUtf8}
+use Rattle.cd_replies.specs.declared.message.Message.{Message}
+use Rattle.cd_replies.specs.Message.{reply_of}
+
+-- what is told of two types that texts read as is the answer
+pub compared : (declared : Declarations) (text1 text2 : Bytes) (first second : Written) → ReadsAs declared text1 first → ReadsAs declared text2 second
+    → (r : Result Message AllocError) → IfOk r (λ message. ComparesTypes first second (reply_of message))
+    → IfOk r (λ message. SubAnswer declared text1 text2 (reply_of message))
+compared declared text1 text2 first second is1 is2 (Ok message) compares = by_reply (reply_of message) compares
+  where
+    by_reply : (reply : Reply) → ComparesTypes first second reply → SubAnswer declared text1 text2 reply
+    by_reply _ (within all) = yes first second is1 is2 all
+    by_reply _ (outside element is is_in is_out) = no first second is1 is2 element is is_in is_out
+compared declared text1 text2 first second is1 is2 (Err error) compares = tt
+
+-- what is said of a file that has no text is an answer
+pub answers_fault : (old new : FilesState) (name text1 text2 : Bytes) (fault : FileFault) → IsFileRead old new name (Ok (Err fault))
+    → (r : Result Message AllocError) → IfOk r (λ message. reply_of message ≡ said_of name fault) → IsAnswer (λ disk. SubTypesAnswer disk name text1 text2) old new r
+answers_fault old new name text1 text2 Unread is r said = (
+  marked_disk old name,
+  marked name is.rose is.last,
+  replies r (cannot_read name) (SubTypesAnswer (marked_disk old name) name text1 text2) said (file_refused (cannot_read name) (unread refl)),
+)
+answers_fault old new name text1 text2 TooLarge is r said = (
+  told_disk old,
+  met_same old new is.0,
+  replies r (too_large name) (SubTypesAnswer (told_disk old) name text1 text2) said
+      (file_refused (too_large name) (large is.1 (has_bytes old name is.1 is.2) is.3)),
+)
+answers_fault old new name text1 text2 (NotUtf8 valid) is r said = (
+  told_disk old,
+  met_same old new is.0,
+  replies r (not_utf8 name valid) (SubTypesAnswer (told_disk old) name text1 text2) said
+      (file_refused (not_utf8 name valid)
+      (subst (λ valid. FileRefusal (told_disk old) name (not_utf8 name valid)) (sym is.5) (encoding is.1 (has_bytes old name is.1 is.2) is.3 is.4))),
+)
+
+-- and so is what is said where it has one
+pub answers_text : (old new : FilesState) (name text1 text2 : Bytes) (text : String Global) → IsFileRead old new name (Ok (Ok text))
+    → (r : Result Message AllocError) → IfOk r (λ message. (disk : Disk) → HasText disk name (string_bytes text) → SubTypesAnswer disk name text1 text2 (reply_of message))
+    → IsAnswer (λ disk. SubTypesAnswer disk name text1 text2) old new r
+answers_text old new name text1 text2 text is (Ok message) said = (
+  told_disk old,
+  met_same old new is.0,
+  said (told_disk old) (record { has = has_bytes old name (string_bytes text) is.1; size = is.2; encoded = is.3 }),
+)
+answers_text old new name text1 text2 text is (Err error) said = (told_disk old, met_same old new is.0, tt)
+
+-- what is said of a file with these declarations is what `sub` answers, and else what stands against it
+pub on_file : (name text text1 text2 : Bytes) (declared : Declarations) → Declares text declared
+    → (r : Result Message AllocError) → IfOk r (λ message. SubAnswer declared text1 text2 (reply_of message))
+    → IfOk r (λ message. (disk : Disk) → HasText disk name text → SubTypesAnswer disk name text1 text2 (reply_of message))
+on_file name text text1 text2 declared declares (Ok message) answers =
+    λ disk has. on_texts text has declared declares (reply_of message) answers
+on_file name text text1 text2 declared declares (Err error) answers = tt
+
+pub answers_nothing : (old new : FilesState) (name text1 text2 : Bytes) (error : AllocError) → IsFileRead old new name (Err error)
+    → IsAnswer (λ disk. SubTypesAnswer disk name text1 text2) old new (Err error)
+answers_nothing old new name text1 text2 error is = (told_disk old, met_same old new is, tt)

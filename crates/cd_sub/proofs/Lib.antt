@@ -1,0 +1,3 @@
+pub mod SubSpeaking
+mod Answering
+mod Comparing

@@ -1,0 +1,3 @@
+pub mod SubAnswer
+pub mod SubTypesAnswer
+pub mod Inner
