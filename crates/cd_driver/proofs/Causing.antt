@@ -1,7 +1,7 @@
 -- Each way that a call ends has its status for its cause.
 use Rattle.std.proofs.Common.{◌≡◌, List, inl, inr, refl}
 use Rattle.cd_base.specs.declared.status.Status.{Status}
-use Rattle.cd_base.specs.declared.status.Status.TheVariants as status
+use Rattle.cd_base.specs.declared.status.Status.TheVariants.{WriteFault, NoMemory}
 use Rattle.cd_replies.specs.Bytes.{Bytes}
 use Rattle.cd_replies.specs.Reply.{Reply}
 use Rattle.cd_driver.specs.World.{World}
@@ -9,32 +9,17 @@ use Rattle.cd_replies.specs.Disk.{Disk, Met}
 use Rattle.cd_driver.specs.Answer.{Answer}
 use Rattle.cd_driver.specs.Ending.{Delivered, whole, out_refused, err_refused, out_cut, err_cut, Ending, answered, no_memory, Completes}
 use Rattle.cd_driver.specs.Causes.{IsCause, Cause}
-use Rattle.cd_driver.proofs.Concluding.{speaks}
+use Rattle.cd_driver.proofs.Concluding.{answer_is_reply}
 
 -- an answer is the cause of its status, which isn't that of a failed write
-as_cause : (words : List Bytes) (before after : World) (is : Status) → (is ≡ status.WriteFault → ⊥) → IsCause words before after is → Cause words before after is
-as_cause words before after status.Done some cause = cause
-as_cause words before after status.No some cause = cause
-as_cause words before after status.Usage some cause = cause
-as_cause words before after status.ReadFault some cause = cause
-as_cause words before after status.WriteFault some cause = absurd (some refl)
-as_cause words before after status.NoMemory some cause = tt
-as_cause words before after status.TooLarge some cause = cause
-as_cause words before after status.NotUtf8 some cause = cause
-as_cause words before after status.Lexical some cause = cause
-as_cause words before after status.Syntax some cause = cause
-as_cause words before after status.TooDeep some cause = cause
-as_cause words before after status.Naming some cause = cause
-as_cause words before after status.IllTyped some cause = cause
-as_cause words before after status.NotBuilt some cause = cause
-as_cause words before after status.NotInput some cause = cause
-as_cause words before after status.Uncaught some cause = cause
-as_cause words before after status.Overflow some cause = cause
-as_cause words before after status.Spent some cause = cause
+as_cause : (words : List Bytes) (before after : World) (status : Status) → (status ≡ WriteFault → ⊥) → IsCause words before after status → Cause words before after status
+as_cause words before after WriteFault other cause = absurd (other refl)
+as_cause words before after NoMemory other cause = tt
+as_cause words before after status other cause = cause
 
 module _ (words : List Bytes) (disk : Disk) (before after : World) (met : Met before.files after.files disk) where
   delivered_cause : (reply : Reply) → Answer words disk reply → (is : Status) → Delivered before after reply is → Cause words before after is
-  delivered_cause reply answer _ (whole out err) = as_cause words before after reply.status (speaks words disk reply answer).status (disk, met, reply, answer, refl)
+  delivered_cause reply answer _ (whole out err) = as_cause words before after reply.status (answer_is_reply words disk reply answer).status (disk, met, reply, answer, refl)
   delivered_cause reply answer _ (out_refused some fails same) = record { disk = disk; met = met; reply = reply; answer = answer; at_sink = inl (some, fails.rose) }
   delivered_cause reply answer _ (err_refused some fails same) = record { disk = disk; met = met; reply = reply; answer = answer; at_sink = inr (some, fails.rose) }
   delivered_cause reply answer _ (out_cut some puts same) = tt

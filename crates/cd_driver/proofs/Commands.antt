@@ -8,12 +8,11 @@ use Rattle.cd_driver.specs.Command.{Command, SubTypes, Give, HaveNoForm}
 use Rattle.cd_replies.specs.Reply.{usage, not_built}
 use Rattle.cd_replies.specs.Disk.{Disk, unmarked}
 use Rattle.cd_driver.specs.Answer.{Answer, AnswerOf}
-use Rattle.cd_replies.specs.Answering.{IsAnswer}
+use Rattle.cd_replies.specs.Message.{IsAnswer, reply_of}
 use Rattle.cd_replies.specs.File.{ReadsThere}
 use Rattle.cd_driver.specs.FilesRead.{ReadsFilesOf}
 use Rattle.cd_driver.specs.Inner.Request.{GiveNotBuilt}
 use Rattle.cd_replies.specs.declared.message.Message.{Message}
-use Rattle.cd_replies.specs.Message.{reply_of}
 
 -- the files that are told, where none was read
 abbrev told_disk : FilesState → Disk

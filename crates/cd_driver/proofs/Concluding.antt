@@ -8,7 +8,7 @@ use Rattle.cd_base.specs.FilesState.{FilesState}
 use Rattle.cd_base.specs.SinkState.{SinkState, Puts}
 use Rattle.cd_syntax.specs.TypeTree.{NoDeclaration}
 use Rattle.cd_replies.specs.Bytes.{Bytes}
-use Rattle.cd_driver.specs.Command.{Command, Sub, SubTypes, Member, Check, Run, RunSteps, Work}
+use Rattle.cd_driver.specs.Command.{Command, Sub, SubTypes, name_of}
 use Rattle.cd_replies.specs.Reply.{Reply, not_built}
 use Rattle.cd_driver.specs.World.{World, world}
 use Rattle.cd_replies.specs.Disk.{Disk, Met, unmarked, marked}
@@ -18,25 +18,21 @@ use Rattle.cd_driver.specs.Headline.{NothingFailed, IsAnswered, Headline, told_f
 use Rattle.cd_driver.specs.Inner.Telling.{Put, whole as put_whole, refused as put_refused, cut as put_cut}
 use Rattle.cd_replies.specs.declared.message.Message.{Message}
 use Rattle.cd_replies.specs.Message.{reply_of}
-use Rattle.cd_replies.proofs.Speaking.{Speaks, line_some}
-use Rattle.cd_sub.proofs.SubSpeaking.{sub_speaks, sub_types_speaks}
+use Rattle.cd_replies.proofs.Replies.{IsReply, line_some}
+use Rattle.cd_sub.proofs.SubReplies.{sub_is_reply, sub_types_is_reply}
 
--- an answer has a text, and not the status of a failed write
-not_built_speaks : (name : Bytes) (reply : Reply) → reply ≡ not_built name → Speaks reply
-not_built_speaks name reply is = subst Speaks (sym is) (record { text = λ out err. line_some (name ++ codes ": not built") err; status = λ failed. cc })
+-- each answer is a reply
+not_built_is_reply : (name : Bytes) (reply : Reply) → reply ≡ not_built name → IsReply reply
+not_built_is_reply name reply is = subst IsReply (sym is) (record { text = λ out err. line_some (name ++ codes ": not built") err; status = λ failed. cc })
 
-command_speaks : (disk : Disk) (command : Command) (reply : Reply) → AnswerOf command disk reply → Speaks reply
-command_speaks disk (Sub text1 text2) reply answers = sub_speaks NoDeclaration text1 text2 reply answers
-command_speaks disk (SubTypes file text1 text2) reply answers = sub_types_speaks disk file text1 text2 reply answers
-command_speaks disk (Member file document type) reply is = not_built_speaks (codes "member") reply is
-command_speaks disk (Check file) reply is = not_built_speaks (codes "check") reply is
-command_speaks disk (Run file document) reply is = not_built_speaks (codes "run") reply is
-command_speaks disk (RunSteps units file document) reply is = not_built_speaks (codes "run") reply is
-command_speaks disk (Work size) reply is = not_built_speaks (codes "work") reply is
+command_is_reply : (disk : Disk) (command : Command) (reply : Reply) → AnswerOf command disk reply → IsReply reply
+command_is_reply disk (Sub text1 text2) reply answers = sub_is_reply NoDeclaration text1 text2 reply answers
+command_is_reply disk (SubTypes file text1 text2) reply answers = sub_types_is_reply disk file text1 text2 reply answers
+command_is_reply disk command reply is = not_built_is_reply (name_of command) reply is
 
-pub speaks : (words : List Bytes) (disk : Disk) (reply : Reply) → Answer words disk reply → Speaks reply
-speaks words disk reply (inl none) = subst Speaks (sym none.1) (record { text = λ out err. cc; status = λ failed. cc })
-speaks words disk reply (inr given) = command_speaks disk given.0 reply given.2
+pub answer_is_reply : (words : List Bytes) (disk : Disk) (reply : Reply) → Answer words disk reply → IsReply reply
+answer_is_reply words disk reply (inl none) = subst IsReply (sym none.1) (record { text = λ out err. cc; status = λ failed. cc })
+answer_is_reply words disk reply (inr given) = command_is_reply disk given.0 reply given.2
 
 -- nothing was put
 appends_nothing : (told : Option (List ℕ)) → Appends told told []
@@ -67,10 +63,10 @@ delivered_message : (words : List Bytes) (disk : Disk) (before after : World) (o
     → Ending words disk before after ending
 delivered_message words disk before after true status text ending answer output errors =
     let put = output refl in
-    answered (record { status = status; out = text; err = [] }) answer ending (delivered_out before after status text (λ none. (speaks words disk (record { status = status; out = text; err = [] }) answer).text none refl) ending put.0 put.1)
+    answered (record { status = status; out = text; err = [] }) answer ending (delivered_out before after status text (λ none. (answer_is_reply words disk (record { status = status; out = text; err = [] }) answer).text none refl) ending put.0 put.1)
 delivered_message words disk before after false status text ending answer output errors =
     let put = errors refl in
-    answered (record { status = status; out = []; err = text }) answer ending (delivered_err before after status text (λ none. (speaks words disk (record { status = status; out = []; err = text }) answer).text refl none) ending put.0 put.1)
+    answered (record { status = status; out = []; err = text }) answer ending (delivered_err before after status text (λ none. (answer_is_reply words disk (record { status = status; out = []; err = text }) answer).text refl none) ending put.0 put.1)
 
 -- a call ends with the put of a message that answers the words, or with nothing put where memory ran out
 pub ends : (words : List Bytes) (before : World) (files : FilesState) (out err : SinkState) (message : Message) (ending : Status)

@@ -6,8 +6,7 @@ use Rattle.cd_replies.specs.Bytes.{Bytes}
 use Rattle.cd_driver.specs.Command.{Command, Sub, SubTypes, Give, HaveNoForm, name_of, files_of}
 use Rattle.cd_replies.specs.Reply.{Reply, usage, not_built}
 use Rattle.cd_replies.specs.Disk.{Disk}
-use Rattle.cd_sub.specs.SubAnswer.{SubAnswer}
-use Rattle.cd_sub.specs.SubTypesAnswer.{SubTypesAnswer}
+use Rattle.cd_sub.specs.SubAnswer.{SubAnswer, SubTypesAnswer}
 
 -- the answers to a command, where the files are these; of a command that isn't built, that
 abbrev pub AnswerOf : Command → Disk → Reply → Type 0

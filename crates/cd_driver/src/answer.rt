@@ -1,7 +1,7 @@
 ghost use Rattle.cd_driver.specs.Answer.{Answer};
 ghost use Rattle.cd_driver.specs.Command.{texts};
 ghost use Rattle.cd_driver.specs.FilesRead.{ReadsFilesOf};
-ghost use Rattle.cd_replies.specs.Answering.{IsAnswer};
+ghost use Rattle.cd_replies.specs.Message.{IsAnswer};
 ghost use Rattle.std.specs.Prelude.{◌≡◌};
 
 use crate::request::{Request, request_of};

@@ -48,8 +48,8 @@ pub fn cduce<F: Files, S: Sink>(
         (world (F.state files.old) (S.state out.old) (S.state err.old))
         (world (F.state files.new) (S.state out.new) (S.state err.new)) result }
 
-    // What is told of files stays. What is known of files stays as it was; or a fault was counted at
-    // a file that the words' command reads, which is the last at which one came.
+    // What is told of files stays. What is known of files stays as it was; or a fault was counted
+    // at a file that the words' command reads, which is the last at which one came.
     ensures told { (F.state files.new).told ≡ (F.state files.old).told }
     ensures files { ReadsFilesOf (texts words.now) (F.state files.old) (F.state files.new) }
 {

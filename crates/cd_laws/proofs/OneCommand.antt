@@ -15,13 +15,9 @@ given_by (name ∷ a ∷ b ∷ c ∷ d ∷ []) = if bytes_eq name (codes "sub") 
 given_by words = Check []
 
 is_given : (words : List Bytes) (command : Command) → Give words command → given_by words ≡ command
-is_given words (Sub a b) is = rw is refl
-is_given words (SubTypes file a b) is = rw is refl
-is_given words (Member file document type) is = rw is refl
-is_given words (Check file) is = rw is refl
-is_given words (Run file document) is = rw is refl
 is_given words (RunSteps units file document) is = rw is.1 (ap (λ number. RunSteps number file document) (sym is.2.value))
 is_given words (Work size) is = rw is.1 (ap Work (sym is.2.numeral.value))
+is_given words command is = rw is refl
 
 pub one_command : (words : List Bytes) (first second : Command) → Give words first → Give words second → second ≡ first
 one_command words first second give give' = sym (is_given words second give') ∙ is_given words first give

@@ -9,13 +9,13 @@ use Rattle.cd_model.specs.Thing.{Thing, IsElement}
 use Rattle.cd_model.specs.Written.{Written}
 use Rattle.cd_model.proofs.ApartAtWritten.{not_both}
 use Rattle.cd_replies.specs.Bytes.{Bytes}
-use Rattle.cd_driver.specs.Command.{Command, Sub, SubTypes, Member, Check, Run, RunSteps, Work, files_of}
+use Rattle.cd_driver.specs.Command.{Command, Sub, SubTypes, files_of}
 use Rattle.cd_replies.specs.Texts.{ReadsAs, Declares, RefusesDeclarations}
 use Rattle.cd_replies.specs.Within.{IsIn, IsOutside, IsWithin}
 use Rattle.cd_replies.specs.Reply.{Reply, refusal}
 use Rattle.cd_replies.specs.Disk.{Disk, Has, HasText, LARGEST, FileRefusal, unread, large, encoding, refused}
 use Rattle.cd_sub.specs.SubAnswer.{SubAnswer, yes, no, first_refused, second_refused}
-use Rattle.cd_sub.specs.SubTypesAnswer.{SubTypesAnswer, file_refused, on_texts}
+use Rattle.cd_sub.specs.SubAnswer.{SubTypesAnswer, file_refused, on_texts}
 use Rattle.cd_driver.specs.Answer.{Answer, AnswerOf, IsKnown, FileIsKnown}
 use Rattle.cd_laws.proofs.OneCommand.{one_command}
 use Rattle.cd_laws.proofs.OneRefusal.{one_type_refusal, one_declarations_refusal, reads_unrefused, declares_unrefused, reads_one, declares_one}
@@ -144,11 +144,7 @@ command_decides : (disk : Disk) (command : Command) → AllOf (IsKnown disk) (fi
     → (r s : Reply) → AnswerOf command disk r → AnswerOf command disk s → r.status ≡ s.status
 command_decides disk (Sub text1 text2) known r s answers answers' = sub_one NoDeclaration text1 text2 r s answers answers'
 command_decides disk (SubTypes file text1 text2) known r s answers answers' = file_decides disk file text1 text2 known.0 r s answers answers'
-command_decides disk (Member file document type) known r s is is' = ap (λ reply. reply.status) (is ∙ sym is')
-command_decides disk (Check file) known r s is is' = ap (λ reply. reply.status) (is ∙ sym is')
-command_decides disk (Run file document) known r s is is' = ap (λ reply. reply.status) (is ∙ sym is')
-command_decides disk (RunSteps units file document) known r s is is' = ap (λ reply. reply.status) (is ∙ sym is')
-command_decides disk (Work size) known r s is is' = ap (λ reply. reply.status) (is ∙ sym is')
+command_decides disk command known r s is is' = ap (λ reply. reply.status) (is ∙ sym is')
 
 pub one_status : (words : List Bytes) (disk : Disk) → FileIsKnown words disk
     → (r s : Reply) → Answer words disk r → Answer words disk s → r.status ≡ s.status

@@ -2,19 +2,19 @@
 use Rattle.std.proofs.Common.{◌≡◌, List, Some, inl, inr, refl, sym, subst}
 use Rattle.std.specs.Prelude.{codes}
 use Rattle.cd_base.specs.declared.status.Status.{Status}
-use Rattle.cd_base.specs.declared.status.Status.TheVariants as status
+use Rattle.cd_base.specs.declared.status.Status.TheVariants.{WriteFault, NoMemory}
 use Rattle.cd_base.specs.Faults.{Rose}
 use Rattle.cd_base.specs.FilesState.{FilesState}
-use Rattle.cd_syntax.specs.declared.tokens.LexError.TheVariants.{BadChar, OpenText, OpenComment, TooWide, Memory}
+use Rattle.cd_syntax.specs.declared.tokens.LexError.TheVariants.{Memory}
 use Rattle.cd_syntax.specs.TypeTree.{Declarations, NoDeclaration}
 use Rattle.cd_replies.specs.Bytes.{Bytes}
-use Rattle.cd_driver.specs.Command.{Command, Sub, SubTypes, Member, Check, Run, RunSteps, Work, Give, name_of}
-use Rattle.cd_replies.specs.Texts.{Against, Lexical, Syntax, TooDeep, Naming}
+use Rattle.cd_driver.specs.Command.{Command, Sub, SubTypes, Give, name_of}
+use Rattle.cd_replies.specs.Texts.{Against, Lexical}
 use Rattle.cd_replies.specs.Reply.{Reply, refusal, not_built}
 use Rattle.cd_driver.specs.World.{World}
 use Rattle.cd_replies.specs.Disk.{Disk, Met, unmarked, marked, FileRefusal, unread, large, encoding, refused}
 use Rattle.cd_sub.specs.SubAnswer.{SubAnswer, yes, no, first_refused, second_refused}
-use Rattle.cd_sub.specs.SubTypesAnswer.{SubTypesAnswer, file_refused, on_texts}
+use Rattle.cd_sub.specs.SubAnswer.{SubTypesAnswer, file_refused, on_texts}
 use Rattle.cd_driver.specs.Answer.{Answer, AnswerOf}
 use Rattle.cd_driver.specs.Causes.{IsCause, Cause}
 use Rattle.cd_laws.specs.Reasons.{GiveTexts, alone, with_file, StandsAgainst, in_file, in_first, in_second, CommandIsNotBuilt, Reason}
@@ -28,14 +28,8 @@ read_failed before after _ name (marked other rose last) is = (rose, subst (λ m
 module _ (words : List Bytes) (disk : Disk) (before after : World) (met : Met before.files after.files disk) where
   -- what stands against a text is the reason for what is said of it
   refused_reason : (origin text : Bytes) (against : Against) → StandsAgainst words disk against → Reason words before after (refusal origin text against).status
-  refused_reason origin text (Lexical (BadChar place)) stands = record { disk = disk; met = met; against = _; kind = (_, refl); stands = stands }
-  refused_reason origin text (Lexical (OpenText place)) stands = record { disk = disk; met = met; against = _; kind = (_, refl); stands = stands }
-  refused_reason origin text (Lexical (OpenComment place)) stands = record { disk = disk; met = met; against = _; kind = (_, refl); stands = stands }
-  refused_reason origin text (Lexical (TooWide place)) stands = record { disk = disk; met = met; against = _; kind = (_, refl); stands = stands }
   refused_reason origin text (Lexical Memory) stands = record { disk = disk; met = met; against = _; kind = (_, refl); stands = stands }
-  refused_reason origin text (Syntax place) stands = record { disk = disk; met = met; against = _; kind = (_, refl); stands = stands }
-  refused_reason origin text (TooDeep place) stands = record { disk = disk; met = met; against = _; kind = (_, refl); stands = stands }
-  refused_reason origin text (Naming fault) stands = record { disk = disk; met = met; against = _; kind = (_, refl); stands = stands }
+  refused_reason origin text against stands = record { disk = disk; met = met; against = _; kind = (_, refl); stands = stands }
 
   file_reason : (file text1 text2 : Bytes) → Give words (SubTypes file text1 text2) → (reply : Reply) → FileRefusal disk file reply → Reason words before after reply.status
   file_reason file text1 text2 give _ (unread is) =
@@ -81,11 +75,7 @@ module _ (words : List Bytes) (disk : Disk) (before after : World) (met : Met be
   command_reason : (command : Command) → Give words command → (reply : Reply) → AnswerOf command disk reply → Reason words before after reply.status
   command_reason (Sub text1 text2) give reply answers = sub_reason NoDeclaration text1 text2 (alone text1 text2 give) reply answers
   command_reason (SubTypes file text1 text2) give reply answers = sub_types_reason file text1 text2 give reply answers
-  command_reason (Member file document type) give reply is = unbuilt_reason (Member file document type) give tt reply is
-  command_reason (Check file) give reply is = unbuilt_reason (Check file) give tt reply is
-  command_reason (Run file document) give reply is = unbuilt_reason (Run file document) give tt reply is
-  command_reason (RunSteps units file document) give reply is = unbuilt_reason (RunSteps units file document) give tt reply is
-  command_reason (Work size) give reply is = unbuilt_reason (Work size) give tt reply is
+  command_reason command give reply is = unbuilt_reason command give tt reply is
 
   answer_reason : (reply : Reply) → Answer words disk reply → Reason words before after reply.status
   answer_reason reply (inl none) = subst (λ reply. Reason words before after reply.status) (sym none.1) none.0
@@ -95,21 +85,6 @@ by_answer : (words : List Bytes) (before after : World) (is : Status) → IsCaus
 by_answer words before after is cause = subst (Reason words before after) cause.4 (answer_reason words cause.0 before after cause.1 cause.2 cause.3)
 
 pub causes : (words : List Bytes) (before after : World) (is : Status) → Cause words before after is → Reason words before after is
-causes words before after status.Done cause = by_answer words before after status.Done cause
-causes words before after status.No cause = by_answer words before after status.No cause
-causes words before after status.Usage cause = by_answer words before after status.Usage cause
-causes words before after status.ReadFault cause = by_answer words before after status.ReadFault cause
-causes words before after status.WriteFault cause = cause
-causes words before after status.NoMemory cause = cause
-causes words before after status.TooLarge cause = by_answer words before after status.TooLarge cause
-causes words before after status.NotUtf8 cause = by_answer words before after status.NotUtf8 cause
-causes words before after status.Lexical cause = by_answer words before after status.Lexical cause
-causes words before after status.Syntax cause = by_answer words before after status.Syntax cause
-causes words before after status.TooDeep cause = by_answer words before after status.TooDeep cause
-causes words before after status.Naming cause = by_answer words before after status.Naming cause
-causes words before after status.IllTyped cause = by_answer words before after status.IllTyped cause
-causes words before after status.NotBuilt cause = by_answer words before after status.NotBuilt cause
-causes words before after status.NotInput cause = by_answer words before after status.NotInput cause
-causes words before after status.Uncaught cause = by_answer words before after status.Uncaught cause
-causes words before after status.Overflow cause = by_answer words before after status.Overflow cause
-causes words before after status.Spent cause = by_answer words before after status.Spent cause
+causes words before after WriteFault cause = cause
+causes words before after NoMemory cause = cause
+causes words before after status cause = by_answer words before after status cause

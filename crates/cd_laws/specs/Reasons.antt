@@ -10,8 +10,7 @@ use Rattle.cd_syntax.specs.TypeTree.{Declarations, NoDeclaration}
 use Rattle.cd_model.specs.Written.{Written}
 use Rattle.cd_names.specs.Faults.{Fault}
 use Rattle.cd_replies.specs.Bytes.{Bytes}
-use Rattle.cd_driver.specs.Command.{Command, Sub, SubTypes, Member, Check, Run, RunSteps}
-use Rattle.cd_driver.specs.Command.{Work, Give, HaveNoForm}
+use Rattle.cd_driver.specs.Command.{Command, Sub, SubTypes, Give, HaveNoForm}
 use Rattle.cd_replies.specs.Texts.{Against, Lexical, Syntax, TooDeep, Naming, ReadsAs, Declares}
 use Rattle.cd_replies.specs.Texts.{RefusesType, RefusesDeclarations}
 use Rattle.cd_replies.specs.Within.{IsIn, IsOutside, IsWithin}
@@ -122,11 +121,7 @@ IsNotText bytes = (length bytes ≤ LARGEST) × (IsUtf8 bytes → ⊥)
 abbrev pub CommandIsNotBuilt : Command → Type 0
 CommandIsNotBuilt (Sub text1 text2) = ⊥
 CommandIsNotBuilt (SubTypes file text1 text2) = ⊥
-CommandIsNotBuilt (Member file document type) = Unit {0}
-CommandIsNotBuilt (Check file) = Unit {0}
-CommandIsNotBuilt (Run file document) = Unit {0}
-CommandIsNotBuilt (RunSteps units file document) = Unit {0}
-CommandIsNotBuilt (Work size) = Unit {0}
+CommandIsNotBuilt command = Unit {0}
 
 -- the words give a command that isn't built
 pub record IsNotBuilt (words : List Bytes) : Type 0 where

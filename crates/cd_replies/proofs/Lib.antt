@@ -1,4 +1,5 @@
 mod Positions
-pub mod Saying
-pub mod Speaking
+pub mod Messages
+pub mod FilesMet
+pub mod Replies
 pub mod TextReading

@@ -14,10 +14,9 @@ use Rattle.cd_parse_types.specs.declared.error.ParseError.{ParseError}
 use Rattle.cd_parse_types.specs.declared.error.ParseError.TheVariants as fault
 use Rattle.cd_parse_types.proofs.MadeWell.{text_makes_type, text_makes_declarations}
 use Rattle.cd_replies.specs.Bytes.{Bytes}
-use Rattle.cd_replies.specs.Sound.{AreSound, IsSound}
-use Rattle.cd_replies.specs.Texts.{Refuses, syntax, too_deep, naming}
+use Rattle.cd_replies.specs.Texts.{AreSound, IsSound, Refuses, syntax, too_deep, naming}
 use Rattle.cd_replies.specs.Texts.{HasTokens, ReadsAs, Declares, type_of}
-use Rattle.cd_replies.specs.Refusal.{against}
+use Rattle.cd_replies.specs.Message.{against}
 use Rattle.cd_replies.specs.Inner.Refusal.{IsOfFault, IsOfNames}
 use Rattle.cd_replies.specs.declared.refusal.Refusal.{Refusal}
 use Rattle.cd_replies.specs.declared.refusal.Refusal.TheVariants as refusal

@@ -6,7 +6,4 @@ pub mod Reply
 pub mod Disk
 pub mod Message
 pub mod File
-pub mod Answering
-pub mod Refusal
-pub mod Sound
 pub mod Inner

@@ -1,8 +1,15 @@
--- The reply that a message of the code is.
-use Rattle.std.specs.Prelude.{[], if◌then◌else◌, string_bytes}
-use Rattle.cd_replies.specs.declared.message.Message.{Message}
+-- Messages, which are the replies of the code, and what they answer.
+use Rattle.std.specs.Prelude.{[], if◌then◌else◌, Result, IfOk, string_bytes}
+use Rattle.std.specs.declared.alloc.AllocError.{AllocError}
+use Rattle.cd_base.specs.FilesState.{FilesState}
+use Rattle.cd_replies.specs.Disk.{Disk, Met}
 use Rattle.cd_replies.specs.Reply.{Reply}
+use Rattle.cd_replies.specs.Texts.{Against, Lexical, Syntax, TooDeep, Naming}
+use Rattle.cd_replies.specs.declared.message.Message.{Message}
+use Rattle.cd_replies.specs.declared.refusal.Refusal.{Refusal}
+use Rattle.cd_replies.specs.declared.refusal.Refusal.TheVariants as refusal
 
+-- the reply that a message is
 abbrev pub reply_of : Message → Reply
 reply_of message =
     if message.on_output then record {
@@ -11,3 +18,16 @@ reply_of message =
       err = [];
     }
     else record { status = message.status; out = []; err = string_bytes message.text }
+
+-- what the code finds against a text, as the definitions say it
+abbrev pub against : Refusal → Against
+against (refusal.Lexical fault) = Lexical fault
+against (refusal.Syntax place) = Syntax place
+against (refusal.TooDeep place) = TooDeep place
+against (refusal.Naming fault name at) = Naming (record { fault = fault; name = name; at = at })
+
+-- the message is such an answer for files that were met
+abbrev pub IsAnswer : (Disk → Reply → Type 0) → (old new : FilesState) → Result Message AllocError
+    → Type 0
+IsAnswer answers old new result = (disk : Disk) × Met old new disk
+    × IfOk result (λ message. answers disk (reply_of message))

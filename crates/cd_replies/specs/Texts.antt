@@ -7,6 +7,7 @@ use Rattle.cd_syntax.specs.Tokens.{Spells}
 use Rattle.cd_syntax.specs.Faults.{Fails}
 use Rattle.cd_syntax.specs.TypeTree.{Tree, Declarations}
 use Rattle.cd_syntax.specs.TypeGrammar.{IsTree, AreDeclared}
+use Rattle.cd_syntax.specs.WellMade.{IsWellMade, AreWellMadeDeclarations}
 use Rattle.cd_syntax.specs.SyntaxFaults.{Form, AType, SomeDeclarations, IsSyntaxFault, IsDepthFault}
 use Rattle.cd_model.specs.Written.{Written}
 use Rattle.cd_names.specs.Faults.{Fault, IsFault, IsFaultOfList, IsTold}
@@ -82,3 +83,13 @@ RefusesType declared text against = Refuses AType (IsToldOfType declared) text a
 
 abbrev pub RefusesDeclarations : Bytes → Against → Type 0
 RefusesDeclarations text against = Refuses SomeDeclarations IsToldOfDeclarations text against
+
+-- the declarations are well made, and no naming fault stands in them
+pub record AreSound (declared : Declarations) : Type 0 where
+  pub well_made : AreWellMadeDeclarations declared
+  pub sound : (fault : Fault) → IsFaultOfDeclarations declared fault → ⊥
+
+-- so is a type that sees these declarations
+pub record IsSound (declared : Declarations) (is : Tree) : Type 0 where
+  pub well_made : IsWellMade is
+  pub sound : (fault : Fault) → IsFaultOfType declared is fault → ⊥

@@ -3,9 +3,8 @@ ghost use Rattle.std.specs.Prelude.{◌≡◌, [], ◌++◌, IfOk, codes, string
 ghost use Rattle.cd_base.specs.declared.status.Status.TheVariants.{Done as IsDone, No as IsNo};
 ghost use Rattle.cd_replies.specs.Reply as reply;
 ghost use Rattle.cd_replies.specs.Reply.{says};
-ghost use Rattle.cd_replies.specs.Message.{reply_of};
+ghost use Rattle.cd_replies.specs.Message.{reply_of, against};
 ghost use Rattle.cd_replies.specs.File.{said_of};
-ghost use Rattle.cd_replies.specs.Refusal.{against};
 
 use crate::file::FileFault;
 use crate::position::place;

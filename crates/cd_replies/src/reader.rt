@@ -3,7 +3,7 @@ ghost use Rattle.std.specs.Prelude.{false, IfOk, MatchResult};
 ghost use Rattle.std.specs.Str.{chars};
 ghost use Rattle.cd_syntax.specs.Faults.{Fails};
 ghost use Rattle.cd_syntax.specs.PlainTree.{plain, plain_declarations};
-ghost use Rattle.cd_replies.specs.Refusal.{against};
+ghost use Rattle.cd_replies.specs.Message.{against};
 ghost use Rattle.cd_replies.specs.Inner.Refusal.{IsOfFault, IsOfNames};
 ghost use Rattle.cd_replies.specs.Texts.{ReadsAs, Declares, HasTokens, RefusesType};
 ghost use Rattle.cd_replies.specs.Texts.{RefusesDeclarations, type_of};

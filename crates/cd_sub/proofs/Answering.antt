@@ -10,16 +10,15 @@ use Rattle.cd_replies.specs.Bytes.{Bytes}
 use Rattle.cd_replies.specs.Reply.{Reply, cannot_read, too_large, not_utf8}
 use Rattle.cd_replies.specs.Texts.{ReadsAs, Declares}
 use Rattle.cd_replies.specs.Disk.{Disk, HasText, marked, FileRefusal, unread, large, encoding}
-use Rattle.cd_replies.proofs.Saying.{replies, told_disk, marked_disk, has_bytes, met_same}
-use Rattle.cd_sub.specs.SubAnswer.{SubAnswer, yes, no}
-use Rattle.cd_sub.specs.SubTypesAnswer.{SubTypesAnswer, file_refused, on_texts}
+use Rattle.cd_replies.proofs.Messages.{replies}
+use Rattle.cd_replies.proofs.FilesMet.{told_disk, marked_disk, has_bytes, met_same}
+use Rattle.cd_sub.specs.SubAnswer.{SubAnswer, yes, no, SubTypesAnswer, file_refused, on_texts}
 use Rattle.cd_sub.specs.Inner.Comparing.{ComparesTypes, within, outside}
-use Rattle.cd_replies.specs.Answering.{IsAnswer}
+use Rattle.cd_replies.specs.Message.{IsAnswer, reply_of}
 use Rattle.cd_replies.specs.File.{IsFileRead, said_of}
 use Rattle.cd_replies.specs.declared.file.FileFault.{FileFault}
 use Rattle.cd_replies.specs.declared.file.FileFault.TheVariants.{Unread, TooLarge, NotUtf8}
 use Rattle.cd_replies.specs.declared.message.Message.{Message}
-use Rattle.cd_replies.specs.Message.{reply_of}
 
 -- what is told of two types that texts read as is the answer
 pub compared : (declared : Declarations) (text1 text2 : Bytes) (first second : Written) → ReadsAs declared text1 first → ReadsAs declared text2 second

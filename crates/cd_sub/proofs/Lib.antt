@@ -1,3 +1,3 @@
-pub mod SubSpeaking
+pub mod SubReplies
 mod Answering
 mod Comparing

@@ -1,3 +1,2 @@
 pub mod SubAnswer
-pub mod SubTypesAnswer
 pub mod Inner

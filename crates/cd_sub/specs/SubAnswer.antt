@@ -1,4 +1,4 @@
--- The answers of `sub` on two type texts.
+-- The answers of `sub`.
 use Rattle.std.specs.Prelude.{◌++◌, codes, encode_utf8_all}
 use Rattle.cd_base.specs.declared.status.Status.TheVariants.{Done, No}
 use Rattle.cd_syntax.specs.TypeTree.{Declarations}
@@ -7,7 +7,8 @@ use Rattle.cd_model.specs.Canonical.{canonical}
 use Rattle.cd_model.specs.Written.{Written}
 use Rattle.cd_replies.specs.Bytes.{Bytes}
 use Rattle.cd_replies.specs.Reply.{Reply, says, refusal}
-use Rattle.cd_replies.specs.Texts.{Against, ReadsAs, RefusesType}
+use Rattle.cd_replies.specs.Texts.{Against, ReadsAs, Declares, RefusesType}
+use Rattle.cd_replies.specs.Disk.{Disk, HasText, FileRefusal}
 use Rattle.cd_replies.specs.Within.{IsIn, IsOutside, IsWithin}
 
 -- the answers of `sub` on two texts, which see these declarations; the first text is taken first
@@ -26,3 +27,12 @@ pub data SubAnswer (declared : Declarations) (text1 text2 : Bytes) : Reply → T
       → (element : Thing) → IsElement element → IsIn element first → IsOutside element second
       → SubAnswer declared text1 text2
       (says No (codes "no: " ++ encode_utf8_all (canonical element)))
+
+-- the answers of `sub` with a file of declarations, which is taken first
+pub data SubTypesAnswer (disk : Disk) (file text1 text2 : Bytes) : Reply → Type 0 where
+  file_refused : (reply : Reply) → FileRefusal disk file reply
+      → SubTypesAnswer disk file text1 text2 reply
+  on_texts : (text : Bytes) → HasText disk file text → (declared : Declarations)
+      → Declares text declared
+      → (reply : Reply) → SubAnswer declared text1 text2 reply
+      → SubTypesAnswer disk file text1 text2 reply

@@ -6,9 +6,8 @@ ghost use Rattle.cd_model.specs.Formula.{Graph as PlainGraph, IsGraph};
 ghost use Rattle.cd_model.specs.StandsFor.{StandsFor};
 ghost use Rattle.cd_resolve.specs.Named.{AreNamed};
 ghost use Rattle.cd_empty.specs.Seen.{graph_of};
-ghost use Rattle.cd_replies.specs.Sound.{AreSound, IsSound};
+ghost use Rattle.cd_replies.specs.Texts.{AreSound, IsSound, type_of};
 ghost use Rattle.cd_replies.specs.Message.{reply_of};
-ghost use Rattle.cd_replies.specs.Texts.{type_of};
 ghost use Rattle.cd_sub.specs.Inner.Comparing.{ComparesNodes, ComparesTypes};
 
 use cd_empty::{Verdict, World};

@@ -4,13 +4,11 @@
 ghost use Rattle.std.specs.Prelude.{◌≡◌, IfOk};
 ghost use Rattle.cd_syntax.specs.PlainTree.{plain_declarations};
 ghost use Rattle.cd_syntax.specs.TypeTree.{NoDeclaration};
-ghost use Rattle.cd_replies.specs.Answering.{IsAnswer};
+ghost use Rattle.cd_replies.specs.Message.{IsAnswer, reply_of};
 ghost use Rattle.cd_replies.specs.Disk.{Disk, HasText};
 ghost use Rattle.cd_replies.specs.File.{ReadsThere};
-ghost use Rattle.cd_replies.specs.Message.{reply_of};
-ghost use Rattle.cd_replies.specs.Sound.{AreSound};
-ghost use Rattle.cd_sub.specs.SubAnswer.{SubAnswer};
-ghost use Rattle.cd_sub.specs.SubTypesAnswer.{SubTypesAnswer};
+ghost use Rattle.cd_replies.specs.Texts.{AreSound};
+ghost use Rattle.cd_sub.specs.SubAnswer.{SubAnswer, SubTypesAnswer};
 
 use cd_base::files::Files;
 use cd_replies::file::read_file;

@@ -2,11 +2,10 @@ use Rattle.std.proofs.Common.{refl, sym, subst}
 use Rattle.std.specs.Prelude.{codes}
 use Rattle.cd_syntax.specs.PlainTree.{plain, plain_declarations}
 use Rattle.cd_replies.specs.Reply.{refusal}
-use Rattle.cd_replies.specs.Refusal.{against}
-use Rattle.cd_replies.specs.Texts.{type_of}
-use Rattle.cd_replies.specs.Sound.{IsSound}
+use Rattle.cd_replies.specs.Message.{against}
+use Rattle.cd_replies.specs.Texts.{type_of, IsSound}
 use Rattle.cd_sub.specs.SubAnswer.{SubAnswer, first_refused, second_refused}
-use Rattle.cd_replies.proofs.Saying.{replies}
+use Rattle.cd_replies.proofs.Messages.{replies}
 use Rattle.cd_sub.proofs.Answering.{compared}
 use Rattle.cd_replies.proofs.TextReading.{reads_sound}
 use Rattle.cd_sub.proofs.sub_with.Goals as goal

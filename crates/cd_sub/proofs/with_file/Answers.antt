@@ -1,9 +1,9 @@
 use Rattle.cd_syntax.specs.PlainTree.{plain_declarations}
 use Rattle.cd_replies.specs.Reply.{refusal}
-use Rattle.cd_replies.specs.Refusal.{against}
+use Rattle.cd_replies.specs.Message.{against}
 use Rattle.cd_replies.specs.Disk.{Disk, HasText, refused}
-use Rattle.cd_sub.specs.SubTypesAnswer.{SubTypesAnswer, file_refused}
-use Rattle.cd_replies.proofs.Saying.{replies}
+use Rattle.cd_sub.specs.SubAnswer.{SubTypesAnswer, file_refused}
+use Rattle.cd_replies.proofs.Messages.{replies}
 use Rattle.cd_sub.proofs.Answering.{on_file}
 use Rattle.cd_replies.proofs.TextReading.{declares_sound}
 use Rattle.cd_sub.proofs.with_file.Goals as goal

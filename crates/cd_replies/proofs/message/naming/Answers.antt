@@ -3,7 +3,7 @@ use Rattle.std.specs.Prelude.{IfOk}
 use Rattle.cd_base.specs.declared.status.Status.TheVariants.{Naming}
 use Rattle.cd_replies.specs.Message.{reply_of}
 use Rattle.cd_replies.specs.Reply.{at_place, naming_message}
-use Rattle.cd_replies.proofs.Saying.{encoded}
+use Rattle.cd_replies.proofs.Messages.{encoded}
 use Rattle.cd_replies.proofs.message.naming.Goals as goal
 
 -- the text of the name is its characters

@@ -7,7 +7,7 @@ use Rattle.cd_empty.specs.Seen.{graph_of, table_of}
 use Rattle.cd_sub.specs.Inner.Comparing.{ComparesNodes, within}
 use Rattle.cd_replies.specs.Message.{reply_of}
 use Rattle.cd_replies.specs.Reply.{says}
-use Rattle.cd_replies.proofs.Saying.{replies, encoded}
+use Rattle.cd_replies.proofs.Messages.{replies, encoded}
 use Rattle.cd_sub.proofs.Comparing.{found}
 use Rattle.cd_sub.proofs.compare.compare_nodes.Goals as goal
 
