@@ -7,11 +7,11 @@ use Rattle.cd_tasks.specs.declared.task.Task.TheVariants.{Pair, Xml, Arrow, Reco
 
 abbrev pub plain_task : Task → rules.Task
 plain_task (Pair task) = rules.PairTask task.wanted.value.items task.refused.value.items
-    (task.firsts.items, task.seconds.items) task.left.items
+    (task.firsts.items, task.seconds.items) task.left.value.items
 plain_task (Xml task) = rules.XmlTask task.wanted.value.items task.refused.value.items
-    (task.tags.items, task.attributes.items, task.contents.items) task.left.items
+    (task.tags.items, task.attributes.items, task.contents.items) task.left.value.items
 plain_task (Arrow task) = rules.ArrowTask task.refused task.wanted.value.items
-    (task.outside.items, task.results.items) task.left.items
+    (task.outside.items, task.results.items) task.left.value.items
 plain_task (Record task) = rules.RecordTask (record_types task.wanted.value.items)
     (record_types task.refused.value.items) (plain_reasons task.given.items)
-    (record_types task.left.items)
+    (record_types task.left.value.items)

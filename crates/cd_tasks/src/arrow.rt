@@ -7,7 +7,7 @@ ghost use Rattle.cd_rules.specs.Tasks.{AreCases, left_of};
 ghost use Rattle.cd_tasks.specs.LeftWithout.{left_without};
 ghost use Rattle.cd_tasks.specs.PlainTask.{plain_task};
 
-use crate::lists::{prepended, without};
+use crate::lists::{prepended, shared_without};
 use crate::task::{ArrowTask, Task};
 use cd_sets::node_id::NodeId;
 use std::alloc::{AllocError, Global};
@@ -25,7 +25,7 @@ impl ArrowTask {
             IfOk result (λ task. plain_task (Task.Arrow task)
             ≡ rules.ArrowTask refused all ([], []) all) }
     {
-        let left = Vec::from_slice(alloc, wanted.as_slice())?;
+        let left = wanted.clone()?;
         let wanted = wanted.clone()?;
         Ok(ArrowTask {
             refused,
@@ -36,20 +36,18 @@ impl ArrowTask {
         })
     }
 
-    // The case where these are given, and all that were left but the one at this place are left.
+    // The case where these are given, and this is the rest that is left.
     fn case(
         &self,
-        alloc: Global,
-        place: usize,
+        rest: &Rc<Vec<(NodeId, NodeId)>>,
         outside: Vec<(NodeId, NodeId)>,
         results: Vec<(NodeId, NodeId)>,
     ) -> Result<ArrowTask, AllocError>
-        requires { place < length self.now.left.items }
         ensures { IfOk result (λ task. plain_task (Task.Arrow task)
             ≡ rules.ArrowTask self.now.refused self.now.wanted.value.items
-            (outside.items, results.items) (remove self.now.left.items place)) }
+            (outside.items, results.items) rest.now.value.items) }
     {
-        let left = without(alloc, self.left.as_slice(), place)?;
+        let left = rest.clone()?;
         let wanted = self.wanted.clone()?;
         Ok(ArrowTask {
             refused: self.refused,
@@ -60,23 +58,21 @@ impl ArrowTask {
         })
     }
 
-    // The case where the pair's argument is outside that of this member, which is left at this
-    // place.
+    // The case where the pair's argument is outside that of this member.
     fn to_outside(
         &self,
         alloc: Global,
         member: (NodeId, NodeId),
-        place: usize,
+        rest: &Rc<Vec<(NodeId, NodeId)>>,
     ) -> Result<ArrowTask, AllocError>
-        requires { place < length self.now.left.items }
         ensures { IfOk result (λ task. plain_task (Task.Arrow task)
             ≡ rules.ArrowTask self.now.refused self.now.wanted.value.items
             (member ∷ self.now.outside.items, self.now.results.items)
-            (remove self.now.left.items place)) }
+            rest.now.value.items) }
     {
         let outside = prepended(alloc, member, self.outside.as_slice())?;
         let results = Vec::from_slice(alloc, self.results.as_slice())?;
-        self.case(alloc, place, outside, results)
+        self.case(rest, outside, results)
     }
 
     // The case where the pair's result is in that of this member.
@@ -84,31 +80,31 @@ impl ArrowTask {
         &self,
         alloc: Global,
         member: (NodeId, NodeId),
-        place: usize,
+        rest: &Rc<Vec<(NodeId, NodeId)>>,
     ) -> Result<ArrowTask, AllocError>
-        requires { place < length self.now.left.items }
         ensures { IfOk result (λ task. plain_task (Task.Arrow task)
             ≡ rules.ArrowTask self.now.refused self.now.wanted.value.items
             (self.now.outside.items, member ∷ self.now.results.items)
-            (remove self.now.left.items place)) }
+            rest.now.value.items) }
     {
         let outside = Vec::from_slice(alloc, self.outside.as_slice())?;
         let results = prepended(alloc, member, self.results.as_slice())?;
-        self.case(alloc, place, outside, results)
+        self.case(rest, outside, results)
     }
 
     /// The cases of the task, where the pair's argument is outside that of the member at this place
     /// of those left, and where its result is in that of the member.
     pub(crate) fn cases<'g>(&self, alloc: Global, place: usize) -> Result<Vec<Task<'g>>, AllocError>
-        requires { place < length self.now.left.items }
+        requires { place < length self.now.left.value.items }
         ensures cases { IfOk result
             (λ cases. AreCases (plain_task (Task.Arrow self.now)) (map plain_task cases.items)) }
         ensures taken { IfOk result (λ cases. AllOf (λ case. left_of (plain_task case)
             ≡ left_without place (plain_task (Task.Arrow self.now))) cases.items) }
     {
         let member = self.left[place];
-        let outside = self.to_outside(alloc, member, place)?;
-        let result = self.to_results(alloc, member, place)?;
+        let rest = shared_without(alloc, self.left.as_slice(), place)?;
+        let outside = self.to_outside(alloc, member, &rest)?;
+        let result = self.to_results(alloc, member, &rest)?;
         Ok(vec![in alloc; Task::Arrow(outside), Task::Arrow(result)]?)
     }
 }

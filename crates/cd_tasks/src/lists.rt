@@ -2,6 +2,7 @@ ghost use Rattle.std.specs.Prelude.{◌≡◌, ◌<◌, ◌∷◌, length, IfOk}
 ghost use Rattle.std.specs.List.{remove};
 
 use std::alloc::{AllocError, Global};
+use std::rc::Rc;
 
 /// These with one before them.
 pub(crate) fn prepended<T: Copy + Drop>(
@@ -17,16 +18,25 @@ pub(crate) fn prepended<T: Copy + Drop>(
     Ok(all)
 }
 
-/// These without the one at a place.
-pub(crate) fn without<T: Copy + Drop>(
-    alloc: Global,
-    items: &[T],
-    place: usize,
-) -> Result<Vec<T>, AllocError>
+// These without the one at a place.
+fn without<T: Copy + Drop>(alloc: Global, items: &[T], place: usize) -> Result<Vec<T>, AllocError>
     requires { place < length items.now }
     ensures { IfOk result (λ rest. rest.items ≡ remove items.now place) }
 {
     let mut rest = Vec::from_slice(alloc, items)?;
     let _one = rest.remove(place);
     Ok(rest)
+}
+
+/// These without the one at a place, to be shared.
+pub(crate) fn shared_without<T: Copy + Drop>(
+    alloc: Global,
+    items: &[T],
+    place: usize,
+) -> Result<Rc<Vec<T>>, AllocError>
+    requires { place < length items.now }
+    ensures { IfOk result (λ rest. rest.value.items ≡ remove items.now place) }
+{
+    let rest = without(alloc, items, place)?;
+    Ok(Rc::new(alloc, rest)?)
 }

@@ -7,7 +7,7 @@ ghost use Rattle.cd_rules.specs.Tasks.{AreCases, left_of};
 ghost use Rattle.cd_tasks.specs.LeftWithout.{left_without};
 ghost use Rattle.cd_tasks.specs.PlainTask.{plain_task};
 
-use crate::lists::{prepended, without};
+use crate::lists::{prepended, shared_without};
 use crate::task::{PairTask, Task};
 use cd_sets::node_id::NodeId;
 use std::alloc::{AllocError, Global};
@@ -25,7 +25,7 @@ impl PairTask {
             IfOk result (λ task. plain_task (Task.Pair task)
             ≡ rules.PairTask wanted.now.value.items all ([], []) all) }
     {
-        let left = Vec::from_slice(alloc, refused.as_slice())?;
+        let left = refused.clone()?;
         let wanted = wanted.clone()?;
         let refused = refused.clone()?;
         Ok(PairTask {
@@ -37,20 +37,18 @@ impl PairTask {
         })
     }
 
-    // The case where these are given, and all that were left but the one at this place are left.
+    // The case where these are given, and this is the rest that is left.
     fn case(
         &self,
-        alloc: Global,
-        place: usize,
+        rest: &Rc<Vec<(NodeId, NodeId)>>,
         firsts: Vec<(NodeId, NodeId)>,
         seconds: Vec<(NodeId, NodeId)>,
     ) -> Result<PairTask, AllocError>
-        requires { place < length self.now.left.items }
         ensures { IfOk result (λ task. plain_task (Task.Pair task)
             ≡ rules.PairTask self.now.wanted.value.items self.now.refused.value.items
-            (firsts.items, seconds.items) (remove self.now.left.items place)) }
+            (firsts.items, seconds.items) rest.now.value.items) }
     {
-        let left = without(alloc, self.left.as_slice(), place)?;
+        let left = rest.clone()?;
         let wanted = self.wanted.clone()?;
         let refused = self.refused.clone()?;
         Ok(PairTask {
@@ -62,22 +60,21 @@ impl PairTask {
         })
     }
 
-    // The case where this member, which is left at this place, is given to the first part.
+    // The case where this member is given to the first part.
     fn to_first(
         &self,
         alloc: Global,
         member: (NodeId, NodeId),
-        place: usize,
+        rest: &Rc<Vec<(NodeId, NodeId)>>,
     ) -> Result<PairTask, AllocError>
-        requires { place < length self.now.left.items }
         ensures { IfOk result (λ task. plain_task (Task.Pair task)
             ≡ rules.PairTask self.now.wanted.value.items self.now.refused.value.items
             (member ∷ self.now.firsts.items, self.now.seconds.items)
-            (remove self.now.left.items place)) }
+            rest.now.value.items) }
     {
         let firsts = prepended(alloc, member, self.firsts.as_slice())?;
         let seconds = Vec::from_slice(alloc, self.seconds.as_slice())?;
-        self.case(alloc, place, firsts, seconds)
+        self.case(rest, firsts, seconds)
     }
 
     // The case where it is given to the second part.
@@ -85,30 +82,30 @@ impl PairTask {
         &self,
         alloc: Global,
         member: (NodeId, NodeId),
-        place: usize,
+        rest: &Rc<Vec<(NodeId, NodeId)>>,
     ) -> Result<PairTask, AllocError>
-        requires { place < length self.now.left.items }
         ensures { IfOk result (λ task. plain_task (Task.Pair task)
             ≡ rules.PairTask self.now.wanted.value.items self.now.refused.value.items
             (self.now.firsts.items, member ∷ self.now.seconds.items)
-            (remove self.now.left.items place)) }
+            rest.now.value.items) }
     {
         let firsts = Vec::from_slice(alloc, self.firsts.as_slice())?;
         let seconds = prepended(alloc, member, self.seconds.as_slice())?;
-        self.case(alloc, place, firsts, seconds)
+        self.case(rest, firsts, seconds)
     }
 
     /// The cases of the task, where the member at this place of those left is given to each part.
     pub(crate) fn cases<'g>(&self, alloc: Global, place: usize) -> Result<Vec<Task<'g>>, AllocError>
-        requires { place < length self.now.left.items }
+        requires { place < length self.now.left.value.items }
         ensures cases { IfOk result
             (λ cases. AreCases (plain_task (Task.Pair self.now)) (map plain_task cases.items)) }
         ensures taken { IfOk result (λ cases. AllOf (λ case. left_of (plain_task case)
             ≡ left_without place (plain_task (Task.Pair self.now))) cases.items) }
     {
         let member = self.left[place];
-        let first = self.to_first(alloc, member, place)?;
-        let second = self.to_second(alloc, member, place)?;
+        let rest = shared_without(alloc, self.left.as_slice(), place)?;
+        let first = self.to_first(alloc, member, &rest)?;
+        let second = self.to_second(alloc, member, &rest)?;
         Ok(vec![in alloc; Task::Pair(first), Task::Pair(second)]?)
     }
 }

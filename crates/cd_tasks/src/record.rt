@@ -9,7 +9,7 @@ ghost use Rattle.cd_rules.specs.Tasks.{AreCases, left_of};
 ghost use Rattle.cd_tasks.specs.LeftWithout.{left_without};
 ghost use Rattle.cd_tasks.specs.PlainTask.{plain_task};
 
-use crate::lists::{prepended, without};
+use crate::lists::{prepended, shared_without};
 use crate::task::{RecordTask, Task};
 use cd_graph::fields::Fields;
 use cd_records::labels::labels_of;
@@ -31,7 +31,7 @@ impl<'g> RecordTask<'g> {
     {
         let labels = labels_of(alloc, wanted.as_slice(), refused.as_slice())?;
         let labels = Rc::new(alloc, labels)?;
-        let left = Vec::from_slice(alloc, refused.as_slice())?;
+        let left = refused.clone()?;
         let wanted = wanted.clone()?;
         let refused = refused.clone()?;
         Ok(RecordTask {
@@ -43,22 +43,21 @@ impl<'g> RecordTask<'g> {
         })
     }
 
-    // The case where a type, which is left at this place, has this reason.
+    // The case where a type has this reason, and this is the rest that is left.
     fn case(
         &self,
         alloc: Global,
-        place: usize,
+        rest: &Rc<Vec<&'g Fields>>,
         chosen: Chosen<'g>,
     ) -> Result<RecordTask<'g>, AllocError>
-        requires { place < length self.now.left.items }
         ensures { let given = plain_reasons self.now.given.items in
             IfOk result (λ task. plain_task (Task.Record task)
             ≡ rules.RecordTask (record_types self.now.wanted.value.items)
             (record_types self.now.refused.value.items) (plain_chosen chosen.entry ∷ given)
-            (record_types (remove self.now.left.items place))) }
+            (record_types rest.now.value.items)) }
     {
         let given = prepended(alloc, chosen, self.given.as_slice())?;
-        let left = without(alloc, self.left.as_slice(), place)?;
+        let left = rest.clone()?;
         let wanted = self.wanted.clone()?;
         let refused = self.refused.clone()?;
         let labels = self.labels.clone()?;
@@ -73,19 +72,20 @@ impl<'g> RecordTask<'g> {
 
     /// The cases of the task, where the type at this place of those left has each reason.
     pub(crate) fn cases(&self, alloc: Global, place: usize) -> Result<Vec<Task<'g>>, AllocError>
-        requires { place < length self.now.left.items }
+        requires { place < length self.now.left.value.items }
         ensures cases { IfOk result
             (λ cases. AreCases (plain_task (Task.Record self.now)) (map plain_task cases.items)) }
         ensures taken { IfOk result (λ cases. AllOf (λ case. left_of (plain_task case)
             ≡ left_without place (plain_task (Task.Record self.now))) cases.items) }
     {
         let refused = self.left[place];
+        let rest = shared_without(alloc, self.left.as_slice(), place)?;
         let reason = None;
-        let unnamed = self.case(alloc, place, Chosen { refused, reason })?;
+        let unnamed = self.case(alloc, &rest, Chosen { refused, reason })?;
         let mut cases = vec![in alloc; Task::Record(unnamed)]?;
         for label in self.labels.as_slice() {
             let reason = Some(*label);
-            let named = self.case(alloc, place, Chosen { refused, reason })?;
+            let named = self.case(alloc, &rest, Chosen { refused, reason })?;
             cases.push(Task::Record(named))?;
         }
         Ok(cases)

@@ -33,7 +33,7 @@ pub struct PairTask {
     pub(crate) firsts: Vec<(NodeId, NodeId)>,
     pub(crate) seconds: Vec<(NodeId, NodeId)>,
     /// The refused pairs that are given to no part.
-    pub left: Vec<(NodeId, NodeId)>,
+    pub left: Rc<Vec<(NodeId, NodeId)>>,
 }
 
 /// What is to do for an XML element.
@@ -46,7 +46,7 @@ pub struct XmlTask {
     pub(crate) attributes: Vec<(NodeId, NodeId, NodeId)>,
     pub(crate) contents: Vec<(NodeId, NodeId, NodeId)>,
     /// The refused ones that are given to no part.
-    pub left: Vec<(NodeId, NodeId, NodeId)>,
+    pub left: Rc<Vec<(NodeId, NodeId, NodeId)>>,
 }
 
 /// What is to do for a refused arrow.
@@ -59,7 +59,7 @@ pub struct ArrowTask {
     pub(crate) outside: Vec<(NodeId, NodeId)>,
     pub(crate) results: Vec<(NodeId, NodeId)>,
     /// The wanted arrows that are given to neither.
-    pub left: Vec<(NodeId, NodeId)>,
+    pub left: Rc<Vec<(NodeId, NodeId)>>,
 }
 
 /// What is to do for a record.
@@ -72,7 +72,7 @@ pub struct RecordTask<'g> {
     // the refused types that have a reason, the last one first
     pub(crate) given: Vec<Chosen<'g>>,
     /// The refused types that have none.
-    pub left: Vec<&'g Fields>,
+    pub left: Rc<Vec<&'g Fields>>,
     ghost labelled: { plain_labels labels.value.items
         ≡ labels_of (record_types wanted.value.items ++ record_types refused.value.items) },
 }

@@ -7,10 +7,10 @@ use Rattle.cd_members.proofs.arrow.attempt_arrow.Goals as goal
 pub returns-in-Some-clause-attempt : goal.returns-in-Some-clause-attempt
 returns-in-Some-clause-attempt c = arrow_held c.requires.ready (record { 0 = 0 }) c.in-Some.place
     (c.copied-to.ensures ∙ looked_up c.args.ids.now 1 c.get.result c.get.ensures.lookup)
-    (rw (c.in-Some.is, c.as_slice.ensures.value) at c.in_ok-place.ensures.place)
+    (rw (c.in-Some.is, c.as_slice.ensures.value, c.deref.ensures) at c.in_ok-place.ensures.place)
 
 -- the pair breaks no arrow that is left
 pub returns-in-None-clause-attempt : goal.returns-in-None-clause-attempt
 returns-in-None-clause-attempt c = arrow_attempted c.requires.ready (record { 0 = 0 }) c.len-elements.ensures.sound
     (c.copied-to.ensures ∙ looked_up c.args.ids.now 1 c.get.result c.get.ensures.lookup)
-    (rw (c.in-None.is, c.as_slice.ensures.value) at c.in_ok-place.ensures.place)
+    (rw (c.in-None.is, c.as_slice.ensures.value, c.deref.ensures) at c.in_ok-place.ensures.place)

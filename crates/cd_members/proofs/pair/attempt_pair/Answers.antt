@@ -13,13 +13,13 @@ place_of-requires-clause-second c = names_at c.requires.ready 1 (record { 0 = 0 
 -- a pair of nodes that is left holds the pair
 pub returns-in-Some-clause-attempt : goal.returns-in-Some-clause-attempt
 returns-in-Some-clause-attempt c =
-    pair_held c.requires.ready (record { 0 = 0 }) c.in-Some.place (rw (c.in-Some.is, c.as_slice.ensures.value) at c.in_ok-place.ensures.place)
+    pair_held c.requires.ready (record { 0 = 0 }) c.in-Some.place (rw (c.in-Some.is, c.as_slice.ensures.value, c.deref.ensures) at c.in_ok-place.ensures.place)
 
 -- the pair is in no pair of nodes that is left
 pub returns-in_ok-make-in-None-clause-attempt : goal.returns-in_ok-make-in-None-clause-attempt
 returns-in_ok-make-in-None-clause-attempt c =
     let made = c.in_ok-make-in-None.ensures.made in (
       made.0,
-      pair_attempted c.requires.ready (record { 0 = 0 }) (rw (c.in-None.is, c.as_slice.ensures.value) at c.in_ok-place.ensures.place)
+      pair_attempted c.requires.ready (record { 0 = 0 }) (rw (c.in-None.is, c.as_slice.ensures.value, c.deref.ensures) at c.in_ok-place.ensures.place)
           made.1 made.2,
     )

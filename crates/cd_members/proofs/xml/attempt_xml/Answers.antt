@@ -23,7 +23,7 @@ make-requires c = xml_shaped c.requires.ready (record { 0 = 0 }) c.len-built_in.
 -- an XML formula that is left holds the XML element
 pub returns-in-Some-clause-attempt : goal.returns-in-Some-clause-attempt
 returns-in-Some-clause-attempt c =
-    xml_held c.requires.ready (record { 0 = 0 }) c.in-Some.place (rw (c.in-Some.is, c.as_slice-left.ensures.value) at c.in_ok-place.ensures.place)
+    xml_held c.requires.ready (record { 0 = 0 }) c.in-Some.place (rw (c.in-Some.is, c.as_slice-left.ensures.value, c.deref.ensures) at c.in_ok-place.ensures.place)
 
 -- the XML element is in no XML formula that is left
 pub returns-in_ok-make-in-None-clause-attempt : goal.returns-in_ok-make-in-None-clause-attempt
@@ -31,5 +31,5 @@ returns-in_ok-make-in-None-clause-attempt c =
     let made = c.in_ok-make-in-None.ensures.made in (
       made.0,
       xml_attempted c.requires.ready (record { 0 = 0 })
-          (rw (c.in-None.is, c.as_slice-left.ensures.value) at c.in_ok-place.ensures.place) made.1 made.2,
+          (rw (c.in-None.is, c.as_slice-left.ensures.value, c.deref.ensures) at c.in_ok-place.ensures.place) made.1 made.2,
     )

@@ -1,5 +1,4 @@
 use Rattle.std.proofs.Common.{◌≡◌, ◌++◌, ◌∷◌, map, drop, None, Some}
-use Rattle.std.specs.List.{remove}
 use Rattle.cd_needs.specs.RecordType.{record_type, record_types}
 use Rattle.cd_records.specs.PlainReasons.{plain_labels, plain_reasons}
 use Rattle.cd_tasks.specs.PlainTask.{plain_task}
@@ -11,8 +10,8 @@ abbrev pub invariant-loop-label : goal.invariant-loop-label
 invariant-loop-label l =
     map plain_task l.cases.items
     ++ map (record_case (record_types l.self.wanted.value.items) (record_types l.self.refused.value.items)
-    (plain_reasons l.self.given.items) (record_types (remove l.self.left.items l.place)) (record_type l.refused))
+    (plain_reasons l.self.given.items) (record_types l.rest.value.items) (record_type l.refused))
     (map Some (plain_labels (drop l.label-index l.label-items)))
     ≡ map (record_case (record_types l.self.wanted.value.items) (record_types l.self.refused.value.items)
-    (plain_reasons l.self.given.items) (record_types (remove l.self.left.items l.place)) (record_type l.refused))
+    (plain_reasons l.self.given.items) (record_types l.rest.value.items) (record_type l.refused))
     (None ∷ map Some (plain_labels l.label-items))
