@@ -5,7 +5,7 @@ use Rattle.cd_model.specs.Formula.{Formula}
 use Rattle.cd_rules.specs.PartialChoices.{Partial, GoesOn, unfolds, divides, extends, partial, each_signed}
 use Rattle.cd_rules.specs.PartialChoices.{wants_each, refuses_each, denies, wants_one, refuses_one}
 use Rattle.cd_normal.specs.ChoicesGoOn.{TopGoesOn}
-use Rattle.cd_normal.specs.Inner.NextChoices.{next_choices, are_literals}
+use Rattle.cd_normal.specs.Inner.NextChoices.{next_choices, are_flat}
 use Rattle.cd_normal.proofs.Refusals.{goes_on_refusing, goes_on_wanting}
 
 pub next_goes_on : (is : Partial) (one : Formula) (wanted : Bool)
@@ -14,8 +14,8 @@ next_goes_on is (formula.And formulas) true =
     unfolds is.kind is.choice (formula.And formulas, true) (each_signed formulas true) is.left (wants_each formulas)
 next_goes_on is (formula.And formulas) false =
     divides is.kind is.choice (formula.And formulas, false) (each_signed formulas false) is.left (refuses_one formulas)
-next_goes_on is (formula.Or formulas) true = goes_on_wanting is formulas (are_literals formulas) refl
-next_goes_on is (formula.Or formulas) false = goes_on_refusing is formulas (are_literals formulas) refl
+next_goes_on is (formula.Or formulas) true = goes_on_wanting is formulas (are_flat formulas) refl
+next_goes_on is (formula.Or formulas) false = goes_on_refusing is formulas (are_flat formulas) refl
 next_goes_on is (formula.Not one) wanted =
     unfolds is.kind is.choice (formula.Not one, wanted) ((one, not wanted) ∷ []) is.left (denies one wanted)
 next_goes_on is formula.Nothing wanted = extends is.kind is.choice (formula.Nothing, wanted) is.left

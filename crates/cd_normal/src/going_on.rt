@@ -1,5 +1,6 @@
 //! How choices in the making go on. Of a list of them the last is worked at.
 ghost use Rattle.std.specs.Prelude.{◌≡◌, [], ◌∷◌, ◌++◌, true, map, IfOk, OnOk};
+ghost use Rattle.std.specs.Prelude.{if◌then◌else◌};
 ghost use Rattle.cd_graph.specs.PlainFormula.{plain, plain_formulas};
 ghost use Rattle.cd_model.specs.Formula.{Or, formulas_of};
 ghost use Rattle.cd_rules.specs.Choices.{when};
@@ -8,7 +9,7 @@ ghost use Rattle.cd_rules.specs.PartialChoices.{partial, each_signed};
 ghost use Rattle.cd_normal.specs.ChoicesGoOn.{GoesBy};
 ghost use Rattle.cd_normal.specs.Inner.NextChoices.{with_left, with_each, with_choices};
 ghost use Rattle.cd_normal.specs.Inner.NextChoices.{next_choices, refused_of, wanted_of};
-ghost use Rattle.cd_normal.specs.Inner.NextChoices.{is_literal, are_literals};
+ghost use Rattle.cd_normal.specs.Inner.NextChoices.{wanted_in, is_flat, are_flat};
 ghost use Rattle.cd_normal.specs.Inner.PlainChoice.{plain_literal};
 ghost use Rattle.cd_normal.specs.Inner.PlainPartial.{plain_partial, plain_partials};
 
@@ -70,7 +71,7 @@ fn meet<'g>(
         Formula::And(formulas) if next.wanted => unfold(choices, top, formulas, true),
         Formula::And(formulas) => divide(choices, top, formulas, false),
         Formula::Or(formulas) if next.wanted => want_one(choices, top, formulas),
-        Formula::Or(formulas) if are_literals(formulas) => refuse_each(choices, top, formulas),
+        Formula::Or(formulas) if are_flat(formulas) => refuse_each(choices, top, formulas),
         Formula::Or(formulas) => unfold(choices, top, formulas, false),
         Formula::Not(inner) => ask(choices, top, inner, !next.wanted),
         Formula::Ints(_)
@@ -83,24 +84,27 @@ fn meet<'g>(
     }
 }
 
-// Whether none of the formulas is a connective.
-fn are_literals(formulas: &Formulas) -> bool
-    ensures { result ≡ are_literals (plain_formulas formulas.now) }
+// Whether each of the formulas is a literal, or a union of such.
+#[cycle(are_flat)]
+fn are_flat(formulas: &Formulas) -> bool
+    ensures { result ≡ are_flat (plain_formulas formulas.now) }
 {
     for formula in formulas.items() {
-        if !is_literal(formula) {
+        if !is_flat(formula) {
             return false;
         }
     }
     true
 }
 
-// Whether a formula is no connective.
-fn is_literal(formula: &Formula) -> bool
-    ensures { result ≡ is_literal (plain formula.now) }
+// Whether a formula is a literal, or a union of such.
+#[cycle(are_flat)]
+fn is_flat(formula: &Formula) -> bool
+    ensures { result ≡ is_flat (plain formula.now) }
 {
     match formula {
-        Formula::None | Formula::All | Formula::And(_) | Formula::Or(_) | Formula::Not(_) => false,
+        Formula::Or(formulas) => are_flat(formulas),
+        Formula::None | Formula::All | Formula::And(_) | Formula::Not(_) => false,
         Formula::Ints(_)
         | Formula::Chars(_)
         | Formula::Atoms(_)
@@ -177,8 +181,8 @@ fn ask<'g>(
     Ok(choices.push(top)?)
 }
 
-// Puts a choice on the others for each of the formulas, of which one is wanted. Of literals only
-// those of the kind get one.
+// Puts a choice on the others for each of the formulas, of which one is wanted. Of literals, and of
+// unions of such, only the literals of the kind get one.
 fn want_one<'g>(
     choices: &mut Vec<PartialChoice<'g>>,
     top: PartialChoice<'g>,
@@ -188,32 +192,76 @@ fn want_one<'g>(
         ≡ next_choices (plain_partial top.entry) (Or (plain_formulas formulas.now)) true
         ++ plain_partials choices.old.items) }
 {
-    if are_literals(formulas) {
-        choose_copies(choices, &top, formulas.items())
+    if are_flat(formulas) {
+        choose_copies(choices, &top, formulas)
     } else {
         divide(choices, top, formulas, true)
     }
 }
 
-// Puts a copy of a choice on the others for each of these literals that is of the kind, with that
-// literal.
+// Puts a copy of a choice on the others for each literal of the kind in these, with that literal.
+#[cycle(choose_copies)]
 fn choose_copies<'g>(
     choices: &mut Vec<PartialChoice<'g>>,
     top: &PartialChoice<'g>,
-    formulas: &'g [Formula],
+    formulas: &'g Formulas,
 ) -> Result<(), AllocError>
     ensures { OnOk result (plain_partials choices.new.items
-        ≡ with_choices (wanted_of (plain_partial top.now).kind
-        (formulas_of (map plain formulas.now))) (plain_partial top.now)
+        ≡ with_choices (wanted_of (plain_partial top.now).kind (plain_formulas formulas.now))
+        (plain_partial top.now)
         ++ plain_partials choices.old.items) }
 {
+    let formulas = formulas.items();
     let mut index = formulas.len();
     while index > 0 {
         index -= 1;
-        let formula = &formulas[index];
-        if is_of(top.kind, formula) {
-            choices.push(top.copy_choosing(formula)?)?;
-        }
+        choose_copies_in(choices, top, &formulas[index])?;
+    }
+    Ok(())
+}
+
+// The same for each literal in one formula.
+#[cycle(choose_copies)]
+fn choose_copies_in<'g>(
+    choices: &mut Vec<PartialChoice<'g>>,
+    top: &PartialChoice<'g>,
+    formula: &'g Formula,
+) -> Result<(), AllocError>
+    ensures { OnOk result (plain_partials choices.new.items
+        ≡ with_choices (wanted_in (plain_partial top.now).kind (plain formula.now))
+        (plain_partial top.now)
+        ++ plain_partials choices.old.items) }
+{
+    match formula {
+        Formula::Or(formulas) => choose_copies(choices, top, formulas),
+        Formula::None
+        | Formula::All
+        | Formula::And(_)
+        | Formula::Not(_)
+        | Formula::Ints(_)
+        | Formula::Chars(_)
+        | Formula::Atoms(_)
+        | Formula::Pair(_, _)
+        | Formula::Xml(_, _, _)
+        | Formula::Record(_)
+        | Formula::Arrow(_, _) => choose_copy(choices, top, formula),
+    }
+}
+
+// Puts a copy of a choice on the others with this literal, if it is of the kind.
+fn choose_copy<'g>(
+    choices: &mut Vec<PartialChoice<'g>>,
+    top: &PartialChoice<'g>,
+    formula: &'g Formula,
+) -> Result<(), AllocError>
+    ensures { OnOk result (plain_partials choices.new.items
+        ≡ with_choices (if is_of_kind (plain_partial top.now).kind (plain formula.now)
+        then (record { wanted = true; is = plain formula.now } ∷ []) ∷ [] else [])
+        (plain_partial top.now)
+        ++ plain_partials choices.old.items) }
+{
+    if is_of(top.kind, formula) {
+        choices.push(top.copy_choosing(formula)?)?;
     }
     Ok(())
 }

@@ -1,8 +1,10 @@
 //! One choice in the making.
-ghost use Rattle.std.specs.Prelude.{◌≡◌, [], ◌∷◌, ◌++◌, true, IfOk, OnOk};
+ghost use Rattle.std.specs.Prelude.{◌≡◌, [], ◌∷◌, ◌++◌, true, false, IfOk, OnOk};
+ghost use Rattle.std.specs.Prelude.{if◌then◌else◌};
 ghost use Rattle.cd_graph.specs.PlainFormula.{plain, plain_formulas};
+ghost use Rattle.cd_rules.specs.KindChoices.{is_of as is_of_kind};
 ghost use Rattle.cd_rules.specs.PartialChoices.{partial, each_signed};
-ghost use Rattle.cd_normal.specs.Inner.NextChoices.{with_left, refused_of};
+ghost use Rattle.cd_normal.specs.Inner.NextChoices.{with_left, refused_in, refused_of};
 ghost use Rattle.cd_normal.specs.Inner.PlainChoice.{plain_literal, plain_choice};
 ghost use Rattle.cd_normal.specs.Inner.PlainKind.{plain_kind};
 ghost use Rattle.cd_normal.specs.Inner.PlainPartial.{signed, plain_left, plain_partial};
@@ -140,8 +142,8 @@ fn is_looked_at(kind: Kind, wanted: bool) -> bool {
     }
 }
 
-// Adds the literals of a kind among these, which are refused.
-#[tactic(auto, using(crate::proofs::Refusals::refused_next))]
+// Adds the literals of a kind in these, which are refused.
+#[cycle(add_refused)]
 fn add_refused<'g>(
     choice: &mut Vec<Literal<'g>>,
     kind: Kind,
@@ -151,12 +153,52 @@ fn add_refused<'g>(
         ++ refused_of (plain_kind kind) (plain_formulas formulas.now)) }
 {
     for formula in formulas.items() {
-        if is_of(kind, formula) {
-            choice.push(Literal {
-                wanted: false,
-                formula,
-            })?;
-        }
+        add_refused_in(choice, kind, formula)?;
+    }
+    Ok(())
+}
+
+// The same for the literals in one formula.
+#[cycle(add_refused)]
+fn add_refused_in<'g>(
+    choice: &mut Vec<Literal<'g>>,
+    kind: Kind,
+    formula: &'g Formula,
+) -> Result<(), AllocError>
+    ensures { OnOk result (plain_choice choice.new.items ≡ plain_choice choice.old.items
+        ++ refused_in (plain_kind kind) (plain formula.now)) }
+{
+    match formula {
+        Formula::Or(formulas) => add_refused(choice, kind, formulas),
+        Formula::None
+        | Formula::All
+        | Formula::And(_)
+        | Formula::Not(_)
+        | Formula::Ints(_)
+        | Formula::Chars(_)
+        | Formula::Atoms(_)
+        | Formula::Pair(_, _)
+        | Formula::Xml(_, _, _)
+        | Formula::Record(_)
+        | Formula::Arrow(_, _) => add_one_refused(choice, kind, formula),
+    }
+}
+
+// Adds a literal, which is refused, if it is of the kind.
+fn add_one_refused<'g>(
+    choice: &mut Vec<Literal<'g>>,
+    kind: Kind,
+    formula: &'g Formula,
+) -> Result<(), AllocError>
+    ensures { OnOk result (plain_choice choice.new.items ≡ plain_choice choice.old.items
+        ++ (if is_of_kind (plain_kind kind) (plain formula.now)
+        then record { wanted = false; is = plain formula.now } ∷ [] else [])) }
+{
+    if is_of(kind, formula) {
+        choice.push(Literal {
+            wanted: false,
+            formula,
+        })?;
     }
     Ok(())
 }

@@ -20,32 +20,40 @@ with_choices choices is = map (λ more. partial is.kind (is.choice ++ more) is.l
 abbrev pub with_each : List Signed → Partial → List Partial
 with_each members is = map (λ member. partial is.kind is.choice (member ∷ is.left)) members
 
--- formulas that are no connectives, and speak of things of some kind
-abbrev pub is_literal : Formula → Bool
-is_literal formula.Nothing = false
-is_literal formula.Everything = false
-is_literal (formula.And formulas) = false
-is_literal (formula.Or formulas) = false
-is_literal (formula.Not one) = false
-is_literal one = true
+-- a literal, or a union of such
+abbrev mutual
+  pub is_flat : Formula → Bool
+  is_flat formula.Nothing = false
+  is_flat formula.Everything = false
+  is_flat (formula.And formulas) = false
+  is_flat (formula.Or formulas) = are_flat formulas
+  is_flat (formula.Not one) = false
+  is_flat one = true
 
-abbrev pub are_literals : Formulas → Bool
-are_literals NoFormula = true
-are_literals (AFormula is rest) = is_literal is && are_literals rest
+  pub are_flat : Formulas → Bool
+  are_flat NoFormula = true
+  are_flat (AFormula is rest) = is_flat is && are_flat rest
 
--- those of a kind, refused
-abbrev pub refused_of : Kind → Formulas → Choice
-refused_of kind NoFormula = []
-refused_of kind (AFormula is rest) =
-    if is_of kind is then record { wanted = false; is = is } ∷ refused_of kind rest
-    else refused_of kind rest
+-- the literals of a kind in such formulas, refused
+abbrev mutual
+  pub refused_in : Kind → Formula → Choice
+  refused_in kind (formula.Or formulas) = refused_of kind formulas
+  refused_in kind is = if is_of kind is then record { wanted = false; is = is } ∷ [] else []
 
--- a choice for each one of a kind
-abbrev pub wanted_of : Kind → Formulas → List Choice
-wanted_of kind NoFormula = []
-wanted_of kind (AFormula is rest) =
-    if is_of kind is then (record { wanted = true; is = is } ∷ []) ∷ wanted_of kind rest
-    else wanted_of kind rest
+  pub refused_of : Kind → Formulas → Choice
+  refused_of kind NoFormula = []
+  refused_of kind (AFormula is rest) = refused_in kind is ++ refused_of kind rest
+
+-- a choice for each one of them, wanted
+abbrev mutual
+  pub wanted_in : Kind → Formula → List Choice
+  wanted_in kind (formula.Or formulas) = wanted_of kind formulas
+  wanted_in kind is =
+      if is_of kind is then (record { wanted = true; is = is } ∷ []) ∷ [] else []
+
+  pub wanted_of : Kind → Formulas → List Choice
+  wanted_of kind NoFormula = []
+  wanted_of kind (AFormula is rest) = wanted_in kind is ++ wanted_of kind rest
 
 -- what a choice becomes by a formula that it is to meet before those that are left: literals that
 -- are refused together are met at once, and of those of which one is wanted only the ones of the
@@ -53,9 +61,9 @@ wanted_of kind (AFormula is rest) =
 abbrev pub next_choices : Partial → Formula → (wanted : Bool) → List Partial
 next_choices is (formula.And formulas) true = with_left (each_signed formulas true) is ∷ []
 next_choices is (formula.And formulas) false = with_each (each_signed formulas false) is
-next_choices is (formula.Or formulas) true = if are_literals formulas
+next_choices is (formula.Or formulas) true = if are_flat formulas
     then with_choices (wanted_of is.kind formulas) is else with_each (each_signed formulas true) is
-next_choices is (formula.Or formulas) false = if are_literals formulas
+next_choices is (formula.Or formulas) false = if are_flat formulas
     then partial is.kind (is.choice ++ refused_of is.kind formulas) is.left ∷ []
     else with_left (each_signed formulas false) is ∷ []
 next_choices is (formula.Not one) wanted = with_left ((one, not wanted) ∷ []) is ∷ []
