@@ -1,0 +1,16 @@
+//! Laws of the definitions in `specs/`. Each is the contract of a function that does nothing.
+ghost use Rattle.std.specs.Prelude.{◌≡◌, ◌++◌, ◌+◌, ◌≤◌, ℕ, List, [], ◌∷◌, Some, Ok, length};
+ghost use Rattle.cd_syntax.specs.declared.tokens.Token.{Token};
+ghost use Rattle.cd_model.specs.Thing.{Thing, IsData};
+ghost use Rattle.cd_documents.specs.Document.{IsDocument};
+ghost use Rattle.cd_documents.specs.Machine.{Frame, AtValue, state, start, put, run};
+
+/// The machine comes past the tokens of a document to its value, whatever is open and whatever
+/// follows; so it reads each document.
+pub fn reads_what_is_written()
+    ensures comes { (depth most : ℕ) (tokens more : List Token) (value : Thing)
+        (frames : List Frame) → IsDocument depth tokens value → depth + length frames ≤ most
+        → run most (state AtValue frames) (tokens ++ more) ≡ run most (put value frames) more }
+    ensures reads { (most : ℕ) (tokens : List Token) (value : Thing)
+        → IsDocument most tokens value → run most start tokens ≡ Ok (Some value) }
+{}
