@@ -1,1 +1,5 @@
+pub mod Terminals
 pub mod Completing
+pub mod Sounding
+pub mod OneValue
+pub mod Ending

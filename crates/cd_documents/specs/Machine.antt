@@ -243,3 +243,30 @@ ended (Err fault) = Err fault
 -- the value of a document, none where the tokens end before it is whole
 abbrev pub run : ℕ → State → List Token → Result (Option Thing) Fault
 run most now tokens = ended (reach most now tokens)
+
+-- the places that go with the forms that are open
+abbrev pub Fits : Place → List Frame → Type 0
+Fits AtValue frames = Unit {0}
+Fits AtItem (InSequence before ∷ frames) = Unit {0}
+Fits AtItem frames = ⊥
+Fits AfterPart (InTuple (last ∷ before) ∷ frames) = Unit {0}
+Fits AfterPart frames = ⊥
+Fits AtField (InRecord labels values ∷ frames) = Unit {0}
+Fits AtField frames = ⊥
+Fits AfterField (InRecord labels values ∷ frames) = Unit {0}
+Fits AfterField frames = ⊥
+Fits AtTag (InTag tag labels values ∷ frames) = Unit {0}
+Fits AtTag frames = ⊥
+Fits AtAttribute (InTag tag labels values ∷ frames) = Unit {0}
+Fits AtAttribute frames = ⊥
+Fits AfterAttribute (InTag tag labels values ∷ frames) = Unit {0}
+Fits AfterAttribute frames = ⊥
+Fits AtEqual (InTag tag labels values ∷ frames) = Unit {0}
+Fits AtEqual (InRecord labels values ∷ frames) = Unit {0}
+Fits AtEqual frames = ⊥
+Fits (Done value) [] = Unit {0}
+Fits (Done value) frames = ⊥
+
+-- some tokens end a document from this state on
+abbrev pub Ends : ℕ → State → Type 0
+Ends most now = (more : List Token) × (value : Thing) × (run most now more ≡ Ok (Some value))
