@@ -13,7 +13,8 @@ use Rattle.cd_syntax.specs.TypeGrammar.{at}
 use Rattle.cd_model.specs.Thing.{Thing, Integer, Character, Atom, Pair, Xml, Record, Fields, NoField}
 use Rattle.cd_documents.specs.Document as document
 use Rattle.cd_documents.specs.Document.{the_nil, characters_before, is_among, with_field, IsDocument, AreParts, AreItems, AreFields, AreMoreFields, AreAttributes}
-use Rattle.cd_documents.specs.Machine.{Terminal, Label, NoTerminal, terminal, Place, AtValue, AtItem, AfterPart, AtField, AfterField, AtTag, AtAttribute, AfterAttribute, AtEqual, Done, Frame, InTuple, InSequence, InRecord, InTag, InContent, State, state, start, Fault, Syntax, TooDeep, pairs, letters_onto, with_fields, put, after_terminal, or_wrong, step_on, step, and_then, reach, ended, run}
+use Rattle.cd_documents.specs.Terminal.{Label, NoTerminal, terminal}
+use Rattle.cd_documents.specs.Machine.{Place, AtValue, AtItem, AfterPart, AtField, AfterField, AtTag, AtAttribute, AfterAttribute, AtEqual, Done, Frame, InTuple, InSequence, InRecord, InTag, InContent, State, state, start, Fault, Syntax, TooDeep, pairs, letters_onto, with_fields, put, after_terminal, or_wrong, step_on, step, and_then, reach, ended, run}
 
 -- what comes of a step, and of the tokens after it
 abbrev pub going : (most : ℕ) (more : List Token) → Result State Fault → Result (Option Thing) Fault

@@ -12,7 +12,8 @@ use Rattle.cd_syntax.specs.TypeGrammar.{at}
 use Rattle.cd_model.specs.Thing.{Thing, Integer, Character, Atom, Pair, Xml, Record, Fields, NoField}
 use Rattle.cd_documents.specs.Document as document
 use Rattle.cd_documents.specs.Document.{the_nil, characters_before, is_among, with_field, IsDocument, AreParts, AreItems, AreFields, AreMoreFields, AreAttributes}
-use Rattle.cd_documents.specs.Machine.{Terminal, terminal, Number, Letters, Text, AnAtom, Label, OpenTuple, OpenSequence, OpenRecord, OpenTag, CloseTuple, CloseSequence, CloseRecord, CloseTag, Equal, Comma, Semicolon, NoTerminal, Place, AtValue, AtItem, AfterPart, AtField, AfterField, AtTag, AtAttribute, AfterAttribute, AtEqual, Done, Frame, InTuple, InSequence, InRecord, InTag, InContent, State, state, start, Fault, Syntax, TooDeep, pairs, letters_onto, with_fields, put, after_terminal, or_wrong, step_on, step, and_then, reach, ended, run, Fits}
+use Rattle.cd_documents.specs.Terminal.{Terminal, terminal, Number, Letters, Text, AnAtom, Label, OpenTuple, OpenSequence, OpenRecord, OpenTag, CloseTuple, CloseSequence, CloseRecord, CloseTag, Equal, Comma, Semicolon, NoTerminal}
+use Rattle.cd_documents.specs.Machine.{Place, AtValue, AtItem, AfterPart, AtField, AfterField, AtTag, AtAttribute, AfterAttribute, AtEqual, Done, Frame, InTuple, InSequence, InRecord, InTag, InContent, State, state, start, Fault, Syntax, TooDeep, pairs, letters_onto, with_fields, put, after_terminal, or_wrong, step_on, step, and_then, reach, ended, run, Fits}
 use Rattle.cd_documents.proofs.Terminals as seen
 use Rattle.cd_documents.proofs.Terminals.{Seen, seen as seen_token}
 use Rattle.cd_documents.proofs.Completing.{letters_pairs, going, close_tuple, close_sequence, close_record, close_tag, comma_at, equal_at, semicolon_at}

@@ -10,8 +10,8 @@ use Rattle.cd_syntax.specs.declared.tokens.TokenKind.{TokenKind}
 use Rattle.cd_syntax.specs.declared.tokens.TokenKind.TheVariants as token
 use Rattle.cd_syntax.specs.Name.{Name}
 use Rattle.cd_syntax.specs.TypeGrammar.{at}
-use Rattle.cd_documents.specs.Machine as is
-use Rattle.cd_documents.specs.Machine.{Terminal, terminal}
+use Rattle.cd_documents.specs.Terminal as is
+use Rattle.cd_documents.specs.Terminal.{Terminal, terminal}
 
 pub data Seen : Token → Terminal → Type 0 where
   number : (n : ℤ) (span : Span) → Seen (at (token.Int n) span) (is.Number n)

@@ -1,2 +1,4 @@
 pub mod Document
+pub mod Terminal
 pub mod Machine
+pub mod DocumentFaults

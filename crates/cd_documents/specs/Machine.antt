@@ -1,63 +1,17 @@
 -- The machine that reads documents: a state is a place, which says what may come next, and a stack
 -- of the forms that are open.
-use Rattle.std.specs.Prelude.{◌≡◌, ℕ, suc, ℤ, Bool, true, false, not, ◌&&◌, List, [], ◌∷◌, ◌++◌}
-use Rattle.std.specs.Prelude.{length, Option, Some, None, Result, Ok, Err, nat_lt, if◌then◌else◌}
-use Rattle.std.specs.Prelude.{codes, bytes_eq}
-use Rattle.cd_syntax.specs.declared.sign.Sign.TheVariants as sign
+use Rattle.std.specs.Prelude.{◌≡◌, ℕ, Bool, not, ◌&&◌, List, [], ◌∷◌, length}
+use Rattle.std.specs.Prelude.{Option, Some, None, Result, Ok, Err, nat_lt, if◌then◌else◌}
 use Rattle.cd_syntax.specs.declared.tokens.Token.{Token}
-use Rattle.cd_syntax.specs.declared.tokens.TokenKind.{TokenKind}
-use Rattle.cd_syntax.specs.declared.tokens.TokenKind.TheVariants as token
 use Rattle.cd_syntax.specs.Name.{Name}
 use Rattle.cd_model.specs.Thing.{Thing, Integer, Character, Atom, Pair, Xml, Record, Fields}
 use Rattle.cd_model.specs.Thing.{NoField}
 use Rattle.cd_documents.specs.Document.{the_nil, characters_before, is_among, with_field}
-
--- what a token is in a document; no document has the other ones
-pub data Terminal : Type 0 where
-  Number : ℤ → Terminal
-  Letters : List ℕ → Terminal
-  Text : List ℕ → Terminal
-  AnAtom : Name → Terminal
-  Label : Name → Terminal
-  OpenTuple : Terminal
-  CloseTuple : Terminal
-  OpenSequence : Terminal
-  CloseSequence : Terminal
-  OpenRecord : Terminal
-  CloseRecord : Terminal
-  OpenTag : Terminal
-  CloseTag : Terminal
-  Equal : Terminal
-  Comma : Terminal
-  Semicolon : Terminal
-  NoTerminal : Terminal
-
-abbrev pub terminal : TokenKind → Terminal
-terminal (token.Int n) = Number n
-terminal (token.Chars cs) = Letters cs
-terminal (token.Text cs) = Text cs
-terminal (token.Atom name) = AnAtom name
-terminal (token.Word name) = if bytes_eq name (codes "_") then NoTerminal else Label name
-terminal (token.Sign sign.OpenParenthesis) = OpenTuple
-terminal (token.Sign sign.CloseParenthesis) = CloseTuple
-terminal (token.Sign sign.OpenBracket) = OpenSequence
-terminal (token.Sign sign.CloseBracket) = CloseSequence
-terminal (token.Sign sign.OpenBrace) = OpenRecord
-terminal (token.Sign sign.CloseBrace) = CloseRecord
-terminal (token.Sign sign.Less) = OpenTag
-terminal (token.Sign sign.Greater) = CloseTag
-terminal (token.Sign sign.Equal) = Equal
-terminal (token.Sign sign.Comma) = Comma
-terminal (token.Sign sign.Semicolon) = Semicolon
-terminal (token.Sign is) = NoTerminal
-
--- an opening bracket
-abbrev pub opens : Terminal → Bool
-opens OpenTuple = true
-opens OpenSequence = true
-opens OpenRecord = true
-opens OpenTag = true
-opens _ = false
+use Rattle.cd_documents.specs.Terminal.{Terminal, terminal, opens, Number, Letters, Text, AnAtom}
+use Rattle.cd_documents.specs.Terminal.{Label, OpenTuple, CloseTuple, OpenSequence, CloseSequence}
+use Rattle.cd_documents.specs.Terminal.{OpenRecord, CloseRecord, OpenTag, CloseTag, Equal, Comma}
+use Rattle.cd_documents.specs.Terminal.{Semicolon, NoTerminal, Bracket, ATuple, ASequence, ARecord}
+use Rattle.cd_documents.specs.Terminal.{ATag, AContent}
 
 -- what may come next
 pub data Place : Type 0 where
@@ -90,6 +44,14 @@ state place frames = record { place = place; frames = frames }
 
 abbrev pub start : State
 start = state AtValue []
+
+-- the bracket of a form
+abbrev pub bracket_of : Frame → Bracket
+bracket_of (InTuple before) = ATuple
+bracket_of (InSequence before) = ASequence
+bracket_of (InRecord labels values) = ARecord
+bracket_of (InTag tag labels values) = ATag
+bracket_of (InContent tag attributes) = AContent
 
 -- why tokens are refused, at which byte
 pub data Fault : Type 0 where
