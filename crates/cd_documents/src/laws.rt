@@ -1,10 +1,14 @@
 //! Laws of the definitions in `specs/`. Each is the contract of a function that does nothing.
-ghost use Rattle.std.specs.Prelude.{◌≡◌, ◌++◌, ◌+◌, ◌≤◌, ℕ, List, [], ◌∷◌, Some, Ok, length};
+ghost use Rattle.std.specs.Prelude.{◌≡◌, ◌++◌, ◌+◌, ◌≤◌, ℕ, List, [], ◌∷◌, Some, None, Ok, Err};
+ghost use Rattle.std.specs.Prelude.{length, map};
 ghost use Rattle.cd_syntax.specs.declared.tokens.Token.{Token};
+ghost use Rattle.cd_syntax.specs.SyntaxFaults.{IsSyntaxFault};
 ghost use Rattle.cd_model.specs.Thing.{Thing, IsData};
 ghost use Rattle.cd_documents.specs.Document.{IsDocument};
 ghost use Rattle.cd_documents.specs.Machine.{Place, Frame, AtValue, state, start, put, run, Fits};
-ghost use Rattle.cd_documents.specs.Machine.{Ends};
+ghost use Rattle.cd_documents.specs.Machine.{State, Syntax, TooDeep, bracket_of, reach, Ends};
+ghost use Rattle.cd_documents.specs.Terminal.{open_after};
+ghost use Rattle.cd_documents.specs.DocumentFaults.{ADocument, IsTooDeepDocument};
 
 /// The machine comes past the tokens of a document to its value, whatever is open and whatever
 /// follows; so it reads each document.
@@ -33,4 +37,30 @@ pub fn tokens_have_one_value()
 pub fn each_state_ends()
     ensures { (most : ℕ) (place : Place) (frames : List Frame)
         → Fits place frames → Ends most (state place frames) }
+{}
+
+/// The value of a document is data: no function is in it.
+pub fn values_are_data()
+    ensures { (depth : ℕ) (tokens : List Token) (value : Thing)
+        → IsDocument depth tokens value → IsData value }
+{}
+
+/// What the machine refuses is a fault there. A token that it refuses is one that no document has
+/// at that place, however deep; where the tokens end too early, so is the end. Too deep is an
+/// opening bracket at which as many are open as may be.
+pub fn refusals_are_faults()
+    ensures syntax { (most : ℕ) (tokens : List Token) (end from : ℕ)
+        → run most start tokens ≡ Err (Syntax from)
+        → IsSyntaxFault ADocument most tokens end from }
+    ensures unfinished { (most : ℕ) (tokens : List Token) (end : ℕ)
+        → run most start tokens ≡ Ok None → IsSyntaxFault ADocument most tokens end end }
+    ensures deep { (most : ℕ) (tokens : List Token) (end from : ℕ)
+        → run most start tokens ≡ Err (TooDeep from) → IsTooDeepDocument most tokens end from }
+{}
+
+/// The forms on the stack of the machine are those of the brackets that are open after the tokens
+/// it has read.
+pub fn open_forms_are_brackets()
+    ensures { (most : ℕ) (tokens : List Token) (last : State)
+        → reach most start tokens ≡ Ok last → map bracket_of last.frames ≡ open_after tokens }
 {}
