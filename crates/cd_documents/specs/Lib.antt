@@ -2,3 +2,4 @@ pub mod Document
 pub mod Terminal
 pub mod Machine
 pub mod DocumentFaults
+pub mod Examples

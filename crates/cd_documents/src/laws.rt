@@ -8,6 +8,12 @@ ghost use Rattle.cd_documents.specs.Document.{IsDocument};
 ghost use Rattle.cd_documents.specs.Machine.{Place, Frame, AtValue, state, start, put, run, Fits};
 ghost use Rattle.cd_documents.specs.Machine.{State, Syntax, TooDeep, bracket_of, reach, Ends};
 ghost use Rattle.cd_documents.specs.Terminal.{open_after};
+ghost use Rattle.cd_documents.specs.Examples.{text_tokens, text_value, tuple_tokens, tuple_value};
+ghost use Rattle.cd_documents.specs.Examples.{group_tokens, group_value, sequence_tokens};
+ghost use Rattle.cd_documents.specs.Examples.{sequence_value, record_tokens, record_value};
+ghost use Rattle.cd_documents.specs.Examples.{xml_tokens, xml_value, no_semicolon, only_semicolon};
+ghost use Rattle.cd_documents.specs.Examples.{label_again, no_tag, no_character, two_values};
+ghost use Rattle.cd_documents.specs.Examples.{begun_tuple, two_brackets};
 ghost use Rattle.cd_documents.specs.DocumentFaults.{ADocument, IsTooDeepDocument};
 
 /// The machine comes past the tokens of a document to its value, whatever is open and whatever
@@ -63,4 +69,29 @@ pub fn refusals_are_faults()
 pub fn open_forms_are_brackets()
     ensures { (most : ℕ) (tokens : List Token) (last : State)
         → reach most start tokens ≡ Ok last → map bracket_of last.frames ≡ open_after tokens }
+{}
+
+/// Values at some texts: fields stand by label in a record, and a `''` in a sequence adds nothing.
+pub fn value_examples()
+    ensures text { IsDocument 0 text_tokens text_value }
+    ensures tuple { IsDocument 1 tuple_tokens tuple_value }
+    ensures group { IsDocument 1 group_tokens group_value }
+    ensures sequence { IsDocument 1 sequence_tokens sequence_value }
+    ensures fields { IsDocument 1 record_tokens record_value }
+    ensures xml { IsDocument 2 xml_tokens xml_value }
+{}
+
+/// Faults at some texts: fields with no `;` between, a `;` without a field, a label that stands
+/// twice, `_` as a tag, `''` as a value, a second value, and a tuple that is not closed. A `[` in
+/// place of a label is wrong where it may be open, and else too deep.
+pub fn fault_examples()
+    ensures no_semicolon { IsSyntaxFault ADocument 1000 no_semicolon 9 5 }
+    ensures only_semicolon { IsSyntaxFault ADocument 1000 only_semicolon 3 1 }
+    ensures label_again { IsSyntaxFault ADocument 1000 label_again 9 5 }
+    ensures no_tag { IsSyntaxFault ADocument 1000 no_tag 4 1 }
+    ensures no_character { IsSyntaxFault ADocument 1000 no_character 2 0 }
+    ensures two_values { IsSyntaxFault ADocument 1000 two_values 3 2 }
+    ensures begun_tuple { IsSyntaxFault ADocument 1000 begun_tuple 3 3 }
+    ensures two_brackets { IsSyntaxFault ADocument 1000 two_brackets 2 1 }
+    ensures too_deep { IsTooDeepDocument 1 two_brackets 2 1 }
 {}
