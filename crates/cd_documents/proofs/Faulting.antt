@@ -66,7 +66,7 @@ module _ (most : ℕ) where
   same_state : (one other : State) → reached one ≡ reached other → one ≡ other
   same_state one other h = cc h
 
-  reaches : (tokens : List Token) → ReachesOn tokens
+  pub reaches : (tokens : List Token) → ReachesOn tokens
   reaches [] now last fits le h = subst (IsGood most (brackets now.frames) []) (same_state now last h) (fits, le, refl)
   reaches (one ∷ tokens) now last fits le h = reaches_by (step most now one) one tokens (reaches tokens) now last fits le refl h
 
@@ -78,11 +78,11 @@ module _ (most : ℕ) (more : List Token) where
   joined (Ok next) before on = on next
   joined (Err fault) before on = refl
 
-  reach_append : (before : List Token) (now : State) → reach most now (before ++ more) ≡ and_then (reach most now before) (λ next. reach most next more)
+  pub reach_append : (before : List Token) (now : State) → reach most now (before ++ more) ≡ and_then (reach most now before) (λ next. reach most next more)
   reach_append [] now = refl
   reach_append (one ∷ before) now = joined (step most now one) before (reach_append before)
 
-  goes_on : (before : List Token) (now last : State) → reach most now before ≡ Ok last → run most now (before ++ more) ≡ run most last more
+  pub goes_on : (before : List Token) (now last : State) → reach most now before ≡ Ok last → run most now (before ++ more) ≡ run most last more
   goes_on before now last is =
       ap ended (reach_append before now) ∙ ap (λ made. ended (and_then made (λ next. reach most next more))) is
 
@@ -134,7 +134,7 @@ opens_there : (before : List Token) (one : Token) (rest : List Token) → opens_
 opens_there [] one rest = refl
 opens_there (first ∷ before) one rest = opens_there before one rest
 
-begun : (most : ℕ) (before : List Token) (last : State) → reach most start before ≡ Ok last → Fits last.place last.frames → BeginSome ADocument most before
+pub begun : (most : ℕ) (before : List Token) (last : State) → reach most start before ≡ Ok last → Fits last.place last.frames → BeginSome ADocument most before
 begun most before last is fits =
     let rest = each_ends most last.place last.frames fits in
     (rest.0, (rest.1, derived most (before ++ rest.0) rest.1 (goes_on most rest.0 before start last is ∙ rest.2)))
@@ -159,7 +159,7 @@ syntax_place : (from other : ℕ) (made : Option State) → or_wrong from made �
 syntax_place from other (Some next) h = absurd (cc h)
 syntax_place from other None h = cc h
 
-wrong_place : (most : ℕ) (last : State) (one : Token) (from : ℕ) → step most last one ≡ Err (Syntax from) → one.span.from ≡ from
+pub wrong_place : (most : ℕ) (last : State) (one : Token) (from : ℕ) → step most last one ≡ Err (Syntax from) → one.span.from ≡ from
 wrong_place most last one from h =
     let made = after_terminal last.place last.frames (terminal one.kind) in
     let found = shallow (opens (terminal one.kind) && not (nat_lt (length last.frames) most)) one.span.from (or_wrong one.span.from made) (Err (Syntax from)) tt h in
@@ -210,7 +210,7 @@ full_by true true n most from other None is le h = absurd (cc h)
 full_by false less n most from other (Some next) is le h = absurd (cc h)
 full_by false less n most from other None is le h = absurd (cc h)
 
-as_many : (frames : List Frame) → length (brackets frames) ≡ length frames
+pub as_many : (frames : List Frame) → length (brackets frames) ≡ length frames
 as_many [] = refl
 as_many (frame ∷ frames) = ap suc (as_many frames)
 

@@ -6,3 +6,4 @@ pub mod Ending
 pub mod StepsKept
 pub mod Faulting
 pub mod DataRead
+pub mod Refusing

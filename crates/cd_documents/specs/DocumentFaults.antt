@@ -1,7 +1,7 @@
 -- Where tokens stop being a document.
 use Rattle.std.specs.Prelude.{◌≡◌, ℕ, true, List, take, length}
 use Rattle.cd_syntax.specs.declared.tokens.Token.{Token}
-use Rattle.cd_syntax.specs.SyntaxFaults.{Form, BeginSome, place_of}
+use Rattle.cd_syntax.specs.SyntaxFaults.{Form, BeginSome, IsSyntaxFault, place_of}
 use Rattle.cd_model.specs.Thing.{Thing}
 use Rattle.cd_documents.specs.Document.{IsDocument}
 use Rattle.cd_documents.specs.Terminal.{open_after, opens_at}
@@ -21,3 +21,8 @@ pub record IsOneTooMany (most : ℕ) (tokens : List Token) (index : ℕ) : Type 
 pub data IsTooDeepDocument (most : ℕ) (tokens : List Token) (end : ℕ) : (place : ℕ) → Type 0 where
   at_bracket : (index : ℕ) → IsOneTooMany most tokens index
       → IsTooDeepDocument most tokens end (place_of tokens end index)
+
+-- the place of a fault of syntax, where no bracket is too deep
+pub record IsWrongDocument (most : ℕ) (tokens : List Token) (end place : ℕ) : Type 0 where
+  pub syntax : IsSyntaxFault ADocument most tokens end place
+  pub shallow : IsTooDeepDocument most tokens end place → ⊥

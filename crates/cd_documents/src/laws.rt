@@ -1,8 +1,7 @@
 //! Laws of the definitions in `specs/`. Each is the contract of a function that does nothing.
 ghost use Rattle.std.specs.Prelude.{◌≡◌, ◌++◌, ◌+◌, ◌≤◌, ℕ, List, [], ◌∷◌, Some, None, Ok, Err};
-ghost use Rattle.std.specs.Prelude.{length, map};
+ghost use Rattle.std.specs.Prelude.{length, map, ◌⊎◌};
 ghost use Rattle.cd_syntax.specs.declared.tokens.Token.{Token};
-ghost use Rattle.cd_syntax.specs.SyntaxFaults.{IsSyntaxFault};
 ghost use Rattle.cd_model.specs.Thing.{Thing, IsData};
 ghost use Rattle.cd_documents.specs.Document.{IsDocument};
 ghost use Rattle.cd_documents.specs.Machine.{Place, Frame, AtValue, state, start, put, run, Fits};
@@ -14,7 +13,7 @@ ghost use Rattle.cd_documents.specs.Examples.{sequence_value, record_tokens, rec
 ghost use Rattle.cd_documents.specs.Examples.{xml_tokens, xml_value, no_semicolon, only_semicolon};
 ghost use Rattle.cd_documents.specs.Examples.{label_again, no_tag, no_character, two_values};
 ghost use Rattle.cd_documents.specs.Examples.{begun_tuple, two_brackets};
-ghost use Rattle.cd_documents.specs.DocumentFaults.{ADocument, IsTooDeepDocument};
+ghost use Rattle.cd_documents.specs.DocumentFaults.{IsWrongDocument, IsTooDeepDocument};
 
 /// The machine comes past the tokens of a document to its value, whatever is open and whatever
 /// follows; so it reads each document.
@@ -56,12 +55,22 @@ pub fn values_are_data()
 /// opening bracket at which as many are open as may be.
 pub fn refusals_are_faults()
     ensures syntax { (most : ℕ) (tokens : List Token) (end from : ℕ)
-        → run most start tokens ≡ Err (Syntax from)
-        → IsSyntaxFault ADocument most tokens end from }
+        → run most start tokens ≡ Err (Syntax from) → IsWrongDocument most tokens end from }
     ensures unfinished { (most : ℕ) (tokens : List Token) (end : ℕ)
-        → run most start tokens ≡ Ok None → IsSyntaxFault ADocument most tokens end end }
+        → run most start tokens ≡ Ok None → IsWrongDocument most tokens end end }
     ensures deep { (most : ℕ) (tokens : List Token) (end from : ℕ)
         → run most start tokens ≡ Err (TooDeep from) → IsTooDeepDocument most tokens end from }
+{}
+
+/// The machine refuses each fault, at its place. So tokens have one fault at most, and none where
+/// they are a document.
+pub fn faults_are_refused()
+    ensures wrong { (most : ℕ) (tokens : List Token) (end place : ℕ)
+        → IsWrongDocument most tokens end place → (run most start tokens ≡ Err (Syntax place))
+        ⊎ ((run most start tokens ≡ Ok None) × (place ≡ end)) }
+    ensures deep { (most : ℕ) (tokens : List Token) (end place : ℕ)
+        → IsTooDeepDocument most tokens end place
+        → run most start tokens ≡ Err (TooDeep place) }
 {}
 
 /// The forms on the stack of the machine are those of the brackets that are open after the tokens
@@ -85,13 +94,13 @@ pub fn value_examples()
 /// twice, `_` as a tag, `''` as a value, a second value, and a tuple that is not closed. A `[` in
 /// place of a label is wrong where it may be open, and else too deep.
 pub fn fault_examples()
-    ensures no_semicolon { IsSyntaxFault ADocument 1000 no_semicolon 9 5 }
-    ensures only_semicolon { IsSyntaxFault ADocument 1000 only_semicolon 3 1 }
-    ensures label_again { IsSyntaxFault ADocument 1000 label_again 9 5 }
-    ensures no_tag { IsSyntaxFault ADocument 1000 no_tag 4 1 }
-    ensures no_character { IsSyntaxFault ADocument 1000 no_character 2 0 }
-    ensures two_values { IsSyntaxFault ADocument 1000 two_values 3 2 }
-    ensures begun_tuple { IsSyntaxFault ADocument 1000 begun_tuple 3 3 }
-    ensures two_brackets { IsSyntaxFault ADocument 1000 two_brackets 2 1 }
+    ensures no_semicolon { IsWrongDocument 1000 no_semicolon 9 5 }
+    ensures only_semicolon { IsWrongDocument 1000 only_semicolon 3 1 }
+    ensures label_again { IsWrongDocument 1000 label_again 9 5 }
+    ensures no_tag { IsWrongDocument 1000 no_tag 4 1 }
+    ensures no_character { IsWrongDocument 1000 no_character 2 0 }
+    ensures two_values { IsWrongDocument 1000 two_values 3 2 }
+    ensures begun_tuple { IsWrongDocument 1000 begun_tuple 3 3 }
+    ensures two_brackets { IsWrongDocument 1000 two_brackets 2 1 }
     ensures too_deep { IsTooDeepDocument 1 two_brackets 2 1 }
 {}
