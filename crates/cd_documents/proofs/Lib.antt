@@ -7,3 +7,4 @@ pub mod StepsKept
 pub mod Faulting
 pub mod DataRead
 pub mod Refusing
+pub mod ValuesRead

@@ -1,8 +1,11 @@
 //! Laws of the definitions in `specs/`. Each is the contract of a function that does nothing.
 ghost use Rattle.std.specs.Prelude.{◌≡◌, ◌++◌, ◌+◌, ◌≤◌, ℕ, List, [], ◌∷◌, Some, None, Ok, Err};
-ghost use Rattle.std.specs.Prelude.{length, map, ◌⊎◌};
+ghost use Rattle.std.specs.Prelude.{length, map, false, ◌⊎◌};
+ghost use Rattle.std.specs.Char.{IsScalar};
 ghost use Rattle.cd_syntax.specs.declared.tokens.Token.{Token};
-ghost use Rattle.cd_model.specs.Thing.{Thing, IsData};
+ghost use Rattle.cd_syntax.specs.Tokens.{Spells};
+ghost use Rattle.cd_model.specs.AllOf.{AllOf};
+ghost use Rattle.cd_model.specs.Thing.{Thing, IsValue, IsData};
 ghost use Rattle.cd_documents.specs.Document.{IsDocument};
 ghost use Rattle.cd_documents.specs.Machine.{Place, Frame, AtValue, state, start, put, run, Fits};
 ghost use Rattle.cd_documents.specs.Machine.{State, Syntax, TooDeep, bracket_of, reach, Ends};
@@ -44,10 +47,15 @@ pub fn each_state_ends()
         → Fits place frames → Ends most (state place frames) }
 {}
 
-/// The value of a document is data: no function is in it.
-pub fn values_are_data()
-    ensures { (depth : ℕ) (tokens : List Token) (value : Thing)
+/// The value of a document is data: no function is in it. Where the tokens are those of a text, it
+/// is a value of programs: the labels of each record rise, and names, numbers and characters are
+/// sound.
+pub fn documents_are_values()
+    ensures data { (depth : ℕ) (tokens : List Token) (value : Thing)
         → IsDocument depth tokens value → IsData value }
+    ensures sound { (depth : ℕ) (text : List ℕ) (tokens : List Token) (value : Thing)
+        → AllOf IsScalar text → Spells false 0 text tokens → IsDocument depth tokens value
+        → IsValue value }
 {}
 
 /// What the machine refuses is a fault there. A token that it refuses is one that no document has
