@@ -10,11 +10,11 @@ use Rattle.cd_syntax.specs.declared.tokens.TokenKind.TheVariants as token
 use Rattle.cd_syntax.specs.Name.{Name}
 use Rattle.cd_syntax.specs.TypeGrammar as grammar
 use Rattle.cd_syntax.specs.TypeGrammar.{at}
-use Rattle.cd_model.specs.Thing.{Thing, Integer, Character, Atom, Pair, Xml, Record, Fields, NoField}
+use Rattle.cd_model.specs.Thing.{Thing, Character, Record, Fields}
 use Rattle.cd_documents.specs.Document as document
 use Rattle.cd_documents.specs.Document.{the_nil, characters_before, is_among, with_field, IsDocument, AreParts, AreItems, AreFields, AreMoreFields, AreAttributes}
 use Rattle.cd_documents.specs.Terminal.{Label, NoTerminal, terminal}
-use Rattle.cd_documents.specs.Machine.{Place, AtValue, AtItem, AfterPart, AtField, AfterField, AtTag, AtAttribute, AfterAttribute, AtEqual, Done, Frame, InTuple, InSequence, InRecord, InTag, InContent, State, state, start, Fault, Syntax, TooDeep, pairs, letters_onto, with_fields, put, after_terminal, or_wrong, step_on, step, and_then, reach, ended, run}
+use Rattle.cd_documents.specs.Machine.{Place, AtValue, AtItem, AtField, AfterField, AtTag, AtAttribute, AfterAttribute, AtEqual, Frame, InTuple, InSequence, InRecord, InTag, InContent, State, state, start, Fault, TooDeep, pairs, letters_onto, with_fields, put, after_terminal, or_wrong, step_on, and_then, reach, ended, run}
 
 -- what comes of a step, and of the tokens after it
 abbrev pub going : (most : ℕ) (more : List Token) → Result State Fault → Result (Option Thing) Fault
@@ -126,7 +126,7 @@ mutual
   comes _ _ _ (document.xml depth left span right tag tokens content attributes value label are is) most frames more le =
       let next = state AtAttribute (InTag tag [] [] ∷ frames) in
       ap (going most (at (token.Word tag) span ∷ (tokens ++ close_tag right ∷ content) ++ more))
-          (opened most frames left.from (state AtTag (InTag [] [] [] ∷ frames)) (omega (arith, le)))
+      (opened most frames left.from (state AtTag (InTag [] [] [] ∷ frames)) (omega (arith, le)))
       ∙ word_comes most AtTag (InTag [] [] [] ∷ frames) tag span next ((tokens ++ close_tag right ∷ content) ++ more) label refl
       ∙ ap (run most next) (append_assoc tokens (close_tag right ∷ content) more)
       ∙ attributes_come depth [] tokens attributes are most AtAttribute first tag [] frames right (content ++ more) (omega (arith, le))
@@ -163,7 +163,7 @@ mutual
   fields_come _ _ _ _ (document.field depth labels label span equal tokens rest value others other is_new is are) most values frames right more le =
       let next = state AtEqual (InRecord (label ∷ labels) values ∷ frames) in
       word_comes most AtField (InRecord labels values ∷ frames) label span next (equal_at equal ∷ (tokens ++ rest) ++ close_record right ∷ more) other
-          (new_label label labels next is_new)
+      (new_label label labels next is_new)
       ∙ ap (run most (state AtValue (InRecord (label ∷ labels) values ∷ frames))) (append_assoc tokens rest (close_record right ∷ more))
       ∙ comes depth tokens value is most (InRecord (label ∷ labels) values ∷ frames) (rest ++ close_record right ∷ more) (omega (arith, le))
       ∙ more_come depth (label ∷ labels) rest others are most (value ∷ values) frames right more le

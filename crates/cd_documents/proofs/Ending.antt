@@ -1,15 +1,14 @@
 -- From each state some tokens end a document, and none of them opens a bracket.
-use Rattle.std.proofs.Common.{◌≡◌, refl, ℕ, pos, List, [], ◌∷◌, Some, Ok}
+use Rattle.std.proofs.Common.{refl, ℕ, pos, List, [], ◌∷◌}
 use Rattle.std.specs.Prelude.{codes}
 use Rattle.cd_syntax.specs.declared.sign.Sign.TheVariants as sign
-use Rattle.cd_syntax.specs.declared.tokens.Span.{Span}
 use Rattle.cd_syntax.specs.declared.tokens.Token.{Token}
 use Rattle.cd_syntax.specs.declared.tokens.TokenKind.{TokenKind}
 use Rattle.cd_syntax.specs.declared.tokens.TokenKind.TheVariants as token
 use Rattle.cd_syntax.specs.TypeGrammar.{at}
 use Rattle.cd_model.specs.Thing.{Thing, Integer, Atom, Xml, Record, NoField}
 use Rattle.cd_documents.specs.Document.{the_nil}
-use Rattle.cd_documents.specs.Machine.{Place, AtValue, AtItem, AfterPart, AtField, AfterField, AtTag, AtAttribute, AfterAttribute, AtEqual, Done, Frame, InTuple, InSequence, InRecord, InTag, InContent, state, pairs, with_fields, put, run, Fits, Ends}
+use Rattle.cd_documents.specs.Machine.{Place, AtValue, AtItem, AfterPart, AtField, AfterField, AtTag, AtAttribute, AfterAttribute, AtEqual, Done, Frame, InTuple, InSequence, InRecord, InTag, InContent, state, pairs, with_fields, put, Fits, Ends}
 
 abbrev anywhere : TokenKind → Token
 anywhere kind = at kind (record { from = 0; to = 0 })

@@ -1,14 +1,14 @@
 -- Where the machine stops, the tokens stop being a document.
 use Rattle.std.proofs.Common.{◌≡◌, ◌∙◌, sym, ap, refl, subst, ℕ, suc, ◌+◌, ◌<◌, ◌≤◌, Bool, true, false, not, List, [], ◌∷◌, ◌++◌, length, append_assoc, append-nil, Option, Some, None, Result, Ok, Err, arith}
 use Rattle.std.proofs.lemmas.Bool.Decides.{nat_tests}
-use Rattle.std.specs.Prelude.{nat_lt, ◌&&◌, if◌then◌else◌, map, take}
+use Rattle.std.specs.Prelude.{nat_lt, ◌&&◌, if◌then◌else◌, take}
 use Rattle.cd_syntax.specs.declared.tokens.Token.{Token}
-use Rattle.cd_syntax.specs.SyntaxFaults.{BeginSome, place_of, IsWrong, IsSyntaxFault, at_token, at_end}
+use Rattle.cd_syntax.specs.SyntaxFaults.{BeginSome, place_of, IsSyntaxFault, at_token, at_end}
 use Rattle.cd_model.specs.Thing.{Thing}
 use Rattle.cd_documents.specs.Document.{IsDocument}
-use Rattle.cd_documents.specs.Terminal.{Terminal, terminal, opens, Bracket, opened, open_from, open_after, opens_at}
-use Rattle.cd_documents.specs.Machine.{Place, Frame, State, state, start, Fault, Syntax, TooDeep, after_terminal, or_wrong, step, and_then, reach, ended, value_at, run, Fits}
-use Rattle.cd_documents.specs.DocumentFaults.{ADocument, IsOneTooMany, IsTooDeepDocument, at_bracket}
+use Rattle.cd_documents.specs.Terminal.{terminal, opens, Bracket, open_from, open_after, opens_at}
+use Rattle.cd_documents.specs.Machine.{Frame, State, start, Fault, Syntax, TooDeep, after_terminal, or_wrong, step, and_then, reach, ended, value_at, run, Fits}
+use Rattle.cd_documents.specs.DocumentFaults.{ADocument, IsTooDeepDocument, at_bracket}
 use Rattle.cd_documents.proofs.Completing.{going, comes}
 use Rattle.cd_documents.proofs.Sounding.{derived}
 use Rattle.cd_documents.proofs.Ending.{each_ends}
@@ -37,10 +37,16 @@ module _ (most : ℕ) where
       → step most now one ≡ made → going most tokens made ≡ Err fault → Stop most now (one ∷ tokens) fault
   stops_by (Ok next) one tokens on now fault fits le is h =
       let keeps = step_kept most now one next fits le is in
-      let found = on next fault keeps.0 keeps.2 h in
-      (one ∷ found.0, found.1, found.2, found.3, ap (λ all. one ∷ all) found.4,
-        ap (λ made. and_then made (λ next. reach most next found.0)) is ∙ found.5, found.6,
-        (found.7.0, found.7.1, found.7.2 ∙ ap (λ open_brackets. open_from open_brackets found.0) keeps.1))
+      let found = on next fault keeps.0 keeps.2 h in (
+        one ∷ found.0,
+        found.1,
+        found.2,
+        found.3,
+        ap (λ all. one ∷ all) found.4,
+        ap (λ made. and_then made (λ next. reach most next found.0)) is ∙ found.5,
+        found.6,
+        (found.7.0, found.7.1, found.7.2 ∙ ap (λ open_brackets. open_from open_brackets found.0) keeps.1),
+      )
   stops_by (Err other) one tokens on now fault fits le is h =
       ([], one, tokens, now, refl, refl, is ∙ ap (λ fault. Err fault) (same_fault other fault h), (fits, le, refl))
 
@@ -149,10 +155,10 @@ stuck : (most : ℕ) (before : List Token) (one : Token) (last : State) (from : 
 stuck most before one last from is wrong depth more (value, document) =
     let le : most ≤ depth + most = omega arith in
     let reads : run (depth + most) start (before ++ one ∷ more) ≡ Ok (Some value) =
-        read_deeper depth most (before ++ one ∷ more) value (subst (λ tokens. IsDocument depth tokens value) (append_assoc before (one ∷ []) more) document) in
+    read_deeper depth most (before ++ one ∷ more) value (subst (λ tokens. IsDocument depth tokens value) (append_assoc before (one ∷ []) more) document) in
     let stops : run (depth + most) start (before ++ one ∷ more) ≡ Err (Syntax from) =
-        goes_on (depth + most) (one ∷ more) before start last (reach_deeper most (depth + most) le before start last is)
-        ∙ ap (going (depth + most) more) (step_deeper most (depth + most) le last one (Err (Syntax from)) tt wrong) in
+    goes_on (depth + most) (one ∷ more) before start last (reach_deeper most (depth + most) le before start last is)
+    ∙ ap (going (depth + most) more) (step_deeper most (depth + most) le last one (Err (Syntax from)) tt wrong) in
     cc (sym reads ∙ stops)
 
 syntax_place : (from other : ℕ) (made : Option State) → or_wrong from made ≡ Err (Syntax other) → from ≡ other
@@ -173,7 +179,7 @@ wrong_at most before one rest end last from is wrong fits =
       within = within_them before one rest;
       before = subst (BeginSome ADocument most) (sym (before_it before one rest)) (begun most before last is fits);
       wrong = λ depth more document. stuck most before one last from is wrong depth more
-        (subst (λ tokens. ADocument depth (tokens ++ more)) (with_it before one rest) document);
+          (subst (λ tokens. ADocument depth (tokens ++ more)) (with_it before one rest) document);
     }))
 
 pub wrong_token : (most : ℕ) (tokens : List Token) (end from : ℕ) → run most start tokens ≡ Err (Syntax from) → IsSyntaxFault ADocument most tokens end from
@@ -188,11 +194,11 @@ not_ended most tokens end last is none =
     at_end (record {
       begun = begun most tokens last is good.0;
       unfinished = λ depth document.
-        let le : most ≤ depth + most = omega arith in
-        let reads : run (depth + most) start tokens ≡ Ok (Some document.0) = read_deeper depth most tokens document.0 document.1 in
-        let stops : run (depth + most) start tokens ≡ Ok None =
-            ap ended (reach_deeper most (depth + most) le tokens start last is) ∙ ap (λ value. Ok value) none in
-        cc (sym reads ∙ stops);
+          let le : most ≤ depth + most = omega arith in
+          let reads : run (depth + most) start tokens ≡ Ok (Some document.0) = read_deeper depth most tokens document.0 document.1 in
+          let stops : run (depth + most) start tokens ≡ Ok None =
+          ap ended (reach_deeper most (depth + most) le tokens start last is) ∙ ap (λ value. Ok value) none in
+          cc (sym reads ∙ stops);
     })
 
 no_value : (made : Result State Fault) → ended made ≡ Ok None → (last : State) × (made ≡ Ok last) × (value_at last.place ≡ None)
@@ -218,7 +224,7 @@ deep_at : (most : ℕ) (before : List Token) (one : Token) (rest : List Token) (
     → step most last one ≡ Err (TooDeep from) → IsGood most [] before last → IsTooDeepDocument most (before ++ one ∷ rest) end from
 deep_at most before one rest end last from is deep good =
     let full = full_by (opens (terminal one.kind)) (nat_lt (length last.frames) most) (length last.frames) most one.span.from from
-        (after_terminal last.place last.frames (terminal one.kind)) refl good.1 deep in
+    (after_terminal last.place last.frames (terminal one.kind)) refl good.1 deep in
     subst (IsTooDeepDocument most (before ++ one ∷ rest) end) (place_there before one rest end ∙ full.2)
     (at_bracket (length before) (record {
       opens = opens_there before one rest ∙ full.0;

@@ -1,16 +1,16 @@
 -- The machine refuses each fault.
-use Rattle.std.proofs.Common.{◌≡◌, ◌∙◌, sym, ap, refl, subst, ℕ, zero, suc, ◌+◌, ◌<◌, ◌≤◌, Bool, true, false, not, List, [], ◌∷◌, ◌++◌, ◌⊎◌, inl, inr, length, append_assoc, append-nil, Option, Some, None, Result, Ok, Err, arith}
+use Rattle.std.proofs.Common.{◌≡◌, ◌∙◌, sym, ap, refl, ℕ, zero, suc, ◌<◌, Bool, true, false, not, List, [], ◌∷◌, ◌++◌, ◌⊎◌, inl, inr, length, Option, Some, None, Result, Ok, Err, arith}
 use Rattle.std.proofs.lemmas.Bool.Decides.{nat_tests}
 use Rattle.std.specs.Prelude.{nat_lt, ◌&&◌, if◌then◌else◌, take}
 use Rattle.cd_syntax.specs.declared.tokens.Token.{Token}
 use Rattle.cd_syntax.specs.SyntaxFaults.{BeginSome, place_of, IsWrong, IsUnfinished, IsSyntaxFault, at_token, at_end}
 use Rattle.cd_model.specs.Thing.{Thing}
-use Rattle.cd_documents.specs.Terminal.{terminal, opens, open_after, opens_at}
+use Rattle.cd_documents.specs.Terminal.{terminal, opens, opens_at}
 use Rattle.cd_documents.specs.Machine.{State, start, Fault, Syntax, TooDeep, after_terminal, or_wrong, step, and_then, reach, ended, value_at, run}
 use Rattle.cd_documents.specs.DocumentFaults.{ADocument, IsOneTooMany, IsTooDeepDocument, at_bracket, IsWrongDocument}
 use Rattle.cd_documents.proofs.Completing.{going, reads}
 use Rattle.cd_documents.proofs.Sounding.{derived}
-use Rattle.cd_documents.proofs.StepsKept.{brackets, step_kept}
+use Rattle.cd_documents.proofs.StepsKept.{step_kept}
 use Rattle.cd_documents.proofs.Faulting.{reach_append, goes_on, begun, reaches, as_many, wrong_token, unfinished, too_deep, wrong_place}
 
 -- a token among others
@@ -61,7 +61,7 @@ deep_at most tokens end index fault =
     let full : length last.frames ≡ most = sym (as_many last.frames) ∙ ap length good.2 ∙ fault.full in
     run_there most tokens end index at last (Err (TooDeep at.0.span.from)) found.1
     (full_bracket (opens (terminal at.0.kind)) (nat_lt (length last.frames) most) (length last.frames) most at.0.span.from
-      (or_wrong at.0.span.from (after_terminal last.place last.frames (terminal at.0.kind))) (sym at.5 ∙ fault.opens) refl full)
+    (or_wrong at.0.span.from (after_terminal last.place last.frames (terminal at.0.kind))) (sym at.5 ∙ fault.opens) refl full)
     ∙ ap (λ from. Err (TooDeep from)) (sym at.4)
 
 pub deep_refused : (most : ℕ) (tokens : List Token) (end place : ℕ) → IsTooDeepDocument most tokens end place → run most start tokens ≡ Err (TooDeep place)
@@ -87,17 +87,17 @@ refused_by (Ok next) most tokens end index at last is steps fault shallow =
     let good = reaches most (take index tokens) start last tt (omega arith) is in
     let keeps = step_kept most last at.0 next good.0 good.1 steps in
     let reached : reach most start (take (suc index) tokens) ≡ Ok next =
-        ap (reach most start) at.3 ∙ reach_append most (at.0 ∷ []) (take index tokens) start
-        ∙ ap (λ made. and_then made (λ next. reach most next (at.0 ∷ []))) is ∙ ap (λ made. and_then made (λ next. reach most next [])) steps in
+    ap (reach most start) at.3 ∙ reach_append most (at.0 ∷ []) (take index tokens) start
+    ∙ ap (λ made. and_then made (λ next. reach most next (at.0 ∷ []))) is ∙ ap (λ made. and_then made (λ next. reach most next [])) steps in
     let begins = begun most (take (suc index) tokens) next reached keeps.0 in
     absurd (fault.wrong most begins.0 begins.1)
 refused_by (Err (Syntax from)) most tokens end index at last is steps fault shallow =
     inl (run_there most tokens end index at last (Err (Syntax from)) is steps
-      ∙ ap (λ from. Err (Syntax from)) (sym (wrong_place most last at.0 from steps) ∙ sym at.4))
+    ∙ ap (λ from. Err (Syntax from)) (sym (wrong_place most last at.0 from steps) ∙ sym at.4))
 refused_by (Err (TooDeep from)) most tokens end index at last is steps fault shallow =
     absurd (shallow (too_deep most tokens end (place_of tokens end index)
-      (run_there most tokens end index at last (Err (TooDeep from)) is steps
-      ∙ ap (λ from. Err (TooDeep from)) (sym (deep_place most last at.0 from steps) ∙ sym at.4))))
+    (run_there most tokens end index at last (Err (TooDeep from)) is steps
+    ∙ ap (λ from. Err (TooDeep from)) (sym (deep_place most last at.0 from steps) ∙ sym at.4))))
 
 ended_by : (found : Option Thing) (most : ℕ) (tokens : List Token) (end : ℕ) → run most start tokens ≡ Ok found → IsUnfinished ADocument most tokens → IsRefused most tokens end end
 ended_by (Some value) most tokens end is fault = absurd (fault.unfinished most (value, derived most tokens value is))

@@ -1,7 +1,7 @@
 -- What the machine reads the grammar derives.
-use Rattle.std.proofs.Common.{◌≡◌, ◌≢◌, ◌∙◌, sym, ap, refl, subst, ℕ, zero, suc, ◌+◌, ◌<◌, ◌≤◌, Bool, true, false, not, List, [], ◌∷◌, ◌++◌, ◌⊎◌, inl, inr, length, append_assoc, append-nil, Option, Some, None, Result, Ok, Err, arith}
+use Rattle.std.proofs.Common.{◌≡◌, ◌≢◌, ◌∙◌, sym, ap, refl, subst, ℕ, zero, suc, ◌+◌, ◌<◌, Bool, true, false, not, List, [], ◌∷◌, ◌++◌, ◌⊎◌, inl, inr, length, append_assoc, append-nil, Some, None, Ok, Err, arith}
 use Rattle.std.proofs.lemmas.Bool.Decides.{nat_tests}
-use Rattle.std.specs.Prelude.{nat_lt, if◌then◌else◌, codes, bytes_eq}
+use Rattle.std.specs.Prelude.{nat_lt, if◌then◌else◌, codes}
 use Rattle.cd_syntax.specs.declared.sign.Sign.TheVariants as sign
 use Rattle.cd_syntax.specs.declared.tokens.Span.{Span}
 use Rattle.cd_syntax.specs.declared.tokens.Token.{Token}
@@ -12,8 +12,8 @@ use Rattle.cd_syntax.specs.TypeGrammar.{at}
 use Rattle.cd_model.specs.Thing.{Thing, Integer, Character, Atom, Pair, Xml, Record, Fields, NoField}
 use Rattle.cd_documents.specs.Document as document
 use Rattle.cd_documents.specs.Document.{the_nil, characters_before, is_among, with_field, IsDocument, AreParts, AreItems, AreFields, AreMoreFields, AreAttributes}
-use Rattle.cd_documents.specs.Terminal.{Terminal, terminal, Number, Letters, Text, AnAtom, Label, OpenTuple, OpenSequence, OpenRecord, OpenTag, CloseTuple, CloseSequence, CloseRecord, CloseTag, Equal, Comma, Semicolon, NoTerminal}
-use Rattle.cd_documents.specs.Machine.{Place, AtValue, AtItem, AfterPart, AtField, AfterField, AtTag, AtAttribute, AfterAttribute, AtEqual, Done, Frame, InTuple, InSequence, InRecord, InTag, InContent, State, state, start, Fault, Syntax, TooDeep, pairs, letters_onto, with_fields, put, after_terminal, or_wrong, step_on, step, and_then, reach, ended, run, Fits}
+use Rattle.cd_documents.specs.Terminal.{Terminal, Number, Text, AnAtom, Label, OpenTuple, OpenSequence, OpenRecord, OpenTag, CloseTuple, CloseRecord, CloseTag, Equal, Comma, Semicolon, NoTerminal}
+use Rattle.cd_documents.specs.Machine.{Place, AtValue, AtItem, AfterPart, AtField, AfterField, AtTag, AtAttribute, AfterAttribute, AtEqual, Done, Frame, InTuple, InSequence, InRecord, InTag, InContent, State, state, start, Syntax, TooDeep, pairs, letters_onto, with_fields, put, or_wrong, step_on, run, Fits}
 use Rattle.cd_documents.proofs.Terminals as seen
 use Rattle.cd_documents.proofs.Terminals.{Seen, seen as seen_token}
 use Rattle.cd_documents.proofs.Completing.{letters_pairs, going, close_tuple, close_sequence, close_record, close_tag, comma_at, equal_at, semicolon_at}
@@ -114,15 +114,23 @@ open_tuple = at (token.Sign sign.OpenParenthesis)
 
 tuple_made : (r : ℕ) (frames : List Frame) (left : Span) (tokens : List Token) (whole : Thing) → Hole r (InTuple [] ∷ frames) tokens whole
     → Hole (suc r) frames (open_tuple left ∷ tokens) whole
-tuple_made r frames left tokens whole (inner, later, value, is, derives, inl (right, last, ends, after)) =
-    (open_tuple left ∷ inner ++ close_tuple right ∷ [], last, value,
-      ap (λ rest. open_tuple left ∷ rest) (is ∙ ap (λ rest. inner ++ rest) ends ∙ sym (append_assoc inner (close_tuple right ∷ []) last)),
-      document.tuple r left right inner value (document.last_part r inner value derives), after)
-tuple_made r frames left tokens whole (inner, later, value, is, derives, inr (comma, right, more, last, others, ends, parts, after)) =
-    (open_tuple left ∷ (inner ++ comma_at comma ∷ more) ++ close_tuple right ∷ [], last, Pair value others,
-      ap (λ rest. open_tuple left ∷ rest) (is ∙ ap (λ rest. inner ++ rest) ends ∙ sym (append_assoc inner (comma_at comma ∷ more) (close_tuple right ∷ last))
-          ∙ sym (append_assoc (inner ++ comma_at comma ∷ more) (close_tuple right ∷ []) last)),
-      document.tuple r left right (inner ++ comma_at comma ∷ more) (Pair value others) (document.part r comma inner more value others derives parts), after)
+tuple_made r frames left tokens whole (inner, later, value, is, derives, inl (right, last, ends, after)) = (
+  open_tuple left ∷ inner ++ close_tuple right ∷ [],
+  last,
+  value,
+  ap (λ rest. open_tuple left ∷ rest) (is ∙ ap (λ rest. inner ++ rest) ends ∙ sym (append_assoc inner (close_tuple right ∷ []) last)),
+  document.tuple r left right inner value (document.last_part r inner value derives),
+  after,
+)
+tuple_made r frames left tokens whole (inner, later, value, is, derives, inr (comma, right, more, last, others, ends, parts, after)) = (
+  open_tuple left ∷ (inner ++ comma_at comma ∷ more) ++ close_tuple right ∷ [],
+  last,
+  Pair value others,
+  ap (λ rest. open_tuple left ∷ rest) (is ∙ ap (λ rest. inner ++ rest) ends ∙ sym (append_assoc inner (comma_at comma ∷ more) (close_tuple right ∷ last))
+      ∙ sym (append_assoc (inner ++ comma_at comma ∷ more) (close_tuple right ∷ []) last)),
+  document.tuple r left right (inner ++ comma_at comma ∷ more) (Pair value others) (document.part r comma inner more value others derives parts),
+  after,
+)
 
 part_made : (r : ℕ) (after : Later) (before : List Thing) (first : Thing) (comma : Span) (tokens : List Token)
     → ((inner : List Token) × (later : List Token) × (value : Thing) × (tokens ≡ inner ++ later) × IsDocument r inner value × TupleRest r after (first ∷ before) value later)
@@ -130,46 +138,78 @@ part_made : (r : ℕ) (after : Later) (before : List Thing) (first : Thing) (com
 part_made r after before first comma tokens (inner, later, value, is, derives, inl (right, last, ends, closed)) =
     inr (comma, right, inner, last, value, ap (λ rest. comma_at comma ∷ rest) (is ∙ ap (λ rest. inner ++ rest) ends), document.last_part r inner value derives, closed)
 part_made r after before first comma tokens (inner, later, value, is, derives, inr (next, right, more, last, others, ends, parts, closed)) =
-    inr (comma, right, inner ++ comma_at next ∷ more, last, Pair value others,
+    inr (
+      comma,
+      right,
+      inner ++ comma_at next ∷ more,
+      last,
+      Pair value others,
       ap (λ rest. comma_at comma ∷ rest) (is ∙ ap (λ rest. inner ++ rest) ends ∙ sym (append_assoc inner (comma_at next ∷ more) (close_tuple right ∷ last))),
-      document.part r next inner more value others derives parts, closed)
+      document.part r next inner more value others derives parts,
+      closed,
+    )
 
 sequence_made : (r : ℕ) (frames : List Frame) (left : Span) (tokens : List Token) (whole : Thing) → SequenceRest r (within r frames whole) [] tokens
     → Hole (suc r) frames (at (token.Sign sign.OpenBracket) left ∷ tokens) whole
-sequence_made r frames left tokens whole (right, inner, later, others, is, items, after) =
-    (at (token.Sign sign.OpenBracket) left ∷ inner ++ close_sequence right ∷ [], later, others,
-      ap (λ rest. at (token.Sign sign.OpenBracket) left ∷ rest) (is ∙ sym (append_assoc inner (close_sequence right ∷ []) later)),
-      document.sequence r left right inner others items, after)
+sequence_made r frames left tokens whole (right, inner, later, others, is, items, after) = (
+  at (token.Sign sign.OpenBracket) left ∷ inner ++ close_sequence right ∷ [],
+  later,
+  others,
+  ap (λ rest. at (token.Sign sign.OpenBracket) left ∷ rest) (is ∙ sym (append_assoc inner (close_sequence right ∷ []) later)),
+  document.sequence r left right inner others items,
+  after,
+)
 
 letters_made : (r : ℕ) (after : Later) (before : List Thing) (cs : List ℕ) (span : Span) (tokens : List Token) → SequenceRest r after (letters_onto cs before) tokens
     → SequenceRest r after before (at (token.Chars cs) span ∷ tokens)
-letters_made r after before cs span tokens (right, inner, later, others, is, items, closed) =
-    (right, at (token.Chars cs) span ∷ inner, later, characters_before cs others, ap (λ rest. at (token.Chars cs) span ∷ rest) is,
-      document.characters r cs span inner others items, subst (λ value. after value later) (letters_pairs cs before others) closed)
+letters_made r after before cs span tokens (right, inner, later, others, is, items, closed) = (
+  right,
+  at (token.Chars cs) span ∷ inner,
+  later,
+  characters_before cs others,
+  ap (λ rest. at (token.Chars cs) span ∷ rest) is,
+  document.characters r cs span inner others items,
+  subst (λ value. after value later) (letters_pairs cs before others) closed,
+)
 
 item_made : (r : ℕ) (after : Later) (before : List Thing) (tokens : List Token)
     → ((inner : List Token) × (later : List Token) × (value : Thing) × (tokens ≡ inner ++ later) × IsDocument r inner value × SequenceRest r after (value ∷ before) later)
     → SequenceRest r after before tokens
-item_made r after before tokens (inner, later, value, is, derives, (right, more, last, others, ends, items, closed)) =
-    (right, inner ++ more, last, Pair value others, is ∙ ap (λ rest. inner ++ rest) ends ∙ sym (append_assoc inner more (close_sequence right ∷ last)),
-      document.item r inner more value others derives items, closed)
+item_made r after before tokens (inner, later, value, is, derives, (right, more, last, others, ends, items, closed)) = (
+  right,
+  inner ++ more,
+  last,
+  Pair value others,
+  is ∙ ap (λ rest. inner ++ rest) ends ∙ sym (append_assoc inner more (close_sequence right ∷ last)),
+  document.item r inner more value others derives items,
+  closed,
+)
 
 record_made : (r : ℕ) (frames : List Frame) (left : Span) (tokens : List Token) (whole : Thing) → RecordRest r (within r frames whole) [] [] tokens
     → Hole (suc r) frames (at (token.Sign sign.OpenBrace) left ∷ tokens) whole
-record_made r frames left tokens whole (right, inner, later, all, is, fields, after) =
-    (at (token.Sign sign.OpenBrace) left ∷ inner ++ close_record right ∷ [], later, Record all,
-      ap (λ rest. at (token.Sign sign.OpenBrace) left ∷ rest) (is ∙ sym (append_assoc inner (close_record right ∷ []) later)),
-      document.fields r left right inner all fields, after)
+record_made r frames left tokens whole (right, inner, later, all, is, fields, after) = (
+  at (token.Sign sign.OpenBrace) left ∷ inner ++ close_record right ∷ [],
+  later,
+  Record all,
+  ap (λ rest. at (token.Sign sign.OpenBrace) left ∷ rest) (is ∙ sym (append_assoc inner (close_record right ∷ []) later)),
+  document.fields r left right inner all fields,
+  after,
+)
 
 field_made : (r : ℕ) (after : Later) (label : Name) (span : Span) (labels : List Name) (values : List Thing) (tokens : List Token)
     → label ≢ codes "_" → is_among label labels ≡ false
     → ((equal : Span) × (later : List Token) × (tokens ≡ equal_at equal ∷ later) × ((inner : List Token) × (rest : List Token) × (value : Thing) × (later ≡ inner ++ rest)
     × IsDocument r inner value × RecordEndRest r after (label ∷ labels) (value ∷ values) rest))
     → RecordRest r after labels values (at (token.Word label) span ∷ tokens)
-field_made r after label span labels values tokens other new (equal, later, equals, (inner, rest, value, is, derives, (right, more, last, all, ends, fields, closed))) =
-    (right, at (token.Word label) span ∷ equal_at equal ∷ inner ++ more, last, with_field label value all,
-      ap (λ all. at (token.Word label) span ∷ all) (equals ∙ ap (λ all. equal_at equal ∷ all) (is ∙ ap (λ all. inner ++ all) ends ∙ sym (append_assoc inner more (close_record right ∷ last)))),
-      document.field r labels label span equal inner more value all other new derives fields, closed)
+field_made r after label span labels values tokens other new (equal, later, equals, (inner, rest, value, is, derives, (right, more, last, all, ends, fields, closed))) = (
+  right,
+  at (token.Word label) span ∷ equal_at equal ∷ inner ++ more,
+  last,
+  with_field label value all,
+  ap (λ all. at (token.Word label) span ∷ all) (equals ∙ ap (λ all. equal_at equal ∷ all) (is ∙ ap (λ all. inner ++ all) ends ∙ sym (append_assoc inner more (close_record right ∷ last)))),
+  document.field r labels label span equal inner more value all other new derives fields,
+  closed,
+)
 
 fields_go_on : (r : ℕ) (after : Later) (labels : List Name) (values : List Thing) (span : Span) (tokens : List Token) → RecordRest r after labels values tokens
     → RecordEndRest r after labels values (semicolon_at span ∷ tokens)
@@ -178,25 +218,45 @@ fields_go_on r after labels values span tokens (right, inner, later, all, is, fi
 
 xml_made : (r : ℕ) (frames : List Frame) (left : Span) (tokens : List Token) (whole : Thing) → NamedRest r frames [] [] [] tokens whole
     → Hole (suc r) frames (at (token.Sign sign.Less) left ∷ tokens) whole
-xml_made r frames left tokens whole (tag, span, rest, other, named, (right, inner, content, later, all, value, is, attributes, derives, after)) =
-    (at (token.Sign sign.Less) left ∷ at (token.Word tag) span ∷ inner ++ close_tag right ∷ content, later, Xml (Atom tag) (Record all) value,
-      ap (λ all. at (token.Sign sign.Less) left ∷ all) (named ∙ ap (λ all. at (token.Word tag) span ∷ all) (is ∙ sym (append_assoc inner (close_tag right ∷ content) later))),
-      document.xml r left span right tag inner content all value other attributes derives, after)
+xml_made r frames left tokens whole (tag, span, rest, other, named, (right, inner, content, later, all, value, is, attributes, derives, after)) = (
+  at (token.Sign sign.Less) left ∷ at (token.Word tag) span ∷ inner ++ close_tag right ∷ content,
+  later,
+  Xml (Atom tag) (Record all) value,
+  ap (λ all. at (token.Sign sign.Less) left ∷ all) (named ∙ ap (λ all. at (token.Word tag) span ∷ all) (is ∙ sym (append_assoc inner (close_tag right ∷ content) later))),
+  document.xml r left span right tag inner content all value other attributes derives,
+  after,
+)
 
 attribute_made : (r : ℕ) (after : Later) (tag label : Name) (span : Span) (labels : List Name) (values : List Thing) (tokens : List Token)
     → label ≢ codes "_" → is_among label labels ≡ false
     → ((equal : Span) × (later : List Token) × (tokens ≡ equal_at equal ∷ later) × ((inner : List Token) × (rest : List Token) × (value : Thing) × (later ≡ inner ++ rest)
     × IsDocument r inner value × TagEndRest r after tag (label ∷ labels) (value ∷ values) rest))
     → TagRest r after tag labels values (at (token.Word label) span ∷ tokens)
-attribute_made r after tag label span labels values tokens other new (equal, later, equals, (inner, rest, value, is, derives, inl (right, more, content, last, all, body, ends, attributes, written, closed))) =
-    (right, at (token.Word label) span ∷ equal_at equal ∷ inner ++ more, content, last, with_field label value all, body,
-      ap (λ all. at (token.Word label) span ∷ all) (equals ∙ ap (λ all. equal_at equal ∷ all) (is ∙ ap (λ all. inner ++ all) ends ∙ sym (append_assoc inner more (close_tag right ∷ (content ++ last))))),
-      document.attribute r labels label span equal inner [] more value all other new derives grammar.none attributes, written, closed)
-attribute_made r after tag label span labels values tokens other new (equal, later, equals, (inner, rest, value, is, derives, inr (mark, past, marked, (right, more, content, last, all, body, ends, attributes, written, closed)))) =
-    (right, at (token.Word label) span ∷ equal_at equal ∷ inner ++ semicolon_at mark ∷ more, content, last, with_field label value all, body,
-      ap (λ all. at (token.Word label) span ∷ all) (equals ∙ ap (λ all. equal_at equal ∷ all) (is ∙ ap (λ all. inner ++ all) (marked ∙ ap (λ all. semicolon_at mark ∷ all) ends)
-          ∙ sym (append_assoc inner (semicolon_at mark ∷ more) (close_tag right ∷ (content ++ last))))),
-      document.attribute r labels label span equal inner (semicolon_at mark ∷ []) more value all other new derives (grammar.semicolon mark) attributes, written, closed)
+attribute_made r after tag label span labels values tokens other new (equal, later, equals, (inner, rest, value, is, derives, inl (right, more, content, last, all, body, ends, attributes, written, closed))) = (
+  right,
+  at (token.Word label) span ∷ equal_at equal ∷ inner ++ more,
+  content,
+  last,
+  with_field label value all,
+  body,
+  ap (λ all. at (token.Word label) span ∷ all) (equals ∙ ap (λ all. equal_at equal ∷ all) (is ∙ ap (λ all. inner ++ all) ends ∙ sym (append_assoc inner more (close_tag right ∷ (content ++ last))))),
+  document.attribute r labels label span equal inner [] more value all other new derives grammar.none attributes,
+  written,
+  closed,
+)
+attribute_made r after tag label span labels values tokens other new (equal, later, equals, (inner, rest, value, is, derives, inr (mark, past, marked, (right, more, content, last, all, body, ends, attributes, written, closed)))) = (
+  right,
+  at (token.Word label) span ∷ equal_at equal ∷ inner ++ semicolon_at mark ∷ more,
+  content,
+  last,
+  with_field label value all,
+  body,
+  ap (λ all. at (token.Word label) span ∷ all) (equals ∙ ap (λ all. equal_at equal ∷ all) (is ∙ ap (λ all. inner ++ all) (marked ∙ ap (λ all. semicolon_at mark ∷ all) ends)
+      ∙ sym (append_assoc inner (semicolon_at mark ∷ more) (close_tag right ∷ (content ++ last))))),
+  document.attribute r labels label span equal inner (semicolon_at mark ∷ []) more value all other new derives (grammar.semicolon mark) attributes,
+  written,
+  closed,
+)
 
 module _ (most : ℕ) where
   abbrev On : List Token → Type 0
@@ -307,9 +367,15 @@ module _ (most : ℕ) where
   fielded _ _ (seen.open_sequence span) tokens on r labels values frames whole room h = absurd (not_here (not (nat_lt (length (InRecord labels values ∷ frames)) most)) span.from tokens whole h)
   fielded _ _ (seen.close_sequence span) tokens on r labels values frames whole room h = absurd (cc h)
   fielded _ _ (seen.open_record span) tokens on r labels values frames whole room h = absurd (not_here (not (nat_lt (length (InRecord labels values ∷ frames)) most)) span.from tokens whole h)
-  fielded _ _ (seen.close_record span) tokens on r labels values frames whole room h =
-      (span, [], tokens, NoField, refl, document.no_field r labels,
-        put_rest tokens on (suc r) frames (Record (with_fields labels values NoField)) whole (omega (arith, room)) h)
+  fielded _ _ (seen.close_record span) tokens on r labels values frames whole room h = (
+    span,
+    [],
+    tokens,
+    NoField,
+    refl,
+    document.no_field r labels,
+    put_rest tokens on (suc r) frames (Record (with_fields labels values NoField)) whole (omega (arith, room)) h,
+  )
   fielded _ _ (seen.open_tag span) tokens on r labels values frames whole room h = absurd (not_here (not (nat_lt (length (InRecord labels values ∷ frames)) most)) span.from tokens whole h)
   fielded _ _ (seen.close_tag span) tokens on r labels values frames whole room h = absurd (cc h)
   fielded _ _ (seen.equal span) tokens on r labels values frames whole room h = absurd (cc h)
@@ -385,9 +451,15 @@ module _ (most : ℕ) where
   stepped _ _ (seen.open_sequence span) tokens on r AfterField (InRecord labels values ∷ frames) whole room fits h = absurd (not_here (not (nat_lt (length (InRecord labels values ∷ frames)) most)) span.from tokens whole h)
   stepped _ _ (seen.close_sequence span) tokens on r AfterField (InRecord labels values ∷ frames) whole room fits h = absurd (cc h)
   stepped _ _ (seen.open_record span) tokens on r AfterField (InRecord labels values ∷ frames) whole room fits h = absurd (not_here (not (nat_lt (length (InRecord labels values ∷ frames)) most)) span.from tokens whole h)
-  stepped _ _ (seen.close_record span) tokens on r AfterField (InRecord labels values ∷ frames) whole room fits h =
-      (span, [], tokens, NoField, refl, document.no_more r labels,
-        put_rest tokens on (suc r) frames (Record (with_fields labels values NoField)) whole (omega (arith, room)) h)
+  stepped _ _ (seen.close_record span) tokens on r AfterField (InRecord labels values ∷ frames) whole room fits h = (
+    span,
+    [],
+    tokens,
+    NoField,
+    refl,
+    document.no_more r labels,
+    put_rest tokens on (suc r) frames (Record (with_fields labels values NoField)) whole (omega (arith, room)) h,
+  )
   stepped _ _ (seen.open_tag span) tokens on r AfterField (InRecord labels values ∷ frames) whole room fits h = absurd (not_here (not (nat_lt (length (InRecord labels values ∷ frames)) most)) span.from tokens whole h)
   stepped _ _ (seen.close_tag span) tokens on r AfterField (InRecord labels values ∷ frames) whole room fits h = absurd (cc h)
   stepped _ _ (seen.equal span) tokens on r AfterField (InRecord labels values ∷ frames) whole room fits h = absurd (cc h)

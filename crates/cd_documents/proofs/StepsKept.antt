@@ -1,10 +1,9 @@
 -- A step keeps places and open forms together, open forms and open brackets, and the bound on these.
-use Rattle.std.proofs.Common.{◌≡◌, ◌∙◌, sym, ap, refl, subst, ◌⊎◌, inl, inr, ℕ, suc, ◌+◌, ◌<◌, ◌≤◌, Bool, true, false, not, List, [], ◌∷◌, length, Option, Some, None, Result, Ok, Err, arith}
+use Rattle.std.proofs.Common.{◌≡◌, ◌∙◌, sym, ap, refl, subst, ◌⊎◌, inl, inr, ℕ, suc, ◌<◌, ◌≤◌, Bool, true, false, not, List, [], ◌∷◌, length, Option, Some, None, Result, Ok, Err, arith}
 use Rattle.std.proofs.lemmas.Bool.Decides.{nat_tests}
 use Rattle.std.specs.Prelude.{nat_lt, ◌&&◌, if◌then◌else◌, map}
 use Rattle.cd_syntax.specs.declared.tokens.Token.{Token}
-use Rattle.cd_syntax.specs.Name.{Name}
-use Rattle.cd_model.specs.Thing.{Thing, Integer, Character, Atom, Pair, Xml, Record, Fields, NoField}
+use Rattle.cd_model.specs.Thing.{Thing, Integer, Character, Atom, Xml, Record, NoField}
 use Rattle.cd_documents.specs.Document.{the_nil, characters_before, is_among}
 use Rattle.cd_documents.specs.Terminal.{Terminal, terminal, opens, Number, Letters, Text, AnAtom, Label, OpenTuple, OpenSequence, OpenRecord, OpenTag, CloseTuple, CloseSequence, CloseRecord, CloseTag, Equal, Comma, Semicolon, NoTerminal, Bracket, ATuple, ASequence, ARecord, ATag, AContent, after_value, opened}
 use Rattle.cd_documents.specs.Machine.{Place, AtValue, AtItem, AfterPart, AtField, AfterField, AtTag, AtAttribute, AfterAttribute, AtEqual, Done, Frame, InTuple, InSequence, InRecord, InTag, InContent, State, state, Fault, Syntax, TooDeep, bracket_of, pairs, with_fields, put, after_terminal, or_wrong, step, Fits}
@@ -317,6 +316,6 @@ step_kept most now one next fits le h =
     let made : after_terminal now.place now.frames is ≡ Some next = some_next one.span.from (after_terminal now.place now.frames is) next open_at.1 in
     let keeps : Keeps now.frames is next = subst (Kept now.frames is) made (kept is now.place now.frames fits) in
     let bound : length (opened is (brackets now.frames)) ≤ most =
-        room is (brackets now.frames) (length now.frames) most (as_many now.frames) le
-        (few (opens is) (nat_lt (length now.frames) most) (length now.frames) most refl open_at.0 le) in
+    room is (brackets now.frames) (length now.frames) most (as_many now.frames) le
+    (few (opens is) (nat_lt (length now.frames) most) (length now.frames) most refl open_at.0 le) in
     (keeps.0, keeps.1, subst (λ n. n ≤ most) (sym (ap length keeps.1) ∙ as_many next.frames) bound)

@@ -39,9 +39,11 @@ IsSeen one = (is : Terminal) × Seen one is × (terminal one.kind ≡ is)
 seen_word : (b : Bool) (name : Name) (span : Span) → bytes_eq name (codes "_") ≡ b → IsSeen (at (token.Word name) span)
 seen_word true name span underscore =
     (is.NoTerminal, other (at (token.Word name) span), ap (λ (b : Bool). if b then is.NoTerminal else is.Label name) underscore)
-seen_word false name span word =
-    (is.Label name, label name span (λ same. true≢false (sym ((bytes_eq-Decides name (codes "_")).1 same) ∙ word)),
-      ap (λ (b : Bool). if b then is.NoTerminal else is.Label name) word)
+seen_word false name span word = (
+  is.Label name,
+  label name span (λ same. true≢false (sym ((bytes_eq-Decides name (codes "_")).1 same) ∙ word)),
+  ap (λ (b : Bool). if b then is.NoTerminal else is.Label name) word,
+)
 
 seen_sign : (one : ASign) (span : Span) → IsSeen (at (token.Sign one) span)
 seen_sign sign.StarTo span = (is.NoTerminal, other (at (token.Sign sign.StarTo) span), refl)

@@ -10,7 +10,7 @@ use Rattle.cd_documents.specs.Document.{the_nil, characters_before, is_among, wi
 use Rattle.cd_documents.specs.Terminal.{Terminal, terminal, opens, Number, Letters, Text, AnAtom}
 use Rattle.cd_documents.specs.Terminal.{Label, OpenTuple, CloseTuple, OpenSequence, CloseSequence}
 use Rattle.cd_documents.specs.Terminal.{OpenRecord, CloseRecord, OpenTag, CloseTag, Equal, Comma}
-use Rattle.cd_documents.specs.Terminal.{Semicolon, NoTerminal, Bracket, ATuple, ASequence, ARecord}
+use Rattle.cd_documents.specs.Terminal.{Semicolon, Bracket, ATuple, ASequence, ARecord}
 use Rattle.cd_documents.specs.Terminal.{ATag, AContent}
 
 -- what may come next
