@@ -26,6 +26,27 @@ word_at name from = at (token.Word name) (place from (from + 1))
 abbrev number : ℕ → Thing
 number n = Integer (pos n)
 
+-- `1`
+abbrev pub number_tokens : List Token
+number_tokens = digit_at 1 0 ∷ []
+
+abbrev pub number_value : Thing
+number_value = number 1
+
+-- `'a'`
+abbrev pub character_tokens : List Token
+character_tokens = at (token.Chars (codes "a")) (place 0 3) ∷ []
+
+abbrev pub character_value : Thing
+character_value = Character 97
+
+-- the atom `nil`, which `[]` is too
+abbrev pub atom_tokens : List Token
+atom_tokens = at (token.Atom (codes "nil")) (place 0 4) ∷ []
+
+abbrev pub empty_tokens : List Token
+empty_tokens = sign_at sign.OpenBracket 0 ∷ sign_at sign.CloseBracket 1 ∷ []
+
 -- `"ab"`
 abbrev pub text_tokens : List Token
 text_tokens = at (token.Text (codes "ab")) (place 0 4) ∷ []

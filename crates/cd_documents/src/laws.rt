@@ -6,11 +6,13 @@ ghost use Rattle.cd_syntax.specs.declared.tokens.Token.{Token};
 ghost use Rattle.cd_syntax.specs.Tokens.{Spells};
 ghost use Rattle.cd_model.specs.AllOf.{AllOf};
 ghost use Rattle.cd_model.specs.Thing.{Thing, IsValue, IsData};
-ghost use Rattle.cd_documents.specs.Document.{IsDocument};
+ghost use Rattle.cd_documents.specs.Document.{the_nil, IsDocument};
 ghost use Rattle.cd_documents.specs.Machine.{Place, Frame, AtValue, state, start, put, run, Fits};
 ghost use Rattle.cd_documents.specs.Machine.{State, Syntax, TooDeep, bracket_of, reach, Ends};
 ghost use Rattle.cd_documents.specs.Terminal.{open_after};
 ghost use Rattle.cd_documents.specs.Examples.{text_tokens, text_value, tuple_tokens, tuple_value};
+ghost use Rattle.cd_documents.specs.Examples.{number_tokens, number_value, character_tokens};
+ghost use Rattle.cd_documents.specs.Examples.{character_value, atom_tokens, empty_tokens};
 ghost use Rattle.cd_documents.specs.Examples.{group_tokens, group_value, sequence_tokens};
 ghost use Rattle.cd_documents.specs.Examples.{sequence_value, record_tokens, record_value};
 ghost use Rattle.cd_documents.specs.Examples.{xml_tokens, xml_value, no_semicolon, only_semicolon};
@@ -90,6 +92,10 @@ pub fn open_forms_are_brackets()
 
 /// Values at some texts: fields stand by label in a record, and a `''` in a sequence adds nothing.
 pub fn value_examples()
+    ensures number { IsDocument 0 number_tokens number_value }
+    ensures character { IsDocument 0 character_tokens character_value }
+    ensures atom { IsDocument 0 atom_tokens the_nil }
+    ensures empty { IsDocument 1 empty_tokens the_nil }
     ensures text { IsDocument 0 text_tokens text_value }
     ensures tuple { IsDocument 1 tuple_tokens tuple_value }
     ensures group { IsDocument 1 group_tokens group_value }

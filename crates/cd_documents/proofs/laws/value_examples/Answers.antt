@@ -1,5 +1,6 @@
 use Rattle.std.proofs.Common.{refl}
-use Rattle.cd_documents.specs.Examples.{text_tokens, text_value, tuple_tokens, tuple_value, group_tokens, group_value, sequence_tokens, sequence_value, record_tokens, record_value, xml_tokens, xml_value}
+use Rattle.cd_documents.specs.Examples.{number_tokens, number_value, character_tokens, character_value, atom_tokens, empty_tokens, text_tokens, text_value, tuple_tokens, tuple_value, group_tokens, group_value, sequence_tokens, sequence_value, record_tokens, record_value, xml_tokens, xml_value}
+use Rattle.cd_documents.specs.Document.{the_nil}
 use Rattle.cd_documents.proofs.Sounding.{derived}
 use Rattle.cd_documents.proofs.laws.value_examples.Goals as goal
 
@@ -20,3 +21,15 @@ returns-clause-fields c = derived 1 record_tokens record_value refl
 
 pub returns-clause-xml : goal.returns-clause-xml
 returns-clause-xml c = derived 2 xml_tokens xml_value refl
+
+pub returns-clause-number : goal.returns-clause-number
+returns-clause-number c = derived 0 number_tokens number_value refl
+
+pub returns-clause-character : goal.returns-clause-character
+returns-clause-character c = derived 0 character_tokens character_value refl
+
+pub returns-clause-atom : goal.returns-clause-atom
+returns-clause-atom c = derived 0 atom_tokens the_nil refl
+
+pub returns-clause-empty : goal.returns-clause-empty
+returns-clause-empty c = derived 1 empty_tokens the_nil refl
