@@ -1,0 +1,13 @@
+use Rattle.std.proofs.Common.{[]}
+use Rattle.cd_cells.proofs.TableLaws.{same_things, still_sound}
+use Rattle.cd_cells.proofs.values.Values.keep_parts.Goals as goal
+
+pub invariant_of-self : goal.invariant_of-self
+invariant_of-self c =
+    let old = c.args.self.now in
+    record { sound = still_sound old.lists c.keep_parts.new.self c.keep_parts.ensures.grows [] old.cells.items old.sound }
+
+pub returns-clause-kept : goal.returns-clause-kept
+returns-clause-kept c =
+    let old = c.args.self.now in
+    same_things old.lists c.keep_parts.new.self c.keep_parts.ensures.grows [] old.cells.items old.sound

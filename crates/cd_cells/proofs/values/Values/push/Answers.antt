@@ -1,0 +1,20 @@
+use Rattle.std.proofs.Common.{[], ◌∷◌, ◌∙◌, ap, arith}
+use Rattle.cd_cells.specs.Cells.{things_from}
+use Rattle.cd_cells.proofs.TableLaws.{length_from, from_append, cells_pushed}
+use Rattle.cd_cells.proofs.values.Values.push.Goals as goal
+
+pub invariant_of-self : goal.invariant_of-self
+invariant_of-self c =
+    let old = c.args.self.now in
+    record { sound = cells_pushed old.lists _ old.cells.items _ c.args.cell old.sound c.requires c.push.ensures.items }
+
+pub returns-clause-number : goal.returns-clause-number
+returns-clause-number c =
+    let old = c.args.self.now in
+    omega (arith, length_from old.lists [] old.cells.items, old.cells.ok.0, c.len.ensures)
+
+pub returns-clause-added : goal.returns-clause-added
+returns-clause-added c =
+    let old = c.args.self.now in
+    ap (things_from old.lists []) c.in_ok-push.ensures.items
+    ∙ from_append old.lists [] old.cells.items (c.args.cell ∷ [])

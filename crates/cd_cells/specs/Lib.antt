@@ -1,0 +1,5 @@
+pub mod Cells
+pub mod OneProof
+pub mod Looked
+pub mod Table
+pub mod Inner

@@ -1,0 +1,61 @@
+-- That the cells of a table are sound has at most one proof, as a ghost field wants.
+use Rattle.std.specs.Prelude.{ℕ, List, [], ◌∷◌, ◌++◌, Option, Some, None}
+use Rattle.std.proofs.Props.{props}
+use Rattle.std.specs.Coded.{×_prop, Unit-prop}
+use Rattle.cd_model.specs.AllOf.{AllOf}
+use Rattle.cd_syntax.specs.Name.{Name, IsAbove}
+use Rattle.cd_model.specs.Thing as thing
+use Rattle.cd_model.specs.Thing.{Thing, Fields, NoField, Field, IsAtom, IsRecord, LabelsRise}
+use Rattle.cd_cells.specs.declared.cell.Part.{Part}
+use Rattle.cd_cells.specs.declared.cell.Stored.{Stored}
+use Rattle.cd_cells.specs.declared.cell.Stored.TheVariants.{Pair, Xml, Short, Wide, Letter, Atom}
+use Rattle.cd_cells.specs.declared.cell.Stored.TheVariants.{Record, Closure}
+use Rattle.cd_cells.specs.declared.lists.Lists.{Lists}
+use Rattle.cd_cells.specs.Cells.{thing_at, fields_at, parts_at, thing_by, IsPart, AreParts}
+use Rattle.cd_cells.specs.Cells.{IsStored, AreStored}
+
+above_prop : (before : Option Name) (label : Name) → IsProp (IsAbove before label)
+above_prop None label = Unit-prop
+above_prop (Some before) label = hlevel props
+
+rise_prop : (before : Option Name) (fields : Fields) → IsProp (LabelsRise before fields)
+rise_prop before NoField = Unit-prop
+rise_prop before (Field label value rest) =
+    ×_prop (above_prop before label) (rise_prop (Some label) rest)
+
+atom_prop : (t : Thing) → IsProp (IsAtom t)
+atom_prop (thing.Atom name) = Unit-prop
+atom_prop _ = hlevel
+
+record_prop : (t : Thing) → IsProp (IsRecord t)
+record_prop (thing.Record fields) = Unit-prop
+record_prop _ = hlevel
+
+each_prop : (lists : Lists) (table : List Thing) (parts : List Part)
+    → IsProp (AllOf (IsPart lists.names table) parts)
+each_prop lists table [] = Unit-prop
+each_prop lists table (part ∷ parts) = hlevel (props, each_prop lists table parts)
+
+parts_prop : (lists : Lists) (table : List Thing) (from count : ℕ)
+    → IsProp (AreParts lists table from count)
+parts_prop lists table from count =
+    hlevel (props, each_prop lists table (parts_at lists.parts.items from count))
+
+cell_prop : (lists : Lists) (table : List Thing) (cell : Stored) → IsProp (IsStored lists table cell)
+cell_prop lists table (Pair first second) = hlevel props
+cell_prop lists table (Xml tag attributes content) =
+    hlevel (props, atom_prop (thing_at table tag), record_prop (thing_at table attributes))
+cell_prop lists table (Short n) = hlevel props
+cell_prop lists table (Wide at) = hlevel props
+cell_prop lists table (Letter c) = hlevel props
+cell_prop lists table (Atom name) = hlevel props
+cell_prop lists table (Record from count) =
+    ×_prop (parts_prop lists table from count) (rise_prop None (fields_at lists table from count))
+cell_prop lists table (Closure function from count) = parts_prop lists table from count
+
+pub stored_prop : (lists : Lists) (table : List Thing) (cells : List Stored)
+    → IsProp (AreStored lists table cells)
+stored_prop lists table [] = Unit-prop
+stored_prop lists table (cell ∷ cells) =
+    ×_prop (cell_prop lists table cell)
+    (stored_prop lists (table ++ thing_by lists table cell ∷ []) cells)

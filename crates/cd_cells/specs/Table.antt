@@ -1,0 +1,18 @@
+-- The values of a table, and its names.
+use Rattle.std.specs.Prelude.{◌≡◌, List, [], ◌++◌}
+use Rattle.cd_syntax.specs.Name.{Name}
+use Rattle.cd_model.specs.Thing.{Thing}
+use Rattle.cd_cells.specs.declared.values.Values.{Values}
+use Rattle.cd_cells.specs.Cells.{things_from}
+
+-- the values by their numbers
+abbrev pub table : Values → List Thing
+table values = things_from values.lists [] values.cells.items
+
+-- the names by their numbers
+abbrev pub names : Values → List Name
+names values = values.lists.names
+
+-- more names stand after those of old
+abbrev pub NamesGrow : (old new : Values) → Type 0
+NamesGrow old new = (more : List Name) × (names new ≡ names old ++ more)

@@ -1,0 +1,10 @@
+//! A table of the values of programs, to which values are only added. Each is a cell of 16 bytes.
+#![tactic(auto)]
+
+pub mod cell;
+mod lists;
+mod text_table;
+pub mod values;
+
+pub use cell::{Look, Part, ValueId};
+pub use values::Values;

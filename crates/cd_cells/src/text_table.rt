@@ -1,0 +1,59 @@
+//! The names of a table of values, each once.
+ghost use Rattle.std.specs.Prelude.{◌≡◌, ◌++◌, [], List, IfOk};
+ghost use Rattle.std.specs.Str.{chars};
+ghost use Rattle.cd_syntax.specs.Name.{Name};
+ghost use Rattle.cd_cells.specs.Cells.{name_at};
+
+use indexmap::IndexSet;
+use std::alloc::{AllocError, Global};
+use std::marker::Model;
+
+/// Texts, each once, under the numbers of their places. A contract sees them in a list.
+#[derive(Drop)]
+pub(crate) struct TextTable {
+    texts: IndexSet<String>,
+}
+
+impl Model for TextTable {
+    ghost use Rattle.std.specs.Prelude.{List, map, string_bytes};
+    ghost use Rattle.std.specs.Str.{chars};
+    ghost use Rattle.cd_syntax.specs.Name.{Name as AName};
+
+    ghost Value = { List AName };
+
+    ghost view = { λ table. map (λ text. chars (string_bytes text)) table.texts.keys };
+}
+
+impl TextTable {
+    /// No texts.
+    pub(crate) fn new(alloc: Global) -> TextTable
+        ensures { result ≡ [] }
+    {
+        TextTable {
+            texts: IndexSet::new(alloc),
+        }
+    }
+
+    /// The number of a text, which is added as the last one if it is not there.
+    pub(crate) fn number(&mut self, text: &str) -> Result<usize, AllocError>
+        ensures found { IfOk result (λ number. name_at self.new number ≡ chars text.now) }
+        ensures grows { (more : List Name) × (self.new ≡ self.old ++ more) }
+    {
+        if let Some(number) = self.texts.get_index_of(text) {
+            return Ok(number);
+        }
+        let owned = String::from_str(*self.texts.allocator(), text)?;
+        let (number, _) = self.texts.insert_full(owned)?;
+        Ok(number)
+    }
+
+    /// The text of a number, or the empty one where the number has none.
+    pub(crate) fn get(&self, number: usize) -> &str
+        ensures { chars result.now ≡ name_at self.now number }
+    {
+        match self.texts.get_index(number) {
+            Some(text) => text.as_str(),
+            None => "",
+        }
+    }
+}
