@@ -44,7 +44,7 @@ label_stays old new grows number is = stays old new [] grows number (label_withi
 
 -- a table after another one, and lists after others
 module _ (old new : Lists) (grow : ListsGrow old new) (table after : List Thing) (grows : Grows table after) where
-  fields_stay : (parts : List Part) → AllOf (IsPart old.names table) parts
+  fields_stay : (parts : List Part) → AllOf (IsPart old.names (length table)) parts
       → fields_of new.names after parts ≡ fields_of old.names table parts
   fields_stay [] are = refl
   fields_stay (part ∷ parts) are = cc (
@@ -53,7 +53,7 @@ module _ (old new : Lists) (grow : ListsGrow old new) (table after : List Thing)
     fields_stay parts are.1,
   )
 
-  parts_are : (parts : List Part) → AllOf (IsPart old.names table) parts → AllOf (IsPart new.names after) parts
+  parts_are : (parts : List Part) → AllOf (IsPart old.names (length table)) parts → AllOf (IsPart new.names (length after)) parts
   parts_are [] are = tt
   parts_are (part ∷ parts) are = (
     (
@@ -81,7 +81,7 @@ module _ (old new : Lists) (grow : ListsGrow old new) (table after : List Thing)
   are_parts from count are =
       let longer : length new.parts.items ≡ length (old.parts.items ++ grow.parts.0) = ap length grow.parts.1 in (
         omega (arith, are.0, length-append old.parts.items grow.parts.0),
-        subst (AllOf (IsPart new.names after)) (sym (range_stays from count are.0))
+        subst (AllOf (IsPart new.names (length after))) (sym (range_stays from count are.0))
             (parts_are (parts_at old.parts.items from count) are.1),
       )
 

@@ -1,3 +1,4 @@
 pub mod Growing
 pub mod TableLaws
 mod Texts
+pub mod InGrown

@@ -122,7 +122,7 @@ value_is (first ∷ rest) zero are within = are.0
 value_is (first ∷ rest) (suc number) are within = value_is rest number are.1 (omega arith)
 
 module _ (lists : Lists) (table : List Thing) (are : AllOf IsValue table) where
-  fields_are : (parts : List Part) → AllOf (IsPart lists.names table) parts → AreValues (fields_of lists.names table parts)
+  fields_are : (parts : List Part) → AllOf (IsPart lists.names (length table)) parts → AreValues (fields_of lists.names table parts)
   fields_are [] parts = tt
   fields_are (part ∷ rest) parts = (parts.0.0, value_is table part.value are parts.0.1, fields_are rest parts.1)
 

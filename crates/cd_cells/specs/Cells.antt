@@ -1,5 +1,5 @@
 -- What the cells of a table stand for, and which cells a table may have.
-use Rattle.std.specs.Prelude.{ℕ, ℤ, pos, ◌<◌, ◌≤◌, ◌+◌, List, [], ◌∷◌, ◌++◌, None, length}
+use Rattle.std.specs.Prelude.{◌≡◌, ℕ, ℤ, pos, ◌<◌, ◌≤◌, ◌+◌, List, [], ◌∷◌, ◌++◌, None, length}
 use Rattle.std.specs.Prelude.{take, drop, slice_index_or}
 use Rattle.std.specs.Char.{IsScalar}
 use Rattle.cd_syntax.specs.Integer.{IsInteger}
@@ -22,15 +22,20 @@ thing_at table number = slice_index_or table number (thing.Atom [])
 abbrev pub name_at : List Name → ℕ → Name
 name_at names number = slice_index_or names number []
 
+-- no name has two numbers
+abbrev pub HasEachOnce : List Name → Type 0
+HasEachOnce names = (first second : ℕ) → first < length names → second < length names
+    → name_at names first ≡ name_at names second → first ≡ second
+
 -- labels and values by their numbers
 abbrev pub fields_of : List Name → List Thing → List Part → Fields
 fields_of names table [] = NoField
 fields_of names table (part ∷ parts) =
     Field (name_at names part.label) (thing_at table part.value) (fields_of names table parts)
 
--- the field has a label, and a value of the table
-abbrev pub IsPart : List Name → List Thing → Part → Type 0
-IsPart names table part = IsLabel (name_at names part.label) × (part.value < length table)
+-- the field has a label, and a value whose number is below this one
+abbrev pub IsPart : List Name → (bound : ℕ) → Part → Type 0
+IsPart names bound part = IsLabel (name_at names part.label) × (part.value < bound)
 
 -- the fields that begin here and are so many
 abbrev pub parts_at : List Part → (from count : ℕ) → List Part
@@ -58,7 +63,7 @@ thing_by lists table (Closure function from count) =
 -- the range is one of the list of fields, and each of its fields is one of the table
 abbrev pub AreParts : Lists → List Thing → (from count : ℕ) → Type 0
 AreParts lists table from count = (from + count ≤ length lists.parts.items)
-    × AllOf (IsPart lists.names table) (parts_at lists.parts.items from count)
+    × AllOf (IsPart lists.names (length table)) (parts_at lists.parts.items from count)
 
 -- A cell is one of the table where its parts are in the table and its names are labels, a tag is an
 -- atom, attributes are a record, and the labels of a record rise

@@ -2,4 +2,5 @@ pub mod Cells
 pub mod OneProof
 pub mod Looked
 pub mod Table
+pub mod Examples
 pub mod Inner

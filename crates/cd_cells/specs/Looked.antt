@@ -8,7 +8,7 @@ use Rattle.cd_model.specs.Thing.{Thing}
 use Rattle.cd_cells.specs.declared.cell.Look.{Look}
 use Rattle.cd_cells.specs.declared.cell.Look.TheVariants.{Int, Char, Atom, Pair, Xml, Record}
 use Rattle.cd_cells.specs.declared.cell.Look.TheVariants.{Closure}
-use Rattle.cd_cells.specs.Cells.{thing_at, fields_of}
+use Rattle.cd_cells.specs.Cells.{thing_at, fields_of, IsPart}
 
 -- the value, with its names and its parts by their numbers
 abbrev pub looked : List Name → List Thing → Look → Thing
@@ -23,11 +23,11 @@ looked names table (Record parts) = thing.Record (fields_of names table parts.no
 looked names table (Closure function parts) =
     thing.Closure function (fields_of names table parts.now)
 
--- the parts have numbers below this one
-abbrev pub AreBelow : ℕ → Look → Type 0
-AreBelow bound (Pair first second) = (first.0 < bound) × (second.0 < bound)
-AreBelow bound (Xml tag attributes content) =
+-- the parts of the value have numbers below this one, and its fields have labels
+abbrev pub ArePartsBelow : List Name → (bound : ℕ) → Look → Type 0
+ArePartsBelow names bound (Pair first second) = (first.0 < bound) × (second.0 < bound)
+ArePartsBelow names bound (Xml tag attributes content) =
     (tag.0 < bound) × (attributes.0 < bound) × (content.0 < bound)
-AreBelow bound (Record parts) = AllOf (λ part. part.value < bound) parts.now
-AreBelow bound (Closure function parts) = AllOf (λ part. part.value < bound) parts.now
-AreBelow bound _ = Unit {0}
+ArePartsBelow names bound (Record parts) = AllOf (IsPart names bound) parts.now
+ArePartsBelow names bound (Closure function parts) = AllOf (IsPart names bound) parts.now
+ArePartsBelow names bound _ = Unit {0}

@@ -1,5 +1,5 @@
 -- That the cells of a table are sound has at most one proof, as a ghost field wants.
-use Rattle.std.specs.Prelude.{ℕ, List, [], ◌∷◌, ◌++◌, Option, Some, None}
+use Rattle.std.specs.Prelude.{ℕ, List, [], ◌∷◌, ◌++◌, Option, Some, None, length}
 use Rattle.std.proofs.Props.{props}
 use Rattle.std.specs.Coded.{×_prop, Unit-prop}
 use Rattle.cd_model.specs.AllOf.{AllOf}
@@ -31,15 +31,15 @@ record_prop : (t : Thing) → IsProp (IsRecord t)
 record_prop (thing.Record fields) = Unit-prop
 record_prop _ = hlevel
 
-each_prop : (lists : Lists) (table : List Thing) (parts : List Part)
-    → IsProp (AllOf (IsPart lists.names table) parts)
-each_prop lists table [] = Unit-prop
-each_prop lists table (part ∷ parts) = hlevel (props, each_prop lists table parts)
+each_prop : (names : List Name) (bound : ℕ) (parts : List Part)
+    → IsProp (AllOf (IsPart names bound) parts)
+each_prop names bound [] = Unit-prop
+each_prop names bound (part ∷ parts) = hlevel (props, each_prop names bound parts)
 
 parts_prop : (lists : Lists) (table : List Thing) (from count : ℕ)
     → IsProp (AreParts lists table from count)
 parts_prop lists table from count =
-    hlevel (props, each_prop lists table (parts_at lists.parts.items from count))
+    hlevel (props, each_prop lists.names (length table) (parts_at lists.parts.items from count))
 
 cell_prop : (lists : Lists) (table : List Thing) (cell : Stored) → IsProp (IsStored lists table cell)
 cell_prop lists table (Pair first second) = hlevel props

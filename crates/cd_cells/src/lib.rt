@@ -2,6 +2,7 @@
 #![tactic(auto)]
 
 pub mod cell;
+pub mod laws;
 mod lists;
 mod text_table;
 pub mod values;

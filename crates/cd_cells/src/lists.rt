@@ -3,7 +3,7 @@ ghost use Rattle.std.specs.Prelude.{◌≡◌, ◌<◌, ◌≤◌, ◌+◌, List
 ghost use Rattle.std.specs.Str.{chars};
 ghost use Rattle.cd_model.specs.Thing.{Thing};
 ghost use Rattle.cd_cells.specs.Cells.{name_at, parts_at, thing_by, IsStored};
-ghost use Rattle.cd_cells.specs.Looked.{looked, AreBelow};
+ghost use Rattle.cd_cells.specs.Looked.{looked, ArePartsBelow};
 ghost use Rattle.cd_cells.specs.Inner.Growing.{ListsGrow};
 
 use crate::cell::{Look, Part, Stored, ValueId, small};
@@ -78,7 +78,7 @@ impl Lists {
         ensures thing { (table : List Thing) → IsStored self.now table cell
             → looked self.now.names table result ≡ thing_by self.now table cell }
         ensures below { (table : List Thing) → IsStored self.now table cell
-            → AreBelow (length table) result }
+            → ArePartsBelow self.now.names (length table) result }
     {
         match cell {
             Stored::Pair(first, second) => {

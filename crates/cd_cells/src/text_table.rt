@@ -1,8 +1,8 @@
 //! The names of a table of values, each once.
-ghost use Rattle.std.specs.Prelude.{◌≡◌, ◌++◌, [], List, IfOk};
+ghost use Rattle.std.specs.Prelude.{◌≡◌, ◌++◌, [], List, length, IfOk};
 ghost use Rattle.std.specs.Str.{chars};
 ghost use Rattle.cd_syntax.specs.Name.{Name};
-ghost use Rattle.cd_cells.specs.Cells.{name_at};
+ghost use Rattle.cd_cells.specs.Cells.{name_at, HasEachOnce};
 
 use indexmap::IndexSet;
 use std::alloc::{AllocError, Global};
@@ -55,5 +55,13 @@ impl TextTable {
             Some(text) => text.as_str(),
             None => "",
         }
+    }
+
+    /// How many texts there are. Each has one number.
+    pub(crate) fn len(&self) -> usize
+        ensures count { result ≡ length self.now }
+        ensures once { HasEachOnce self.now }
+    {
+        self.texts.len()
     }
 }

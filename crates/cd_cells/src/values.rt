@@ -24,10 +24,10 @@ impl Values {
     ghost use Rattle.cd_model.specs.Thing.{IsValue, IsAtom, IsRecord, LabelsRise};
     ghost use Rattle.cd_model.specs.Thing.{Integer, Character, Atom as AnAtom, Pair as APair};
     ghost use Rattle.cd_model.specs.Thing.{Xml as AnXml, Record as ARecord, Closure as AClosure};
-    ghost use Rattle.cd_cells.specs.Cells.{name_at, thing_at, fields_of, parts_at, thing_by};
+    ghost use Rattle.cd_cells.specs.Cells.{HasEachOnce, name_at, thing_at, fields_of, parts_at, thing_by};
     ghost use Rattle.cd_cells.specs.Cells.{IsPart, IsStored};
     ghost use Rattle.cd_cells.specs.Table.{table, names, NamesGrow};
-    ghost use Rattle.cd_cells.specs.Looked.{looked, AreBelow};
+    ghost use Rattle.cd_cells.specs.Looked.{looked, ArePartsBelow};
 
     /// The table without values.
     pub fn new(alloc: Global) -> Values
@@ -116,6 +116,14 @@ impl Values {
         self.lists.names.get(number as usize)
     }
 
+    /// How many names there are. Each has one number.
+    pub fn name_count(&self) -> usize
+        ensures count { result ≡ length (names self.now) }
+        ensures once { HasEachOnce (names self.now) }
+    {
+        self.lists.names.len()
+    }
+
     /// Adds the atom of a name.
     ///
     /// # Errors
@@ -201,7 +209,7 @@ impl Values {
     ///
     /// Want of memory. No value is added.
     pub fn record_of(&mut self, parts: &[Part]) -> Result<ValueId, AllocError>
-        requires parts { AllOf (IsPart (names self.old) (table self.old)) parts.now }
+        requires parts { AllOf (IsPart (names self.old) (length (table self.old))) parts.now }
         requires rise { LabelsRise None (fields_of (names self.old) (table self.old) parts.now) }
         ensures number { IfOk result (λ id. id.0 ≡ length (table self.old)) }
         ensures added { let old = table self.old in
@@ -220,7 +228,7 @@ impl Values {
     ///
     /// Want of memory. No value is added.
     pub fn closure(&mut self, function: usize, parts: &[Part]) -> Result<ValueId, AllocError>
-        requires { AllOf (IsPart (names self.old) (table self.old)) parts.now }
+        requires { AllOf (IsPart (names self.old) (length (table self.old))) parts.now }
         ensures number { IfOk result (λ id. id.0 ≡ length (table self.old)) }
         ensures added { let old = table self.old in
             let one = AClosure function (fields_of (names self.old) old parts.now) in
@@ -246,7 +254,7 @@ impl Values {
         requires { id.0 < length (table self.now) }
         ensures thing { let all = table self.now in
             looked (names self.now) all result ≡ thing_at all id.0 }
-        ensures below { AreBelow id.0 result }
+        ensures below { ArePartsBelow (names self.now) id.0 result }
     {
         self.lists.shown(self.cells[id.0])
     }

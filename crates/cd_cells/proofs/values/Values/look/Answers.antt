@@ -1,5 +1,5 @@
 use Rattle.std.proofs.Common.{[], ◌∙◌, arith, subst}
-use Rattle.cd_cells.specs.Looked.{AreBelow}
+use Rattle.cd_cells.specs.Looked.{ArePartsBelow}
 use Rattle.cd_cells.proofs.TableLaws.{length_from, cell_read}
 use Rattle.cd_cells.proofs.values.Values.look.Goals as goal
 
@@ -23,4 +23,4 @@ pub returns-clause-below : goal.returns-clause-below
 returns-clause-below c =
     let old = c.args.self.now in
     let before = (cell_read old.lists old.cells.items _ _ old.sound c.requires c.index.ensures).before in
-    subst (λ bound. AreBelow bound c.shown.result) before.1 (c.shown.ensures.below before.0 before.2)
+    subst (λ bound. ArePartsBelow old.lists.names bound c.shown.result) before.1 (c.shown.ensures.below before.0 before.2)
