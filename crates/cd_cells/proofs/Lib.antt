@@ -2,3 +2,4 @@ pub mod Growing
 pub mod TableLaws
 mod Texts
 pub mod InGrown
+pub mod TableGrows

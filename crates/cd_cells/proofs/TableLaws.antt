@@ -115,6 +115,16 @@ module _ (lists : Lists) where
       subst (AreStored lists []) (sym same) (cells_push [] cells cell are is)
   cells_pushed (Err error) cells after cell are is same = subst (AreStored lists []) (sym same) are
 
+  pub things_pushed : {T E : Type 0} (done : Result T E) (cells after : List Stored) (cell : Stored)
+      → after ≡ (if is_ok done then cells ++ cell ∷ [] else cells)
+      → Grows (things_from lists [] cells) (things_from lists [] after)
+  things_pushed (Ok value) cells after cell same = (
+    thing_by lists (things_from lists [] cells) cell ∷ [],
+    ap (things_from lists []) same ∙ from_append [] cells (cell ∷ []),
+  )
+  things_pushed (Err error) cells after cell same =
+      ([], ap (things_from lists []) same ∙ sym (append-nil (things_from lists [] cells)))
+
 -- the cells of a table stand for values
 value_is : (table : List Thing) (number : ℕ) → AllOf IsValue table → number < length table → IsValue (thing_at table number)
 value_is [] number are within = absurd (omega arith)

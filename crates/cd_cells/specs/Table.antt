@@ -13,6 +13,7 @@ table values = things_from values.lists [] values.cells.items
 abbrev pub names : Values → List Name
 names values = values.lists.names
 
--- more names stand after those of old
-abbrev pub NamesGrow : (old new : Values) → Type 0
-NamesGrow old new = (more : List Name) × (names new ≡ names old ++ more)
+-- more values and names stand after those of old, which stay
+pub record Grows (old new : Values) : Type 0 where
+  pub things : (more : List Thing) × (table new ≡ table old ++ more)
+  pub labels : (more : List Name) × (names new ≡ names old ++ more)

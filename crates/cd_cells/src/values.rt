@@ -26,7 +26,7 @@ impl Values {
     ghost use Rattle.cd_model.specs.Thing.{Xml as AnXml, Record as ARecord, Closure as AClosure};
     ghost use Rattle.cd_cells.specs.Cells.{HasEachOnce, name_at, thing_at, fields_of, parts_at, thing_by};
     ghost use Rattle.cd_cells.specs.Cells.{IsPart, IsStored};
-    ghost use Rattle.cd_cells.specs.Table.{table, names, NamesGrow};
+    ghost use Rattle.cd_cells.specs.Table.{table, names, Grows};
     ghost use Rattle.cd_cells.specs.Looked.{looked, ArePartsBelow};
 
     /// The table without values.
@@ -47,6 +47,7 @@ impl Values {
             OnOk result (table self.new ≡ table self.old ++ one ∷ []) }
         ensures kept { OnErr result (table self.new ≡ table self.old) }
         ensures names { names self.new ≡ names self.old }
+        ensures grows { Grows self.old self.new }
     {
         let id = ValueId(self.cells.len());
         self.cells.push(cell)?;
@@ -60,6 +61,7 @@ impl Values {
             slice_index_or self.new.lists.wide.items at (pos 0) ≡ n) }
         ensures kept { table self.new ≡ table self.old }
         ensures names { names self.new ≡ names self.old }
+        ensures grows { Grows self.old self.new }
     {
         self.lists.keep_integer(n)
     }
@@ -69,11 +71,13 @@ impl Values {
     /// # Errors
     ///
     /// Want of memory. No value is added.
+    #[tactic(auto, using(crate::proofs::TableGrows::grew, crate::proofs::TableGrows::stayed))]
     pub fn int(&mut self, n: i128) -> Result<ValueId, AllocError>
         ensures number { IfOk result (λ id. id.0 ≡ length (table self.old)) }
         ensures added { OnOk result (table self.new ≡ table self.old ++ Integer n ∷ []) }
         ensures kept { OnErr result (table self.new ≡ table self.old) }
         ensures names { names self.new ≡ names self.old }
+        ensures grows { Grows self.old self.new }
     {
         if let Ok(short) = i64::try_from(n) {
             return self.push(Stored::Short(short));
@@ -87,11 +91,13 @@ impl Values {
     /// # Errors
     ///
     /// Want of memory. No value is added.
+    #[tactic(auto, using(crate::proofs::TableGrows::grew, crate::proofs::TableGrows::stayed))]
     pub fn char(&mut self, c: char) -> Result<ValueId, AllocError>
         ensures number { IfOk result (λ id. id.0 ≡ length (table self.old)) }
         ensures added { OnOk result (table self.new ≡ table self.old ++ Character c ∷ []) }
         ensures kept { OnErr result (table self.new ≡ table self.old) }
         ensures names { names self.new ≡ names self.old }
+        ensures grows { Grows self.old self.new }
     {
         self.push(Stored::Letter(c))
     }
@@ -104,7 +110,7 @@ impl Values {
     pub fn label(&mut self, name: &str) -> Result<u32, AllocError>
         ensures named { IfOk result (λ number. name_at (names self.new) number ≡ chars name.now) }
         ensures kept { table self.new ≡ table self.old }
-        ensures grows { NamesGrow self.old self.new }
+        ensures grows { Grows self.old self.new }
     {
         self.lists.keep_name(name)
     }
@@ -129,13 +135,14 @@ impl Values {
     /// # Errors
     ///
     /// Want of memory. No value is added.
+    #[tactic(auto, using(crate::proofs::TableGrows::grew, crate::proofs::TableGrows::stayed))]
     pub fn atom(&mut self, name: &str) -> Result<ValueId, AllocError>
         requires { IsLabel (chars name.now) }
         ensures number { IfOk result (λ id. id.0 ≡ length (table self.old)) }
         ensures added { let one = AnAtom (chars name.now) in
             OnOk result (table self.new ≡ table self.old ++ one ∷ []) }
         ensures kept { OnErr result (table self.new ≡ table self.old) }
-        ensures grows { NamesGrow self.old self.new }
+        ensures grows { Grows self.old self.new }
     {
         let name = self.label(name)?;
         self.push(Stored::Atom(name))
@@ -146,6 +153,7 @@ impl Values {
     /// # Errors
     ///
     /// Want of memory. No value is added.
+    #[tactic(auto, using(crate::proofs::TableGrows::grew, crate::proofs::TableGrows::stayed))]
     pub fn pair(&mut self, first: ValueId, second: ValueId) -> Result<ValueId, AllocError>
         requires first { first.0 < length (table self.old) }
         requires second { second.0 < length (table self.old) }
@@ -155,6 +163,7 @@ impl Values {
             OnOk result (table self.new ≡ old ++ one ∷ []) }
         ensures kept { OnErr result (table self.new ≡ table self.old) }
         ensures names { names self.new ≡ names self.old }
+        ensures grows { Grows self.old self.new }
     {
         let first = small(first.0)?;
         let second = small(second.0)?;
@@ -166,6 +175,7 @@ impl Values {
     /// # Errors
     ///
     /// Want of memory. No value is added.
+    #[tactic(auto, using(crate::proofs::TableGrows::grew, crate::proofs::TableGrows::stayed))]
     pub fn xml(
         &mut self,
         tag: ValueId,
@@ -184,6 +194,7 @@ impl Values {
             OnOk result (table self.new ≡ old ++ one ∷ []) }
         ensures kept { OnErr result (table self.new ≡ table self.old) }
         ensures names { names self.new ≡ names self.old }
+        ensures grows { Grows self.old self.new }
     {
         let tag = small(tag.0)?;
         let attributes = small(attributes.0)?;
@@ -199,6 +210,7 @@ impl Values {
             parts_at self.new.lists.parts.items range.0 range.1 ≡ parts.now) }
         ensures kept { table self.new ≡ table self.old }
         ensures names { names self.new ≡ names self.old }
+        ensures grows { Grows self.old self.new }
     {
         self.lists.keep_parts(parts)
     }
@@ -208,6 +220,7 @@ impl Values {
     /// # Errors
     ///
     /// Want of memory. No value is added.
+    #[tactic(auto, using(crate::proofs::TableGrows::grew, crate::proofs::TableGrows::stayed))]
     pub fn record_of(&mut self, parts: &[Part]) -> Result<ValueId, AllocError>
         requires parts { AllOf (IsPart (names self.old) (length (table self.old))) parts.now }
         requires rise { LabelsRise None (fields_of (names self.old) (table self.old) parts.now) }
@@ -217,6 +230,7 @@ impl Values {
             OnOk result (table self.new ≡ old ++ one ∷ []) }
         ensures kept { OnErr result (table self.new ≡ table self.old) }
         ensures names { names self.new ≡ names self.old }
+        ensures grows { Grows self.old self.new }
     {
         let (from, count) = self.keep_parts(parts)?;
         self.push(Stored::Record(from, count))
@@ -227,6 +241,7 @@ impl Values {
     /// # Errors
     ///
     /// Want of memory. No value is added.
+    #[tactic(auto, using(crate::proofs::TableGrows::grew, crate::proofs::TableGrows::stayed))]
     pub fn closure(&mut self, function: usize, parts: &[Part]) -> Result<ValueId, AllocError>
         requires { AllOf (IsPart (names self.old) (length (table self.old))) parts.now }
         ensures number { IfOk result (λ id. id.0 ≡ length (table self.old)) }
@@ -235,6 +250,7 @@ impl Values {
             OnOk result (table self.new ≡ old ++ one ∷ []) }
         ensures kept { OnErr result (table self.new ≡ table self.old) }
         ensures names { names self.new ≡ names self.old }
+        ensures grows { Grows self.old self.new }
     {
         let function = small(function)?;
         let (from, count) = self.keep_parts(parts)?;

@@ -1,4 +1,5 @@
-use Rattle.std.proofs.Common.{[]}
+use Rattle.std.proofs.Common.{[], ◌∙◌, sym, append-nil}
+use Rattle.cd_cells.specs.Table.{table}
 use Rattle.cd_cells.proofs.TableLaws.{same_things, still_sound}
 use Rattle.cd_cells.proofs.values.Values.keep_parts.Goals as goal
 
@@ -11,3 +12,15 @@ pub returns-clause-kept : goal.returns-clause-kept
 returns-clause-kept c =
     let old = c.args.self.now in
     same_things old.lists c.keep_parts.new.self c.keep_parts.ensures.grows [] old.cells.items old.sound
+
+pub returns-clause-grows : goal.returns-clause-grows
+returns-clause-grows c =
+    let old = c.args.self.now in
+    record {
+      things = (
+        [],
+        same_things old.lists c.keep_parts.new.self c.keep_parts.ensures.grows [] old.cells.items old.sound
+            ∙ sym (append-nil (table old)),
+      );
+      labels = c.keep_parts.ensures.grows.names;
+    }

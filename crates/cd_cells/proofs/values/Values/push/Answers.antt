@@ -1,6 +1,7 @@
 use Rattle.std.proofs.Common.{[], ◌∷◌, ◌∙◌, ap, arith}
 use Rattle.cd_cells.specs.Cells.{things_from}
-use Rattle.cd_cells.proofs.TableLaws.{length_from, from_append, cells_pushed}
+use Rattle.cd_cells.proofs.TableLaws.{length_from, from_append, cells_pushed, things_pushed}
+use Rattle.cd_cells.proofs.Growing.{grows_not}
 use Rattle.cd_cells.proofs.values.Values.push.Goals as goal
 
 pub invariant_of-self : goal.invariant_of-self
@@ -18,3 +19,11 @@ returns-clause-added c =
     let old = c.args.self.now in
     ap (things_from old.lists []) c.in_ok-push.ensures.items
     ∙ from_append old.lists [] old.cells.items (c.args.cell ∷ [])
+
+pub returns-clause-grows : goal.returns-clause-grows
+returns-clause-grows c =
+    let old = c.args.self.now in
+    record {
+      things = things_pushed old.lists c.push.result old.cells.items _ c.args.cell c.push.ensures.items;
+      labels = grows_not old.lists.names;
+    }
