@@ -1,5 +1,5 @@
 -- What stands in a table, or in a list beside it, stands there when it has grown.
-use Rattle.std.proofs.Common.{◌≡◌, ℕ, zero, suc, ◌+◌, ◌<◌, ◌≤◌, ℤ, pos, List, [], ◌∷◌, ◌++◌, None, length, get_or, take, drop, refl, ap}
+use Rattle.std.proofs.Common.{◌≡◌, ℕ, zero, suc, ◌+◌, ◌<◌, ◌≤◌, pos, List, [], ◌∷◌, ◌++◌, None, length, get_or, take, drop, refl, ap}
 use Rattle.std.proofs.Common.{sym, ◌∙◌, subst, append-nil, length-append, arith, true≢false}
 use Rattle.std.proofs.lemmas.List.{drop-append-le, take-append-le, length-drop, get_or_append_left}
 use Rattle.cd_syntax.specs.Name.{Name, IsLabel}
@@ -11,7 +11,7 @@ use Rattle.cd_cells.specs.declared.cell.Part.{Part}
 use Rattle.cd_cells.specs.declared.cell.Stored.{Stored}
 use Rattle.cd_cells.specs.declared.cell.Stored.TheVariants.{Pair, Xml, Short, Wide, Letter, Atom, Record, Closure}
 use Rattle.cd_cells.specs.declared.lists.Lists.{Lists}
-use Rattle.cd_cells.specs.Cells.{thing_at, name_at, fields_of, IsPart, parts_at, fields_at, thing_by, AreParts, IsStored}
+use Rattle.cd_cells.specs.Cells.{name_at, fields_of, IsPart, parts_at, fields_at, thing_by, AreParts, IsStored}
 use Rattle.cd_cells.specs.Inner.Growing.{ListsGrow}
 
 -- more may stand after what was there

@@ -1,6 +1,5 @@
 -- A table whose values and names stay, with one more value or none, has grown.
-use Rattle.std.proofs.Common.{◌≡◌, List, [], ◌∷◌, ◌++◌, ◌∙◌, sym, append-nil, append_assoc, ap}
-use Rattle.std.specs.Prelude.{Result, Ok, Err, OnOk, OnErr}
+use Rattle.std.proofs.Common.{◌≡◌, [], ◌∷◌, ◌++◌, ◌∙◌, sym, append-nil}
 use Rattle.cd_model.specs.Thing.{Thing}
 use Rattle.cd_cells.specs.declared.values.Values.{Values}
 use Rattle.cd_cells.specs.Table.{table, names, Grows}

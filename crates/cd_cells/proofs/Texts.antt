@@ -1,5 +1,5 @@
 -- The number of a text among texts, each of which stands there once.
-use Rattle.std.proofs.Common.{◌≡◌, ℕ, ◌<◌, arith, Bool, true, false, List, [], ◌∷◌, ◌++◌, Option, Some, None, length, map, get_or, slice_get, position, refl, sym, ap, ◌∙◌, subst, append-nil, true≢false}
+use Rattle.std.proofs.Common.{◌≡◌, ℕ, ◌<◌, arith, Bool, true, false, List, [], ◌∷◌, ◌++◌, Some, None, length, map, get_or, slice_get, position, refl, sym, ap, ◌∙◌, subst, append-nil, true≢false}
 use Rattle.std.specs.Prelude.{Result, Ok, Err, IfOk, OnErr, bytes_eq, unwrap_or, if◌then◌else◌}
 use Rattle.std.specs.Option.{option_map}
 use Rattle.std.specs.Str.{chars, IsUtf8}

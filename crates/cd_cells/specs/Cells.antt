@@ -1,5 +1,5 @@
 -- What the cells of a table stand for, and which cells a table may have.
-use Rattle.std.specs.Prelude.{◌≡◌, ℕ, ℤ, pos, ◌<◌, ◌≤◌, ◌+◌, List, [], ◌∷◌, ◌++◌, None, length}
+use Rattle.std.specs.Prelude.{◌≡◌, ℕ, pos, ◌<◌, ◌≤◌, ◌+◌, List, [], ◌∷◌, ◌++◌, None, length}
 use Rattle.std.specs.Prelude.{take, drop, slice_index_or}
 use Rattle.std.specs.Char.{IsScalar}
 use Rattle.cd_syntax.specs.Integer.{IsInteger}

@@ -2,7 +2,6 @@
 use Rattle.std.specs.Prelude.{◌≡◌, pos, List, [], ◌∷◌, codes}
 use Rattle.cd_model.specs.Thing as thing
 use Rattle.cd_model.specs.Thing.{Thing, Fields, NoField, Field}
-use Rattle.cd_cells.specs.declared.cell.Part.{Part}
 use Rattle.cd_cells.specs.declared.cell.Stored.{Stored}
 use Rattle.cd_cells.specs.declared.cell.Stored.TheVariants.{Pair, Xml, Short, Atom, Record}
 use Rattle.cd_cells.specs.declared.cell.Stored.TheVariants.{Closure}

@@ -41,7 +41,8 @@ parts_prop : (lists : Lists) (table : List Thing) (from count : ℕ)
 parts_prop lists table from count =
     hlevel (props, each_prop lists.names (length table) (parts_at lists.parts.items from count))
 
-cell_prop : (lists : Lists) (table : List Thing) (cell : Stored) → IsProp (IsStored lists table cell)
+cell_prop : (lists : Lists) (table : List Thing) (cell : Stored)
+    → IsProp (IsStored lists table cell)
 cell_prop lists table (Pair first second) = hlevel props
 cell_prop lists table (Xml tag attributes content) =
     hlevel (props, atom_prop (thing_at table tag), record_prop (thing_at table attributes))

@@ -1,3 +1,4 @@
+//! The cells of a table, and what a value in them is.
 ghost use Rattle.std.specs.Prelude.{◌≡◌, IfOk};
 
 use std::alloc::AllocError;
@@ -39,7 +40,7 @@ impl Part {
 
 /// A value as it is stored.
 #[derive(Clone, Copy)]
-pub enum Stored {
+pub(crate) enum Stored {
     /// The pair of two values.
     Pair(u32, u32),
     /// The XML value of a tag, attributes and a content.

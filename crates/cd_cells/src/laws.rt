@@ -9,7 +9,6 @@ ghost use Rattle.cd_cells.specs.declared.cell.Part.{Part};
 ghost use Rattle.cd_cells.specs.declared.lists.Lists.{Lists};
 
 /// What stands in a table stands there when it has grown.
-#[tactic(auto, using(crate::proofs::InGrown::thing_in_grown, crate::proofs::InGrown::name_in_grown, crate::proofs::InGrown::fields_in_grown))]
 pub fn growth()
     ensures things { (table more : List Thing) (number : ℕ) → number < length table
         → thing_at (table ++ more) number ≡ thing_at table number }

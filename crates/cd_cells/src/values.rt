@@ -1,3 +1,4 @@
+//! A table of values.
 ghost use Rattle.std.specs.Prelude.{[]};
 ghost use Rattle.cd_cells.specs.Cells.{AreStored};
 ghost use Rattle.cd_cells.specs.OneProof.{stored_prop};
@@ -24,8 +25,8 @@ impl Values {
     ghost use Rattle.cd_model.specs.Thing.{IsValue, IsAtom, IsRecord, LabelsRise};
     ghost use Rattle.cd_model.specs.Thing.{Integer, Character, Atom as AnAtom, Pair as APair};
     ghost use Rattle.cd_model.specs.Thing.{Xml as AnXml, Record as ARecord, Closure as AClosure};
-    ghost use Rattle.cd_cells.specs.Cells.{HasEachOnce, name_at, thing_at, fields_of, parts_at, thing_by};
-    ghost use Rattle.cd_cells.specs.Cells.{IsPart, IsStored};
+    ghost use Rattle.cd_cells.specs.Cells.{name_at, thing_at, fields_of, parts_at, thing_by};
+    ghost use Rattle.cd_cells.specs.Cells.{HasEachOnce, IsPart, IsStored};
     ghost use Rattle.cd_cells.specs.Table.{table, names, Grows};
     ghost use Rattle.cd_cells.specs.Looked.{looked, ArePartsBelow};
 
