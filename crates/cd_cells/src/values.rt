@@ -92,7 +92,6 @@ impl Values {
     /// # Errors
     ///
     /// Want of memory. No value is added.
-    #[tactic(auto, using(crate::proofs::TableGrows::grew, crate::proofs::TableGrows::stayed))]
     pub fn char(&mut self, c: char) -> Result<ValueId, AllocError>
         ensures number { IfOk result (λ id. id.0 ≡ length (table self.old)) }
         ensures added { OnOk result (table self.new ≡ table self.old ++ Character c ∷ []) }
@@ -154,7 +153,7 @@ impl Values {
     /// # Errors
     ///
     /// Want of memory. No value is added.
-    #[tactic(auto, using(crate::proofs::TableGrows::grew, crate::proofs::TableGrows::stayed))]
+    #[tactic(auto, using(crate::proofs::TableGrows::stayed))]
     pub fn pair(&mut self, first: ValueId, second: ValueId) -> Result<ValueId, AllocError>
         requires first { first.0 < length (table self.old) }
         requires second { second.0 < length (table self.old) }
@@ -176,7 +175,7 @@ impl Values {
     /// # Errors
     ///
     /// Want of memory. No value is added.
-    #[tactic(auto, using(crate::proofs::TableGrows::grew, crate::proofs::TableGrows::stayed))]
+    #[tactic(auto, using(crate::proofs::TableGrows::stayed))]
     pub fn xml(
         &mut self,
         tag: ValueId,
