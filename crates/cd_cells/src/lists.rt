@@ -1,5 +1,5 @@
 //! What stands beside the cells of a table.
-ghost use Rattle.std.specs.Prelude.{◌≡◌, ◌<◌, ◌≤◌, ◌+◌, List, length, slice_index_or, pos, IfOk};
+ghost use Rattle.std.specs.Prelude.{◌≡◌, ◌<◌, ◌≤◌, ◌+◌, [], List, length, slice_index_or, pos, IfOk};
 ghost use Rattle.std.specs.Str.{chars};
 ghost use Rattle.cd_model.specs.Thing.{Thing};
 ghost use Rattle.cd_cells.specs.Cells.{name_at, parts_at, thing_by, IsStored};
@@ -20,7 +20,9 @@ pub(crate) struct Lists {
 
 impl Lists {
     /// Nothing.
-    pub(crate) fn new(alloc: Global) -> Lists {
+    pub(crate) fn new(alloc: Global) -> Lists
+        ensures { result.names ≡ [] }
+    {
         Lists {
             names: TextTable::new(alloc),
             wide: Vec::new(alloc),

@@ -30,9 +30,10 @@ impl Values {
     ghost use Rattle.cd_cells.specs.Table.{table, names, Grows};
     ghost use Rattle.cd_cells.specs.Looked.{looked, ArePartsBelow};
 
-    /// The table without values.
+    /// The table without values and names.
     pub fn new(alloc: Global) -> Values
-        ensures { table result ≡ [] }
+        ensures table { table result ≡ [] }
+        ensures names { names result ≡ [] }
     {
         Values {
             cells: Vec::new(alloc),

@@ -31,10 +31,10 @@ pub record IsTold (before after : RowWalk) (word : Word) (row : Row) : Type 0 wh
   pub row_is : row ≡ row_by (wanted_of before) (refused_of before) word
 
 -- The first word of those that are left is told. It gives some refused types a reason, or all; or
--- none is left
+-- none is left, and nothing is told
 abbrev pub IsStep : (before after : RowWalk) → RowStep → Type 0
 IsStep before after (Partial row) = (word : Word) × IsTold before after word (plain_row row)
     × (length word < length (refused_of before))
 IsStep before after (Full row) = (word : Word) × IsTold before after word (plain_row row)
     × (length word ≡ length (refused_of before))
-IsStep before after Done = (rest before ≡ []) × (rest after ≡ [])
+IsStep before after Done = (rest before ≡ []) × (rest after ≡ []) × (told after ≡ told before)

@@ -30,10 +30,10 @@ pub record IsTold (before after : Walk) (word : Word) (way : Way) : Type 0 where
   pub way_is : way ≡ way_of (clause_of before) (need_of before) word
 
 -- The first word of those that are left is told. It gives some members to sides, or all; or none is
--- left
+-- left, and nothing is told
 abbrev pub IsStep : (before after : Walk) → Step → Type 0
 IsStep before after (Partial way) = (word : Word) × IsTold before after word way
     × (length word < members_of (clause_of before))
 IsStep before after (Full way) = (word : Word) × IsTold before after word way
     × (length word ≡ members_of (clause_of before))
-IsStep before after Done = (rest before ≡ []) × (rest after ≡ [])
+IsStep before after Done = (rest before ≡ []) × (rest after ≡ []) × (told after ≡ told before)
