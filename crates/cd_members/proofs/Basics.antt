@@ -18,5 +18,5 @@ pub shape_in : (graph : Graph) (question : Question) (sets : Basics) → AreExac
     → IsShape table shape × IsElement (element_by table shape) × asked (answers graph (element_by table shape)) question true
 shape_in graph question sets exact table (Int n) here = (tt, here.0, integer_in graph question sets exact n here.0 here.1)
 shape_in graph question sets exact table (Char c) here = (tt, here.0, character_in graph question sets exact c here.0 here.1)
-shape_in graph question sets exact table (Atom name) here = (here.0, here.0, atom_in graph question sets exact name here.1)
+shape_in graph question sets exact table (Atom name) here = (here.0, here.0, atom_in graph question sets exact name here.0 here.1)
 shape_in graph question sets exact table _ here = absurd here

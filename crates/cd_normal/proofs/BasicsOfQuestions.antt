@@ -26,13 +26,14 @@ module _ (graph : Graph) (question : Question) (sets : Basics) (exact : AreExact
       → asked (answers graph (thing.Character c)) question true
   character_in c is held = (characters_exact graph question c).1 (sym (exact.1 c is) ∙ held)
 
-  pub atom_in : (name : Name) → atoms.holds sets.atoms name ≡ true → asked (answers graph (thing.Atom name)) question true
-  atom_in name held = (atoms_exact graph question name).1 (sym (exact.2 name) ∙ held)
+  pub atom_in : (name : Name) → atoms.IsAtom name → atoms.holds sets.atoms name ≡ true
+      → asked (answers graph (thing.Atom name)) question true
+  atom_in name is held = (atoms_exact graph question name).1 (sym (exact.2 name is) ∙ held)
 
   -- and where they hold nothing there is no integer, character or atom in it
   pub nothing_in : HoldNothing sets → HasNoBasic graph question
   nothing_in nothing = (
     λ z is asking. true≢false (sym ((integers_exact graph question z).0 asking) ∙ sym (exact.0 z is) ∙ nothing.0 z),
     λ c is asking. true≢false (sym ((characters_exact graph question c).0 asking) ∙ sym (exact.1 c is) ∙ nothing.1 c is),
-    λ name is asking. true≢false (sym ((atoms_exact graph question name).0 asking) ∙ sym (exact.2 name) ∙ nothing.2 name is),
+    λ name is asking. true≢false (sym ((atoms_exact graph question name).0 asking) ∙ sym (exact.2 name is) ∙ nothing.2 name is),
   )

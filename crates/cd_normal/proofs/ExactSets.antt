@@ -17,7 +17,7 @@ pub exact_so : (one other : Passing) → ((test : Formula → Bool) → one test
 exact_so one other same sets exact = (
   λ z is. exact.0 z is ∙ same (integer_test z),
   λ x is. exact.1 x is ∙ same (character_test x),
-  λ name. exact.2 name ∙ same (atom_test name),
+  λ name is. exact.2 name is ∙ same (atom_test name),
 )
 
 -- what passes both halves passes all, and what passes one of them passes one

@@ -2,6 +2,7 @@ mod Halves
 mod Lists
 mod Stacks
 mod ExactSets
+mod Nothing
 mod ChoicesJoined
 pub mod BasicsOfQuestions
 mod ClausesOfKinds

@@ -3,7 +3,7 @@ ghost use Rattle.std.specs.Prelude.{◌≡◌, ◌<◌, ◌&&◌, not, ℤ, ℕ,
 ghost use Rattle.std.specs.Char.{IsScalar};
 ghost use Rattle.cd_intervals.specs.Interval.{holds};
 ghost use Rattle.cd_intervals.specs.Characters.{holds_character};
-ghost use Rattle.cd_intervals.specs.Atoms.{holds as holds_atom};
+ghost use Rattle.cd_intervals.specs.Atoms.{IsAtom, holds as holds_atom};
 ghost use Rattle.cd_syntax.specs.Integer.{IsInteger};
 ghost use Rattle.cd_syntax.specs.Name.{Name};
 ghost use Rattle.cd_model.specs.AllOf.{AllOf};
@@ -34,7 +34,8 @@ pub fn basics(alloc: Global, graph: &Graph, question: &Question) -> Result<Basic
     ensures characters { IfOk result (λ sets. (c : ℕ) → IsScalar c
         → holds_character sets.characters c
         ≡ question_passes (character_test c) (nodes graph.now) question.now) }
-    ensures atoms { IfOk result (λ sets. (name : Name) → holds_atom sets.atoms name
+    ensures atoms { IfOk result (λ sets. (name : Name) → IsAtom name
+        → holds_atom sets.atoms name
         ≡ question_passes (atom_test name) (nodes graph.now) question.now) }
 {
     let inside = wanted(alloc, graph, question.pos.ids())?;
@@ -61,6 +62,9 @@ fn without(alloc: Global, graph: &Graph, sets: Basics, ids: &[NodeId]) -> Result
     ensures { IfOk result (λ left. (passing : Passing) → AreExact passing sets
         → AreExact (λ test. passing test && in_none test (nodes graph.now) ids.now) left) }
 {
+    if sets.is_empty() {
+        return Ok(sets);
+    }
     let mut left = sets;
     let mut index = ids.len();
     while index > 0 {

@@ -18,4 +18,5 @@ abbrev pub AreExact : Passing → Basics → Type 0
 AreExact passing sets =
     ((z : ℤ) → IsInteger z → integers.holds sets.integers z ≡ passing (integer_test z))
     × ((c : ℕ) → IsScalar c → holds_character sets.characters c ≡ passing (character_test c))
-    × ((name : Name) → atoms.holds sets.atoms name ≡ passing (atom_test name))
+    × ((name : Name) → atoms.IsAtom name
+    → atoms.holds sets.atoms name ≡ passing (atom_test name))

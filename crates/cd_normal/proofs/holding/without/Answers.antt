@@ -1,9 +1,10 @@
-use Rattle.std.proofs.Common.{◌-◌, ◌&&◌, not, drop, length, ap, arith}
+use Rattle.std.proofs.Common.{◌-◌, ◌&&◌, not, drop, length, refl, ap, arith}
 use Rattle.cd_graph.specs.Nodes.{nodes}
 use Rattle.cd_graph.specs.PlainFormula.{plain}
 use Rattle.cd_rules.specs.BasicSets.{passes, in_none}
 use Rattle.cd_normal.proofs.Lists.{all_left}
 use Rattle.cd_normal.proofs.ExactSets.{exact_so, one_refused, none_refused}
+use Rattle.cd_normal.proofs.Nothing.{nothing_left}
 use Rattle.cd_normal.proofs.holding.without.Goals as goal
 
 -- at first nothing is taken
@@ -41,3 +42,8 @@ returns c = λ passing here.
     exact_so (λ test. passing test && in_none test graph (drop index ids)) (λ test. passing test && in_none test graph ids)
     (λ test. ap (λ left. passing test && in_none test graph left) (all_left ids index c.loop-index-test.false)) c.loop-index.left
     (c.loop-index.invariant.1 passing here)
+
+-- nothing is left of nothing
+pub returns-then-is_empty : goal.returns-then-is_empty
+returns-then-is_empty c = λ passing here.
+    nothing_left c.args.sets (c.if-is_empty.ensures.0 refl) passing (λ test. in_none test (nodes c.args.graph.now) c.args.ids.now) here

@@ -6,5 +6,5 @@ pub returns : goal.returns
 returns c = λ first second here there. (
   λ z is. c.in_ok-intersect.ensures z ∙ ap₂ (λ one two. one && two) (here.0 z is) (there.0 z is),
   λ x is. c.in_ok-intersect-2.ensures x is ∙ ap₂ (λ one two. one && two) (here.1 x is) (there.1 x is),
-  λ name. c.in_ok-intersect-3.ensures name ∙ ap₂ (λ one two. one && two) (here.2 name) (there.2 name),
+  λ name is. c.in_ok-intersect-3.ensures name ∙ ap₂ (λ one two. one && two) (here.2 name is) (there.2 name is),
 )
