@@ -1,5 +1,10 @@
 -- What a look at a question finds, and what looks at all of a list find.
-use Rattle.std.proofs.Common.{◌≡◌, ℕ, zero, suc, ◌<◌, List, [], ◌∷◌, ◌++◌, Some, inl, inr, refl, sym, ap, subst, ◌∙◌, arith, length, take, slice_get, get_or}
+use Rattle.std.proofs.Common.{◌≡◌, ◌==◌, ◌||◌, Bool, true, false, ℕ, zero, suc, ◌<◌, List, [], ◌∷◌, ◌++◌, Some, inl, inr, refl, sym, ap, subst, ◌∙◌, arith, length, take, slice_get, get_or}
+use Rattle.std.proofs.lemmas.Bool.{eqb-true}
+use Rattle.std.specs.List.{list_any}
+use Rattle.cd_sets.specs.IdSet.{holds}
+use Rattle.cd_sets.specs.declared.node_id.NodeId.{NodeId}
+use Rattle.cd_model.specs.BuiltIns.{node}
 use Rattle.std.proofs.lemmas.Option.{none-some, same_Some}
 use Rattle.cd_sets.specs.declared.question.Question.{Question}
 use Rattle.cd_model.specs.AllOf.{AnyOf}
@@ -27,9 +32,9 @@ kept_empty ((other, Empty) ∷ kept) question (inr later) = inr (kept_empty kept
 kept_empty ((other, Inhabited id) ∷ kept) question (inr later) = kept_empty kept question later
 
 pub empty_is_known : (decider : Decider) (question : Question) → IsKept (kept decider) question Empty
-    → IsOfFamily question (known decider)
-empty_is_known decider question is =
-    one_on_left (λ other. other ≡ question) (family (kept decider)) decider.list (kept_empty (kept decider) question is)
+    → IsCovered question (known decider)
+empty_is_known decider question is = covers_own (known decider) question
+    (one_on_left (λ other. other ≡ question) (family (kept decider)) decider.list (kept_empty (kept decider) question is))
 
 -- a question with a number in a list is one of it
 listed : (list : List Question) (number : ℕ) (question : Question) → slice_get list number ≡ Some question → IsOfFamily question list
@@ -38,9 +43,34 @@ listed (one ∷ list) zero question at = inl (same_Some one question at)
 listed (one ∷ list) (suc number) question at = inr (listed list number question at)
 
 pub listed_is_known : (decider : Decider) (number : ℕ) (question : Question) → slice_get decider.list number ≡ Some question
-    → IsOfFamily question (known decider)
-listed_is_known decider number question at =
-    one_on_right (λ other. other ≡ question) (family (kept decider)) decider.list (listed decider.list number question at)
+    → IsCovered question (known decider)
+listed_is_known decider number question at = covers_own (known decider) question
+    (one_on_right (λ other. other ≡ question) (family (kept decider)) decider.list (listed decider.list number question at))
+
+-- a set that has a number has one that is it
+has_one : (ids : List NodeId) (id : NodeId) → holds ids id ≡ true → AnyOf (λ other. other ≡ id) ids
+has_one [] id is = absurd cc
+has_one (other ∷ ids) id is = by_test (other.0 == id.0) refl is (has_one ids id)
+  where
+    by_test : (same : Bool) → (other.0 == id.0) ≡ same → (same || holds ids id) ≡ true
+        → (holds ids id ≡ true → AnyOf (λ other. other ≡ id) ids) → AnyOf (λ other. other ≡ id) (other ∷ ids)
+    by_test true at is on = inl (ap node (eqb-true other.0 id.0 at))
+    by_test false at is on = inr (on is)
+
+-- a question contradicts itself where one of the nodes that it wants is among those that it refuses
+contradicts_by : (pos neg : List NodeId) → list_any (holds neg) pos ≡ true → AnyOf (λ id. AnyOf (λ other. other ≡ id) neg) pos
+contradicts_by [] neg is = absurd cc
+contradicts_by (id ∷ pos) neg is = by_test (holds neg id) refl is (contradicts_by pos neg)
+  where
+    by_test : (there : Bool) → holds neg id ≡ there → (there || list_any (holds neg) pos) ≡ true
+        → (list_any (holds neg) pos ≡ true → AnyOf (λ id. AnyOf (λ other. other ≡ id) neg) pos)
+        → AnyOf (λ id. AnyOf (λ other. other ≡ id) neg) (id ∷ pos)
+    by_test true at is on = inl (has_one neg id at)
+    by_test false at is on = inr (on is)
+
+pub contradiction_is_covered : (family : List Question) (question : Question) → list_any (holds question.neg) question.pos ≡ true
+    → IsCovered question family
+contradiction_is_covered family question is = inr (contradicts_by question.pos question.neg is)
 
 -- and one without a number is not
 pub not_listed : (list : List Question) (question : Question) → ((number : ℕ) → slice_get list number ≡ Some question → ⊥)
@@ -78,12 +108,11 @@ have_one_more decider ids questions place id question other within at have is =
 
 -- the one at a place is known to have none
 pub one_covered : (decider : Decider) (questions : List Question) (place : ℕ) (question other : Question) → place < length questions
-    → question ≡ get_or questions place other → IsOfFamily question (known decider)
+    → question ≡ get_or questions place other → IsCovered question (known decider)
     → AnyOf (λ question. IsCovered question (known decider)) questions
 one_covered decider questions place question other within at is =
     one_at (λ question. IsCovered question (known decider)) questions place other
-    (covers_own (known decider) (get_or questions place other)
-    (subst (λ (question : Question). IsOfFamily question (known decider)) at is)) within
+    (subst (λ (question : Question). IsCovered question (known decider)) at is) within
 
 -- it is one of them
 pub one_there : (questions : List Question) (place : ℕ) (question other copy : Question) → place < length questions

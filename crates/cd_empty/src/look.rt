@@ -1,5 +1,7 @@
 //! What is known of questions.
-ghost use Rattle.std.specs.Prelude.{IfOk};
+ghost use Rattle.std.specs.Prelude.{◌≡◌, IfOk};
+ghost use Rattle.std.specs.List.{list_any};
+ghost use Rattle.cd_sets.specs.IdSet.{holds};
 ghost use Rattle.cd_empty.specs.Inner.Looking.{IsSeen, AreParts};
 
 use crate::decider::Decider;
@@ -11,7 +13,7 @@ use std::alloc::AllocError;
 /// What is known of a question.
 #[derive(Clone, Copy)]
 pub(crate) enum Look {
-    /// It is settled or assumed that it has no element.
+    /// It contradicts itself, or it is settled or assumed that it has no element.
     Empty,
     /// It has this one.
     Has(ElementId),
@@ -22,7 +24,7 @@ pub(crate) enum Look {
 /// What is known of questions that all have to have elements.
 #[derive(Drop)]
 pub(crate) enum Parts {
-    /// One of them is settled or assumed to have none.
+    /// One of them has none, or is assumed to have none.
     Missing,
     /// Nothing is known of this one.
     Unknown(Question),
@@ -35,6 +37,9 @@ impl Decider {
     pub(crate) fn look(&self, question: &Question) -> Look
         ensures { IsSeen self.now question.now result }
     {
+        if contradicts_itself(question) {
+            return Look::Empty;
+        }
         match self.verdicts.get(question) {
             Some(Verdict::Empty) => Look::Empty,
             Some(Verdict::Inhabited(id)) => Look::Has(id),
@@ -59,4 +64,12 @@ impl Decider {
         }
         Ok(Parts::Are(ids))
     }
+}
+
+// Whether a question wants a node that it refuses.
+fn contradicts_itself(question: &Question) -> bool
+    ensures { result ≡ list_any (holds question.now.neg) question.now.pos }
+{
+    let refused = &question.neg;
+    question.pos.ids().iter().any(|id| refused.contains(*id))
 }

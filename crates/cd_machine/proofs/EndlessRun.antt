@@ -75,7 +75,7 @@ endless_run = one_more start (at (dropped [])) (state [] (question ∷ []) []) p
         (partial_choices_are endless question) (accounts_for_clauses endless (question ∷ []) question no_basic))
 
     pairs : Steps endless [] start (at (dropped begun.choices))
-    pairs = works_on begun (dropped begun.choices) (drops begun.choices (Some clause) [] task [] (inr (inl (inl ((inl refl, tt), tt)))))
+    pairs = works_on begun (dropped begun.choices) (drops begun.choices (Some clause) [] task [] (inr (inl (inl (inl ((inl refl, tt), tt))))))
         (works_on extended begun (begins APair choice begun.choices None [] task [] refl)
         (works_on opened extended (goes_further (of_kind APair) (partial APair choice [] ∷ []) begun.choices None [] []
         (extends APair [] formula [])) first))

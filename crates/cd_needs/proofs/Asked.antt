@@ -1,5 +1,5 @@
 -- The set of some numbers rises, and has just these.
-use Rattle.std.proofs.Common.{◌≡◌, ℕ, List, [], ◌∷◌, Option, Some, None, refl, arith}
+use Rattle.std.proofs.Common.{◌≡◌, ◌==◌, ◌||◌, ℕ, List, [], ◌∷◌, Option, Some, None, refl, arith}
 use Rattle.std.proofs.lemmas.Bool.Decides.{nat_tests}
 use Rattle.cd_sets.specs.declared.node_id.NodeId.{NodeId}
 use Rattle.cd_sets.specs.IdSet.{IsAbove, RiseFrom, AreRising, holds}
@@ -37,3 +37,10 @@ pub is_set_of : (set ids : List NodeId)
     → AreRising set → ((one : NodeId) → holds set one ≡ holds ids one) → set ≡ set_of ids
 is_set_of set ids rises same =
     same_members None set (set_of ids) rises (rises_set_of ids) (λ one. grind (arith, same one, holds_set_of ids one))
+
+-- a set that has one number more than another is it with that number
+pub is_with_id : (id : NodeId) (before after : List NodeId) → AreRising before → AreRising after
+    → ((one : NodeId) → holds after one ≡ ((one.0 == id.0) || holds before one)) → after ≡ with_id id before
+is_with_id id before after rises rises_after same =
+    same_members None after (with_id id before) rises_after (rises_with_id None id before rises tt)
+    (λ one. let is = same one in let more = holds_with_id id before one in grind (arith, nat_tests))

@@ -3,6 +3,6 @@
 
 pub mod asking;
 pub mod parts;
-pub mod parts_of;
+mod sets_of;
 mod split;
 mod split_in_three;

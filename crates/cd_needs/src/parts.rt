@@ -3,8 +3,7 @@ ghost use Rattle.std.specs.Prelude.{◌≡◌, ◌∷◌, ◌++◌, map, IfOk, O
 ghost use Rattle.cd_rules.specs.Needs.{question, pair_way, xml_way, arrow_way, result_questions};
 ghost use Rattle.cd_rules.specs.Needs.{splits, splits_in_three};
 
-use crate::asking::question;
-use crate::parts_of::{attributes, contents, firsts, seconds, tags};
+use crate::sets_of::{attributes, contents, firsts, one, seconds, tags, with};
 use crate::split::{Split, splits};
 use crate::split_in_three::splits_in_three;
 use cd_graph::built_in::{ATOM, RECORD};
@@ -123,9 +122,10 @@ fn question_of_firsts(
     ensures { IfOk result (λ asked. asked
         ≡ question (map (λ parts. parts.0) wanted.now) (map (λ parts. parts.0) refused.now)) }
 {
-    let pos = firsts(alloc, wanted)?;
-    let neg = firsts(alloc, refused)?;
-    question(alloc, pos.as_slice(), neg.as_slice())
+    Ok(Question {
+        pos: firsts(alloc, wanted)?,
+        neg: firsts(alloc, refused)?,
+    })
 }
 
 // What is in the second part of each wanted pair and in that of no refused one.
@@ -137,9 +137,10 @@ fn question_of_seconds(
     ensures { IfOk result (λ asked. asked
         ≡ question (map (λ parts. parts.1) wanted.now) (map (λ parts. parts.1) refused.now)) }
 {
-    let pos = seconds(alloc, wanted)?;
-    let neg = seconds(alloc, refused)?;
-    question(alloc, pos.as_slice(), neg.as_slice())
+    Ok(Question {
+        pos: seconds(alloc, wanted)?,
+        neg: seconds(alloc, refused)?,
+    })
 }
 
 /// The questions of the three parts of an XML element: `tags` are the refused ones that the tag is
@@ -175,10 +176,9 @@ fn question_of_tags(
     ensures { IfOk result (λ asked. asked
         ≡ question (all ∷ map (λ parts. parts.0) wanted.now) (map (λ parts. parts.0) refused.now)) }
 {
-    let mut pos = tags(alloc, wanted)?;
-    pos.insert(0, all)?;
+    let pos = with(tags(alloc, wanted)?, all)?;
     let neg = tags(alloc, refused)?;
-    question(alloc, pos.as_slice(), neg.as_slice())
+    Ok(Question { pos, neg })
 }
 
 // What is in a node, and in the attributes of each wanted element and in those of no refused one.
@@ -191,10 +191,9 @@ fn question_of_attributes(
     ensures { IfOk result (λ asked. asked
         ≡ question (all ∷ map (λ parts. parts.1) wanted.now) (map (λ parts. parts.1) refused.now)) }
 {
-    let mut pos = attributes(alloc, wanted)?;
-    pos.insert(0, all)?;
+    let pos = with(attributes(alloc, wanted)?, all)?;
     let neg = attributes(alloc, refused)?;
-    question(alloc, pos.as_slice(), neg.as_slice())
+    Ok(Question { pos, neg })
 }
 
 // What is in the contents of each wanted element and in those of no refused one.
@@ -206,9 +205,10 @@ fn question_of_contents(
     ensures { IfOk result (λ asked. asked
         ≡ question (map (λ parts. parts.2) wanted.now) (map (λ parts. parts.2) refused.now)) }
 {
-    let pos = contents(alloc, wanted)?;
-    let neg = contents(alloc, refused)?;
-    question(alloc, pos.as_slice(), neg.as_slice())
+    Ok(Question {
+        pos: contents(alloc, wanted)?,
+        neg: contents(alloc, refused)?,
+    })
 }
 
 /// The questions of a pair by which a function is outside a refused arrow: its argument is outside
@@ -228,8 +228,9 @@ pub fn arrow_questions(
         (λ questions. questions.items ≡ arrow_way refused (outside.now, results.now)) }
 {
     let mut questions = Vec::new(alloc);
-    let arguments = firsts(alloc, outside)?;
-    questions.push(question(alloc, &[refused.0], arguments.as_slice())?)?;
+    let pos = one(alloc, refused.0)?;
+    let neg = firsts(alloc, outside)?;
+    questions.push(Question { pos, neg })?;
     ask_of_result(alloc, refused, results, &mut questions)?;
     Ok(questions)
 }
@@ -247,8 +248,9 @@ fn ask_of_result(
     match others {
         [] => Ok(()),
         [_, ..] => {
-            let results = seconds(alloc, others)?;
-            questions.push(question(alloc, results.as_slice(), &[refused.1])?)?;
+            let pos = seconds(alloc, others)?;
+            let neg = one(alloc, refused.1)?;
+            questions.push(Question { pos, neg })?;
             Ok(())
         }
     }

@@ -4,7 +4,7 @@ ghost use Rattle.std.specs.List.{list_any};
 ghost use Rattle.cd_model.specs.AllOf.{AllOf};
 ghost use Rattle.cd_model.specs.Kinds.{APair, AnXml, ARecord, AFunction};
 ghost use Rattle.cd_needs.specs.RecordType.{record_types};
-ghost use Rattle.cd_rules.specs.Needs.{question, pair_way, xml_way};
+ghost use Rattle.cd_rules.specs.Needs.{question};
 ghost use Rattle.cd_rules.specs.Rows.{field_at};
 ghost use Rattle.cd_normal.specs.Inner.IsNeed.{IsNeed, IsFieldNeed};
 ghost use Rattle.cd_normal.specs.Inner.PlainChoice.{plain_choice};
@@ -13,10 +13,9 @@ ghost use Rattle.cd_normal.specs.Inner.PlainKind.{plain_kind};
 use crate::kind::Kind;
 use crate::literal::Literal;
 use crate::side::{arrows, pairs, records, xmls};
-use cd_graph::built_in::{ATOM, RECORD};
 use cd_graph::fields::Fields;
 use cd_needs::asking::question;
-use cd_needs::parts_of::{after, attributes, contents, firsts, seconds, tags};
+use cd_needs::parts::{pair_questions, xml_questions};
 use cd_sets::node_id::NodeId;
 use cd_sets::question::Question;
 use cd_syntax::name::Name;
@@ -45,7 +44,7 @@ fn needs_of_pairs(alloc: Global, choice: &[Literal<'_>]) -> Result<Vec<Question>
         (λ needs. AllOf (IsNeed APair (plain_choice choice.now)) needs.items) }
 {
     let wanted = pairs(alloc, true, choice)?;
-    pair_needs(alloc, wanted.as_slice())
+    pair_questions(alloc, wanted.as_slice(), &[], &[])
 }
 
 fn needs_of_xmls(alloc: Global, choice: &[Literal<'_>]) -> Result<Vec<Question>, AllocError>
@@ -53,7 +52,7 @@ fn needs_of_xmls(alloc: Global, choice: &[Literal<'_>]) -> Result<Vec<Question>,
         (λ needs. AllOf (IsNeed AnXml (plain_choice choice.now)) needs.items) }
 {
     let wanted = xmls(alloc, true, choice)?;
-    xml_needs(alloc, wanted.as_slice())
+    xml_questions(alloc, wanted.as_slice(), &[], &[], &[])
 }
 
 fn needs_of_records(alloc: Global, choice: &[Literal<'_>]) -> Result<Vec<Question>, AllocError>
@@ -70,35 +69,6 @@ fn needs_of_arrows(alloc: Global, choice: &[Literal<'_>]) -> Result<Vec<Question
 {
     let refused = arrows(alloc, false, choice)?;
     argument_needs(alloc, refused.as_slice())
-}
-
-// The questions of both parts of wanted pairs.
-fn pair_needs(alloc: Global, wanted: &[(NodeId, NodeId)]) -> Result<Vec<Question>, AllocError>
-    ensures { IfOk result (λ needs. needs.items ≡ pair_way wanted.now ([], [])) }
-{
-    let firsts = firsts(alloc, wanted)?;
-    let seconds = seconds(alloc, wanted)?;
-    let mut needs = Vec::new(alloc);
-    needs.push(question(alloc, firsts.as_slice(), &[])?)?;
-    needs.push(question(alloc, seconds.as_slice(), &[])?)?;
-    Ok(needs)
-}
-
-// The questions of the three parts of wanted XML elements.
-fn xml_needs(
-    alloc: Global,
-    wanted: &[(NodeId, NodeId, NodeId)],
-) -> Result<Vec<Question>, AllocError>
-    ensures { IfOk result (λ needs. needs.items ≡ xml_way wanted.now ([], [], [])) }
-{
-    let tags = after(alloc, ATOM, tags(alloc, wanted)?.as_slice())?;
-    let attributes = after(alloc, RECORD, attributes(alloc, wanted)?.as_slice())?;
-    let contents = contents(alloc, wanted)?;
-    let mut needs = Vec::new(alloc);
-    needs.push(question(alloc, tags.as_slice(), &[])?)?;
-    needs.push(question(alloc, attributes.as_slice(), &[])?)?;
-    needs.push(question(alloc, contents.as_slice(), &[])?)?;
-    Ok(needs)
 }
 
 // The questions of the arguments of arrows.

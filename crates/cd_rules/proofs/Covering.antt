@@ -8,8 +8,8 @@ use Rattle.cd_model.specs.Membership.{Answers, asked}
 use Rattle.cd_rules.specs.Clauses.{Clause, Ints, Chars, Atoms, Pairs, Xmls, Records, Arrows}
 use Rattle.cd_rules.specs.Needs.{Way, Need, question}
 use Rattle.cd_rules.specs.Rows.{Cell, Row, rows_of}
-use Rattle.cd_rules.specs.Family.{AsksNoLess, IsOfFamily, IsCovered, BreaksNeed, BreaksRow, HasBrokenNeed, Breaks, AreAmong}
-use Rattle.cd_rules.proofs.Among.{each_of_its, each_of_among, among_itself, among_on, among_sets}
+use Rattle.cd_rules.specs.Family.{AsksNoLess, ContradictsItself, IsOfFamily, IsCovered, BreaksNeed, BreaksRow, HasBrokenNeed, Breaks, AreAmong}
+use Rattle.cd_rules.proofs.Among.{of_each, one_of_among, each_of_its, each_of_among, among_itself, among_on, among_sets}
 use Rattle.cd_rules.proofs.Ones.{each_weaker, one_weaker, one_leads, one_with_each}
 
 -- each question asks no less than itself
@@ -36,21 +36,38 @@ asked_less answers question other asks is = (
 
 -- a family covers its own questions
 pub covers_own : (family : List Question) (question : Question) → IsOfFamily question family → IsCovered question family
-covers_own family question is = one_weaker (λ other. other ≡ question) (AsksNoLess question)
-    (λ other same. subst (AsksNoLess question) (sym same) (asks_itself question)) family is
+covers_own family question is = inl (one_weaker (λ other. other ≡ question) (AsksNoLess question)
+    (λ other same. subst (AsksNoLess question) (sym same) (asks_itself question)) family is)
+
+-- what asks no less than a question that contradicts itself contradicts itself too
+contradicts_more : (more question : Question) → AsksNoLess more question → ContradictsItself question → ContradictsItself more
+contradicts_more more question asks is = one_of_among (λ id. AnyOf (λ other. other ≡ id) more.neg) question.pos more.pos asks.0
+    (one_weaker (λ id. AnyOf (λ other. other ≡ id) question.neg) (λ id. AnyOf (λ other. other ≡ id) more.neg)
+    (λ id refused. one_of_among (λ other. other ≡ id) question.neg more.neg asks.1 refused) question.pos is)
+
+-- and nothing is in it, whatever answers each node in one way
+pub contradicts_none : (answers : Answers) → ((id : NodeId) → answers id true → answers id false → ⊥)
+    → (question : Question) → ContradictsItself question → asked answers question true → ⊥
+contradicts_none answers one_way question is asking =
+    let both = one_with_each (λ id. AnyOf (λ other. other ≡ id) question.neg) (λ id. answers id true) question.pos is asking.0 in
+    one_leads (λ id. AnyOf (λ other. other ≡ id) question.neg × answers id true)
+    (λ id here. one_way id here.1 (of_each (λ id. answers id false) question.neg id asking.1 here.0)) question.pos both
 
 -- and what asks no less than a question that it covers
 pub covers_more : (family : List Question) (more question : Question) → AsksNoLess more question → IsCovered question family
     → IsCovered more family
-covers_more family more question asks covered = one_weaker (AsksNoLess question) (AsksNoLess more)
-    (λ other on. asks_on more question other asks on) family covered
+covers_more family more question asks (inl covered) = inl (one_weaker (AsksNoLess question) (AsksNoLess more)
+    (λ other on. asks_on more question other asks on) family covered)
+covers_more family more question asks (inr contradicts) = inr (contradicts_more more question asks contradicts)
 
--- what is so of each question of a family, and comes from a question to each that asks no less, is so of each that the family covers
+-- what is so of each question of a family, and comes from a question to each that asks no less, and is so of each that contradicts
+-- itself, is so of each that the family covers
 pub of_covered : (Fact : Question → Type 0) (family : List Question) (question : Question)
     → ((other : Question) → AsksNoLess question other → Fact other → Fact question)
-    → AllOf Fact family → IsCovered question family → Fact question
-of_covered Fact family question comes each covered = one_leads (λ other. AsksNoLess question other × Fact other)
+    → (ContradictsItself question → Fact question) → AllOf Fact family → IsCovered question family → Fact question
+of_covered Fact family question comes nothing each (inl covered) = one_leads (λ other. AsksNoLess question other × Fact other)
     (λ other both. comes other both.0 both.1) family (one_with_each (AsksNoLess question) Fact family covered each)
+of_covered Fact family question comes nothing each (inr contradicts) = nothing contradicts
 
 -- a family covers each of some questions, as where they are all of it
 abbrev pub AreCovered : (some all : List Question) → Type 0
@@ -63,7 +80,7 @@ covered_where some all among =
 -- then it covers what they cover, and breaks what they break
 module _ (some all : List Question) (covered : AreCovered some all) where
   pub covers_on : (question : Question) → IsCovered question some → IsCovered question all
-  covers_on question is = of_covered (λ question. IsCovered question all) some question (covers_more all question) covered is
+  covers_on question is = of_covered (λ question. IsCovered question all) some question (covers_more all question) (λ contradicts. inr contradicts) covered is
 
   way_on : (way : Way) → AnyOf (λ question. IsCovered question some) way → AnyOf (λ question. IsCovered question all) way
   way_on = one_weaker (λ question. IsCovered question some) (λ question. IsCovered question all) covers_on

@@ -1,11 +1,12 @@
 -- No element and no value is in a question that a closed family covers, by recursion on things whose closures are out of it.
 use Rattle.std.proofs.Common.{◌≡◌, ℕ, ℤ, true, false, List, [], ◌∷◌, ◌++◌, map, inl, inr, refl, sym, subst}
+use Rattle.std.proofs.lemmas.Bool.{true≢false}
 use Rattle.std.specs.Char.{IsScalar}
 use Rattle.cd_sets.specs.declared.question.Question.{Question}
 use Rattle.cd_syntax.specs.Integer.{IsInteger}
 use Rattle.cd_syntax.specs.Name.{Name, IsLabel}
 use Rattle.cd_sets.specs.declared.node_id.NodeId.{NodeId}
-use Rattle.cd_model.specs.Formula.{Graph, at_formula}
+use Rattle.cd_model.specs.Formula.{Graph, nodes, at_formula}
 use Rattle.cd_model.specs.Interfaces.{Interfaces}
 use Rattle.cd_model.specs.Types.{Answers as AnswersOf, Items, pair_at, with_sequences, no_closure}
 use Rattle.cd_model.specs.Thing as thing
@@ -15,6 +16,9 @@ use Rattle.cd_model.specs.AllOf.{AllOf, AnyOf}
 use Rattle.cd_model.specs.Kinds.{IsSound, AreSound, ArePairsSound}
 use Rattle.cd_model.specs.Membership as node
 use Rattle.cd_model.specs.Membership.{Reader, Mapping, asked, answers, value_answers, at_nodes, function_reader}
+use Rattle.cd_model.proofs.Apart.{ApartAtArrows, answers_apart}
+use Rattle.cd_model.proofs.ApartAtNodes.{nodes_keep}
+use Rattle.cd_model.proofs.Regulars.{Apart}
 use Rattle.cd_model.proofs.BuiltIns.{records_are, elements_are_sound, values_are_sound}
 use Rattle.cd_model.proofs.Closures.{every_closure, none_in_element}
 use Rattle.cd_model.proofs.NoSequences.{no_sequences}
@@ -26,7 +30,7 @@ use Rattle.cd_rules.proofs.ChoicesExact.{question_exact}
 use Rattle.cd_rules.proofs.ClauseOf.{in_integers, in_characters, in_atoms, in_arrows, kind_of_integer, kind_of_character, kind_of_function, kind_of_element}
 use Rattle.cd_rules.proofs.ArrowsForward.{IsInArrow, PartsHave, arrows_forward, closure_forward}
 use Rattle.cd_rules.proofs.RecordsOfThings.{FieldsHave, record_has}
-use Rattle.cd_rules.proofs.Covering.{asked_less, of_covered}
+use Rattle.cd_rules.proofs.Covering.{asked_less, contradicts_none, of_covered}
 use Rattle.cd_rules.proofs.Ones.{each_weaker}
 use Rattle.cd_rules.proofs.Broken.{IsBroken, broken_one, IsOut, AskedOut, need_out, member_out, pair_out, xml_out, record_out}
 use Rattle.cd_rules.proofs.Things.{answers_of, labelled_of, mapping_of}
@@ -67,9 +71,10 @@ module _ (graph : Graph) (begins : (more : Graph) × (graph ≡ built_ins ++ mor
     (is_closed : IsClosed graph family) where
   -- A thing in a question of the family meets a choice whose clauses are all broken. So where there are none such, it is in no question of
   -- the family, and in none that asks no less
-  broken_of : (reader : Reader) → (IsBroken family reader → ⊥) → AskedOut family (at_nodes graph reader)
-  broken_of reader out question is covered = of_covered IsNotAsked family question
+  broken_of : (reader : Reader) → Apart (at_nodes graph reader) → (IsBroken family reader → ⊥) → AskedOut family (at_nodes graph reader)
+  broken_of reader apart out question is covered = of_covered IsNotAsked family question
       (λ other asks none is. none (asked_less (at_nodes graph reader) question other asks is))
+      (contradicts_none (at_nodes graph reader) apart question)
       (each_weaker (λ question. (clause : Clause) → IsClauseOfQuestion graph question clause → Breaks family clause) IsNotAsked
       (λ question breaks is. out (broken_one family reader (choices_of graph question) ((question_exact reader graph question).0 is) breaks))
       family is_closed) covered is
@@ -96,35 +101,41 @@ module _ (graph : Graph) (begins : (more : Graph) × (graph ≡ built_ins ++ mor
       let needs = broken.breaks (Atoms (parts_in atoms_of true broken.choice) (parts_in atoms_of false broken.choice)) in_clause.0 in
       member_out family _ name (is, in_clause.1, in_clause.2) needs.0 needs.1 needs.2
 
-  of_pair : (all : Items (AnswersOf NodeId)) (first second : AnswersOf NodeId) → AskedOut family first → AskedOut family second
+  of_pair : (all : Items (AnswersOf NodeId)) (first second : AnswersOf NodeId)
+      → Apart (at_nodes graph (at_formula (with_sequences all (pair_at first second)))) → AskedOut family first → AskedOut family second
       → AskedOut family (at_nodes graph (at_formula (with_sequences all (pair_at first second))))
-  of_pair all first second is_first is_second = subst (λ reader. AskedOut family (at_nodes graph reader))
+  of_pair all first second apart is_first is_second = subst (λ reader. AskedOut family (at_nodes graph reader))
       (sym (no_sequences all (pair_at first second)))
-      (broken_of (node.pair_reader first second) (pair_out family first second is_first is_second))
+      (broken_of (node.pair_reader first second)
+      (subst (λ reader. Apart (at_nodes graph reader)) (no_sequences all (pair_at first second)) apart)
+      (pair_out family first second is_first is_second))
 
   -- things that are sound, whose closures are of functions that are known to break no need
-  module _ (closed : ℕ → Mapping) (Known : ℕ → Type 0)
+  module _ (closed : ℕ → Mapping) (closed_apart : (function : ℕ) → ApartAtArrows (closed function)) (Known : ℕ → Type 0)
       (closures : (function : ℕ) → Known function → BreaksNone family (closed function)) where
+    apart : (is : Thing) → Apart (answers_of graph closed is)
+    apart = answers_apart (nodes graph) (nodes_keep graph) closed closed_apart
+
     mutual
       pub thing_out : (is : Thing) → IsSound is → EachClosure Known is → AskedOut family (answers_of graph closed is)
-      thing_out (thing.Integer n) sound known = broken_of (node.integer_reader n) (integer_out n sound)
-      thing_out (thing.Character c) sound known = broken_of (node.character_reader c) (character_out c sound)
-      thing_out (thing.Atom name) sound known = broken_of (node.reader graph (thing.Atom name)) (atom_out name sound)
-      thing_out (thing.Pair first second) sound known = of_pair _ (answers_of graph closed first) (answers_of graph closed second)
+      thing_out (thing.Integer n) sound known = broken_of (node.integer_reader n) (apart (thing.Integer n)) (integer_out n sound)
+      thing_out (thing.Character c) sound known = broken_of (node.character_reader c) (apart (thing.Character c)) (character_out c sound)
+      thing_out (thing.Atom name) sound known = broken_of (node.reader graph (thing.Atom name)) (apart (thing.Atom name)) (atom_out name sound)
+      thing_out (thing.Pair first second) sound known = of_pair _ (answers_of graph closed first) (answers_of graph closed second) (apart (thing.Pair first second))
           (thing_out first sound.0 known.0) (thing_out second sound.1 known.1)
-      thing_out (thing.Xml tag attributes content) sound known = broken_of _
+      thing_out (thing.Xml tag attributes content) sound known = broken_of _ (apart (thing.Xml tag attributes content))
           (xml_out family (answers_of graph closed tag) (answers_of graph closed attributes) (answers_of graph closed content)
           (thing_out tag sound.2 known.0) (thing_out attributes sound.3 known.1) (thing_out content sound.4 known.2)
           (tag_in graph begins closed tag sound.0) (attributes_in graph begins closed attributes sound.1))
-      thing_out (thing.Record fields) sound known = broken_of _
+      thing_out (thing.Record fields) sound known = broken_of _ (apart (thing.Record fields))
           (record_out family (labelled_of graph closed fields)
           (record_has graph closed (IsOut family) fields (fields_out fields sound.1 known)))
-      thing_out (thing.Function pairs) sound known = broken_of _
+      thing_out (thing.Function pairs) sound known = broken_of _ (apart (thing.Function pairs))
           (arrows_out family (mapping_of graph closed pairs)
           (λ wanted refused inside outside. need_out family (map (arrow_way refused) (splits wanted))
           (arrows_forward graph closed (IsOut family) pairs (pairs_out pairs sound known) wanted refused inside outside)))
       thing_out (thing.Closure function environment) sound known =
-          broken_of (function_reader (closed function)) (arrows_out family (closed function) (closures function known))
+          broken_of (function_reader (closed function)) (apart (thing.Closure function environment)) (arrows_out family (closed function) (closures function known))
 
       fields_out : (fields : thing.Fields) → AreSound fields → EachOfFields Known fields → FieldsHave graph closed (IsOut family) fields
       fields_out thing.NoField sound known = tt
@@ -138,12 +149,12 @@ module _ (graph : Graph) (begins : (more : Graph) × (graph ≡ built_ins ++ mor
 
   -- an element has no closure
   pub element_out : (is : Thing) → IsElement is → AskedOut family (answers graph is)
-  element_out is element = thing_out no_closure (λ function. ⊥) (λ function none. absurd none) is
+  element_out is element = thing_out no_closure (λ function argument result is out. true≢false is) (λ function. ⊥) (λ function none. absurd none) is
       (elements_are_sound is element) (none_in_element (λ function. ⊥) is element)
 
   -- those of a value break no need, since all function elements that they admit are out
   pub value_out : (interfaces : Interfaces) (is : Thing) → IsValue is → AskedOut family (value_answers graph interfaces is)
-  value_out interfaces is value = thing_out (node.closure_mapping graph interfaces) (λ function. Unit {0})
+  value_out interfaces is value = thing_out (node.closure_mapping graph interfaces) (λ function argument result is out. out is) (λ function. Unit {0})
       (λ function known wanted refused inside outside breaks.
       closure_forward graph interfaces function (IsOut family) element_out wanted refused inside outside
       (λ way. need_out family (map (arrow_way refused) (splits wanted)) way breaks))

@@ -1,4 +1,5 @@
--- A clause that wants and refuses the same pair, XML formula or arrow is broken by the questions that want and refuse a node of it.
+-- A clause that wants and refuses the same pair, XML formula or arrow is broken: each way to give that to a side asks something that
+-- contradicts itself.
 use Rattle.std.proofs.Common.{◌≡◌, List, [], ◌∷◌, map, inl, inr, refl, sym, subst}
 use Rattle.cd_sets.specs.declared.node_id.NodeId.{NodeId}
 use Rattle.cd_sets.specs.declared.question.Question.{Question}
@@ -14,42 +15,39 @@ use Rattle.cd_rules.specs.Tasks.{TaskFails, ArrowTask}
 use Rattle.cd_rules.proofs.FailingTasks.{task_breaks}
 
 module _ (family : List Question) where
-  -- the family covers the question that wants and refuses a node
-  abbrev pub IsDiagonal : NodeId → Type 0
-  IsDiagonal id = IsCovered (question (id ∷ []) (id ∷ [])) family
-
-  covered : (pos neg : List NodeId) (id : NodeId) → IsDiagonal id → AnyOf (λ other. other ≡ id) pos → AnyOf (λ other. other ≡ id) neg
+  -- a question of nodes contradicts itself where one is wanted and refused
+  covered : (pos neg : List NodeId) (id : NodeId) → AnyOf (λ other. other ≡ id) pos → AnyOf (λ other. other ≡ id) neg
       → IsCovered (question pos neg) family
-  covered pos neg id is wanted refused = covers_more family (question pos neg) (question (id ∷ []) (id ∷ []))
-      (asks_more (id ∷ []) (id ∷ []) pos neg (wanted, tt) (refused, tt)) is
+  covered pos neg id wanted refused = covers_more family (question pos neg) (question (id ∷ []) (id ∷ []))
+      (asks_more (id ∷ []) (id ∷ []) pos neg (wanted, tt) (refused, tt)) (inr (inl (inl refl)))
 
   part_there : {X : Type 0} (part : X → NodeId) (x : X) (all : List X) → AnyOf (λ other. other ≡ x) all → AnyOf (λ id. id ≡ part x) (map part all)
   part_there part x all there = one_of_map part (λ id. id ≡ part x) all
       (one_weaker (λ other. other ≡ x) (λ other. part other ≡ part x) (λ other same. subst (λ one. part other ≡ part one) same refl) all there)
 
   pub pair_twice : (wanted refused : List Pair) (x : Pair) → AnyOf (λ other. other ≡ x) wanted → AnyOf (λ other. other ≡ x) refused
-      → IsDiagonal x.0 → IsDiagonal x.1 → Breaks family (Pairs wanted refused)
-  pair_twice wanted refused x there too first second = task_breaks family (Pairs wanted refused) (inl (cases ([], []) x too
-      (seen (x ∷ [], []) (inl (covered (map (λ parts. parts.0) wanted) (x.0 ∷ []) x.0 first
+      → Breaks family (Pairs wanted refused)
+  pair_twice wanted refused x there too = task_breaks family (Pairs wanted refused) (inl (cases ([], []) x too
+      (seen (x ∷ [], []) (inl (covered (map (λ parts. parts.0) wanted) (x.0 ∷ []) x.0
       (part_there (λ (parts : Pair). parts.0) x wanted there) (inl refl))))
-      (seen ([], x ∷ []) (inr (inl (covered (map (λ parts. parts.1) wanted) (x.1 ∷ []) x.1 second
+      (seen ([], x ∷ []) (inr (inl (covered (map (λ parts. parts.1) wanted) (x.1 ∷ []) x.1
       (part_there (λ (parts : Pair). parts.1) x wanted there) (inl refl)))))))
 
   pub xml_twice : (wanted refused : List Triple) (x : Triple) → AnyOf (λ other. other ≡ x) wanted → AnyOf (λ other. other ≡ x) refused
-      → IsDiagonal x.0 → IsDiagonal x.1 → IsDiagonal x.2 → Breaks family (Xmls wanted refused)
-  xml_twice wanted refused x there too first second third = task_breaks family (Xmls wanted refused) (inl (three_cases ([], [], []) x too
-      (three_seen (x ∷ [], [], []) (inl (covered (ATOM ∷ map (λ parts. parts.0) wanted) (x.0 ∷ []) x.0 first
+      → Breaks family (Xmls wanted refused)
+  xml_twice wanted refused x there too = task_breaks family (Xmls wanted refused) (inl (three_cases ([], [], []) x too
+      (three_seen (x ∷ [], [], []) (inl (covered (ATOM ∷ map (λ parts. parts.0) wanted) (x.0 ∷ []) x.0
       (inr (part_there (λ (parts : Triple). parts.0) x wanted there)) (inl refl))))
-      (three_seen ([], x ∷ [], []) (inr (inl (covered (RECORD ∷ map (λ parts. parts.1) wanted) (x.1 ∷ []) x.1 second
+      (three_seen ([], x ∷ [], []) (inr (inl (covered (RECORD ∷ map (λ parts. parts.1) wanted) (x.1 ∷ []) x.1
       (inr (part_there (λ (parts : Triple). parts.1) x wanted there)) (inl refl)))))
-      (three_seen ([], [], x ∷ []) (inr (inr (inl (covered (map (λ parts. parts.2) wanted) (x.2 ∷ []) x.2 third
+      (three_seen ([], [], x ∷ []) (inr (inr (inl (covered (map (λ parts. parts.2) wanted) (x.2 ∷ []) x.2
       (part_there (λ (parts : Triple). parts.2) x wanted there) (inl refl))))))))
 
   pub arrow_twice : (wanted refused : List Pair) (x : Pair) → AnyOf (λ other. other ≡ x) wanted → AnyOf (λ other. other ≡ x) refused
-      → IsDiagonal x.0 → IsDiagonal x.1 → Breaks family (Arrows wanted refused)
-  arrow_twice wanted refused x there too first second = task_breaks family (Arrows wanted refused)
+      → Breaks family (Arrows wanted refused)
+  arrow_twice wanted refused x there too = task_breaks family (Arrows wanted refused)
       (one_of_map (λ one. ArrowTask one wanted ([], []) wanted) (TaskFails family) refused
       (one_weaker (λ other. other ≡ x) (λ one. TaskFails family (ArrowTask one wanted ([], []) wanted))
       (λ other same. subst (λ one. TaskFails family (ArrowTask one wanted ([], []) wanted)) (sym same) (cases ([], []) x there
-      (seen (x ∷ [], []) (inl (covered (x.0 ∷ []) (x.0 ∷ []) x.0 first (inl refl) (inl refl))))
-      (seen ([], x ∷ []) (inr (inl (covered (x.1 ∷ []) (x.1 ∷ []) x.1 second (inl refl) (inl refl))))))) refused too))
+      (seen (x ∷ [], []) (inl (covered (x.0 ∷ []) (x.0 ∷ []) x.0 (inl refl) (inl refl))))
+      (seen ([], x ∷ []) (inr (inl (covered (x.1 ∷ []) (x.1 ∷ []) x.1 (inl refl) (inl refl))))))) refused too))

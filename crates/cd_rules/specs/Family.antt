@@ -24,9 +24,14 @@ SameMembers some others = AreAmong some others × AreAmong others some
 abbrev pub AsksNoLess : Question → Question → Type 0
 AsksNoLess question other = AreAmong other.pos question.pos × AreAmong other.neg question.neg
 
--- a family covers a question that asks no less than one of its questions
+-- a question contradicts itself where it wants a node that it refuses: nothing is in it
+abbrev pub ContradictsItself : Question → Type 0
+ContradictsItself question = AnyOf (λ id. AnyOf (λ other. other ≡ id) question.neg) question.pos
+
+-- a family covers a question that asks no less than one of its questions, and each one that
+-- contradicts itself
 abbrev pub IsCovered : Question → List Question → Type 0
-IsCovered question family = AnyOf (AsksNoLess question) family
+IsCovered question family = AnyOf (AsksNoLess question) family ⊎ ContradictsItself question
 
 -- a need is broken where each of its ways has a question that the family covers
 abbrev pub BreaksNeed : List Question → Need → Type 0

@@ -207,6 +207,7 @@ pub fn worked_examples()
         ≡ example.row_at_a (asks (14 ∷ []) []) (asks (1 ∷ []) []) (asks (1 ∷ []) (0 ∷ []) ∷ [])
         ∷ example.row_at_a (asks (14 ∷ []) (15 ∷ [])) (asks (1 ∷ []) []) [] ∷ [] }
     ensures covered { IsCovered (asks (1 ∷ 2 ∷ []) (3 ∷ 4 ∷ [])) (asks (1 ∷ []) (4 ∷ []) ∷ []) }
+    ensures contradicts { IsCovered (asks (1 ∷ 2 ∷ []) (3 ∷ 2 ∷ [])) [] }
     ensures not_covered { IsCovered (asks (1 ∷ []) (3 ∷ [])) (asks (1 ∷ 2 ∷ []) (3 ∷ []) ∷ []) → ⊥ }
     ensures has_to_be_there { BreaksRow (asks (14 ∷ []) [] ∷ [])
         (example.row_at_a (asks (14 ∷ []) []) (asks (1 ∷ []) []) []) }

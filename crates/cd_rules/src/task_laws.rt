@@ -153,24 +153,16 @@ pub fn tasks_make_functions()
         × IsInClause AFunction (reader graph (thing.Function pairs)) (Arrows wanted refused) }
 {}
 
-/// A clause that wants and refuses the same pair, XML formula or arrow is broken, where the family
-/// covers, for each part of it, the question that wants and refuses that node.
+/// A clause that wants and refuses the same pair, XML formula or arrow is broken by each family.
 pub fn wanted_and_refused_is_broken()
     ensures pairs { (family : List Question) (wanted refused : List Pair) (parts : Pair)
         → AnyOf (λ other. other ≡ parts) wanted → AnyOf (λ other. other ≡ parts) refused
-        → IsCovered (question (parts.0 ∷ []) (parts.0 ∷ [])) family
-        → IsCovered (question (parts.1 ∷ []) (parts.1 ∷ [])) family
         → Breaks family (Pairs wanted refused) }
     ensures xmls { (family : List Question) (wanted refused : List Triple) (parts : Triple)
         → AnyOf (λ other. other ≡ parts) wanted → AnyOf (λ other. other ≡ parts) refused
-        → IsCovered (question (parts.0 ∷ []) (parts.0 ∷ [])) family
-        → IsCovered (question (parts.1 ∷ []) (parts.1 ∷ [])) family
-        → IsCovered (question (parts.2 ∷ []) (parts.2 ∷ [])) family
         → Breaks family (Xmls wanted refused) }
     ensures arrows { (family : List Question) (wanted refused : List Pair) (parts : Pair)
         → AnyOf (λ other. other ≡ parts) wanted → AnyOf (λ other. other ≡ parts) refused
-        → IsCovered (question (parts.0 ∷ []) (parts.0 ∷ [])) family
-        → IsCovered (question (parts.1 ∷ []) (parts.1 ∷ [])) family
         → Breaks family (Arrows wanted refused) }
 {}
 

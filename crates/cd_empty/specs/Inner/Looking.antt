@@ -3,7 +3,7 @@ use Rattle.std.specs.Prelude.{◌≡◌, List, [], ◌∷◌}
 use Rattle.cd_sets.specs.declared.question.Question.{Question}
 use Rattle.cd_model.specs.AllOf.{AnyOf}
 use Rattle.cd_elements.specs.declared.shape.ElementId.{ElementId}
-use Rattle.cd_rules.specs.Family.{IsCovered, IsOfFamily}
+use Rattle.cd_rules.specs.Family.{IsCovered}
 use Rattle.cd_empty.specs.declared.decider.Decider.{Decider}
 use Rattle.cd_empty.specs.declared.look.Look.{Look}
 use Rattle.cd_empty.specs.declared.look.Look.TheVariants as look
@@ -16,7 +16,7 @@ use Rattle.cd_empty.specs.Kept.{kept}
 use Rattle.cd_empty.specs.Verdicts.{IsKept}
 
 abbrev pub IsSeen : Decider → Question → Look → Type 0
-IsSeen decider question look.Empty = IsOfFamily question (known decider)
+IsSeen decider question look.Empty = IsCovered question (known decider)
 IsSeen decider question (look.Has id) = IsKept (kept decider) question (Inhabited id)
 IsSeen decider question look.Unknown = IsUnknown decider question
 
