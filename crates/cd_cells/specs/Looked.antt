@@ -1,6 +1,5 @@
 -- What a look shows of a value.
 use Rattle.std.specs.Prelude.{ℕ, ◌<◌, List}
-use Rattle.std.specs.Str.{chars}
 use Rattle.cd_syntax.specs.Name.{Name}
 use Rattle.cd_model.specs.AllOf.{AllOf}
 use Rattle.cd_model.specs.Thing as thing
@@ -8,13 +7,13 @@ use Rattle.cd_model.specs.Thing.{Thing}
 use Rattle.cd_cells.specs.declared.cell.Look.{Look}
 use Rattle.cd_cells.specs.declared.cell.Look.TheVariants.{Int, Char, Atom, Pair, Xml, Record}
 use Rattle.cd_cells.specs.declared.cell.Look.TheVariants.{Closure}
-use Rattle.cd_cells.specs.Cells.{thing_at, fields_of, IsPart}
+use Rattle.cd_cells.specs.Cells.{thing_at, name_at, fields_of, IsPart}
 
 -- the value, with its names and its parts by their numbers
 abbrev pub looked : List Name → List Thing → Look → Thing
 looked names table (Int n) = thing.Integer n
 looked names table (Char c) = thing.Character c
-looked names table (Atom name) = thing.Atom (chars name.now)
+looked names table (Atom name) = thing.Atom (name_at names name)
 looked names table (Pair first second) =
     thing.Pair (thing_at table first.0) (thing_at table second.0)
 looked names table (Xml tag attributes content) =

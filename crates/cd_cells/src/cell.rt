@@ -67,8 +67,8 @@ pub enum Look<'v> {
     Int(i128),
     /// A character.
     Char(char),
-    /// The atom of this name.
-    Atom(&'v str),
+    /// The atom whose name has this number.
+    Atom(u32),
     /// A pair.
     Pair(ValueId, ValueId),
     /// The XML value of a tag, attributes and a content.

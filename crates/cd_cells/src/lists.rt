@@ -94,7 +94,7 @@ impl Lists {
             Stored::Short(n) => Look::Int(i128::from(n)),
             Stored::Wide(at) => Look::Int(self.wide[at as usize]),
             Stored::Letter(c) => Look::Char(c),
-            Stored::Atom(name) => Look::Atom(self.names.get(name as usize)),
+            Stored::Atom(name) => Look::Atom(name),
             Stored::Record(from, count) => Look::Record(self.parts(from, count)),
             Stored::Closure(function, from, count) => {
                 Look::Closure(function as usize, self.parts(from, count))
