@@ -1,20 +1,21 @@
 -- The machine finds exactly the front that closes a comment.
-use Rattle.std.proofs.Common.{◌≡◌, ℕ, zero, suc, ◌≤◌, false, List, [], ◌∷◌, ◌++◌, Option, Some, None, refl, sym, ap, subst, ◌∙◌, inl, inr, ◌⊎◌, arith, length, take}
+use Rattle.std.proofs.Common.{◌≡◌, ℕ, zero, suc, ◌≤◌, false, List, [], ◌∷◌, ◌++◌, Option, Some, None, refl, sym, ap, subst, ◌∙◌, inl, inr, ◌⊎◌, arith, length, take, drop}
 use Rattle.std.specs.Prelude.{◌==◌, ◌&&◌, if◌then◌else◌, MatchOption}
 use Rattle.std.specs.Option.{option_map, option_map_or}
 use Rattle.std.proofs.lemmas.Bool.{cond-true, cond-false, ne_eqb, cases_eq, eq-eqb}
+use Rattle.std.proofs.lemmas.List.{take-append-drop}
 use Rattle.cd_syntax.specs.Comments.{Closes, begins_pair}
 use Rattle.cd_syntax.specs.Comments.Closes.{last, close, another, character}
 use Rattle.cd_lex.specs.declared.comment.Before.{Before}
 use Rattle.cd_lex.specs.declared.comment.Before.TheVariants.{Nothing, Parenthesis, Star}
-use Rattle.cd_lex.specs.declared.comment.Place.{Place}
-use Rattle.cd_lex.specs.Inner.Commenting.{begins, within, after, step, length_from}
+use Rattle.cd_lex.specs.declared.comment.CommentState.{CommentState}
+use Rattle.cd_lex.specs.Inner.Commenting.{begins, within, after, step, step_of, length_from, left_from}
 
--- a place within a comment
-abbrev at : ℕ → Before → Place
+-- a state within a comment
+abbrev at : ℕ → Before → CommentState
 at around before = record { around = around; before = before }
 
--- the character that stands before a place and may begin a pair
+-- the character that stands before a state and may begin a pair
 abbrev pending : Before → List ℕ
 pending Nothing = []
 pending Parenthesis = 40 ∷ []
@@ -42,10 +43,10 @@ begun c = by_cases (cases_eq c 40) (cases_eq c 42)
     by_cases (inr differs) (inr also) = subst (Begun c) (sym (other c 40 _ _ differs ∙ other c 42 _ _ also)) (neither differs also)
 
 -- how many characters close the comment after one step
-abbrev pub length_after : List ℕ → Option Place → Option ℕ
+abbrev pub length_after : List ℕ → Option CommentState → Option ℕ
 length_after text next = option_map suc (option_map_or (λ next. length_from next text) next (Some 0))
 
--- where a character begins no pair with the text after it, the machine reads as from a place with nothing before it
+-- where a character begins no pair with the text after it, the machine reads as from a state with nothing before it
 unpaired : (around c : ℕ) (text : List ℕ) → begins_pair 40 42 (c ∷ text) ≡ false → begins_pair 42 41 (c ∷ text) ≡ false
     → length_from (after around c) text ≡ length_from (within around) text
 unpaired around c [] no_open no_close = refl
@@ -169,3 +170,37 @@ closing_is text (Some n) is = let closes = closing text 0 Nothing n (sym is) in 
 closing_is text None is = λ written rest split closes.
     let some : length_from (within 0) text ≡ Some (length written) = rw split (finds 0 written rest closes) in
     absurd cc
+
+-- what is left is what stands after so many characters
+module _ (c : ℕ) (cs : List ℕ) (on : (next : CommentState) → left_from next cs ≡ option_map (λ n. drop n cs) (length_from next cs)) where
+  shift : (found : Option ℕ) → option_map (λ n. drop n cs) found ≡ option_map (λ n. drop n (c ∷ cs)) (option_map suc found)
+  shift None = refl
+  shift (Some n) = refl
+
+  left_after : (next : Option CommentState)
+      → option_map_or (λ next. left_from next cs) next (Some cs)
+      ≡ option_map (λ n. drop n (c ∷ cs)) (option_map suc (option_map_or (λ next. length_from next cs) next (Some 0)))
+  left_after None = refl
+  left_after (Some next) = on next ∙ shift (length_from next cs)
+
+left_is : (text : List ℕ) (state : CommentState) → left_from state text ≡ option_map (λ n. drop n text) (length_from state text)
+left_is [] state = refl
+left_is (c ∷ cs) state = left_after c cs (left_is cs) (step_of state c)
+
+-- what is left after the machine closes the comment, or that nothing closes it
+pub closed_left : (text new : List ℕ) → left_from (within 0) text ≡ Some new → (written : List ℕ) × (text ≡ written ++ new) × Closes 1 written
+closed_left text new found = by (length_from (within 0) text) refl
+  where
+    by : (length_is : Option ℕ) → length_is ≡ length_from (within 0) text → (written : List ℕ) × (text ≡ written ++ new) × Closes 1 written
+    by None is = let none : Some new ≡ None = sym found ∙ left_is text (within 0) ∙ ap (option_map (λ n. drop n text)) (sym is) in absurd cc
+    by (Some n) is =
+        let some : Some new ≡ Some (drop n text) = sym found ∙ left_is text (within 0) ∙ ap (option_map (λ n. drop n text)) (sym is) in
+        let same : drop n text ≡ new = cc in
+        (take n text, sym (take-append-drop n text) ∙ ap (λ rest. take n text ++ rest) same, (closing_is text (Some n) is).1)
+
+pub never_closed : (text : List ℕ) → left_from (within 0) text ≡ None → (written rest : List ℕ) → text ≡ written ++ rest → Closes 1 written → ⊥
+never_closed text none = by (length_from (within 0) text) refl
+  where
+    by : (found : Option ℕ) → found ≡ length_from (within 0) text → (written rest : List ℕ) → text ≡ written ++ rest → Closes 1 written → ⊥
+    by None is = closing_is text None is
+    by (Some n) is = let some : Some (drop n text) ≡ None = ap (option_map (λ n. drop n text)) is ∙ sym (left_is text (within 0)) ∙ none in absurd cc

@@ -1,44 +1,40 @@
 -- Each text spells tokens or has a first fault.
-use Rattle.std.proofs.Common.{◌≡◌, ℕ, ℤ, pos, neg_ℤ, zero, suc, ◌+◌, ◌≤◌, Bool, true, false, true≢false, List, [], ◌∷◌, ◌++◌, Option, Some, None, refl, sym, ap, subst, ◌∙◌, inl, inr, ◌⊎◌, arith, length, take, drop}
-use Rattle.std.specs.Prelude.{◌==◌, ◌||◌, not, int_le, take_while, MatchOption}
+use Rattle.std.proofs.Common.{◌≡◌, ℕ, ℤ, pos, neg_ℤ, zero, suc, ◌+◌, ◌-◌, ◌≤◌, Bool, true, false, true≢false, List, [], ◌∷◌, Option, Some, None, refl, sym, ap, subst, ◌∙◌, inl, inr, ◌⊎◌, arith, length}
+use Rattle.std.specs.Prelude.{◌==◌, ◌||◌, not, int_le}
 use Rattle.std.specs.Char.{is_ascii_digit}
 use Rattle.std.proofs.lemmas.Bool.{cases_Bool, cases_eq, and_parts, eqb-true, ne_eqb}
 use Rattle.std.proofs.lemmas.Int.{ints}
-use Rattle.std.proofs.lemmas.List.{take-append-drop, length-drop}
+use Rattle.std.proofs.lemmas.List.{length-append}
 use Rattle.cd_syntax.specs.declared.sign.Sign.{Sign as ASign}
 use Rattle.cd_syntax.specs.declared.tokens.Token.{Token}
 use Rattle.cd_syntax.specs.declared.tokens.TokenKind.{TokenKind}
 use Rattle.cd_syntax.specs.declared.tokens.TokenKind.TheVariants.{Word, Int, Chars, Text, Atom, Sign}
 use Rattle.cd_syntax.specs.declared.tokens.LexError.{LexError}
-use Rattle.cd_syntax.specs.declared.tokens.LexError.TheVariants.{BadChar, OpenText, OpenComment, TooWide, Memory}
+use Rattle.cd_syntax.specs.declared.tokens.LexError.TheVariants.{BadChar, OpenText, OpenComment, TooWide}
 use Rattle.cd_syntax.specs.Integer.{LEAST, GREATEST, IsInteger}
-use Rattle.cd_syntax.specs.Name.{begins_word, goes_on_word}
+use Rattle.cd_syntax.specs.Name.{begins_word}
 use Rattle.cd_syntax.specs.Digits.{decimal_value}
 use Rattle.cd_syntax.specs.Signs.{characters}
-use Rattle.cd_syntax.specs.Comments.{begins_pair, Closes}
+use Rattle.cd_syntax.specs.Comments.{begins_pair}
 use Rattle.cd_syntax.specs.Tokens.{is_blank, begins_negative, bytes, joins, token_at, Spells}
 use Rattle.cd_syntax.specs.Tokens as tokens
 use Rattle.cd_syntax.specs.Faults.{is_other, Breaks, Fails}
 use Rattle.cd_syntax.specs.Faults as faults
-use Rattle.cd_lex.specs.Inner.Standing.{IsDroppedFront, IsTokenFront, FaultAtFront, IsAtomFront, NoAtomFront}
-use Rattle.cd_lex.specs.Inner.Commenting.{within, length_from}
+use Rattle.cd_lex.specs.Inner.Prefixes.{first_word, after_word, first_digits, after_digits}
+use Rattle.cd_lex.specs.Inner.Standing.{IsDroppedTo, IsTokenTo}
+use Rattle.cd_lex.specs.Inner.Quoted.{IsBroken}
+use Rattle.cd_lex.specs.Inner.Commenting.{within, left_from}
 use Rattle.cd_lex.specs.Inner.SignTable.{first_sign}
-use Rattle.cd_lex.proofs.Commenting.{closing_is}
-use Rattle.cd_lex.proofs.Signing.{none_stands, first_is_longest}
-use Rattle.cd_lex.proofs.WordFronts.{word_front, number_front, negative_front, number_fault, negative_fault, atom_front, no_atom, no_atom_alone, after_backquote, lone_backquote}
-use Rattle.cd_lex.proofs.Fronts.{blank_stands, comment_stands, comment_open, text_stands, chars_stand, one_byte, text_open, text_breaks, sign_stands, no_sign}
+use Rattle.cd_lex.proofs.Signing.{none_stands, first_stands}
+use Rattle.cd_lex.proofs.WordFronts.{word_front, number_front, negative_front, number_fault, negative_fault, atom_front, lone_backquote, no_word}
+use Rattle.cd_lex.proofs.Fronts.{blank_stands, comment_closes, comment_ends, text_stands, chars_stand, text_open, text_breaks, sign_stands, no_sign}
 use Rattle.cd_lex.proofs.DecidingQuotes.{AfterQuote, closed, broken, unended, after_quote}
 
 -- what stands at the front of a text
 data Front (joined : Bool) (at : ℕ) (text : List ℕ) : Type 0 where
-  falls_away : (count : ℕ) → IsDroppedFront text count → Front joined at text
-  stands : (kind : TokenKind) (count : ℕ) → IsTokenFront joined text kind count → Front joined at text
+  falls_away : (rest : List ℕ) → IsDroppedTo text rest → Front joined at text
+  stands : (kind : TokenKind) (rest : List ℕ) → IsTokenTo joined text kind rest → Front joined at text
   is_fault : (fault : LexError) → Breaks joined at text fault → Front joined at text
-
--- a fault that is not one of memory
-fault_front : (joined : Bool) (at : ℕ) (text : List ℕ) (fault : LexError) → (fault ≡ Memory → ⊥) → FaultAtFront joined at text fault → Front joined at text
-fault_front joined at text fault other (inl memory) = absurd (other memory)
-fault_front joined at text fault other (inr breaks) = is_fault fault breaks
 
 -- a number fits 128 bits, or not
 integer_or : (n : ℤ) → IsInteger n ⊎ (IsInteger n → ⊥)
@@ -48,6 +44,18 @@ integer_or n = by (int_le LEAST n) (int_le n GREATEST) refl refl
     by true true from to = inl (omega (arith, ints))
     by true false from past = inr (λ is. omega (arith, ints))
     by false b below to = inr (λ is. omega (arith, ints))
+
+-- a list of numbers is this one, or not
+cases_bytes : (xs ys : List ℕ) → (xs ≡ ys) ⊎ (xs ≡ ys → ⊥)
+cases_bytes [] [] = inl refl
+cases_bytes [] (y ∷ ys) = inr (λ is. cc)
+cases_bytes (x ∷ xs) [] = inr (λ is. cc)
+cases_bytes (x ∷ xs) (y ∷ ys) = by (cases_eq x y) (cases_bytes xs ys)
+  where
+    by : ((x ≡ y) ⊎ (x ≡ y → ⊥)) → ((xs ≡ ys) ⊎ (xs ≡ ys → ⊥)) → (x ∷ xs ≡ y ∷ ys) ⊎ (x ∷ xs ≡ y ∷ ys → ⊥)
+    by (inl one) (inl rest) = inl cc
+    by (inr differs) b = inr (λ is. let same : x ≡ y = cc in differs same)
+    by a (inr differs) = inr (λ is. let same : xs ≡ ys = cc in differs same)
 
 -- a text that begins with a pair
 pair_is : (a b : ℕ) (text : List ℕ) → begins_pair a b text ≡ true → (inside : List ℕ) × (text ≡ a ∷ b ∷ inside)
@@ -69,83 +77,56 @@ negative_is (c ∷ d ∷ rest) is =
 
 module _ (joined : Bool) (at : ℕ) where
   comment_decided : (inside : List ℕ) → Front joined at (40 ∷ 42 ∷ inside)
-  comment_decided inside = by (length_from (within 0) inside) (closing_is inside (length_from (within 0) inside) refl)
+  comment_decided inside = by (left_from (within 0) inside) refl
     where
-      by : (found : Option ℕ) → MatchOption found ((written rest : List ℕ) → inside ≡ written ++ rest → Closes 1 written → ⊥) (λ n. (n ≤ length inside) × Closes 1 (take n inside))
-          → Front joined at (40 ∷ 42 ∷ inside)
-      by (Some count) is = falls_away (2 + count) (comment_stands inside count is.0 is.1)
-      by None none = is_fault (OpenComment at) (comment_open joined at inside none)
+      by : (found : Option (List ℕ)) → left_from (within 0) inside ≡ found → Front joined at (40 ∷ 42 ∷ inside)
+      by (Some rest) is = falls_away rest (comment_closes (42 ∷ inside) inside rest refl is)
+      by None none = is_fault (OpenComment at) (comment_ends joined at (42 ∷ inside) inside refl none)
+
+  -- the place of a `\`, in a text that ends where its bytes end
+  breaks_there : (quote : ℕ) (inside rest : List ℕ) → faults.is_quote quote ≡ true → IsBroken quote inside rest → Front joined at (quote ∷ inside)
+  breaks_there quote inside rest is breaks =
+      let end = at + bytes (quote ∷ inside) in
+      is_fault (BadChar (end - bytes rest)) (text_breaks joined at quote end (end - bytes rest) inside rest is breaks (omega arith) (omega arith) refl)
 
   text_decided : (inside : List ℕ) → AfterQuote 34 inside → Front joined at (34 ∷ inside)
-  text_decided inside (closed characters count is) = stands (Text characters) (2 + count) (text_stands joined inside characters count is)
-  text_decided inside (broken count is) =
-      is_fault (BadChar (at + 1 + bytes (take count inside))) (text_breaks joined at 34 count (at + 1 + bytes (take count inside)) inside refl is refl (one_byte 34 (inl refl)))
+  text_decided inside (closed characters rest is) = stands (Text characters) rest (text_stands joined inside characters rest is)
+  text_decided inside (broken rest is) = breaks_there 34 inside rest refl is
   text_decided inside (unended is) = is_fault (OpenText at) (text_open joined at 34 inside refl is)
 
   chars_decided : (inside : List ℕ) → AfterQuote 39 inside → Front joined at (39 ∷ inside)
-  chars_decided inside (closed characters count is) = stands (Chars characters) (2 + count) (chars_stand joined inside characters count is)
-  chars_decided inside (broken count is) =
-      is_fault (BadChar (at + 1 + bytes (take count inside))) (text_breaks joined at 39 count (at + 1 + bytes (take count inside)) inside refl is refl (one_byte 39 (inr refl)))
+  chars_decided inside (closed characters rest is) = stands (Chars characters) rest (chars_stand joined inside characters rest is)
+  chars_decided inside (broken rest is) = breaks_there 39 inside rest refl is
   chars_decided inside (unended is) = is_fault (OpenText at) (text_open joined at 39 inside refl is)
 
   number_decided : (c : ℕ) (rest : List ℕ) → is_ascii_digit c ≡ true → Front joined at (c ∷ rest)
   number_decided c rest digit = by (integer_or value)
     where
-      text : List ℕ
-      text = c ∷ rest
-
-      count : ℕ
-      count = length (take_while is_ascii_digit text)
-
       value : ℤ
-      value = pos (decimal_value (take count text))
+      value = pos (decimal_value (first_digits (c ∷ rest)))
 
       by : IsInteger value ⊎ (IsInteger value → ⊥) → Front joined at (c ∷ rest)
-      by (inl fits) = stands (Int value) count (number_front text count c rest refl digit refl value refl fits joined)
-      by (inr wide) = fault_front joined at text (TooWide at) (λ is. cc) (number_fault text count c rest refl digit refl wide joined at)
+      by (inl fits) = stands (Int value) (after_digits (c ∷ rest)) (number_front joined c rest digit fits)
+      by (inr wide) = is_fault (TooWide at) (number_fault joined at c rest digit wide)
 
   atom_decided : (rest : List ℕ) → Front joined at (96 ∷ rest)
-  atom_decided [] = fault_front joined at (96 ∷ []) (BadChar at) (λ is. cc) (lone_backquote [] (no_atom [] (λ label. true≢false (sym label.0))) joined at)
+  atom_decided [] = is_fault (BadChar at) (lone_backquote joined at [] (λ label. true≢false (sym label.0)))
   atom_decided (c ∷ rest) = elim (cases_Bool (begins_word c)) [
-    | inl begins ↦ by begins (cases_eq c 95) (cases_eq count 1)
-    | inr fails ↦ fault_front joined at (96 ∷ text) (BadChar at) (λ is. cc) (lone_backquote text (none fails) joined at)
+    | inl begins ↦ by begins (cases_bytes (first_word (c ∷ rest)) (95 ∷ []))
+    | inr fails ↦ is_fault (BadChar at) (lone_backquote joined at (c ∷ rest) (no_word (c ∷ rest) (λ d others is. let same : d ≡ c = cc in ap begins_word same ∙ fails)))
   ]
     where
-      text : List ℕ
-      text = c ∷ rest
-
-      count : ℕ
-      count = length (take_while goes_on_word text)
-
-      -- a name that stands there would begin with this character
-      none : begins_word c ≡ false → NoAtomFront text
-      none fails [] after is label ends = true≢false (sym label.0)
-      none fails (d ∷ name) after is label ends =
-          let first : begins_word d ≡ true = (and_parts (begins_word d) _ label.0).0 in
-          let same : c ≡ d = cc in
-          true≢false (sym first ∙ ap begins_word (sym same) ∙ fails)
-
-      atom : IsAtomFront text count → Front joined at (96 ∷ text)
-      atom front = stands (Atom (take count text)) (1 + count) (after_backquote text (take count text) count front refl joined)
-
-      by : begins_word c ≡ true → (c ≡ 95) ⊎ (c ≡ 95 → ⊥) → (count ≡ 1) ⊎ (count ≡ 1 → ⊥) → Front joined at (96 ∷ text)
-      by begins (inl line) (inl one) = fault_front joined at (96 ∷ text) (BadChar at) (λ is. cc) (lone_backquote text (no_atom_alone text c rest refl begins line one) joined at)
-      by begins (inl line) (inr long) = atom (atom_front text count c rest refl begins refl (inl (line, long)))
-      by begins (inr other) one = atom (atom_front text count c rest refl begins refl (inr other))
-
-  word_decided : (c : ℕ) (rest : List ℕ) → begins_word c ≡ true → Front joined at (c ∷ rest)
-  word_decided c rest begins =
-      let text = c ∷ rest in
-      let count = length (take_while goes_on_word text) in
-      stands (Word (take count text)) count (word_front text (take count text) count c rest refl begins refl refl joined)
+      by : begins_word c ≡ true → (first_word (c ∷ rest) ≡ 95 ∷ []) ⊎ (first_word (c ∷ rest) ≡ 95 ∷ [] → ⊥) → Front joined at (96 ∷ c ∷ rest)
+      by begins (inl line) = is_fault (BadChar at) (lone_backquote joined at (c ∷ rest) (λ label. label.1 line))
+      by begins (inr other) = stands (Atom (first_word (c ∷ rest))) (after_word (c ∷ rest)) (atom_front joined c rest begins other)
 
   sign_decided : (c : ℕ) (rest : List ℕ) → is_other c ≡ true → (c ≡ 96 → ⊥) → begins_pair 40 42 (c ∷ rest) ≡ false
       → (joined ≡ false → begins_negative (c ∷ rest) ≡ false) → Front joined at (c ∷ rest)
   sign_decided c rest other no_backquote no_pair no_number = by (first_sign (c ∷ rest)) refl
     where
       by : (found : Option ASign) → first_sign (c ∷ rest) ≡ found → Front joined at (c ∷ rest)
-      by (Some is) found = stands (Sign is) (length (characters is)) (sign_stands joined (c ∷ rest) is (first_is_longest (c ∷ rest) is found) no_pair no_number)
-      by None none = is_fault (BadChar at) (no_sign joined at (c ∷ rest) (c, rest, refl, other, no_backquote) (none_stands (c ∷ rest) none))
+      by (Some is) found = let sign = first_stands (c ∷ rest) is found in stands (Sign is) sign.0 (sign_stands joined (c ∷ rest) is sign.0 sign.1 no_pair no_number)
+      by None none = is_fault (BadChar at) (no_sign joined at c rest other no_backquote (none_stands (c ∷ rest) none))
 
   -- by the first character, where no comment and no negative number begins
   by_first : (c : ℕ) (rest : List ℕ) → begins_pair 40 42 (c ∷ rest) ≡ false → (joined ≡ false → begins_negative (c ∷ rest) ≡ false) → Front joined at (c ∷ rest)
@@ -166,8 +147,8 @@ module _ (joined : Bool) (at : ℕ) where
       by (inl is) b q k w d = subst (λ c. Front joined at (c ∷ rest)) (sym is) (text_decided rest (after_quote 34 rest))
       by (inr a) (inl is) q k w d = subst (λ c. Front joined at (c ∷ rest)) (sym is) (chars_decided rest (after_quote 39 rest))
       by (inr a) (inr b) (inl is) k w d = subst (λ c. Front joined at (c ∷ rest)) (sym is) (atom_decided rest)
-      by (inr a) (inr b) (inr q) (inl is) w d = falls_away 1 (blank_stands c rest is)
-      by (inr a) (inr b) (inr q) (inr k) (inl is) d = word_decided c rest is
+      by (inr a) (inr b) (inr q) (inl is) w d = falls_away rest (blank_stands c rest is)
+      by (inr a) (inr b) (inr q) (inr k) (inl is) d = stands (Word (first_word (c ∷ rest))) (after_word (c ∷ rest)) (word_front joined c rest is)
       by (inr a) (inr b) (inr q) (inr k) (inr w) (inl is) = number_decided c rest is
       by (inr a) (inr b) (inr q) (inr k) (inr w) (inr d) =
           let other : is_other c ≡ true = none_of (is_blank c) (begins_word c) (is_ascii_digit c) (c == 34) (c == 39) k w d (ne_eqb c 34 a) (ne_eqb c 39 b) in
@@ -177,18 +158,12 @@ module _ (joined : Bool) (at : ℕ) where
 negative_decided : (at d : ℕ) (rest : List ℕ) → is_ascii_digit d ≡ true → Front false at (45 ∷ d ∷ rest)
 negative_decided at d rest digit = by (integer_or value)
   where
-    text : List ℕ
-    text = d ∷ rest
-
-    count : ℕ
-    count = length (take_while is_ascii_digit text)
-
     value : ℤ
-    value = neg_ℤ (pos (decimal_value (take count text)))
+    value = neg_ℤ (pos (decimal_value (first_digits (d ∷ rest))))
 
     by : IsInteger value ⊎ (IsInteger value → ⊥) → Front false at (45 ∷ d ∷ rest)
-    by (inl fits) = stands (Int value) (1 + count) (negative_front text count d rest refl digit refl value refl fits (1 + count) refl)
-    by (inr wide) = fault_front false at (45 ∷ text) (TooWide at) (λ is. cc) (negative_fault text count d rest refl digit refl wide at)
+    by (inl fits) = stands (Int value) (after_digits (d ∷ rest)) (negative_front d rest digit fits)
+    by (inr wide) = is_fault (TooWide at) (negative_fault at d rest digit wide)
 
 front_decided : (joined : Bool) (at c : ℕ) (rest : List ℕ) → Front joined at (c ∷ rest)
 front_decided joined at c rest = elim (cases_Bool (begins_pair 40 42 (c ∷ rest))) [
@@ -213,24 +188,24 @@ Read joined at text = ((list : List Token) × Spells joined at text list) ⊎ ((
 reads_on : (n : ℕ) (joined : Bool) (at : ℕ) (text : List ℕ) → length text ≤ suc n → ((joined : Bool) (at : ℕ) (rest : List ℕ) → length rest ≤ n → Read joined at rest)
     → Front joined at text → Read joined at text
 reads_on n joined at text fits on (is_fault fault breaks) = inr (fault, faults.here joined at text fault breaks)
-reads_on n joined at text fits on (falls_away count front) =
-    by (on false (at + bytes (take count text)) (drop count text) (let left = length-drop count text in let some = front.some in let whole = front.within in omega arith))
+reads_on n joined at text fits on (falls_away rest front) =
+    by (on false (at + bytes front.written) rest (let whole = ap length front.is ∙ length-append front.written rest in let some = front.some in omega arith))
   where
-    by : Read false (at + bytes (take count text)) (drop count text) → Read joined at text
-    by (inl is) = inl (is.0, subst (λ t. Spells joined at t is.0) (take-append-drop count text) (tokens.dropped joined at (take count text) (drop count text) is.0 front.dropped is.1))
-    by (inr is) = inr (is.0, subst (λ t. Fails joined at t is.0) (take-append-drop count text) (faults.after_dropped joined at (take count text) (drop count text) is.0 front.dropped is.1))
-reads_on n joined at text fits on (stands kind count front) =
-    by (on (joins kind) (at + bytes (take count text)) (drop count text) (let left = length-drop count text in let some = front.some in let whole = front.within in omega arith))
+    by : Read false (at + bytes front.written) rest → Read joined at text
+    by (inl is) = inl (is.0, subst (λ t. Spells joined at t is.0) (sym front.is) (tokens.dropped joined at front.written rest is.0 front.dropped is.1))
+    by (inr is) = inr (is.0, subst (λ t. Fails joined at t is.0) (sym front.is) (faults.after_dropped joined at front.written rest is.0 front.dropped is.1))
+reads_on n joined at text fits on (stands kind rest front) =
+    by (on (joins kind) (at + bytes front.written) rest (let whole = ap length front.is ∙ length-append front.written rest in let some = front.some in omega arith))
   where
-    by : Read (joins kind) (at + bytes (take count text)) (drop count text) → Read joined at text
+    by : Read (joins kind) (at + bytes front.written) rest → Read joined at text
     by (inl is) = inl (
-      token_at at (take count text) kind ∷ is.0,
-      subst (λ t. Spells joined at t (token_at at (take count text) kind ∷ is.0)) (take-append-drop count text)
-          (tokens.token joined at (take count text) (drop count text) kind is.0 front.writes is.1),
+      token_at at front.written kind ∷ is.0,
+      subst (λ t. Spells joined at t (token_at at front.written kind ∷ is.0)) (sym front.is)
+          (tokens.token joined at front.written rest kind is.0 front.writes is.1),
     )
     by (inr is) = inr (
       is.0,
-      subst (λ t. Fails joined at t is.0) (take-append-drop count text) (faults.after_token joined at (take count text) (drop count text) kind is.0 front.writes is.1),
+      subst (λ t. Fails joined at t is.0) (sym front.is) (faults.after_token joined at front.written rest kind is.0 front.writes is.1),
     )
 
 read_within : (n : ℕ) (joined : Bool) (at : ℕ) (text : List ℕ) → length text ≤ n → Read joined at text

@@ -8,7 +8,7 @@ use Rattle.std.proofs.lemmas.List.{append_assoc, append-nil, length-append}
 use Rattle.cd_syntax.specs.Digits.{AreDigits, decimal_value, BeginsWithNoDigit}
 use Rattle.cd_syntax.specs.Quotes.{Quotes, IsEscapeLetter, line_feed, carriage_return, tab, backslash, apostrophe, IsCode, BreaksEscape, EndsHalf}
 use Rattle.cd_syntax.specs.Quotes as quotes
-use Rattle.cd_lex.specs.Inner.Quoted.{IsClosed, IsBroken, IsOpen}
+use Rattle.cd_lex.specs.Inner.Quoted.{Means, IsClosed, IsBroken, IsOpen}
 use Rattle.cd_lex.proofs.Wording.{digits_stand, taken_and_rest}
 
 -- a letter after `\` means a character, or none
@@ -84,56 +84,56 @@ after_backslash (c ∷ rest) = elim (cases_Bool (is_ascii_digit c)) [
 
 -- what stands after an opening quote
 pub data AfterQuote (quote : ℕ) (text : List ℕ) : Type 0 where
-  closed : (characters : List ℕ) (count : ℕ) → IsClosed quote text characters count → AfterQuote quote text
-  broken : (count : ℕ) → IsBroken quote text count → AfterQuote quote text
+  closed : (characters rest : List ℕ) → IsClosed quote text characters rest → AfterQuote quote text
+  broken : (rest : List ℕ) → IsBroken quote text rest → AfterQuote quote text
   unended : IsOpen quote text → AfterQuote quote text
 
 -- one piece more before it
+further_means : (quote : ℕ) (piece : List ℕ) (c : ℕ) (text characters rest : List ℕ)
+    → ((written characters : List ℕ) → Quotes quote written characters → Quotes quote (piece ++ written) (c ∷ characters))
+    → Means quote text characters rest → Means quote (piece ++ text) (c ∷ characters) rest
+further_means quote piece c text characters rest further is = record {
+  written = piece ++ is.written;
+  is = ap (λ t. piece ++ t) is.is ∙ sym (append_assoc piece is.written rest);
+  quotes = further is.written characters is.quotes;
+}
+
 one_more : (quote : ℕ) (piece : List ℕ) (c : ℕ) (rest : List ℕ)
     → ((written characters : List ℕ) → Quotes quote written characters → Quotes quote (piece ++ written) (c ∷ characters))
     → AfterQuote quote rest → AfterQuote quote (piece ++ rest)
-one_more quote piece c rest further (closed characters count is) = closed (c ∷ characters) (length (piece ++ is.written)) (record {
-  written = piece ++ is.written;
-  rest = is.rest;
-  is = ap (λ t. piece ++ t) is.is ∙ sym (append_assoc piece is.written (quote ∷ is.rest));
-  counted = refl;
-  quotes = further is.written characters is.quotes;
-})
-one_more quote piece c rest further (broken count is) = broken (length (piece ++ is.written)) (record {
-  written = piece ++ is.written;
+one_more quote piece c rest further (closed characters new is) = closed (c ∷ characters) new (further_means quote piece c rest characters (quote ∷ new) further is)
+one_more quote piece c rest further (broken new is) = broken new (record {
   characters = c ∷ is.characters;
-  rest = is.rest;
-  is = ap (λ t. piece ++ t) is.is ∙ sym (append_assoc piece is.written is.rest);
-  counted = refl;
-  quotes = further is.written is.characters is.quotes;
+  means = further_means quote piece c rest is.characters new further is.means;
   breaks = is.breaks;
 })
 one_more quote piece c rest further (unended is) = unended (record {
-  written = piece ++ is.written;
   characters = c ∷ is.characters;
   rest = is.rest;
-  is = ap (λ t. piece ++ t) is.is ∙ sym (append_assoc piece is.written is.rest);
-  quotes = further is.written is.characters is.quotes;
+  means = further_means quote piece c rest is.characters is.rest further is.means;
   ends = is.ends;
 })
+
+-- nothing is read
+nothing_read : (quote : ℕ) (text : List ℕ) → Means quote text [] text
+nothing_read quote text = record { written = []; is = refl; quotes = quotes.nothing }
 
 module _ (quote : ℕ) where
   -- the text ends
   ended : AfterQuote quote []
-  ended = unended (record { written = []; characters = []; rest = []; is = refl; quotes = quotes.nothing; ends = quotes.nothing })
+  ended = unended (record { characters = []; rest = []; means = nothing_read quote []; ends = quotes.nothing })
 
   -- the closing quote
   closes : (rest : List ℕ) → AfterQuote quote (quote ∷ rest)
-  closes rest = closed [] 0 (record { written = []; rest = rest; is = refl; counted = refl; quotes = quotes.nothing })
+  closes rest = closed [] rest (nothing_read quote (quote ∷ rest))
 
   -- a `\`, where what is left after its escape is known
   escapes : (n : ℕ) (text : List ℕ) → length text ≤ n → ((rest : List ℕ) → length rest ≤ n → AfterQuote quote rest) → AfterBackslash text → AfterQuote quote (92 ∷ text)
   escapes n text fits on (means piece c rest is some further) =
       let whole : length (92 ∷ text) ≡ length piece + length rest = ap length is ∙ length-append piece rest in
       subst (AfterQuote quote) (sym is) (one_more quote piece c rest (further quote) (on rest (omega arith)))
-  escapes n text fits on (begins_none breaks) =
-      broken 0 (record { written = []; characters = []; rest = 92 ∷ text; is = refl; counted = refl; quotes = quotes.nothing; breaks = breaks })
-  escapes n text fits on (ends_early ends) = unended (record { written = []; characters = []; rest = 92 ∷ text; is = refl; quotes = quotes.nothing; ends = ends })
+  escapes n text fits on (begins_none breaks) = broken (92 ∷ text) (record { characters = []; means = nothing_read quote (92 ∷ text); breaks = breaks })
+  escapes n text fits on (ends_early ends) = unended (record { characters = []; rest = 92 ∷ text; means = nothing_read quote (92 ∷ text); ends = ends })
 
   -- a character, where what is left after it is known
   first : (n c : ℕ) (text : List ℕ) → length text ≤ n → ((rest : List ℕ) → length rest ≤ n → AfterQuote quote rest) → AfterQuote quote (c ∷ text)

@@ -1,39 +1,45 @@
 -- What stands at the front of a text, or is a fault there: comments, quotes, signs.
-use Rattle.std.proofs.Common.{◌≡◌, ℕ, suc, ◌+◌, ◌<◌, ◌≤◌, length, take, drop, Bool, true, false, List, [], ◌∷◌, ◌++◌, inl, inr, ◌⊎◌, refl, sym, ap, subst, ◌∙◌, arith}
-use Rattle.std.proofs.lemmas.List.{length-append, append_assoc, take-append-drop}
+use Rattle.std.proofs.Common.{◌≡◌, ℕ, ◌+◌, ◌-◌, ◌<◌, ◌≤◌, length, Bool, true, false, List, [], ◌∷◌, ◌++◌, Some, None, inl, inr, ◌⊎◌, refl, sym, ap, subst, ◌∙◌, arith}
+use Rattle.std.proofs.lemmas.List.{length-append, append_assoc}
 use Rattle.std.proofs.lemmas.Str.{encodes-append}
-use Rattle.std.proofs.Math.Seq.{take-append_seam}
-use Rattle.std.specs.Prelude.{encode_utf8, encode_utf8_all}
+use Rattle.std.specs.Prelude.{encode_utf8_all, ◌&&◌, ◌==◌}
+use Rattle.std.specs.Char.{is_ascii_digit}
+use Rattle.std.proofs.lemmas.Bool.{ne_eqb}
+use Rattle.cd_syntax.specs.Digits.{BeginsWithNoDigit}
 use Rattle.cd_syntax.specs.declared.sign.Sign.{Sign as ASign}
 use Rattle.cd_syntax.specs.declared.sign.Sign.TheVariants as sign
-use Rattle.cd_syntax.specs.declared.tokens.TokenKind.{TokenKind}
 use Rattle.cd_syntax.specs.declared.tokens.TokenKind.TheVariants.{Chars, Text, Sign}
 use Rattle.cd_syntax.specs.declared.tokens.LexError.TheVariants.{BadChar, OpenText, OpenComment}
 use Rattle.cd_syntax.specs.Signs.{characters, BeginsWith, IsLongest}
 use Rattle.cd_syntax.specs.Comments.{begins_pair, Closes, IsComment, comment}
-use Rattle.cd_syntax.specs.Tokens.{begins_negative, bytes, IsDropped, Writes}
+use Rattle.cd_syntax.specs.Tokens.{begins_negative, bytes}
 use Rattle.cd_syntax.specs.Tokens as tokens
 use Rattle.cd_syntax.specs.Faults.{is_other, Breaks}
 use Rattle.cd_syntax.specs.Faults as faults
-use Rattle.cd_lex.specs.Inner.Standing.{IsDroppedFront, IsTokenFront}
-use Rattle.cd_lex.proofs.WordFronts.{token_front}
+use Rattle.cd_lex.specs.declared.lexer.Kind.{Kind}
+use Rattle.cd_lex.specs.declared.lexer.Kind.TheVariants as kind
+use Rattle.cd_lex.specs.Lexing.{with_characters}
+use Rattle.cd_lex.specs.Inner.Prefixes.{BeginsWithOther}
+use Rattle.cd_lex.specs.Inner.Standing.{IsDroppedTo, IsTokenTo, IsSignTo}
+use Rattle.cd_lex.specs.Inner.Commenting.{within, left_from}
+use Rattle.cd_lex.proofs.Commenting.{closed_left, never_closed}
+use Rattle.cd_lex.proofs.SignFronts.{lone_stands, open_parenthesis}
 use Rattle.cd_lex.specs.Inner.Quoted.{IsClosed, IsBroken, IsOpen}
 
 -- a blank
-pub blank_stands : (c : ℕ) (rest : List ℕ) → tokens.is_blank c ≡ true → IsDroppedFront (c ∷ rest) 1
-blank_stands c rest is = record { some = omega arith; within = omega arith; dropped = tokens.blank c is }
+pub blank_stands : (c : ℕ) (rest : List ℕ) → tokens.is_blank c ≡ true → IsDroppedTo (c ∷ rest) rest
+blank_stands c rest is = record { written = c ∷ []; is = refl; some = omega arith; dropped = tokens.blank c is }
 
 -- a comment
-pub comment_stands : (inside : List ℕ) (count : ℕ) → count ≤ length inside → Closes 1 (take count inside) → IsDroppedFront (40 ∷ 42 ∷ inside) (2 + count)
-comment_stands inside count within closes =
-    let two : suc (suc count) ≡ 2 + count = omega arith in
-    subst (IsDroppedFront (40 ∷ 42 ∷ inside)) two (record {
-      some = omega arith;
-      within = omega arith;
-      dropped = tokens.comment (40 ∷ 42 ∷ take count inside) (comment (take count inside) closes);
-    })
+comment_stands : (inside written rest : List ℕ) → inside ≡ written ++ rest → Closes 1 written → IsDroppedTo (40 ∷ 42 ∷ inside) rest
+comment_stands inside written rest is closes = record {
+  written = 40 ∷ 42 ∷ written;
+  is = ap (λ text. 40 ∷ 42 ∷ text) is;
+  some = omega arith;
+  dropped = tokens.comment (40 ∷ 42 ∷ written) (comment written closes);
+}
 
-pub comment_open : (joined : Bool) (at : ℕ) (inside : List ℕ) → ((written rest : List ℕ) → inside ≡ written ++ rest → Closes 1 written → ⊥)
+comment_open : (joined : Bool) (at : ℕ) (inside : List ℕ) → ((written rest : List ℕ) → inside ≡ written ++ rest → Closes 1 written → ⊥)
     → Breaks joined at (40 ∷ 42 ∷ inside) (OpenComment at)
 comment_open joined at inside none = faults.open_comment inside no_comment
   where
@@ -42,80 +48,82 @@ comment_open joined at inside none = faults.open_comment inside no_comment
         let same : inside ≡ within ++ rest = cc in
         none within rest same closes
 
--- so many bytes
-pub bytes_cons : (c : ℕ) (rest : List ℕ) → bytes (c ∷ rest) ≡ length (encode_utf8 c) + bytes rest
-bytes_cons c rest = length-append (encode_utf8 c) (encode_utf8_all rest)
+-- what the machine finds
+pub comment_closes : (text inside rest : List ℕ) → text ≡ 42 ∷ inside → left_from (within 0) inside ≡ Some rest → IsDroppedTo (40 ∷ text) rest
+comment_closes text inside rest at found =
+    let closed = closed_left inside rest found in
+    subst (λ text. IsDroppedTo (40 ∷ text) rest) (sym at) (comment_stands inside closed.0 rest closed.1 closed.2)
 
+pub comment_ends : (joined : Bool) (at : ℕ) (text inside : List ℕ) → text ≡ 42 ∷ inside → left_from (within 0) inside ≡ None
+    → Breaks joined at (40 ∷ text) (OpenComment at)
+comment_ends joined at text inside is none =
+    subst (λ text. Breaks joined at (40 ∷ text) (OpenComment at)) (sym is) (comment_open joined at inside (never_closed inside none))
+
+-- so many bytes
 pub bytes_append : (left right : List ℕ) → bytes (left ++ right) ≡ bytes left + bytes right
 bytes_append left right = ap length (encodes-append left right) ∙ length-append (encode_utf8_all left) (encode_utf8_all right)
 
 -- quotes
-closed_front : (joined : Bool) (quote : ℕ) (written rest : List ℕ) (kind : TokenKind) (count : ℕ) → count ≡ 2 + length written
-    → ((after : List ℕ) → Writes joined (quote ∷ written ++ quote ∷ []) after kind) → IsTokenFront joined (quote ∷ written ++ quote ∷ rest) kind count
-closed_front joined quote written rest kind count is writes =
-    let whole : (quote ∷ written ++ quote ∷ []) ++ rest ≡ quote ∷ written ++ quote ∷ rest = ap (λ t. quote ∷ t) (append_assoc written (quote ∷ []) rest) in
-    let long : length (quote ∷ written ++ quote ∷ []) ≡ 2 + length written = let app = length-append written (quote ∷ []) in omega arith in
-    token_front joined (quote ∷ written ++ quote ∷ []) rest (quote ∷ written ++ quote ∷ rest) kind count (sym whole) (is ∙ sym long) (omega arith) (writes rest)
+quoted_is : (quote : ℕ) (written rest : List ℕ) → quote ∷ written ++ quote ∷ rest ≡ (quote ∷ written ++ quote ∷ []) ++ rest
+quoted_is quote written rest = ap (λ text. quote ∷ text) (sym (append_assoc written (quote ∷ []) rest))
 
-pub text_stands : (joined : Bool) (inside characters : List ℕ) (count : ℕ) → IsClosed 34 inside characters count
-    → IsTokenFront joined (34 ∷ inside) (Text characters) (2 + count)
-text_stands joined inside characters count closed =
-    subst (λ t. IsTokenFront joined (34 ∷ t) (Text characters) (2 + count)) (sym closed.is)
-    (closed_front joined 34 closed.written closed.rest (Text characters) (2 + count) (ap (λ n. 2 + n) closed.counted) (λ after. tokens.text closed.written characters after closed.quotes))
+pub text_stands : (joined : Bool) (inside characters rest : List ℕ) → IsClosed 34 inside characters rest → IsTokenTo joined (34 ∷ inside) (Text characters) rest
+text_stands joined inside characters rest closed = record {
+  written = 34 ∷ closed.written ++ 34 ∷ [];
+  is = ap (λ text. 34 ∷ text) closed.is ∙ quoted_is 34 closed.written rest;
+  some = omega arith;
+  writes = tokens.text closed.written characters rest closed.quotes;
+}
 
-pub chars_stand : (joined : Bool) (inside characters : List ℕ) (count : ℕ) → IsClosed 39 inside characters count
-    → IsTokenFront joined (39 ∷ inside) (Chars characters) (2 + count)
-chars_stand joined inside characters count closed =
-    subst (λ t. IsTokenFront joined (39 ∷ t) (Chars characters) (2 + count)) (sym closed.is)
-    (closed_front joined 39 closed.written closed.rest (Chars characters) (2 + count) (ap (λ n. 2 + n) closed.counted) (λ after. tokens.chars closed.written characters after closed.quotes))
+pub chars_stand : (joined : Bool) (inside characters rest : List ℕ) → IsClosed 39 inside characters rest → IsTokenTo joined (39 ∷ inside) (Chars characters) rest
+chars_stand joined inside characters rest closed = record {
+  written = 39 ∷ closed.written ++ 39 ∷ [];
+  is = ap (λ text. 39 ∷ text) closed.is ∙ quoted_is 39 closed.written rest;
+  some = omega arith;
+  writes = tokens.chars closed.written characters rest closed.quotes;
+}
 
-pub quoted_stands : (joined : Bool) (quote : ℕ) (inside characters name : List ℕ) (kind : TokenKind) (count : ℕ) → (quote ≡ 34) ⊎ (quote ≡ 39)
-    → (quote ≡ 34 → kind ≡ Text name) → (quote ≡ 39 → kind ≡ Chars name) → name ≡ characters → IsClosed quote inside characters count
-    → IsTokenFront joined (quote ∷ inside) kind (2 + count)
-quoted_stands joined quote inside characters name kind count (inl is) text chars same closed =
-    subst (λ k. IsTokenFront joined (quote ∷ inside) k (2 + count)) (sym (text is ∙ ap Text same))
-    (subst (λ q. IsTokenFront joined (q ∷ inside) (Text characters) (2 + count)) (sym is)
-    (text_stands joined inside characters count (subst (λ q. IsClosed q inside characters count) is closed)))
-quoted_stands joined quote inside characters name kind count (inr is) text chars same closed =
-    subst (λ k. IsTokenFront joined (quote ∷ inside) k (2 + count)) (sym (chars is ∙ ap Chars same))
-    (subst (λ q. IsTokenFront joined (q ∷ inside) (Chars characters) (2 + count)) (sym is)
-    (chars_stand joined inside characters count (subst (λ q. IsClosed q inside characters count) is closed)))
+pub quoted_read : (joined : Bool) (quote : ℕ) (inside characters rest : List ℕ) (is : Kind) → (quote ≡ 34) ⊎ (quote ≡ 39)
+    → (quote ≡ 34 → is ≡ kind.Text) → (quote ≡ 39 → is ≡ kind.Chars) → IsClosed quote inside characters rest
+    → IsTokenTo joined (quote ∷ inside) (with_characters is characters) rest
+quoted_read joined quote inside characters rest is (inl a) text chars closed =
+    subst (λ is. IsTokenTo joined (quote ∷ inside) (with_characters is characters) rest) (sym (text a))
+    (subst (λ quote. IsTokenTo joined (quote ∷ inside) (Text characters) rest) (sym a)
+    (text_stands joined inside characters rest (subst (λ quote. IsClosed quote inside characters rest) a closed)))
+quoted_read joined quote inside characters rest is (inr b) text chars closed =
+    subst (λ is. IsTokenTo joined (quote ∷ inside) (with_characters is characters) rest) (sym (chars b))
+    (subst (λ quote. IsTokenTo joined (quote ∷ inside) (Chars characters) rest) (sym b)
+    (chars_stand joined inside characters rest (subst (λ quote. IsClosed quote inside characters rest) b closed)))
 
--- both are quotes, of one byte
+-- both are quotes
 pub a_quote : (quote : ℕ) → (quote ≡ 34) ⊎ (quote ≡ 39) → faults.is_quote quote ≡ true
 a_quote quote (inl is) = ap faults.is_quote is
 a_quote quote (inr is) = ap faults.is_quote is
 
-pub one_byte : (quote : ℕ) → (quote ≡ 34) ⊎ (quote ≡ 39) → bytes (quote ∷ []) ≡ 1
-unfolding lib.Utf8.encode
-one_byte quote (inl is) = ap (λ q. bytes (q ∷ [])) is
-one_byte quote (inr is) = ap (λ q. bytes (q ∷ [])) is
-
--- a front of the text between them takes no more bytes than all
-pub front_fits : (at quote count most : ℕ) (inside : List ℕ) → (quote ≡ 34) ⊎ (quote ≡ 39) → at + bytes (quote ∷ inside) ≤ most
-    → at + 1 + bytes (take count inside) ≤ most
-front_fits at quote count most inside is fits =
-    let split = ap bytes (take-append-drop count inside) in
-    let parts = bytes_append (take count inside) (drop count inside) in
-    let first = bytes_append (quote ∷ []) inside in
-    let one = one_byte quote is in
-    omega arith
-
 pub text_open : (joined : Bool) (at quote : ℕ) (inside : List ℕ) → faults.is_quote quote ≡ true → IsOpen quote inside → Breaks joined at (quote ∷ inside) (OpenText at)
 text_open joined at quote inside is is_open =
-    subst (λ t. Breaks joined at (quote ∷ t) (OpenText at)) (sym is_open.is)
-    (faults.open_text quote is_open.written is_open.characters is_open.rest is is_open.quotes is_open.ends)
+    subst (λ text. Breaks joined at (quote ∷ text) (OpenText at)) (sym is_open.means.is)
+    (faults.open_text quote is_open.means.written is_open.characters is_open.rest is is_open.means.quotes is_open.ends)
 
-pub text_breaks : (joined : Bool) (at quote count front : ℕ) (inside : List ℕ) → faults.is_quote quote ≡ true → IsBroken quote inside count
-    → front ≡ at + 1 + bytes (take count inside) → bytes (quote ∷ []) ≡ 1 → Breaks joined at (quote ∷ inside) (BadChar front)
-text_breaks joined at quote count front inside is broken front_is one =
-    let taken : take count inside ≡ broken.written =
-    ap (λ t. take count t) broken.is ∙ ap (λ n. take n (broken.written ++ broken.rest)) broken.counted ∙ take-append_seam broken.written broken.rest in
-    let whole : bytes (quote ∷ broken.written) ≡ 1 + bytes broken.written = bytes_append (quote ∷ []) broken.written ∙ ap (λ n. n + bytes broken.written) one in
-    let place : front ≡ at + bytes (quote ∷ broken.written) = let same = ap bytes taken in omega arith in
-    subst (λ f. Breaks joined at (quote ∷ inside) (BadChar f)) (sym place)
-    (subst (λ t. Breaks joined at (quote ∷ t) (BadChar (at + bytes (quote ∷ broken.written)))) (sym broken.is)
-    (faults.escape quote broken.written broken.characters broken.rest is broken.quotes broken.breaks))
+-- what is left has no more bytes
+pub broken_within : (quote : ℕ) (inside rest : List ℕ) → IsBroken quote inside rest → bytes rest ≤ bytes (quote ∷ inside)
+broken_within quote inside rest broken =
+    let written = broken.means.written in
+    let split : bytes (quote ∷ inside) ≡ bytes (quote ∷ written) + bytes rest =
+    ap (λ text. bytes (quote ∷ text)) broken.means.is ∙ bytes_append (quote ∷ written) rest in
+    omega arith
+
+-- the place of the `\` is that of what is left
+pub text_breaks : (joined : Bool) (at quote end place : ℕ) (inside rest : List ℕ) → faults.is_quote quote ≡ true → IsBroken quote inside rest
+    → bytes (quote ∷ inside) ≤ end → at ≡ end - bytes (quote ∷ inside) → place ≡ end - bytes rest → Breaks joined at (quote ∷ inside) (BadChar place)
+text_breaks joined at quote end place inside rest is broken fits from to =
+    let written = broken.means.written in
+    let split : bytes (quote ∷ inside) ≡ bytes (quote ∷ written) + bytes rest =
+    ap (λ text. bytes (quote ∷ text)) broken.means.is ∙ bytes_append (quote ∷ written) rest in
+    let place_is : place ≡ at + bytes (quote ∷ written) = omega arith in
+    subst (λ place. Breaks joined at (quote ∷ inside) (BadChar place)) (sym place_is)
+    (subst (λ text. Breaks joined at (quote ∷ text) (BadChar (at + bytes (quote ∷ written)))) (sym broken.means.is)
+    (faults.escape quote written broken.characters rest is broken.means.quotes broken.breaks))
 
 -- each sign has a character
 pub some_characters : (is : ASign) → 0 < length (characters is)
@@ -158,21 +166,62 @@ some_characters sign.Dot = omega arith
 some_characters sign.Splice = omega arith
 some_characters sign.At = omega arith
 
-pub sign_stands : (joined : Bool) (text : List ℕ) (is : ASign) → IsLongest is text → begins_pair 40 42 text ≡ false
-    → (joined ≡ false → begins_negative text ≡ false) → IsTokenFront joined text (Sign is) (length (characters is))
-sign_stands joined text is longest no_comment no_number =
-    let rest = longest.stands.0 in
-    let text_is : text ≡ characters is ++ rest = longest.stands.1 in
-    token_front joined (characters is) rest text (Sign is) (length (characters is)) text_is refl (some_characters is)
-    (tokens.sign is rest (subst (IsLongest is) text_is longest) (subst (λ t. begins_pair 40 42 t ≡ false) text_is no_comment)
-    (λ apart. subst (λ t. begins_negative t ≡ false) text_is (no_number apart)))
+pub sign_stands : (joined : Bool) (text : List ℕ) (is : ASign) (rest : List ℕ) → IsSignTo text is rest → begins_pair 40 42 text ≡ false
+    → (joined ≡ false → begins_negative text ≡ false) → IsTokenTo joined text (Sign is) rest
+sign_stands joined text is rest stands no_comment no_number = record {
+  written = characters is;
+  is = stands.written;
+  some = some_characters is;
+  writes =
+      tokens.sign is rest (subst (IsLongest is) stands.written stands.longest) (subst (λ t. begins_pair 40 42 t ≡ false) stands.written no_comment)
+      (λ apart. subst (λ t. begins_negative t ≡ false) stands.written (no_number apart));
+}
 
-pub no_sign : (joined : Bool) (at : ℕ) (text : List ℕ) → ((c : ℕ) × (rest : List ℕ) × (text ≡ c ∷ rest) × (is_other c ≡ true) × (c ≡ 96 → ⊥))
-    → ((is : ASign) → BeginsWith text is → ⊥) → Breaks joined at text (BadChar at)
-no_sign joined at text first none =
-    let c = first.0 in
-    let rest = first.1 in
-    let is = first.2 in
-    subst (λ t. Breaks joined at t (BadChar at)) (sym is)
-    (faults.character c rest first.3 (λ s begins. none s (subst (λ t. BeginsWith t s) (sym is) begins))
-    (λ name more is_atom label ends. let same : c ≡ 96 = cc in first.4 same))
+-- neither a comment nor a number begins with another character than `(` and `-`
+pub other_sign_stands : (joined : Bool) (c : ℕ) (text : List ℕ) (is : ASign) (rest : List ℕ) → (c ≡ 40 → ⊥) → (c ≡ 45 → ⊥) → IsSignTo (c ∷ text) is rest
+    → IsTokenTo joined (c ∷ text) (Sign is) rest
+other_sign_stands joined c text is rest no_parenthesis no_minus stands =
+    sign_stands joined (c ∷ text) is rest stands (no_pair text) (λ apart. no_number text)
+  where
+    no_pair : (text : List ℕ) → begins_pair 40 42 (c ∷ text) ≡ false
+    no_pair [] = refl
+    no_pair (d ∷ ds) = ap (λ b. b && (d == 42)) (ne_eqb c 40 no_parenthesis)
+
+    no_number : (text : List ℕ) → begins_negative (c ∷ text) ≡ false
+    no_number [] = refl
+    no_number (d ∷ ds) = ap (λ b. b && is_ascii_digit d) (ne_eqb c 45 no_minus)
+
+-- a `(` with no `*` after it
+pub parenthesis_stands : (joined : Bool) (text : List ℕ) → BeginsWithOther 42 text → IsTokenTo joined (40 ∷ text) (Sign sign.OpenParenthesis) text
+parenthesis_stands joined text other = sign_stands joined (40 ∷ text) sign.OpenParenthesis text (lone_stands 40 40 sign.OpenParenthesis text open_parenthesis refl) (no_pair text other) (λ apart. no_number text)
+  where
+    no_pair : (text : List ℕ) → BeginsWithOther 42 text → begins_pair 40 42 (40 ∷ text) ≡ false
+    no_pair [] other = refl
+    no_pair (d ∷ ds) other = ne_eqb d 42 other
+
+    no_number : (text : List ℕ) → begins_negative (40 ∷ text) ≡ false
+    no_number [] = refl
+    no_number (d ∷ ds) = refl
+
+-- a `-` that is joined, or has no digit after it
+pub minus_stands : (joined : Bool) (text : List ℕ) (is : ASign) (rest : List ℕ) → (joined ≡ false → BeginsWithNoDigit text) → IsSignTo (45 ∷ text) is rest
+    → IsTokenTo joined (45 ∷ text) (Sign is) rest
+minus_stands joined text is rest no_digit stands = sign_stands joined (45 ∷ text) is rest stands (no_pair text) (λ apart. no_number text (no_digit apart))
+  where
+    no_pair : (text : List ℕ) → begins_pair 40 42 (45 ∷ text) ≡ false
+    no_pair [] = refl
+    no_pair (d ∷ ds) = refl
+
+    no_number : (text : List ℕ) → BeginsWithNoDigit text → begins_negative (45 ∷ text) ≡ false
+    no_number [] ends = refl
+    no_number (d ∷ ds) ends = ends
+
+pub lone_minus_stands : (joined : Bool) (text same : List ℕ) (is : ASign) (rest : List ℕ) → same ≡ text → BeginsWithNoDigit text → IsSignTo (45 ∷ same) is rest
+    → IsTokenTo joined (45 ∷ text) (Sign is) rest
+lone_minus_stands joined text same is rest at no_digit stands =
+    minus_stands joined text is rest (λ apart. no_digit) (subst (λ text. IsSignTo (45 ∷ text) is rest) at stands)
+
+pub no_sign : (joined : Bool) (at c : ℕ) (rest : List ℕ) → is_other c ≡ true → (c ≡ 96 → ⊥) → ((is : ASign) → BeginsWith (c ∷ rest) is → ⊥)
+    → Breaks joined at (c ∷ rest) (BadChar at)
+no_sign joined at c rest other no_backquote none =
+    faults.character c rest other none (λ name more is label ends. let same : c ≡ 96 = cc in no_backquote same)

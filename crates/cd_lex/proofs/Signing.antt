@@ -11,6 +11,7 @@ use Rattle.cd_syntax.specs.Signs.{characters, BeginsWith, IsLongest}
 use Rattle.cd_syntax.specs.declared.sign.Sign.{Sign}
 use Rattle.cd_syntax.specs.declared.sign.Sign.TheVariants as sign
 use Rattle.cd_lex.specs.Inner.SignTable.{signs, begins_with, first_sign}
+use Rattle.cd_lex.specs.Inner.Standing.{IsSignTo}
 
 -- the test is exact
 begins_so : (text : List ℕ) (is : Sign) → begins_with text is ≡ true → BeginsWith text is
@@ -153,6 +154,12 @@ first_is_longest text is found = record {
   longest = λ other begins.
       found_longest (begins_with text) (begins_with (characters other)) signs is other signs_fall found (itself other) (so_begins text other begins);
 }
+
+-- and stands before what is left
+pub first_stands : (text : List ℕ) (is : Sign) → first_sign text ≡ Some is → (rest : List ℕ) × IsSignTo text is rest
+first_stands text is found =
+    let longest = first_is_longest text is found in
+    (longest.stands.0, record { written = longest.stands.1; longest = longest })
 
 -- the characters of a sign that stands at the front
 front_is : (text : List ℕ) (is : Sign) → BeginsWith text is → take (length (characters is)) text ≡ characters is

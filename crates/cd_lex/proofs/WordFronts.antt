@@ -1,36 +1,26 @@
 -- The tokens at the front of a text that begin with a word or a digit, and atoms.
-use Rattle.std.proofs.Common.{◌≡◌, ◌≢◌, ℕ, ℤ, pos, neg_ℤ, Option, Some, None, ◌+◌, ◌<◌, ◌≤◌, ◌==◌, ◌⊎◌, inl, inr, get_or, Bool, true, false, true≢false, List, [], ◌∷◌, ◌++◌, refl, sym, ap, subst, ◌∙◌, length, take, drop, arith}
-use Rattle.std.specs.Prelude.{take_while, IsTrue, codes}
+use Rattle.std.proofs.Common.{◌≡◌, ◌≢◌, ℕ, ℤ, pos, neg_ℤ, ◌<◌, ◌==◌, inr, Bool, true, false, true≢false, List, [], ◌∷◌, ◌++◌, refl, sym, ap, subst, ◌∙◌, length, drop, arith}
+use Rattle.std.specs.Prelude.{IsTrue}
 use Rattle.std.specs.Char.{is_ascii_digit}
-use Rattle.std.proofs.lemmas.List.{take_at, drop_at, length-append, length-take-le, take-append-drop}
+use Rattle.std.proofs.lemmas.Bool.{and_parts}
 use Rattle.std.proofs.lemmas.Int.{ints}
 use mir.Syntax.{w128}
 use mir.Val.{to_z, of_z}
 use Rattle.cd_syntax.specs.declared.sign.Sign.{Sign}
 use Rattle.cd_syntax.specs.declared.sign.Sign.TheVariants as sign
-use Rattle.cd_syntax.specs.declared.tokens.TokenKind.{TokenKind}
 use Rattle.cd_syntax.specs.declared.tokens.TokenKind.TheVariants.{Word, Int, Atom}
 use Rattle.cd_syntax.specs.declared.tokens.LexError.TheVariants.{BadChar, TooWide}
 use Rattle.cd_syntax.specs.Integer.{IsInteger}
 use Rattle.cd_syntax.specs.Name.{begins_word, goes_on_word, is_word, IsLabel}
-use Rattle.cd_syntax.specs.Digits.{AreDigits, decimal_value}
+use Rattle.cd_syntax.specs.Digits.{AreDigits, decimal_value, BeginsWithNoDigit}
 use Rattle.cd_syntax.specs.Signs.{characters}
-use Rattle.cd_syntax.specs.Tokens.{EndsWord, Writes, word as writes_word, number as writes_number, negative as writes_negative, atom as writes_atom}
+use Rattle.cd_syntax.specs.Tokens.{EndsWord}
+use Rattle.cd_syntax.specs.Tokens as tokens
 use Rattle.cd_syntax.specs.Faults.{Breaks, character as breaks_character, number as breaks_number, negative as breaks_negative}
-use Rattle.cd_lex.specs.Inner.Standing.{IsTokenFront, FaultAtFront, IsAtomFront, NoAtomFront}
-use Rattle.cd_lex.proofs.Numbering.{Finds, value_of}
-use Rattle.cd_lex.proofs.Wording.{word_stands, digits_stand, taken_first, taken_again, taken_and_rest, begins_goes, word_taken}
-
--- a token that is written by the front part of a text stands there
-pub token_front : (joined : Bool) (front rest text : List ℕ) (kind : TokenKind) (count : ℕ) → text ≡ front ++ rest → count ≡ length front → 0 < length front
-    → Writes joined front rest kind → IsTokenFront joined text kind count
-token_front joined front rest text kind count is counted some writes = record {
-  some = omega arith;
-  within = let whole : length text ≡ length front + length rest = ap length is ∙ length-append front rest in omega arith;
-  writes = subst (λ t. Writes joined (take count t) (drop count t) kind) (sym is)
-      (subst (λ t. Writes joined t (drop count (front ++ rest)) kind) (sym (take_at front rest count (sym counted)))
-      (subst (λ t. Writes joined front t kind) (sym (drop_at front rest count (sym counted))) writes));
-}
+use Rattle.cd_lex.specs.Inner.Prefixes.{first_word, after_word, first_digits, after_digits}
+use Rattle.cd_lex.specs.Inner.Number.{with_sign}
+use Rattle.cd_lex.specs.Inner.Standing.{IsTokenTo, FaultAtFront}
+use Rattle.cd_lex.proofs.Wording.{word_stands, digits_stand, taken_first, taken_none, taken_and_rest, word_taken}
 
 -- a list that is not empty has a length
 pub some_length : (xs : List ℕ) → xs ≢ [] → 0 < length xs
@@ -42,175 +32,98 @@ pub word_length : (name : List ℕ) → IsTrue (is_word name) → 0 < length nam
 word_length [] is = absurd (true≢false (sym is))
 word_length (c ∷ cs) is = omega arith
 
--- the word at the front of a text, and what stands after it
-abbrev pub first_word : List ℕ → List ℕ
-first_word text = take_while goes_on_word text
-
-abbrev pub after_word : List ℕ → List ℕ
-after_word text = drop (length (first_word text)) text
-
-stands : (text : List ℕ) (c : ℕ) (rest : List ℕ) → text ≡ c ∷ rest → begins_word c ≡ true → IsTrue (is_word (first_word text)) × EndsWord (after_word text)
-stands text c rest is begins = subst (λ text. IsTrue (is_word (first_word text)) × EndsWord (after_word text)) (sym is) (word_stands c rest begins)
-
 -- where a word begins, it is a token
-pub word_front : (text name : List ℕ) (count : ℕ) (c : ℕ) (rest : List ℕ) → text ≡ c ∷ rest → begins_word c ≡ true
-    → count ≡ length (take_while goes_on_word text) → name ≡ take count text → (joined : Bool) → IsTokenFront joined text (Word name) count
-word_front text name count c rest is begins counted named joined =
-    let stood = stands text c rest is begins in
-    let same : name ≡ first_word text = named ∙ ap (λ n. take n text) counted ∙ taken_again goes_on_word text in
-    subst (λ name. IsTokenFront joined text (Word name) count) (sym same)
-    (token_front joined (first_word text) (after_word text) text (Word (first_word text)) count (taken_and_rest goes_on_word text) counted
-    (word_length (first_word text) stood.0) (writes_word (first_word text) (after_word text) stood.0 stood.1))
+pub word_front : (joined : Bool) (c : ℕ) (rest : List ℕ) → begins_word c ≡ true
+    → IsTokenTo joined (c ∷ rest) (Word (first_word (c ∷ rest))) (after_word (c ∷ rest))
+word_front joined c rest begins =
+    let stood = word_stands c rest begins in
+    record {
+      written = first_word (c ∷ rest);
+      is = taken_and_rest goes_on_word (c ∷ rest);
+      some = word_length (first_word (c ∷ rest)) stood.0;
+      writes = tokens.word (first_word (c ∷ rest)) (after_word (c ∷ rest)) stood.0 stood.1;
+    }
 
--- the digits at the front of a text, and what stands after them
-abbrev pub first_digits : List ℕ → List ℕ
-first_digits text = take_while is_ascii_digit text
-
-abbrev pub after_digits : List ℕ → List ℕ
-after_digits text = drop (length (first_digits text)) text
-
--- so many characters of the text are its first digits
-digits_front : (text : List ℕ) (count : ℕ) → count ≡ length (take_while is_ascii_digit text) → take count text ≡ first_digits text
-digits_front text count counted = ap (λ n. take n text) counted ∙ taken_again is_ascii_digit text
-
--- they are digits
-pub are_digits : (text : List ℕ) (count : ℕ) (c : ℕ) (rest : List ℕ) → text ≡ c ∷ rest → is_ascii_digit c ≡ true
-    → count ≡ length (take_while is_ascii_digit text) → AreDigits (take count text)
-are_digits text count c rest is digit counted = subst AreDigits (sym (digits_front text count counted)) (digits_stand text c rest is digit).0
+-- digits stand where one does
+digits_are : (c : ℕ) (rest : List ℕ) → is_ascii_digit c ≡ true → AreDigits (first_digits (c ∷ rest)) × BeginsWithNoDigit (after_digits (c ∷ rest))
+digits_are c rest digit = digits_stand (c ∷ rest) c rest refl digit
 
 -- a number stands there
-pub number_front : (text : List ℕ) (count : ℕ) (c : ℕ) (rest : List ℕ) → text ≡ c ∷ rest → is_ascii_digit c ≡ true
-    → count ≡ length (take_while is_ascii_digit text) → (value : ℤ) → value ≡ pos (decimal_value (take count text)) → IsInteger value
-    → (joined : Bool) → IsTokenFront joined text (Int value) count
-number_front text count c rest is digit counted value valued fits joined =
-    let stood = digits_stand text c rest is digit in
-    let same : value ≡ pos (decimal_value (first_digits text)) = valued ∙ ap (λ digits. pos (decimal_value digits)) (digits_front text count counted) in
-    subst (λ value. IsTokenFront joined text (Int value) count) (sym same)
-    (token_front joined (first_digits text) (after_digits text) text (Int (pos (decimal_value (first_digits text)))) count (taken_and_rest is_ascii_digit text) counted
-    (some_length (first_digits text) stood.0.1) (writes_number (first_digits text) (after_digits text) stood.0 stood.1 (subst IsInteger same fits)))
+pub number_front : (joined : Bool) (c : ℕ) (rest : List ℕ) → is_ascii_digit c ≡ true → IsInteger (pos (decimal_value (first_digits (c ∷ rest))))
+    → IsTokenTo joined (c ∷ rest) (Int (pos (decimal_value (first_digits (c ∷ rest))))) (after_digits (c ∷ rest))
+number_front joined c rest digit fits =
+    let stood = digits_are c rest digit in
+    record {
+      written = first_digits (c ∷ rest);
+      is = taken_and_rest is_ascii_digit (c ∷ rest);
+      some = some_length (first_digits (c ∷ rest)) stood.0.1;
+      writes = tokens.number (first_digits (c ∷ rest)) (after_digits (c ∷ rest)) stood.0 stood.1 fits;
+    }
 
 -- and with a `-` before it, a negative one
-pub negative_front : (text : List ℕ) (count : ℕ) (c : ℕ) (rest : List ℕ) → text ≡ c ∷ rest → is_ascii_digit c ≡ true
-    → count ≡ length (take_while is_ascii_digit text) → (value : ℤ) → value ≡ neg_ℤ (pos (decimal_value (take count text))) → IsInteger value
-    → (total : ℕ) → total ≡ 1 + count → IsTokenFront false (45 ∷ text) (Int value) total
-negative_front text count c rest is digit counted value valued fits total added =
-    let stood = digits_stand text c rest is digit in
-    let same : value ≡ neg_ℤ (pos (decimal_value (first_digits text))) = valued ∙ ap (λ digits. neg_ℤ (pos (decimal_value digits))) (digits_front text count counted) in
-    let all : total ≡ length (45 ∷ first_digits text) = omega arith in
-    subst (λ value. IsTokenFront false (45 ∷ text) (Int value) total) (sym same)
-    (token_front false (45 ∷ first_digits text) (after_digits text) (45 ∷ text) (Int (neg_ℤ (pos (decimal_value (first_digits text))))) total
-    (ap (λ text. 45 ∷ text) (taken_and_rest is_ascii_digit text)) all (omega arith)
-    (writes_negative (first_digits text) (after_digits text) refl stood.0 stood.1 (subst IsInteger same fits)))
+pub negative_front : (c : ℕ) (rest : List ℕ) → is_ascii_digit c ≡ true → IsInteger (neg_ℤ (pos (decimal_value (first_digits (c ∷ rest)))))
+    → IsTokenTo false (45 ∷ c ∷ rest) (Int (neg_ℤ (pos (decimal_value (first_digits (c ∷ rest)))))) (after_digits (c ∷ rest))
+negative_front c rest digit fits =
+    let stood = digits_are c rest digit in
+    record {
+      written = 45 ∷ first_digits (c ∷ rest);
+      is = ap (λ text. 45 ∷ text) (taken_and_rest is_ascii_digit (c ∷ rest));
+      some = omega arith;
+      writes = tokens.negative (first_digits (c ∷ rest)) (after_digits (c ∷ rest)) refl stood.0 stood.1 fits;
+    }
 
 -- numbers that do not fit
-pub number_fault : (text : List ℕ) (count : ℕ) (c : ℕ) (rest : List ℕ) → text ≡ c ∷ rest → is_ascii_digit c ≡ true
-    → count ≡ length (take_while is_ascii_digit text) → (IsInteger (pos (decimal_value (take count text))) → ⊥)
-    → (joined : Bool) (at : ℕ) → FaultAtFront joined at text (TooWide at)
-number_fault text count c rest is digit counted wide joined at =
-    let stood = digits_stand text c rest is digit in
-    inr (subst (λ text. Breaks joined at text (TooWide at)) (sym (taken_and_rest is_ascii_digit text))
-    (breaks_number (first_digits text) (after_digits text) stood.0 stood.1 (subst (λ digits. IsInteger (pos (decimal_value digits)) → ⊥) (digits_front text count counted) wide)))
+pub number_fault : (joined : Bool) (at c : ℕ) (rest : List ℕ) → is_ascii_digit c ≡ true → (IsInteger (pos (decimal_value (first_digits (c ∷ rest)))) → ⊥)
+    → Breaks joined at (c ∷ rest) (TooWide at)
+number_fault joined at c rest digit wide =
+    let stood = digits_are c rest digit in
+    subst (λ text. Breaks joined at text (TooWide at)) (sym (taken_and_rest is_ascii_digit (c ∷ rest)))
+    (breaks_number (first_digits (c ∷ rest)) (after_digits (c ∷ rest)) stood.0 stood.1 wide)
 
-pub negative_fault : (text : List ℕ) (count : ℕ) (c : ℕ) (rest : List ℕ) → text ≡ c ∷ rest → is_ascii_digit c ≡ true
-    → count ≡ length (take_while is_ascii_digit text) → (IsInteger (neg_ℤ (pos (decimal_value (take count text)))) → ⊥)
-    → (at : ℕ) → FaultAtFront false at (45 ∷ text) (TooWide at)
-negative_fault text count c rest is digit counted wide at =
-    let stood = digits_stand text c rest is digit in
-    inr (subst (λ text. Breaks false at (45 ∷ text) (TooWide at)) (sym (taken_and_rest is_ascii_digit text))
-    (breaks_negative (first_digits text) (after_digits text) refl stood.0 stood.1 (subst (λ digits. IsInteger (neg_ℤ (pos (decimal_value digits))) → ⊥) (digits_front text count counted) wide)))
+pub negative_fault : (at c : ℕ) (rest : List ℕ) → is_ascii_digit c ≡ true → (IsInteger (neg_ℤ (pos (decimal_value (first_digits (c ∷ rest))))) → ⊥)
+    → Breaks false at (45 ∷ c ∷ rest) (TooWide at)
+negative_fault at c rest digit wide =
+    let stood = digits_are c rest digit in
+    subst (λ text. Breaks false at (45 ∷ text) (TooWide at)) (sym (taken_and_rest is_ascii_digit (c ∷ rest)))
+    (breaks_negative (first_digits (c ∷ rest)) (after_digits (c ∷ rest)) refl stood.0 stood.1 wide)
 
 -- a signed number is read back from its bits
 read_back : (n : ℤ) → IsInteger n → to_z w128 (of_z w128 n) ≡ n
 read_back n fits = omega (arith, ints)
 
--- the number of a numeral, as the lexer reads it: a `-` stands before its digits, or none
-pub numeral_front : (negative : Bool) (text : List ℕ) (count : ℕ) (c : ℕ) (rest : List ℕ) → text ≡ c ∷ rest → is_ascii_digit c ≡ true
-    → count ≡ length (take_while is_ascii_digit text) → (found : Option ℤ) → Finds found (value_of negative (take count text)) → (n : ℤ) → found ≡ Some n
-    → (total : ℕ) → (negative ≡ true → total ≡ 1 + count) → (negative ≡ false → total ≡ count)
-    → ((joined : Bool) → negative ≡ false → IsTokenFront joined text (Int (to_z w128 (of_z w128 n))) total) × (negative ≡ true → IsTokenFront false (45 ∷ text) (Int (to_z w128 (of_z w128 n))) total)
-numeral_front negative text count c rest is digit counted found finds n some total more as_many =
-    by negative (to_z w128 (of_z w128 n)) (read_back n (subst IsInteger (sym here.0) here.1) ∙ here.0) (subst IsInteger (sym (read_back n (subst IsInteger (sym here.0) here.1) ∙ here.0)) here.1) more as_many
-  where
-    here : (n ≡ value_of negative (take count text)) × IsInteger (value_of negative (take count text))
-    here = subst (λ found. Finds found (value_of negative (take count text))) some finds
+-- a number as the lexer reads it: a `-` stands before its digits, or none
+pub numeral_front : (negative : Bool) (c : ℕ) (rest new : List ℕ) (n : ℤ) → is_ascii_digit c ≡ true
+    → (n ≡ with_sign negative (decimal_value (first_digits (c ∷ rest)))) × IsInteger (with_sign negative (decimal_value (first_digits (c ∷ rest))))
+    → new ≡ after_digits (c ∷ rest)
+    → ((joined : Bool) → negative ≡ false → IsTokenTo joined (c ∷ rest) (Int (to_z w128 (of_z w128 n))) new)
+    × (negative ≡ true → IsTokenTo false (45 ∷ c ∷ rest) (Int (to_z w128 (of_z w128 n))) new)
+numeral_front true c rest new n digit is after = (
+  λ joined no. absurd (true≢false no),
+  λ yes. subst (λ n. IsTokenTo false (45 ∷ c ∷ rest) (Int n) new) (sym (read_back n (subst IsInteger (sym is.0) is.1) ∙ is.0))
+      (subst (IsTokenTo false (45 ∷ c ∷ rest) (Int (neg_ℤ (pos (decimal_value (first_digits (c ∷ rest))))))) (sym after) (negative_front c rest digit is.1)),
+)
+numeral_front false c rest new n digit is after = (
+  λ joined no. subst (λ n. IsTokenTo joined (c ∷ rest) (Int n) new) (sym (read_back n (subst IsInteger (sym is.0) is.1) ∙ is.0))
+      (subst (IsTokenTo joined (c ∷ rest) (Int (pos (decimal_value (first_digits (c ∷ rest)))))) (sym after) (number_front joined c rest digit is.1)),
+  λ yes. absurd (true≢false (sym yes)),
+)
 
-    by : (negative : Bool) (value : ℤ) → value ≡ value_of negative (take count text) → IsInteger value → (negative ≡ true → total ≡ 1 + count) → (negative ≡ false → total ≡ count)
-        → ((joined : Bool) → negative ≡ false → IsTokenFront joined text (Int value) total) × (negative ≡ true → IsTokenFront false (45 ∷ text) (Int value) total)
-    by true value valued fits more as_many =
-        (λ joined no. absurd (true≢false no), λ yes. negative_front text count c rest is digit counted value valued fits total (more refl))
-    by false value valued fits more as_many = (
-      λ joined no. subst (λ total. IsTokenFront joined text (Int value) total) (sym (as_many refl)) (number_front text count c rest is digit counted value valued fits joined),
-      λ yes. absurd (true≢false (sym yes)),
-    )
-
-pub numeral_fault : (negative : Bool) (text : List ℕ) (count : ℕ) (c : ℕ) (rest : List ℕ) → text ≡ c ∷ rest → is_ascii_digit c ≡ true
-    → count ≡ length (take_while is_ascii_digit text) → (found : Option ℤ) → Finds found (value_of negative (take count text)) → found ≡ None → (at : ℕ)
-    → ((joined : Bool) → negative ≡ false → FaultAtFront joined at text (TooWide at)) × (negative ≡ true → FaultAtFront false at (45 ∷ text) (TooWide at))
-numeral_fault negative text count c rest is digit counted found finds none at = by negative (subst (λ found. Finds found (value_of negative (take count text))) none finds)
-  where
-    by : (negative : Bool) → (IsInteger (value_of negative (take count text)) → ⊥)
-        → ((joined : Bool) → negative ≡ false → FaultAtFront joined at text (TooWide at)) × (negative ≡ true → FaultAtFront false at (45 ∷ text) (TooWide at))
-    by true wide = (λ joined no. absurd (true≢false no), λ yes. negative_fault text count c rest is digit counted wide at)
-    by false wide = (λ joined no. number_fault text count c rest is digit counted wide joined at, λ yes. absurd (true≢false (sym yes)))
-
--- the first element of a list that is not empty
-pub first_and_rest : (c : ℕ) (text : List ℕ) → c ≡ get_or text 0 c → 1 ≤ length text → text ≡ c ∷ drop 1 text
-first_and_rest c [] is some = absurd (omega arith)
-first_and_rest c (d ∷ text) is some = ap (λ c. c ∷ text) (sym is)
-
--- an atom's word is not `_` alone
-pub underscore_alone : (text : List ℕ) (c : ℕ) (rest : List ℕ) → text ≡ c ∷ rest → begins_word c ≡ true
-    → c ≡ 95 → length (take_while goes_on_word text) ≡ 1 → take_while goes_on_word text ≡ codes "_"
-underscore_alone text c rest is begins line one =
-    let taken : first_word text ≡ c ∷ first_word rest = ap first_word is ∙ taken_first goes_on_word c rest (begins_goes c begins) in
-    let alone : length (c ∷ first_word rest) ≡ 1 = ap length (sym taken) ∙ one in
-    taken ∙ ap (λ cs. c ∷ cs) (none (first_word rest) (omega arith)) ∙ ap (λ c. c ∷ []) line
-  where
-    none : (xs : List ℕ) → length xs ≡ 0 → xs ≡ []
-    none [] is = refl
-    none (x ∷ xs) is = absurd (omega arith)
-
--- the word at the front is the only one that may stand there
-pub no_atom : (text : List ℕ) → (IsLabel (take_while goes_on_word text) → ⊥) → NoAtomFront text
-no_atom text unlike name rest is label ends =
-    let same : first_word text ≡ name = ap first_word is ∙ word_taken name rest label.0 ends in
-    unlike (subst IsLabel (sym same) label)
-
-pub no_atom_alone : (text : List ℕ) (c : ℕ) (rest : List ℕ) → text ≡ c ∷ rest → begins_word c ≡ true
-    → c ≡ 95 → length (take_while goes_on_word text) ≡ 1 → NoAtomFront text
-no_atom_alone text c rest is begins line one = no_atom text (λ label. label.1 (underscore_alone text c rest is begins line one))
-
-pub atom_front : (text : List ℕ) (count : ℕ) (c : ℕ) (rest : List ℕ) → text ≡ c ∷ rest → begins_word c ≡ true
-    → count ≡ length (take_while goes_on_word text) → ((c ≡ 95) × (count ≡ 1 → ⊥)) ⊎ (c ≡ 95 → ⊥) → IsAtomFront text count
-atom_front text count c rest is begins counted other = record {
-  within = let whole : length text ≡ length (first_word text) + length (after_word text) = ap length (taken_and_rest goes_on_word text) ∙ length-append (first_word text) (after_word text) in omega arith;
-  label = subst IsLabel (sym taken) (stood.0, λ alone. by other (ap length alone) (first alone));
-  ends = subst (λ n. EndsWord (drop n text)) (sym counted) stood.1;
-}
-  where
-    stood : IsTrue (is_word (first_word text)) × EndsWord (after_word text)
-    stood = stands text c rest is begins
-
-    taken : take count text ≡ first_word text
-    taken = ap (λ n. take n text) counted ∙ taken_again goes_on_word text
-
-    first : first_word text ≡ codes "_" → c ≡ 95
-    first alone =
-        let same : c ∷ first_word rest ≡ 95 ∷ [] = sym (taken_first goes_on_word c rest (begins_goes c begins)) ∙ ap first_word (sym is) ∙ alone in
-        cc
-
-    by : ((c ≡ 95) × (count ≡ 1 → ⊥)) ⊎ (c ≡ 95 → ⊥) → length (first_word text) ≡ 1 → c ≡ 95 → ⊥
-    by (inl long) one line = long.1 (counted ∙ one)
-    by (inr not) one line = not line
+pub numeral_fault : (negative : Bool) (at c : ℕ) (rest : List ℕ) → is_ascii_digit c ≡ true → (IsInteger (with_sign negative (decimal_value (first_digits (c ∷ rest)))) → ⊥)
+    → ((joined : Bool) → negative ≡ false → FaultAtFront joined at (c ∷ rest) (TooWide at)) × (negative ≡ true → FaultAtFront false at (45 ∷ c ∷ rest) (TooWide at))
+numeral_fault true at c rest digit wide = (λ joined no. absurd (true≢false no), λ yes. inr (negative_fault at c rest digit wide))
+numeral_fault false at c rest digit wide = (λ joined no. inr (number_fault joined at c rest digit wide), λ yes. absurd (true≢false (sym yes)))
 
 -- an atom stands after its backquote
-pub after_backquote : (text name : List ℕ) (count : ℕ) → IsAtomFront text count → name ≡ take count text
-    → (joined : Bool) → IsTokenFront joined (96 ∷ text) (Atom name) (1 + count)
-after_backquote text name count front named joined =
-    let counted : length (take count text) ≡ count = length-take-le count text front.within in
-    subst (λ name. IsTokenFront joined (96 ∷ text) (Atom name) (1 + count)) (sym named)
-    (token_front joined (96 ∷ take count text) (drop count text) (96 ∷ text) (Atom (take count text)) (1 + count)
-    (ap (λ text. 96 ∷ text) (sym (take-append-drop count text))) (omega arith) (omega arith) (writes_atom (take count text) (drop count text) front.label front.ends))
+pub atom_front : (joined : Bool) (c : ℕ) (rest : List ℕ) → begins_word c ≡ true → first_word (c ∷ rest) ≢ 95 ∷ []
+    → IsTokenTo joined (96 ∷ c ∷ rest) (Atom (first_word (c ∷ rest))) (after_word (c ∷ rest))
+atom_front joined c rest begins other =
+    let stood = word_stands c rest begins in
+    record {
+      written = 96 ∷ first_word (c ∷ rest);
+      is = ap (λ text. 96 ∷ text) (taken_and_rest goes_on_word (c ∷ rest));
+      some = omega arith;
+      writes = tokens.atom (first_word (c ∷ rest)) (after_word (c ∷ rest)) (stood.0, other) stood.1;
+    }
 
 -- no sign begins with a backquote
 abbrev begins_backquote : List ℕ → Bool
@@ -257,8 +170,51 @@ no_backquote sign.Dot rest = refl
 no_backquote sign.Splice rest = refl
 no_backquote sign.At rest = refl
 
--- a backquote begins nothing where no word of an atom follows
-pub lone_backquote : (text : List ℕ) → NoAtomFront text → (joined : Bool) (at : ℕ) → FaultAtFront joined at (96 ∷ text) (BadChar at)
-lone_backquote text none joined at = inr (breaks_character 96 text refl
+-- the word at the front is the only one that may stand there; where an atom has none, its backquote begins nothing
+pub lone_backquote : (joined : Bool) (at : ℕ) (text : List ℕ) → (IsLabel (first_word text) → ⊥) → Breaks joined at (96 ∷ text) (BadChar at)
+lone_backquote joined at text unlike = breaks_character 96 text refl
     (λ is begins. true≢false (ap begins_backquote begins.1 ∙ no_backquote is begins.0))
-    (λ name rest is label ends. none name rest (ap (drop 1) is) label ends))
+    (λ name rest is label ends.
+    let parted : text ≡ name ++ rest = ap (drop 1) is in
+    let same : first_word text ≡ name = ap first_word parted ∙ word_taken name rest label.0 ends in
+    unlike (subst IsLabel (sym same) label))
+
+-- no word stands where none begins
+pub no_word : (text : List ℕ) → ((c : ℕ) (rest : List ℕ) → text ≡ c ∷ rest → begins_word c ≡ false) → IsLabel (first_word text) → ⊥
+no_word [] none label = true≢false (sym label.0)
+no_word (c ∷ rest) none label = by (goes_on_word c) refl
+  where
+    by : (goes : Bool) → goes_on_word c ≡ goes → ⊥
+    by true goes =
+        let is : is_word (c ∷ first_word rest) ≡ true = ap is_word (sym (taken_first goes_on_word c rest goes)) ∙ label.0 in
+        true≢false (sym (and_parts (begins_word c) _ is).0 ∙ none c rest refl)
+    by false fails = true≢false (sym label.0 ∙ ap is_word (taken_none goes_on_word c rest fails))
+
+-- what was read into the buffer is the word
+pub word_read : (joined : Bool) (c : ℕ) (rest read new : List ℕ) → begins_word c ≡ true → read ≡ first_word (c ∷ rest) → new ≡ after_word (c ∷ rest)
+    → IsTokenTo joined (c ∷ rest) (Word read) new
+word_read joined c rest read new begins read_is new_is =
+    subst (λ read. IsTokenTo joined (c ∷ rest) (Word read) new) (sym read_is)
+    (subst (IsTokenTo joined (c ∷ rest) (Word (first_word (c ∷ rest)))) (sym new_is) (word_front joined c rest begins))
+
+pub atom_read : (joined : Bool) (text : List ℕ) (c : ℕ) (rest read new : List ℕ) → text ≡ c ∷ rest → begins_word c ≡ true → first_word (c ∷ rest) ≢ 95 ∷ []
+    → read ≡ first_word (c ∷ rest) → new ≡ after_word (c ∷ rest) → IsTokenTo joined (96 ∷ text) (Atom read) new
+atom_read joined text c rest read new at begins other read_is new_is =
+    subst (λ text. IsTokenTo joined (96 ∷ text) (Atom read) new) (sym at)
+    (subst (λ read. IsTokenTo joined (96 ∷ c ∷ rest) (Atom read) new) (sym read_is)
+    (subst (IsTokenTo joined (96 ∷ c ∷ rest) (Atom (first_word (c ∷ rest)))) (sym new_is) (atom_front joined c rest begins other)))
+
+-- no atom's word stands there
+pub no_atom_at : (joined : Bool) (at : ℕ) (text rest : List ℕ) (c : ℕ) → text ≡ c ∷ rest → begins_word c ≡ false → Breaks joined at (96 ∷ text) (BadChar at)
+no_atom_at joined at text rest c is fails =
+    lone_backquote joined at text (no_word text (λ d others also. let same : d ≡ c = cc in ap begins_word same ∙ fails))
+
+pub no_atom_word : (joined : Bool) (at : ℕ) (text : List ℕ) → EndsWord text → Breaks joined at (96 ∷ text) (BadChar at)
+no_atom_word joined at text ends = lone_backquote joined at text (λ label. true≢false (sym label.0 ∙ ap is_word (none text ends)))
+  where
+    none : (text : List ℕ) → EndsWord text → first_word text ≡ []
+    none [] ends = refl
+    none (c ∷ rest) ends = taken_none goes_on_word c rest ends
+
+pub underscore_alone : (joined : Bool) (at : ℕ) (text rest : List ℕ) (c : ℕ) → text ≡ c ∷ rest → first_word (c ∷ rest) ≡ 95 ∷ [] → Breaks joined at (96 ∷ text) (BadChar at)
+underscore_alone joined at text rest c is line = lone_backquote joined at text (λ label. label.1 (ap first_word is ∙ line))

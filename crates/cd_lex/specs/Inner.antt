@@ -6,3 +6,4 @@ pub mod Commenting
 pub mod Quoting
 pub mod SignTable
 pub mod Reading
+pub mod Prefixes

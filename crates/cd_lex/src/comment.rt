@@ -1,41 +1,35 @@
-ghost use Rattle.std.specs.Prelude.{◌≡◌, ◌≤◌, ◌<◌, ◌++◌, List, ℕ, length, take, MatchOption};
-ghost use Rattle.cd_syntax.specs.Comments.{Closes};
+ghost use Rattle.std.specs.Prelude.{◌≡◌, ◌<◌, Some, None, MatchBool};
 ghost use Rattle.cd_lex.specs.Inner.Commenting.{begins as begins_of, within as within_of, step_of};
-ghost use Rattle.cd_lex.specs.Inner.Commenting.{length_from};
+ghost use Rattle.cd_lex.specs.Inner.Commenting.{left_from};
 
-/// How many characters close the comment that stands open before this text. None where no front of
-/// the text closes it.
-pub(crate) fn closing_length(text: &[char]) -> Option<usize>
-    ensures { MatchOption result
-        ((written rest : List ℕ) → text.now ≡ written ++ rest → Closes 1 written → ⊥)
-        (λ n. (n ≤ length text.now) × Closes 1 (take n text.now)) }
-{
-    read_closing(text)
-}
+use crate::cursor::Cursor;
 
-// The same, one character after the other.
-fn read_closing(text: &[char]) -> Option<usize>
-    ensures { result ≡ length_from (within_of 0) text.now }
+/// Takes off the characters that close the comment that stands open before this text, and says
+/// whether it is closed.
+pub(crate) fn close_comment(cursor: &mut Cursor<'_>) -> bool
+    ensures { MatchBool result (left_from (within_of 0) cursor.old ≡ Some cursor.new)
+        (left_from (within_of 0) cursor.old ≡ None) }
 {
-    let mut place = within(0);
-    for (index, c) in text.iter().enumerate() {
-        let Some(next) = place.step(*c) else {
-            return Some(index + 1);
-        };
-        place = next;
+    let _most = cursor.bytes();
+    let mut state = within(0);
+    while let Some(c) = cursor.take() {
+        match state.step(c) {
+            Some(next) => state = next,
+            None => return true,
+        }
     }
-    None
+    false
 }
 
-// A place within a comment.
+// Where a text stands within a comment.
 #[derive(Clone, Copy)]
-struct Place {
+struct CommentState {
     // How many comments stand open around the innermost one.
     around: usize,
     before: Before,
 }
 
-// What stands directly before a place and may begin a pair there.
+// What stands directly before the text and may begin a pair there.
 #[derive(Clone, Copy)]
 enum Before {
     Nothing,
@@ -43,9 +37,9 @@ enum Before {
     Star,
 }
 
-impl Place {
-    // The place after one more character. None where that closes the outermost comment.
-    fn step(self, c: char) -> Option<Place>
+impl CommentState {
+    // The state after one more character. None where that closes the outermost comment.
+    fn step(self, c: char) -> Option<CommentState>
         requires countable { self.around < 18446744073709551615 }
         ensures { result ≡ step_of self c }
     {
@@ -53,7 +47,7 @@ impl Place {
             Before::Parenthesis if c == '*' => Some(within(self.around + 1)),
             Before::Star if c == ')' && self.around == 0 => None,
             Before::Star if c == ')' => Some(within(self.around - 1)),
-            _ => Some(Place {
+            _ => Some(CommentState {
                 around: self.around,
                 before: begins(c),
             }),
@@ -61,11 +55,11 @@ impl Place {
     }
 }
 
-// The place after a whole pair.
-fn within(around: usize) -> Place
+// The state after a whole pair.
+fn within(around: usize) -> CommentState
     ensures { result ≡ within_of around }
 {
-    Place {
+    CommentState {
         around,
         before: Before::Nothing,
     }

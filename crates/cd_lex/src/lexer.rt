@@ -1,83 +1,91 @@
-ghost use Rattle.std.specs.Prelude.{◌≡◌, ◌≤◌, false, ◌⊎◌, [], ◌∷◌, ◌++◌, IfOk, IfErr, OnOk};
-ghost use Rattle.std.specs.Str.{chars};
-ghost use Rattle.cd_syntax.specs.Tokens.{Spells, joins as joins_of, bytes as bytes_of};
-ghost use Rattle.cd_syntax.specs.Faults.{Fails};
-ghost use Rattle.cd_syntax.specs.declared.tokens.LexError.TheVariants.{Memory};
+//! The tokens of a text, one after the other.
+ghost use Rattle.std.specs.Prelude.{◌≤◌};
+ghost use Rattle.cd_syntax.specs.Tokens.{bytes as bytes_of};
 
-use crate::piece::{Piece, bytes, front};
-use crate::signs::closes;
-use cd_syntax::tokens::{LexError, Span, Token, TokenKind};
-use std::alloc::{AllocError, Global};
+use crate::buffer::Buffer;
+use crate::cursor::Cursor;
+use crate::next_token::{joins, read_lexeme};
+use cd_syntax::sign::Sign;
+use cd_syntax::tokens::{LexError, Span};
+use std::alloc::Global;
 
-/// The tokens of a text, in their order, each with its place.
-///
-/// # Errors
-///
-/// The first fault of the text, or want of memory.
-pub fn lex(alloc: Global, text: &str) -> Result<Vec<Token>, LexError>
-    ensures tokens { IfOk result (λ tokens. Spells false 0 (chars text.now) tokens.items) }
-    ensures fault { IfErr result
-        (λ error. (error ≡ Memory) ⊎ Fails false 0 (chars text.now) error) }
-{
-    tokens_of(alloc, characters(alloc, text)?.as_slice())
+/// What a token is, without its characters.
+#[derive(Clone, Copy)]
+pub enum Kind {
+    /// A word.
+    Word,
+    /// An integer.
+    Int(i128),
+    /// The characters between two `'`.
+    Chars,
+    /// The characters between two `"`.
+    Text,
+    /// An atom.
+    Atom,
+    /// A sign.
+    Sign(Sign),
 }
 
-fn tokens_of(alloc: Global, text: &[char]) -> Result<Vec<Token>, LexError>
-    requires { bytes_of text.now ≤ usize.MAX }
-    ensures tokens { IfOk result (λ tokens. Spells false 0 text.now tokens.items) }
-    ensures fault { IfErr result (λ error. (error ≡ Memory) ⊎ Fails false 0 text.now error) }
-{
-    let mut tokens = Vec::new(alloc);
-    let mut read = 0;
-    let mut at = 0;
-    let mut joined = false;
-    while read < text.len() {
-        let rest = &text[read..];
-        let piece = match front(alloc, joined, at, rest) {
-            Ok(piece) => piece,
-            Err(error) => return Err(error),
-        };
-        match piece {
-            Piece::Dropped(count) => {
-                joined = false;
-                at += bytes(&rest[..count]);
-                read += count;
-            }
-            Piece::Token(kind, count) => {
-                joined = joins(&kind);
-                let span = Span {
-                    from: at,
-                    to: at + bytes(&rest[..count]),
-                };
-                add(&mut tokens, Token { kind, span })?;
-                at = span.to;
-                read += count;
-            }
+/// What stands next in a text.
+#[derive(Clone, Copy)]
+pub enum Lexeme {
+    /// A token, and where it stands.
+    Token(Kind, Span),
+    /// The end of the text.
+    End,
+    /// The first fault of the text, or want of memory.
+    Fault(LexError),
+}
+
+/// What is left of a text, and the characters of the token that was read last.
+#[derive(Drop)]
+pub struct Lexer<'t> {
+    cursor: Cursor<'t>,
+    end: usize,
+    joined: bool,
+    buffer: Buffer,
+    ghost fits: { bytes_of cursor ≤ end },
+}
+
+impl<'t> Lexer<'t> {
+    ghost use Rattle.std.specs.Prelude.{◌≡◌, false};
+    ghost use Rattle.std.specs.Str.{chars};
+    ghost use Rattle.cd_lex.specs.Lexing.{left, place, is_joined, spelled as spelled_by, IsNext};
+
+    /// The start of a text.
+    pub fn new(alloc: Global, text: &'t str) -> Lexer<'t>
+        ensures left { left result ≡ chars text.now }
+        ensures place { place result ≡ 0 }
+        ensures joined { is_joined result ≡ false }
+    {
+        let cursor = Cursor::new(text);
+        let end = cursor.bytes();
+        Lexer {
+            cursor,
+            end,
+            joined: false,
+            buffer: Buffer::new(alloc),
         }
     }
-    Ok(tokens)
-}
 
-fn add(tokens: &mut Vec<Token>, token: Token) -> Result<(), AllocError>
-    ensures { OnOk result (tokens.new.items ≡ tokens.old.items ++ token ∷ []) }
-{
-    tokens.push(token)?;
-    Ok(())
-}
+    /// What stands next, which is taken off the text. After a fault nothing is promised.
+    pub fn next(&mut self) -> Lexeme
+        ensures { IsNext self.old result self.new }
+    {
+        let mut cursor = self.cursor.again();
+        let lexeme = read_lexeme(&mut cursor, &mut self.buffer, self.joined, self.end);
+        if let Lexeme::Token(kind, _) = lexeme {
+            self.cursor = cursor;
+            self.joined = joins(kind);
+        }
+        lexeme
+    }
 
-#[tactic(auto, using(std::proofs::lemmas::Str::chars_from_encodes))]
-fn characters(alloc: Global, text: &str) -> Result<Vec<char>, AllocError>
-    ensures { IfOk result (λ found. found.items ≡ chars text.now) }
-{
-    text.chars().collect(alloc)
-}
-
-// Whether what follows a token at once is joined to it.
-fn joins(kind: &TokenKind) -> bool
-    ensures { result ≡ joins_of kind.now }
-{
-    match kind {
-        TokenKind::Sign(sign) => closes(*sign),
-        _ => true,
+    /// The characters of the token that was read last: the word, the name of the atom, or what
+    /// stands between the quotes.
+    pub fn spelled(&self) -> &str
+        ensures { chars result.now ≡ spelled_by self.now }
+    {
+        self.buffer.as_str()
     }
 }

@@ -1,9 +1,13 @@
 //! The tokens of a text.
 #![tactic(auto)]
 
+mod buffer;
 mod comment;
+mod cursor;
 pub mod laws;
 pub mod lexer;
+pub mod lexing;
+mod next_token;
 mod number;
 mod piece;
 mod quoted;
@@ -11,4 +15,5 @@ mod signs;
 mod word;
 
 pub use cd_syntax::tokens::{LexError, Span, Token, TokenKind};
-pub use lexer::lex;
+pub use lexer::{Kind, Lexeme, Lexer};
+pub use lexing::lex;

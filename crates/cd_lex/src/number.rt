@@ -1,46 +1,85 @@
-ghost use Rattle.std.specs.Prelude.{◌≡◌, ℤ, pos, neg_ℤ, length, take_while, IfOk, MatchOption};
-ghost use Rattle.std.specs.Prelude.{if◌then◌else◌, string_bytes, encode_utf8_all};
+ghost use Rattle.std.specs.Prelude.{◌≡◌, ◌<◌, ◌-◌, ◌^◌, ◌∷◌, true, MatchOption, pos};
 ghost use Rattle.std.specs.Char.{is_ascii_digit};
-ghost use Rattle.cd_syntax.specs.Integer.{IsInteger};
-ghost use Rattle.cd_syntax.specs.Digits.{AreDigits, decimal_value};
-ghost use Rattle.cd_lex.specs.Inner.Number.{signed};
+ghost use Rattle.cd_syntax.specs.Digits.{decimal_value};
+ghost use Rattle.cd_lex.specs.Inner.Prefixes.{first_digits, after_digits};
+ghost use Rattle.cd_lex.specs.Inner.Number.{number_after, with_sign, FindsInteger};
 
-use std::alloc::{AllocError, Global};
+use crate::cursor::Cursor;
 
-/// How many digits stand at the front of a text.
-pub(crate) fn digits_length(text: &[char]) -> usize
-    ensures { result ≡ length (take_while is_ascii_digit text.now) }
+/// The number of the digits at the front of a text, of which the first was taken off before, with
+/// a minus or without, if it fits 128 bits.
+pub(crate) fn read_number(cursor: &mut Cursor<'_>, negative: bool, first: char) -> Option<i128>
+    requires { is_ascii_digit first ≡ true }
+    ensures value { FindsInteger result
+        (with_sign negative (decimal_value (first_digits (first ∷ cursor.old)))) }
+    ensures rest { MatchOption result Unit (λ n. cursor.new ≡ after_digits (first ∷ cursor.old)) }
 {
-    text.iter().take_while(|c| c.is_ascii_digit()).count()
+    let value = read_digits(cursor, first)?;
+    signed(negative, value)
 }
 
-/// The number that digits write, with a minus or without, if it fits 128 bits.
-pub(crate) fn number(
-    alloc: Global,
-    negative: bool,
-    digits: &[char],
-) -> Result<Option<i128>, AllocError>
-    requires { AreDigits digits.now }
-    ensures { IfOk result (λ found. let value =
-        if negative then neg_ℤ (pos (decimal_value digits.now)) else pos
-        (decimal_value digits.now) in MatchOption found (IsInteger value → ⊥)
-        (λ n. (n ≡ value) × IsInteger value)) }
+// The number without its sign. None where it is above 2^127.
+fn read_digits(cursor: &mut Cursor<'_>, first: char) -> Option<u128>
+    requires { is_ascii_digit first ≡ true }
+    ensures value { MatchOption result
+        (2 ^ 127 < decimal_value (first_digits (first ∷ cursor.old)))
+        (λ n. n ≡ decimal_value (first_digits (first ∷ cursor.old))) }
+    ensures rest { MatchOption result Unit (λ n. cursor.new ≡ after_digits (first ∷ cursor.old)) }
 {
-    let text = written(alloc, negative, digits)?;
-    Ok(text.as_str().parse::<i128>().ok())
+    let mut value = u64::from(digit(first));
+    while value < 100_000_000_000_000_000 {
+        match cursor.take_digit() {
+            Some(c) => value = value * 10 + u64::from(digit(c)),
+            None => return Some(u128::from(value)),
+        }
+    }
+    read_more_digits(cursor, u128::from(value))
 }
 
-// The text of digits, after a minus or none.
-fn written(alloc: Global, negative: bool, digits: &[char]) -> Result<String, AllocError>
-    ensures { IfOk result (λ text.
-        string_bytes text ≡ encode_utf8_all (signed negative digits.now)) }
+// The same from the value of the digits before.
+fn read_more_digits(cursor: &mut Cursor<'_>, before: u128) -> Option<u128>
+    ensures value { MatchOption result (2 ^ 127 < number_after before (first_digits cursor.old))
+        (λ n. n ≡ number_after before (first_digits cursor.old)) }
+    ensures rest { MatchOption result Unit (λ n. cursor.new ≡ after_digits cursor.old) }
 {
-    let mut text = String::new(alloc);
+    let mut value = before;
+    while let Some(c) = cursor.take_digit() {
+        if value > 17014118346046923173168730371588410572 {
+            return None;
+        }
+        value = value * 10 + u128::from(digit(c));
+    }
+    Some(value)
+}
+
+/// What a digit adds to a number.
+pub(crate) fn digit(c: char) -> u32
+    requires { is_ascii_digit c ≡ true }
+    ensures value { result ≡ c - 48 }
+    ensures small { result < 10 }
+{
+    c as u32 - '0' as u32
+}
+
+// The number with a minus or without, if it fits 128 bits.
+fn signed(negative: bool, value: u128) -> Option<i128>
+    ensures { FindsInteger result (with_sign negative value) }
+{
     if negative {
-        text.push('-')?;
+        return negated(value);
     }
-    for c in digits {
-        text.push(*c)?;
+    i128::try_from(value).ok()
+}
+
+// The number with a minus, if it fits 128 bits.
+fn negated(value: u128) -> Option<i128>
+    ensures { FindsInteger result (with_sign true value) }
+{
+    if value == 0 {
+        return Some(0);
     }
-    Ok(text)
+    if value > 170141183460469231731687303715884105728 {
+        return None;
+    }
+    Some(-1 - (value - 1) as i128)
 }

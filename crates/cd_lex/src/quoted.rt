@@ -1,84 +1,85 @@
-ghost use Rattle.std.specs.Prelude.{◌≤◌, IfOk, IsTrue, SomeIff, length};
+ghost use Rattle.std.specs.Prelude.{◌≡◌, ◌≤◌, ◌<◌, ◌∷◌, true, IfOk, SomeIff, MatchOption, length};
 ghost use Rattle.std.specs.Char.{IsScalar, is_ascii_digit};
-ghost use Rattle.std.specs.List.{list_all};
 ghost use Rattle.cd_syntax.specs.Digits.{decimal_value};
+ghost use Rattle.cd_lex.specs.Inner.Prefixes.{first_digits, after_digits};
 ghost use Rattle.cd_lex.specs.Inner.Quoted.{IsQuoted};
 ghost use Rattle.cd_lex.specs.Inner.Quoting.{IsMeant, IsEscape};
 
-use crate::number::digits_length;
-use std::alloc::{AllocError, Global};
+use crate::buffer::Buffer;
+use crate::cursor::Cursor;
+use crate::number::digit;
+use std::alloc::AllocError;
 
 /// What stands after an opening quote.
-#[derive(Drop)]
+#[derive(Clone, Copy)]
 pub(crate) enum Quoted {
-    /// These characters, written by so many, before a closing quote.
-    Closed(Vec<char>, usize),
-    /// After so many characters, a `\` that begins no escape.
-    Breaks(usize),
+    /// Characters before a closing quote.
+    Closed,
+    /// A `\` that begins no escape.
+    Breaks,
     /// No closing quote.
     Ends,
 }
 
-/// What stands after an opening quote.
-pub(crate) fn read_quoted(alloc: Global, quote: char, text: &[char]) -> Result<Quoted, AllocError>
-    ensures { IfOk result (λ quoted. IsQuoted quote text.now quoted) }
+/// Reads what stands after an opening quote into the buffer, and takes it off up to the closing
+/// quote or the `\` that begins no escape.
+pub(crate) fn read_quoted(
+    cursor: &mut Cursor<'_>,
+    buffer: &mut Buffer,
+    quote: char,
+) -> Result<Quoted, AllocError>
+    ensures { IfOk result (λ quoted. IsQuoted quote cursor.old quoted cursor.new buffer.new) }
 {
-    let mut characters = Vec::new(alloc);
-    let mut count = 0;
-    while count < text.len() {
-        let c = text[count];
+    buffer.clear();
+    loop {
+        let mut ahead = cursor.again();
+        let Some(c) = ahead.take() else {
+            return Ok(Quoted::Ends);
+        };
         if c == quote {
-            return Ok(Quoted::Closed(characters, count));
+            *cursor = ahead;
+            return Ok(Quoted::Closed);
         }
         if c != '\\' {
-            characters.push(c)?;
-            count += 1;
+            buffer.push(c)?;
+            *cursor = ahead;
             continue;
         }
-        match read_escape(&text[count + 1..]) {
-            Escape::Means(meant, length) => {
-                characters.push(meant)?;
-                count += 1 + length;
+        match read_escape(&mut ahead) {
+            Escape::Means(meant) => {
+                buffer.push(meant)?;
+                *cursor = ahead;
             }
-            Escape::Breaks => return Ok(Quoted::Breaks(count)),
+            Escape::Breaks => return Ok(Quoted::Breaks),
             Escape::Ends => return Ok(Quoted::Ends),
         }
     }
-    Ok(Quoted::Ends)
 }
 
 // What stands after a `\`.
 #[derive(Clone, Copy)]
 enum Escape {
-    // This character, written by so many.
-    Means(char, usize),
+    // What means this character.
+    Means(char),
     // No escape.
     Breaks,
     // The end of the text, where an escape could go on.
     Ends,
 }
 
-// What stands at the front of a text that follows a `\`.
-fn read_escape(text: &[char]) -> Escape
-    ensures { IsEscape text.now result }
+// Takes what stands after a `\` off.
+fn read_escape(cursor: &mut Cursor<'_>) -> Escape
+    ensures { IsEscape cursor.old result cursor.new }
 {
-    let Some(first) = text.first() else {
+    let Some(first) = cursor.take() else {
         return Escape::Ends;
     };
-    if !first.is_ascii_digit() {
-        return match meant(*first) {
-            Some(c) => Escape::Means(c, 1),
-            None => Escape::Breaks,
-        };
+    if first.is_ascii_digit() {
+        return read_code(cursor, first);
     }
-    let length = digits_length(text);
-    let Some(c) = code(&text[..length]) else {
-        return Escape::Breaks;
-    };
-    match text.get(length) {
-        Some(';') => Escape::Means(c, length + 1),
-        Some(_) => Escape::Breaks,
-        None => Escape::Ends,
+    match meant(first) {
+        Some(c) => Escape::Means(c),
+        None => Escape::Breaks,
     }
 }
 
@@ -97,20 +98,36 @@ fn meant(letter: char) -> Option<char>
     }
 }
 
-// The character that digits stand for, if they are 7 at most and their value is that of a
-// character.
-fn code(digits: &[char]) -> Option<char>
-    requires { IsTrue (list_all is_ascii_digit digits.now) }
-    ensures { SomeIff result ((length digits.now ≤ 7) × IsScalar (decimal_value digits.now))
-        (decimal_value digits.now) }
+// Takes a code off, of which the first digit was taken off before.
+fn read_code(cursor: &mut Cursor<'_>, first: char) -> Escape
+    requires { is_ascii_digit first ≡ true }
+    ensures { IsEscape (first ∷ cursor.old) result cursor.new }
 {
-    if digits.len() > 7 {
-        return None;
+    let Some(c) = code(cursor, first) else {
+        return Escape::Breaks;
+    };
+    match cursor.take() {
+        Some(';') => Escape::Means(c),
+        Some(_) => Escape::Breaks,
+        None => Escape::Ends,
     }
-    let mut value = 0;
-    for digit in digits {
-        value = value * 10 + (*digit as u32 - '0' as u32);
-        if value > 0x10FFFF {
+}
+
+// The character that digits stand for, if they are 7 at most and their value is that of a
+// character. The first digit was taken off before.
+fn code(cursor: &mut Cursor<'_>, first: char) -> Option<char>
+    requires { is_ascii_digit first ≡ true }
+    ensures value { let digits = first_digits (first ∷ cursor.old) in
+        SomeIff result ((length digits ≤ 7) × IsScalar (decimal_value digits))
+        (decimal_value digits) }
+    ensures rest { MatchOption result Unit (λ c. cursor.new ≡ after_digits (first ∷ cursor.old)) }
+{
+    let mut value = digit(first);
+    let mut count: u32 = 1;
+    while let Some(c) = cursor.take_digit() {
+        value = value * 10 + digit(c);
+        count += 1;
+        if count > 7 || value > 0x10FFFF {
             return None;
         }
     }

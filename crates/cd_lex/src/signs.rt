@@ -1,112 +1,93 @@
-ghost use Rattle.std.specs.Prelude.{◌≡◌, length, MatchOption};
-ghost use Rattle.cd_syntax.specs.Signs.{characters as characters_of, BeginsWith, IsLongest};
-ghost use Rattle.cd_syntax.specs.Signs.{closes as closes_of};
+ghost use Rattle.std.specs.Prelude.{◌≡◌, ◌∷◌, MatchOption};
+ghost use Rattle.cd_syntax.specs.Signs.{BeginsWith, closes as closes_of};
 ghost use Rattle.cd_syntax.specs.declared.sign.Sign.{Sign as ASign};
-ghost use Rattle.cd_lex.specs.Inner.SignTable.{signs as all_signs};
+ghost use Rattle.cd_lex.specs.Inner.Standing.{IsSignTo};
+ghost use Rattle.cd_lex.specs.Inner.SignTable.{IsEither};
 
+use crate::cursor::Cursor;
 use cd_syntax::sign::Sign;
 
-/// The longest sign that a text begins with.
-pub(crate) fn longest_sign(text: &[char]) -> Option<Sign>
-    ensures { MatchOption result ((is : ASign) → BeginsWith text.now is → ⊥)
-        (λ is. IsLongest is text.now) }
+/// Takes off the longest sign of a text whose first character, no `(` and no `-`, was taken off
+/// before.
+pub(crate) fn read_sign(cursor: &mut Cursor<'_>, first: char) -> Option<Sign>
+    requires parenthesis { first ≡ 40 → ⊥ }
+    requires minus { first ≡ 45 → ⊥ }
+    ensures { MatchOption result ((is : ASign) → BeginsWith (first ∷ cursor.old) is → ⊥)
+        (λ is. IsSignTo (first ∷ cursor.old) is cursor.new) }
 {
-    signs()
-        .iter()
-        .find(|sign| text.starts_with(characters(**sign)))
-        .copied()
+    let sign = match first {
+        ')' => Sign::CloseParenthesis,
+        '[' => Sign::OpenBracket,
+        ']' => Sign::CloseBracket,
+        '{' => Sign::OpenBrace,
+        '}' => Sign::CloseBrace,
+        ',' => Sign::Comma,
+        '\\' => Sign::Backslash,
+        '@' => Sign::At,
+        '<' => either(cursor, '=', Sign::LessEqual, Sign::Less),
+        '>' => either(cursor, '=', Sign::GreaterEqual, Sign::Greater),
+        '=' => either(cursor, '?', Sign::EqualQuestion, Sign::Equal),
+        '!' => either(cursor, '=', Sign::NotEqual, Sign::Splice),
+        '?' => either(cursor, '?', Sign::QuestionQuestion, Sign::Question),
+        '+' => either(cursor, '?', Sign::PlusQuestion, Sign::Plus),
+        '&' => either(cursor, '&', Sign::AndAnd, Sign::And),
+        '|' => either(cursor, '|', Sign::OrOr, Sign::Or),
+        ';' => either(cursor, ';', Sign::Semicolons, Sign::Semicolon),
+        '.' => either(cursor, '.', Sign::Dots, Sign::Dot),
+        '*' => after_star(cursor),
+        ':' => return after_colon(cursor),
+        _ => return None,
+    };
+    Some(sign)
 }
 
-// All signs, longest first.
-fn signs() -> &'static [Sign]
-    ensures { result.now ≡ all_signs }
+// The longer sign, if this character goes on, which is taken off. Else the shorter one.
+fn either(cursor: &mut Cursor<'_>, next: char, long: Sign, short: Sign) -> Sign
+    ensures { IsEither next long short cursor.old result cursor.new }
 {
-    &[
-        Sign::StarTo,
-        Sign::ToStar,
-        Sign::StarQuestion,
-        Sign::PlusQuestion,
-        Sign::QuestionQuestion,
-        Sign::EqualQuestion,
-        Sign::To,
-        Sign::Arrow,
-        Sign::ColonColon,
-        Sign::Becomes,
-        Sign::Dots,
-        Sign::NotEqual,
-        Sign::LessEqual,
-        Sign::GreaterEqual,
-        Sign::AndAnd,
-        Sign::OrOr,
-        Sign::Semicolons,
-        Sign::OpenParenthesis,
-        Sign::CloseParenthesis,
-        Sign::OpenBracket,
-        Sign::CloseBracket,
-        Sign::OpenBrace,
-        Sign::CloseBrace,
-        Sign::Less,
-        Sign::Greater,
-        Sign::Equal,
-        Sign::Question,
-        Sign::Star,
-        Sign::Plus,
-        Sign::Minus,
-        Sign::Backslash,
-        Sign::Or,
-        Sign::And,
-        Sign::Comma,
-        Sign::Semicolon,
-        Sign::Dot,
-        Sign::Splice,
-        Sign::At,
-    ]
+    if cursor.take_this(next) { long } else { short }
 }
 
-/// The characters of a sign.
-pub(crate) fn characters(sign: Sign) -> &'static [char]
-    ensures { result.now ≡ characters_of sign }
+// The longest sign that begins with a `*`.
+fn after_star(cursor: &mut Cursor<'_>) -> Sign
+    ensures { IsSignTo (42 ∷ cursor.old) result cursor.new }
 {
-    match sign {
-        Sign::StarTo => &['*', '-', '-'],
-        Sign::ToStar => &['-', '-', '*'],
-        Sign::StarQuestion => &['*', '?'],
-        Sign::PlusQuestion => &['+', '?'],
-        Sign::QuestionQuestion => &['?', '?'],
-        Sign::EqualQuestion => &['=', '?'],
-        Sign::To => &['-', '-'],
-        Sign::Arrow => &['-', '>'],
-        Sign::ColonColon => &[':', ':'],
-        Sign::Becomes => &[':', '='],
-        Sign::Dots => &['.', '.'],
-        Sign::NotEqual => &['!', '='],
-        Sign::LessEqual => &['<', '='],
-        Sign::GreaterEqual => &['>', '='],
-        Sign::AndAnd => &['&', '&'],
-        Sign::OrOr => &['|', '|'],
-        Sign::Semicolons => &[';', ';'],
-        Sign::OpenParenthesis => &['('],
-        Sign::CloseParenthesis => &[')'],
-        Sign::OpenBracket => &['['],
-        Sign::CloseBracket => &[']'],
-        Sign::OpenBrace => &['{'],
-        Sign::CloseBrace => &['}'],
-        Sign::Less => &['<'],
-        Sign::Greater => &['>'],
-        Sign::Equal => &['='],
-        Sign::Question => &['?'],
-        Sign::Star => &['*'],
-        Sign::Plus => &['+'],
-        Sign::Minus => &['-'],
-        Sign::Backslash => &['\\'],
-        Sign::Or => &['|'],
-        Sign::And => &['&'],
-        Sign::Comma => &[','],
-        Sign::Semicolon => &[';'],
-        Sign::Dot => &['.'],
-        Sign::Splice => &['!'],
-        Sign::At => &['@'],
+    if cursor.take_this('?') {
+        return Sign::StarQuestion;
     }
+    let mut ahead = cursor.again();
+    if ahead.take_this('-') && ahead.take_this('-') {
+        *cursor = ahead;
+        return Sign::StarTo;
+    }
+    Sign::Star
+}
+
+/// Takes off the longest sign that begins with a `-`, which was taken off before.
+pub(crate) fn after_minus(cursor: &mut Cursor<'_>) -> Sign
+    ensures { IsSignTo (45 ∷ cursor.old) result cursor.new }
+{
+    if cursor.take_this('>') {
+        return Sign::Arrow;
+    }
+    if !cursor.take_this('-') {
+        return Sign::Minus;
+    }
+    either(cursor, '*', Sign::ToStar, Sign::To)
+}
+
+// The longest sign that begins with a `:`.
+fn after_colon(cursor: &mut Cursor<'_>) -> Option<Sign>
+    ensures { MatchOption result ((is : ASign) → BeginsWith (58 ∷ cursor.old) is → ⊥)
+        (λ is. IsSignTo (58 ∷ cursor.old) is cursor.new) }
+{
+    if cursor.take_this(':') {
+        return Some(Sign::ColonColon);
+    }
+    if cursor.take_this('=') {
+        return Some(Sign::Becomes);
+    }
+    None
 }
 
 /// Whether a sign is `)`, `]` or `}`.

@@ -1,5 +1,5 @@
 -- What stands after a `\`.
-use Rattle.std.specs.Prelude.{ℕ, ◌≤◌, List, [], ◌∷◌, length, take, Option, MatchOption}
+use Rattle.std.specs.Prelude.{◌≡◌, ℕ, List, [], ◌∷◌, ◌++◌, Option, MatchOption}
 use Rattle.cd_syntax.specs.Quotes.{IsEscapeLetter, Quotes, BreaksEscape, EndsHalf}
 use Rattle.cd_lex.specs.declared.quoted.Escape.{Escape}
 use Rattle.cd_lex.specs.declared.quoted.Escape.TheVariants.{Means, Breaks, Ends}
@@ -9,9 +9,14 @@ abbrev pub IsMeant : ℕ → Option ℕ → Type 0
 IsMeant letter found = MatchOption found ((meant : ℕ) → IsEscapeLetter letter meant → ⊥)
     (λ meant. IsEscapeLetter letter meant)
 
--- after a `\`, the first `count` characters stand for `c`; or begin no escape; or end too early
-abbrev pub IsEscape : List ℕ → Escape → Type 0
-IsEscape text (Means c count) = (count ≤ length text)
-    × ((quote : ℕ) → Quotes quote (92 ∷ take count text) (c ∷ []))
-IsEscape text Breaks = BreaksEscape (92 ∷ text)
-IsEscape text Ends = EndsHalf (92 ∷ text)
+-- what is taken off the text after a `\` means `c`
+pub record IsEscapeOf (text : List ℕ) (c : ℕ) (new : List ℕ) : Type 0 where
+  pub written : List ℕ
+  pub is : text ≡ written ++ new
+  pub quotes : (quote : ℕ) → Quotes quote (92 ∷ written) (c ∷ [])
+
+-- an escape; or none begins so; or the text ends too early
+abbrev pub IsEscape : List ℕ → Escape → (new : List ℕ) → Type 0
+IsEscape text (Means c) new = IsEscapeOf text c new
+IsEscape text Breaks new = BreaksEscape (92 ∷ text)
+IsEscape text Ends new = EndsHalf (92 ∷ text)

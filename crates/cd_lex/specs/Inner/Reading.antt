@@ -1,17 +1,46 @@
 -- How far a text is read.
-use Rattle.std.specs.Prelude.{◌≡◌, ℕ, ◌+◌, ◌≤◌, Bool, false, List, ◌++◌, length, drop}
-use Rattle.cd_syntax.specs.declared.tokens.Token.{Token}
+use Rattle.std.specs.Prelude.{◌≡◌, ℕ, ◌-◌, ◌<◌, ◌≤◌, ◌⊎◌, Bool, false, List, [], ◌∷◌, ◌++◌, length}
+use Rattle.cd_syntax.specs.declared.tokens.Token.{Token as AToken}
 use Rattle.cd_syntax.specs.declared.tokens.LexError.{LexError}
-use Rattle.cd_syntax.specs.Tokens.{bytes, Spells}
+use Rattle.cd_syntax.specs.declared.tokens.LexError.TheVariants.{Memory}
+use Rattle.cd_syntax.specs.Tokens.{bytes, Spells, joins}
 use Rattle.cd_syntax.specs.Faults.{Fails}
+use Rattle.cd_lex.specs.declared.lexer.Lexeme.{Lexeme}
+use Rattle.cd_lex.specs.declared.lexer.Lexeme.TheVariants.{Token, End, Fault}
+use Rattle.cd_lex.specs.declared.lexer.Lexer.{Lexer}
+use Rattle.cd_lex.specs.Lexing.{token_with, SpellsOn, FailsOn, left}
 
--- so many characters are read, up to this byte, as these tokens: those of the rest follow them, and
--- the first fault of the rest is that of the text
-pub record IsRead (text : List ℕ) (tokens : List Token) (joined : Bool)
-    (count at : ℕ) : Type 0 where
-  pub within : count ≤ length text
-  pub place : at + bytes (drop count text) ≡ bytes text
-  pub spells : (more : List Token) → Spells joined at (drop count text) more
-      → Spells false 0 text (tokens ++ more)
-  pub fails : (fault : LexError) → Fails joined at (drop count text) fault
-      → Fails false 0 text fault
+-- the end of a text, whose whole ends at this byte, spells these tokens, and has this first fault
+abbrev pub SpellsUpTo : (end : ℕ) (joined : Bool) → List ℕ → List AToken → Type 0
+SpellsUpTo end joined text tokens = Spells joined (end - bytes text) text tokens
+
+abbrev pub FailsUpTo : (end : ℕ) (joined : Bool) → List ℕ → LexError → Type 0
+FailsUpTo end joined text fault = Fails joined (end - bytes text) text fault
+
+-- these tokens are read: those of what is left follow them, and its first fault is that of the text
+pub record IsReadTo (end : ℕ) (joined : Bool) (text : List ℕ) (tokens : List AToken)
+    (joined_then : Bool) (left : List ℕ) : Type 0 where
+  pub spells : (more : List AToken) → SpellsUpTo end joined_then left more
+      → SpellsUpTo end joined text (tokens ++ more)
+  pub fails : (fault : LexError) → FailsUpTo end joined_then left fault
+      → FailsUpTo end joined text fault
+  pub fits : bytes left ≤ end
+  pub within : length left ≤ length text
+
+-- a token is read, and no less than one character
+abbrev pub IsTokenRead : (end : ℕ) (joined : Bool) → List ℕ → AToken → List ℕ → Type 0
+IsTokenRead end joined text token left =
+    IsReadTo end joined text (token ∷ []) (joins token.kind) left × (length left < length text)
+
+abbrev pub IsLexeme : (end : ℕ) (joined : Bool) → List ℕ → Lexeme → (new characters : List ℕ)
+    → Type 0
+IsLexeme end joined text (Token is span) new characters =
+    IsTokenRead end joined text (token_with is span characters) new
+IsLexeme end joined text End new characters = SpellsUpTo end joined text []
+IsLexeme end joined text (Fault fault) new characters =
+    (fault ≡ Memory) ⊎ FailsUpTo end joined text fault
+
+-- a lexer has read these tokens of the text
+pub record HasRead (text : List ℕ) (tokens : List AToken) (lexer : Lexer) : Type 0 where
+  pub spells : (more : List AToken) → SpellsOn lexer more → Spells false 0 text (tokens ++ more)
+  pub fails : (fault : LexError) → FailsOn lexer fault → Fails false 0 text fault

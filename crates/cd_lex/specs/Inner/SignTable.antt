@@ -1,9 +1,10 @@
 -- The signs, longest first, and the first of them that stands at the front of a text.
-use Rattle.std.specs.Prelude.{ℕ, Bool, List, [], ◌∷◌, Option, eqb, find}
+use Rattle.std.specs.Prelude.{◌≡◌, ◌⊎◌, ℕ, Bool, List, [], ◌∷◌, Option, eqb, find}
 use Rattle.std.specs.List.{starts_with}
 use Rattle.cd_syntax.specs.Signs.{characters}
 use Rattle.cd_syntax.specs.declared.sign.Sign.{Sign}
 use Rattle.cd_syntax.specs.declared.sign.Sign.TheVariants as sign
+use Rattle.cd_lex.specs.Inner.Prefixes.{BeginsWithOther}
 
 -- all signs, longest first
 abbrev pub signs : List Sign
@@ -25,3 +26,8 @@ begins_with text is = starts_with eqb text (characters is)
 -- the first of the signs that the text begins with
 unfoldable pub first_sign : List ℕ → Option Sign
 first_sign text = find (begins_with text) signs
+
+-- the longer sign where this character goes on, which is taken off, and else the shorter one
+abbrev pub IsEither : (next : ℕ) (long short : Sign) → List ℕ → Sign → (new : List ℕ) → Type 0
+IsEither next long short text is new = ((is ≡ long) × (text ≡ next ∷ new))
+    ⊎ ((is ≡ short) × (new ≡ text) × BeginsWithOther next text)

@@ -1,41 +1,41 @@
--- What stands at the front of a text.
-use Rattle.std.specs.Prelude.{◌≡◌, ℕ, ◌<◌, ◌≤◌, Bool, List, ◌++◌, length, take, drop, ◌⊎◌}
+-- What stands at the front of a text, and what is left after it.
+use Rattle.std.specs.Prelude.{◌≡◌, ℕ, ◌<◌, Bool, List, ◌++◌, length, ◌⊎◌}
+use Rattle.cd_syntax.specs.declared.sign.Sign.{Sign}
 use Rattle.cd_syntax.specs.declared.tokens.TokenKind.{TokenKind}
 use Rattle.cd_syntax.specs.declared.tokens.LexError.{LexError}
 use Rattle.cd_syntax.specs.declared.tokens.LexError.TheVariants.{Memory}
-use Rattle.cd_syntax.specs.Name.{IsLabel}
-use Rattle.cd_syntax.specs.Tokens.{EndsWord, IsDropped, Writes}
+use Rattle.cd_syntax.specs.Signs.{characters, IsLongest}
+use Rattle.cd_syntax.specs.Tokens.{IsDropped, Writes}
 use Rattle.cd_syntax.specs.Faults.{Breaks}
 use Rattle.cd_lex.specs.declared.piece.Piece.{Piece}
 use Rattle.cd_lex.specs.declared.piece.Piece.TheVariants.{Dropped, Token}
+use Rattle.cd_lex.specs.Lexing.{with_characters}
 
--- the first characters, so many of them and one at least, are dropped
-pub record IsDroppedFront (text : List ℕ) (count : ℕ) : Type 0 where
-  pub some : 0 < count
-  pub within : count ≤ length text
-  pub dropped : IsDropped (take count text)
+-- a blank or a comment
+pub record IsDroppedTo (text new : List ℕ) : Type 0 where
+  pub written : List ℕ
+  pub is : text ≡ written ++ new
+  pub some : 0 < length written
+  pub dropped : IsDropped written
 
--- they are a token
-pub record IsTokenFront (joined : Bool) (text : List ℕ) (kind : TokenKind)
-    (count : ℕ) : Type 0 where
-  pub some : 0 < count
-  pub within : count ≤ length text
-  pub writes : Writes joined (take count text) (drop count text) kind
+-- a token
+pub record IsTokenTo (joined : Bool) (text : List ℕ) (kind : TokenKind)
+    (new : List ℕ) : Type 0 where
+  pub written : List ℕ
+  pub is : text ≡ written ++ new
+  pub some : 0 < length written
+  pub writes : Writes joined written new kind
 
-abbrev pub Stands : Bool → List ℕ → Piece → Type 0
-Stands joined text (Dropped count) = IsDroppedFront text count
-Stands joined text (Token kind count) = IsTokenFront joined text kind count
+abbrev pub Stands : Bool → List ℕ → Piece → (new characters : List ℕ) → Type 0
+Stands joined text Dropped new spelled = IsDroppedTo text new
+Stands joined text (Token kind) new spelled =
+    IsTokenTo joined text (with_characters kind spelled) new
 
 -- memory ran out, or this fault stands at the front of the text, which begins at this byte
 abbrev pub FaultAtFront : Bool → ℕ → List ℕ → LexError → Type 0
 FaultAtFront joined at text error = (error ≡ Memory) ⊎ Breaks joined at text error
 
--- so many characters are a word that an atom may have
-pub record IsAtomFront (text : List ℕ) (count : ℕ) : Type 0 where
-  pub within : count ≤ length text
-  pub label : IsLabel (take count text)
-  pub ends : EndsWord (drop count text)
-
--- no word that an atom may have stands at the front
-abbrev pub NoAtomFront : List ℕ → Type 0
-NoAtomFront text = (name rest : List ℕ) → text ≡ name ++ rest → IsLabel name → EndsWord rest → ⊥
+-- the longest sign
+pub record IsSignTo (text : List ℕ) (is : Sign) (new : List ℕ) : Type 0 where
+  pub written : text ≡ characters is ++ new
+  pub longest : IsLongest is text

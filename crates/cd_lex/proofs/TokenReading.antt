@@ -1,0 +1,119 @@
+-- Tokens are read one after the other, up to the byte at which the text ends.
+use Rattle.std.proofs.Common.{◌≡◌, ℕ, ◌+◌, ◌-◌, ◌≤◌, Bool, false, List, [], ◌∷◌, ◌++◌, sym, ap, subst, ◌∙◌, inl, inr, ◌⊎◌, arith, length, append_assoc, append-nil}
+use Rattle.std.proofs.lemmas.List.{length-append}
+use Rattle.cd_syntax.specs.declared.tokens.Span.{Span}
+use Rattle.cd_syntax.specs.declared.tokens.Token.{Token}
+use Rattle.cd_syntax.specs.declared.tokens.TokenKind.{TokenKind}
+use Rattle.cd_syntax.specs.declared.tokens.LexError.{LexError}
+use Rattle.cd_syntax.specs.declared.tokens.LexError.TheVariants.{Memory}
+use Rattle.cd_syntax.specs.Tokens.{bytes, joins, token_at, Spells}
+use Rattle.cd_syntax.specs.Tokens as tokens
+use Rattle.cd_syntax.specs.Faults.{Fails}
+use Rattle.cd_syntax.specs.Faults as faults
+use Rattle.cd_lex.specs.declared.lexer.Kind.{Kind}
+use Rattle.cd_lex.specs.declared.lexer.Lexer.{Lexer}
+use Rattle.cd_lex.specs.Lexing.{IsToken, SpellsOn, FailsOn, with_characters, token_with}
+use Rattle.cd_lex.specs.Inner.Standing.{IsDroppedTo, IsTokenTo, FaultAtFront}
+use Rattle.cd_lex.specs.Inner.Reading.{SpellsUpTo, FailsUpTo, IsReadTo, IsTokenRead, HasRead}
+use Rattle.cd_lex.proofs.Fronts.{bytes_append}
+
+-- where a piece ends
+piece_ends : (end : ℕ) (text written new : List ℕ) → bytes text ≤ end → text ≡ written ++ new → (end - bytes text + bytes written ≡ end - bytes new) × (bytes new ≤ end)
+piece_ends end text written new fits is =
+    let split : bytes text ≡ bytes written + bytes new = ap bytes is ∙ bytes_append written new in
+    (omega arith, omega arith)
+
+shorter : (text written new : List ℕ) → text ≡ written ++ new → length text ≡ length written + length new
+shorter text written new is = ap length is ∙ length-append written new
+
+module _ (end : ℕ) (joined : Bool) (text : List ℕ) where
+  pub starts : bytes text ≤ end → IsReadTo end joined text [] joined text
+  starts fits = record { spells = λ more spells. spells; fails = λ fault fails. fails; fits = fits; within = omega arith }
+
+  -- what is left after a front
+  pub drops : (now : Bool) (left new : List ℕ) → IsReadTo end joined text [] now left → IsDroppedTo left new → IsReadTo end joined text [] false new
+  drops now left new so is =
+      let ends = piece_ends end left is.written new so.fits is.is in
+      let size = shorter left is.written new is.is in
+      let within = so.within in
+      record {
+        spells = λ more spells. so.spells more (subst (λ text. Spells now (end - bytes left) text more) (sym is.is)
+            (tokens.dropped now (end - bytes left) is.written new more is.dropped (subst (λ at. Spells false at new more) (sym ends.0) spells)));
+        fails = λ fault fails. so.fails fault (subst (λ text. Fails now (end - bytes left) text fault) (sym is.is)
+            (faults.after_dropped now (end - bytes left) is.written new fault is.dropped (subst (λ at. Fails false at new fault) (sym ends.0) fails)));
+        fits = ends.1;
+        within = omega arith;
+      }
+
+  pub reads : (now : Bool) (left new : List ℕ) (kind : TokenKind) (from to : ℕ) → IsReadTo end joined text [] now left → IsTokenTo now left kind new
+      → from ≡ end - bytes left → to ≡ end - bytes new
+      → IsTokenRead end joined text (record { kind = kind; span = record { from = from; to = to } }) new
+  reads now left new kind from to so is from_is to_is =
+      let ends = piece_ends end left is.written new so.fits is.is in
+      let size = shorter left is.written new is.is in
+      let within = so.within in
+      let some = is.some in
+      let whole : to ≡ end - bytes left + bytes is.written = to_is ∙ sym ends.0 in (
+        record {
+          spells = λ more spells. so.spells (record { kind = kind; span = record { from = from; to = to } } ∷ more)
+              (subst (λ from. Spells now (end - bytes left) left (record { kind = kind; span = record { from = from; to = to } } ∷ more)) (sym from_is)
+              (subst (λ to. Spells now (end - bytes left) left (record { kind = kind; span = record { from = end - bytes left; to = to } } ∷ more)) (sym whole)
+              (subst (λ text. Spells now (end - bytes left) text (token_at (end - bytes left) is.written kind ∷ more)) (sym is.is)
+              (tokens.token now (end - bytes left) is.written new kind more is.writes (subst (λ at. Spells (joins kind) at new more) (sym ends.0) spells)))));
+          fails = λ fault fails. so.fails fault (subst (λ text. Fails now (end - bytes left) text fault) (sym is.is)
+              (faults.after_token now (end - bytes left) is.written new kind fault is.writes (subst (λ at. Fails (joins kind) at new fault) (sym ends.0) fails)));
+          fits = ends.1;
+          within = omega arith;
+        },
+        omega arith,
+      )
+
+  pub faulty : (now : Bool) (left : List ℕ) (at : ℕ) (fault : LexError) → IsReadTo end joined text [] now left → at ≡ end - bytes left → FaultAtFront now at left fault
+      → (fault ≡ Memory) ⊎ FailsUpTo end joined text fault
+  faulty now left at fault so at_is (inl memory) = inl memory
+  faulty now left at fault so at_is (inr breaks) = inr (so.fails fault (subst (λ at. Fails now at left fault) at_is (faults.here now at left fault breaks)))
+
+  -- the same of a text whose first character was taken off
+  module _ (now : Bool) (left front : List ℕ) (so : IsReadTo end joined text [] now left) (same : left ≡ front) where
+    pub drops_at : (new : List ℕ) → IsDroppedTo front new → IsReadTo end joined text [] false new
+    drops_at new is = drops now left new so (subst (λ text. IsDroppedTo text new) (sym same) is)
+
+    pub reads_at : (new : List ℕ) (kind : TokenKind) (from to : ℕ) → IsTokenTo now front kind new → from ≡ end - bytes left → to ≡ end - bytes new
+        → IsTokenRead end joined text (record { kind = kind; span = record { from = from; to = to } }) new
+    reads_at new kind from to is = reads now left new kind from to so (subst (λ text. IsTokenTo now text kind new) (sym same) is)
+
+    pub token_fits : (new : List ℕ) (kind : TokenKind) → IsTokenTo now front kind new → bytes new ≤ end
+    token_fits new kind is = (piece_ends end left is.written new so.fits (same ∙ is.is)).1
+
+    pub faulty_at : (at : ℕ) (fault : LexError) → at ≡ end - bytes left → FaultAtFront now at front fault → (fault ≡ Memory) ⊎ FailsUpTo end joined text fault
+    faulty_at at fault at_is breaks = faulty now left at fault so at_is (subst (λ text. FaultAtFront now at text fault) (sym same) breaks)
+
+  pub ends : (now : Bool) (left : List ℕ) → IsReadTo end joined text [] now left → left ≡ [] → SpellsUpTo end joined text []
+  ends now left so none = so.spells [] (subst (λ text. Spells now (end - bytes left) text []) (sym none) (tokens.nothing now (end - bytes left)))
+
+-- a token more is read
+pub token_read : (text : List ℕ) (read read_then : List Token) (old new : Lexer) (next : Token) → HasRead text read old → IsToken old new next → read_then ≡ read ++ next ∷ []
+    → HasRead text read_then new
+token_read text read read_then old new next so is pushed = record {
+  spells = λ more spells. subst (Spells false 0 text) (sym (ap (λ read. read ++ more) pushed ∙ append_assoc read (next ∷ []) more)) (so.spells (next ∷ more) (is.spells more spells));
+  fails = λ fault fails. so.fails fault (is.fails fault fails);
+}
+
+pub all_read : (text : List ℕ) (read : List Token) (lexer : Lexer) → HasRead text read lexer → SpellsOn lexer [] → Spells false 0 text read
+all_read text read lexer so spells = subst (Spells false 0 text) (append-nil read) (so.spells [] spells)
+
+pub fault_read : (text : List ℕ) (read : List Token) (lexer : Lexer) (fault : LexError) → HasRead text read lexer → (fault ≡ Memory) ⊎ FailsOn lexer fault
+    → (fault ≡ Memory) ⊎ Fails false 0 text fault
+fault_read text read lexer fault so (inl memory) = inl memory
+fault_read text read lexer fault so (inr fails) = inr (so.fails fault fails)
+
+-- a lexer that has taken a token off
+pub token_taken : (old new : Lexer) (is : Kind) (span : Span) → IsTokenRead old.end old.joined old.cursor (token_with is span new.buffer) new.cursor → new.end ≡ old.end
+    → new.joined ≡ joins (with_characters is new.buffer) → IsToken old new (token_with is span new.buffer)
+token_taken old new is span read same joined = record {
+  spells = λ more spells. read.0.spells more (subst (λ end. Spells (joins (with_characters is new.buffer)) (end - bytes new.cursor) new.cursor more) same
+      (subst (λ joined. Spells joined (new.end - bytes new.cursor) new.cursor more) joined spells));
+  fails = λ fault fails. read.0.fails fault (subst (λ end. Fails (joins (with_characters is new.buffer)) (end - bytes new.cursor) new.cursor fault) same
+      (subst (λ joined. Fails joined (new.end - bytes new.cursor) new.cursor fault) joined fails));
+  shorter = read.1;
+}
