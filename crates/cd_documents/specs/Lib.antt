@@ -3,3 +3,4 @@ pub mod Terminal
 pub mod Machine
 pub mod DocumentFaults
 pub mod Examples
+pub mod Reading
