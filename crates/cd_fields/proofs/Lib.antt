@@ -1,0 +1,4 @@
+pub mod LastPlaces
+pub mod Rising
+pub mod Different
+pub mod FieldsRead
