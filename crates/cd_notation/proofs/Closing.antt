@@ -1,0 +1,105 @@
+-- A form that ends is a value.
+use Rattle.std.proofs.Common.{◌≡◌, ◌∙◌, ap, subst, sym, refl, ℕ, ◌<◌, List, ◌∷◌, Some, length}
+use Rattle.cd_syntax.specs.Name.{Name}
+use Rattle.cd_model.specs.AllOf.{AllOf}
+use Rattle.cd_model.specs.Thing.{Thing, Fields, NoField, Atom, Record}
+use Rattle.cd_documents.specs.Machine.{Frame, state, InRecord, InTag, InContent, AtValue, put, pairs, with_fields, close_record, close_tag}
+use Rattle.cd_cells.specs.declared.values.Values.{Values}
+use Rattle.cd_cells.specs.declared.cell.ValueId.{ValueId}
+use Rattle.cd_cells.specs.declared.cell.Part.{Part}
+use Rattle.cd_cells.specs.Cells.{thing_at, IsPart}
+use Rattle.cd_cells.specs.Table.{table, names, Grows}
+use Rattle.cd_fields.specs.Open.{names_of, values_of, LabelsDiffer}
+use Rattle.cd_notation.specs.declared.form.OpenForm.{OpenForm}
+use Rattle.cd_notation.specs.declared.form.OpenForm.TheVariants as form
+use Rattle.cd_notation.specs.declared.form.Expecting.{Expecting}
+use Rattle.cd_notation.specs.declared.form.Expecting.TheVariants as expecting
+use Rattle.cd_notation.specs.declared.reader.Reader.{Reader}
+use Rattle.cd_notation.specs.Inner.Open as the
+use Rattle.cd_notation.specs.Inner.Open.{IsAt, AreAt, AreLabelsAt, HasItems, HasLabels, IsOpen}
+use Rattle.cd_notation.specs.Inner.Leading.{Stands, Leads, IsGathered, ClosesForms, IsClosed, parts_of}
+use Rattle.cd_notation.proofs.Growth.{open_grown, items_grown}
+use Rattle.cd_notation.proofs.Parts.{are_parts, same_fields, labels_differ}
+use Rattle.cd_notation.proofs.Stepping.{Led, lead_some, open_at}
+
+-- the parts of a form make its fields
+pub record Ready (values : Values) (parts : List Part) (labels : List Name) (all : List Thing) : Type 0 where
+  pub fit : AllOf (IsPart (names values) (length (table values))) parts
+  pub differ : LabelsDiffer parts
+  pub is : with_fields (names_of (names values) parts) (values_of (table values) parts) NoField ≡ with_fields labels all NoField
+
+pub ready : (values : Values) (first from : ℕ) (numbers below_numbers : List ℕ) (items below : List ValueId) (labels : List Name) (all : List Thing) (parts : List Part)
+    → (named : HasLabels (names values) first numbers below_numbers labels) → (has : HasItems (table values) from items below all) → parts ≡ parts_of named.top has.top
+    → Ready values parts labels all
+ready values first from numbers below_numbers items below labels all parts named has is =
+    subst (λ (parts : List Part). Ready values parts labels all) (sym is)
+    (let same = same_fields (names values) (table values) named.top has.top labels all NoField named.at has.at in
+    record {
+      fit = are_parts (names values) (table values) named.top has.top labels all named.at has.at;
+      differ = labels_differ (names values) (table values) named.top has.top labels named.at named.apart;
+      is = same;
+    })
+
+-- the items of the form were gathered, and the value was put
+pub closed : (old one two : Values) (reader last : Reader) (from end id : ℕ) (left : List ValueId) (next : Expecting) → Grows old one
+    → IsGathered (table old) from reader.items end (table one) left id
+    → ((is : Thing) (frames : List Frame) → IsAt (table one) id is → IsOpen (names one) (table one) reader.forms left reader.labels frames → Stands two next last (put is frames))
+    → IsClosed old reader from end two (Some next) last
+closed old one two reader last from end id left next grows gathers stands below all final frames has at are =
+    let made = gathers below all final has at in
+    stands (pairs all final) frames made.1
+    (open_at (names one) (table one) reader.forms below left reader.labels frames made.0 (open_grown old one grows reader.forms below reader.labels frames are))
+
+-- what the calls require
+pub record CanPut (one : Values) (forms : List OpenForm) (left : List ValueId) (labels : List ℕ) (id : ℕ) : Type 0 where
+  pub within : id < length (table one)
+  pub frames : List Frame
+  pub are : IsOpen (names one) (table one) forms left labels frames
+
+pub can_put : (old one : Values) (reader : Reader) (from end id : ℕ) (left : List ValueId) → Grows old one
+    → IsGathered (table old) from reader.items end (table one) left id → end < length (table old) → ClosesForms old reader from
+    → CanPut one reader.forms left reader.labels id
+can_put old one reader from end id left grows gathers within closes =
+    let made = gathers closes.below closes.all (thing_at (table old) end) closes.items record { within = within; is = refl } in
+    record {
+      within = made.1.within;
+      frames = closes.frames;
+      are = open_at (names one) (table one) reader.forms closes.below left reader.labels closes.frames made.0
+          (open_grown old one grows reader.forms closes.below reader.labels closes.frames closes.forms);
+    }
+
+-- the forms of a reader from which one ended
+pub can_close : (old one : Values) (reader : Reader) (from : ℕ) (forms : List OpenForm) (items below : List ValueId) (labels : List ℕ) (all : List Thing) (frames : List Frame)
+    → Grows old one → reader.forms ≡ forms → reader.items ≡ items → reader.labels ≡ labels → HasItems (table old) from items below all
+    → IsOpen (names old) (table old) forms below labels frames → ClosesForms one reader from
+can_close old one reader from forms items below labels all frames grows are_forms are_items are_labels has are = record {
+  below = below;
+  all = all;
+  items = rw are_items (items_grown old one grows from items below all has);
+  frames = frames;
+  forms = rw (are_forms, are_labels) (open_grown old one grows forms below labels frames are);
+}
+
+-- a record ends
+pub ends_record : (values : Values) (next : Expecting) (reader : Reader) (frames rest : List Frame) (labels : List Name) (all : List Thing) (fields : Fields)
+    → frames ≡ InRecord labels all ∷ rest → fields ≡ with_fields labels all NoField → Stands values next reader (put (Record fields) rest)
+    → Leads (close_record frames) values (Some next) reader
+ends_record values next reader frames rest labels all fields is made stands =
+    lead_some values next reader (close_record frames) (put (Record fields) rest)
+    (ap close_record is ∙ ap (λ (fields : Fields). Some (put (Record fields) rest)) (sym made)) stands
+
+-- a tag ends, and its content begins
+pub ends_tag : (values : Values) (tag id : ValueId) (forms : List OpenForm) (items : List ValueId) (numbers : List ℕ) (name : Name) (frames rest : List Frame)
+    (all : List Thing) (fields : Fields) {labels : List Name} → frames ≡ InTag name labels all ∷ rest → fields ≡ with_fields labels all NoField
+    → IsAt (table values) tag.0 (Atom name) → IsAt (table values) id.0 (Record fields) → IsOpen (names values) (table values) forms items numbers rest
+    → Led (close_tag frames) values expecting.Value (form.Content tag id ∷ forms) items numbers
+ends_tag values tag id forms items numbers name frames rest all fields {labels} is made tag_at id_at are = record {
+  now = state AtValue (InContent name fields ∷ rest);
+  is = ap close_tag is ∙ ap (λ (fields : Fields). Some (state AtValue (InContent name fields ∷ rest))) (sym made);
+  stood = record {
+    frames = InContent name fields ∷ rest;
+    open_forms = the.content tag id name fields forms items numbers rest tag_at id_at are;
+    is = refl;
+    within = tt;
+  };
+}

@@ -1,0 +1,234 @@
+-- The reader goes on by one token.
+use Rattle.std.proofs.Common.{◌≡◌, ◌∙◌, ap, subst, sym, refl, ℕ, Bool, false, List, [], ◌∷◌, Option, None}
+use Rattle.std.specs.Prelude.{Result, Ok, Err, IfOk, IfErr, ◌<◌, length}
+use Rattle.std.proofs.Common.{◌⊎◌, inl, inr}
+use Rattle.std.specs.Str.{chars, IsUtf8}
+use Rattle.std.proofs.lemmas.Str.{encodes-chars}
+use Rattle.cd_syntax.specs.declared.tokens.Span.{Span}
+use Rattle.cd_syntax.specs.declared.tokens.Token.{Token}
+use Rattle.cd_syntax.specs.declared.tokens.TokenKind.{TokenKind}
+use Rattle.cd_syntax.specs.declared.tokens.LexError.{LexError}
+use Rattle.cd_syntax.specs.declared.tokens.LexError.TheVariants as lex
+use Rattle.cd_syntax.specs.Name.{Name}
+use Rattle.cd_syntax.specs.Tokens as tokens_of
+use Rattle.cd_syntax.specs.Tokens.{Spells, Writes, bytes, token_at}
+use Rattle.cd_syntax.specs.Faults.{Fails}
+use Rattle.cd_model.specs.Thing.{Thing}
+use Rattle.cd_documents.specs.Terminal.{terminal}
+use Rattle.cd_documents.specs.Machine as machine
+use Rattle.cd_documents.specs.Machine.{State, state, start, step, step_on, and_then, reach, run, ended}
+use Rattle.cd_documents.specs.Reading.{most_open, WritesValue, IsWrongText, IsTooDeepText}
+use Rattle.cd_documents.specs.DocumentFaults.{IsWrongDocument}
+use Rattle.cd_documents.proofs.Sounding.{derived}
+use Rattle.cd_documents.proofs.Faulting.{too_deep}
+use Rattle.cd_documents.proofs.Refusing.{wrong_document, unfinished_document}
+use Rattle.cd_cells.specs.declared.values.Values.{Values}
+use Rattle.cd_cells.specs.declared.cell.ValueId.{ValueId}
+use Rattle.cd_cells.specs.Cells.{thing_at}
+use Rattle.cd_cells.specs.Table.{table}
+use Rattle.cd_lex.specs.declared.lexer.Kind.{Kind}
+use Rattle.cd_lex.specs.declared.lexer.Lexer.{Lexer}
+use Rattle.cd_lex.specs.Lexing.{left, place, is_joined, SpellsOn, FailsOn, with_characters, token_with, IsToken}
+use Rattle.cd_notation.specs.declared.form.Expecting.{Expecting}
+use Rattle.cd_notation.specs.declared.form.Expecting.TheVariants as expecting
+use Rattle.cd_notation.specs.declared.read.NotationError.{NotationError}
+use Rattle.cd_notation.specs.declared.read.NotationError.TheVariants.{Syntax, TooDeep}
+use Rattle.cd_notation.specs.declared.reader.Reader.{Reader}
+use Rattle.cd_notation.specs.declared.reader.Step.TheVariants as made_step
+use Rattle.cd_notation.specs.declared.terminal.Terminal.{Terminal as ATerminal}
+use Rattle.cd_notation.specs.Faulty.{IsFaultOf}
+use Rattle.cd_notation.specs.Inner.PlainTerminal.{plain_terminal, IsSoundKind}
+use Rattle.cd_notation.specs.Inner.Open as the
+use Rattle.cd_notation.specs.Inner.Leading.{IsStep, plain_place}
+use Rattle.cd_notation.specs.Inner.Going.{Going, of_lexer, IsRefusal, ended_of}
+
+-- the first token of a text is sound
+writes_sound : (joined : Bool) (written text : List ℕ) (kind : TokenKind) → Writes joined written text kind → IsSoundKind kind
+writes_sound joined _ _ _ (tokens_of.word name text is ends) = is
+writes_sound joined _ _ _ (tokens_of.number digits text are begins fits) = tt
+writes_sound joined _ _ _ (tokens_of.negative digits text apart are begins fits) = tt
+writes_sound joined _ _ _ (tokens_of.chars written characters text is) = tt
+writes_sound joined _ _ _ (tokens_of.text written characters text is) = tt
+writes_sound joined _ _ _ (tokens_of.atom name text is ends) = is
+writes_sound joined _ _ _ (tokens_of.sign is text longest no_comment no_number) = tt
+
+spelled_sound : (joined : Bool) (at : ℕ) (text : List ℕ) (tokens : List Token) → Spells joined at text tokens → (one : Token) (rest : List Token) → tokens ≡ one ∷ rest
+    → IsSoundKind one.kind
+spelled_sound _ _ _ _ (tokens_of.nothing _ _) one rest is = absurd (cc is)
+spelled_sound _ _ _ _ (tokens_of.dropped _ _ written text tokens dropped spells) one rest is = spelled_sound _ _ text tokens spells one rest is
+spelled_sound _ _ _ _ (tokens_of.token joined at written text kind tokens writes spells) one rest is =
+    let same : token_at at written kind ≡ one = cc is in
+    subst (λ (one : Token). IsSoundKind one.kind) same (writes_sound joined written text kind writes)
+
+-- a step of the reader, with what the machine does
+module _ (text : List ℕ) (lexer new_lexer : Lexer) (values new_values : Values) (next : Expecting) (reader new_reader : Reader)
+    (kind : Kind) (span : Span) (name : Name) (is : ATerminal) (going : Going text lexer values next reader)
+    (token_is : IsToken lexer new_lexer (token_with kind span name))
+    (terminal_is : IsSoundKind (with_characters kind name) → plain_terminal is name ≡ terminal (with_characters kind name)) where
+  abbrev one : Token
+  one = token_with kind span name
+
+  abbrev stepped : Result State machine.Fault
+  stepped = step_on most_open going.now span.from (plain_terminal is name)
+
+  -- what the machine makes of the token, if the rest spells tokens
+  same_step : (rest : List Token) → SpellsOn new_lexer rest → step most_open going.now one ≡ stepped
+  same_step rest spells =
+      let sound : IsSoundKind (with_characters kind name) = spelled_sound _ _ _ _ (token_is.spells rest spells) one rest refl in
+      ap (step_on most_open going.now span.from) (sym (terminal_is sound))
+
+  abbrev going_on : List Token → Result State machine.Fault → Result (Option Thing) machine.Fault
+  going_on rest made = ended (and_then made (λ after. reach most_open after rest))
+
+  makes_on : (rest : List Token) → SpellsOn new_lexer rest → (all : List Token) × Spells false 0 text all × (run most_open start all ≡ going_on rest stepped)
+  makes_on rest spells =
+      let made = going.makes (one ∷ rest) (token_is.spells rest spells) in
+      (made.all, made.spells, made.runs ∙ ap (going_on rest) (same_step rest spells))
+
+  pub goes_on : (after : Expecting) → IsStep span.from stepped new_values (made_step.Next after) new_reader → Going text new_lexer new_values after new_reader
+  goes_on after led = by stepped refl led
+    where
+      by : (made : Result State machine.Fault) → stepped ≡ made → IsStep span.from made new_values (made_step.Next after) new_reader → Going text new_lexer new_values after new_reader
+      by (Ok now) is led = record {
+        now = now;
+        stands = led;
+        makes = λ rest spells.
+            let made = makes_on rest spells in
+            record { all = made.0; spells = made.1; runs = made.2 ∙ ap (going_on rest) is };
+        fails = λ fault fails. going.fails fault (token_is.fails fault fails);
+      }
+      by (Err (machine.Syntax at)) is led = absurd led
+      by (Err (machine.TooDeep at)) is led = absurd led
+
+  -- the token can't stand there
+  pub is_wrong : IsStep span.from stepped new_values made_step.Wrong new_reader → (error : NotationError) → IsRefusal new_lexer (Syntax span.from) error
+      → IsFaultOf text error
+  is_wrong led error (inl (is, tokens, spells)) = subst (IsFaultOf text) (sym is) (by stepped refl led)
+    where
+      by : (made : Result State machine.Fault) → stepped ≡ made → IsStep span.from made new_values made_step.Wrong new_reader → IsWrongText text span.from
+      by (Ok now) is led = absurd led
+      by (Err (machine.Syntax at)) is led =
+          let made = makes_on tokens spells in
+          record {
+            tokens = made.0;
+            spells = made.1;
+            wrong = wrong_document most_open made.0 (bytes text) span.from
+                (made.2 ∙ ap (going_on tokens) is ∙ ap (λ (from : ℕ). Err (machine.Syntax from)) led);
+          }
+      by (Err (machine.TooDeep at)) is led = absurd led
+  is_wrong led error (inr (inl is)) = subst (IsFaultOf text) (sym is) tt
+  is_wrong led error (inr (inr (fault, is, fails))) = subst (IsFaultOf text) (sym is) (going.fails fault (token_is.fails fault fails))
+
+  pub is_too_deep : IsStep span.from stepped new_values made_step.TooDeep new_reader → (error : NotationError) → IsRefusal new_lexer (TooDeep span.from) error
+      → IsFaultOf text error
+  is_too_deep led error (inl (is, tokens, spells)) = subst (IsFaultOf text) (sym is) (by stepped refl led)
+    where
+      by : (made : Result State machine.Fault) → stepped ≡ made → IsStep span.from made new_values made_step.TooDeep new_reader → IsTooDeepText text span.from
+      by (Ok now) is led = absurd led
+      by (Err (machine.Syntax at)) is led = absurd led
+      by (Err (machine.TooDeep at)) is led =
+          let made = makes_on tokens spells in
+          record {
+            tokens = made.0;
+            spells = made.1;
+            deep = too_deep most_open made.0 (bytes text) span.from
+                (made.2 ∙ ap (going_on tokens) is ∙ ap (λ (from : ℕ). Err (machine.TooDeep from)) led);
+          }
+  is_too_deep led error (inr (inl is)) = subst (IsFaultOf text) (sym is) tt
+  is_too_deep led error (inr (inr (fault, is, fails))) = subst (IsFaultOf text) (sym is) (going.fails fault (token_is.fails fault fails))
+
+-- at the end of the text
+module _ (text : List ℕ) (lexer : Lexer) (values : Values) (reader : Reader) where
+  pub whole : (id : ValueId) → Going text lexer values (expecting.Nothing id) reader → SpellsOn lexer [] → WritesValue text (thing_at (table values) id.0)
+  whole id going spells =
+      let made = going.makes [] spells in
+      record {
+        tokens = made.all;
+        spells = made.spells;
+        document = derived most_open made.all (thing_at (table values) id.0) (made.runs ∙ ap (λ (now : State). Ok (machine.value_at now.place)) going.stands.is);
+      }
+
+  pub not_whole : (next : Expecting) → (end : ℕ) → end ≡ bytes text → Going text lexer values next reader → ((id : ValueId) → next ≡ expecting.Nothing id → ⊥) → SpellsOn lexer []
+      → IsWrongText text end
+  not_whole next end is_end going other spells =
+      let made = going.makes [] spells in
+      record {
+        tokens = made.all;
+        spells = made.spells;
+        wrong = subst (λ (at : ℕ). IsWrongDocument most_open made.all (bytes text) at) (sym is_end)
+            (unfinished_document most_open made.all (bytes text) (made.runs ∙ ap (λ (now : State). Ok (machine.value_at now.place)) going.stands.is ∙ ap Ok (no_value next other)));
+      }
+    where
+      no_value : (next : Expecting) → ((id : ValueId) → next ≡ expecting.Nothing id → ⊥) → machine.value_at (plain_place (table values) next) ≡ None
+      no_value expecting.Value other = refl
+      no_value expecting.Item other = refl
+      no_value expecting.AfterPart other = refl
+      no_value expecting.Field other = refl
+      no_value expecting.AfterField other = refl
+      no_value expecting.Tag other = refl
+      no_value expecting.Attribute other = refl
+      no_value expecting.AfterAttribute other = refl
+      no_value expecting.Equal other = refl
+      no_value (expecting.Nothing id) other = absurd (other id refl)
+
+-- the lexer has a fault
+pub is_fault : (text : List ℕ) (fault : LexError) → (fault ≡ lex.Memory) ⊎ Fails false 0 text fault → IsFaultOf text (of_lexer fault)
+is_fault text fault (inl is) = subst (λ (fault : LexError). IsFaultOf text (of_lexer fault)) (sym is) tt
+is_fault text (lex.BadChar at) (inr fails) = fails
+is_fault text (lex.OpenText at) (inr fails) = fails
+is_fault text (lex.OpenComment at) (inr fails) = fails
+is_fault text (lex.TooWide at) (inr fails) = fails
+is_fault text lex.Memory (inr fails) = tt
+
+-- nothing is read
+pub going_starts : (lexer : Lexer) (values : Values) (reader : Reader) → reader.forms ≡ [] → reader.items ≡ [] → reader.labels ≡ []
+    → place lexer ≡ 0 → is_joined lexer ≡ false → Going (left lexer) lexer values expecting.Value reader
+going_starts lexer values reader no_forms no_items no_labels at joined = record {
+  now = start;
+  stands = record {
+    frames = [];
+    forms = rw (no_forms, no_items, no_labels) the.nothing;
+    is = refl;
+    within = tt;
+  };
+  makes = λ rest spells. record {
+    all = rest;
+    spells = subst (λ (joined : Bool). Spells joined 0 (left lexer) rest) joined (subst (λ (at : ℕ). Spells (is_joined lexer) at (left lexer) rest) at spells);
+    runs = refl;
+  };
+  fails = λ fault fails. subst (λ (joined : Bool). Fails joined 0 (left lexer) fault) joined (subst (λ (at : ℕ). Fails (is_joined lexer) at (left lexer) fault) at fails);
+}
+
+-- what is answered at the end
+pub record IsEnd (text : List ℕ) (values : Values) (result : Result ValueId NotationError) : Type 0 where
+  pub within : IfOk result (λ id. id.0 < length (table values))
+  pub value : IfOk result (λ id. WritesValue text (thing_at (table values) id.0))
+  pub fault : IfErr result (IsFaultOf text)
+
+pub at_end : (text : List ℕ) (lexer : Lexer) (values : Values) (reader : Reader) (next : Expecting) (end : ℕ) (result : Result ValueId NotationError)
+    → result ≡ ended_of next end → end ≡ bytes text → Going text lexer values next reader → SpellsOn lexer [] → IsEnd text values result
+at_end text lexer values reader next end result is is_end going spells = subst (IsEnd text values) (sym is) (by next going)
+  where
+    unfinished : (next : Expecting) → Going text lexer values next reader → ((id : ValueId) → next ≡ expecting.Nothing id → ⊥) → IsEnd text values (Err (Syntax end))
+    unfinished next going other = record { within = tt; value = tt; fault = not_whole text lexer values reader next end is_end going other spells }
+
+    by : (next : Expecting) → Going text lexer values next reader → IsEnd text values (ended_of next end)
+    by (expecting.Nothing id) going = record { within = going.stands.within; value = whole text lexer values reader id going spells; fault = tt }
+    by expecting.Value going = unfinished expecting.Value going (λ id is. absurd (cc is))
+    by expecting.Item going = unfinished expecting.Item going (λ id is. absurd (cc is))
+    by expecting.AfterPart going = unfinished expecting.AfterPart going (λ id is. absurd (cc is))
+    by expecting.Field going = unfinished expecting.Field going (λ id is. absurd (cc is))
+    by expecting.AfterField going = unfinished expecting.AfterField going (λ id is. absurd (cc is))
+    by expecting.Tag going = unfinished expecting.Tag going (λ id is. absurd (cc is))
+    by expecting.Attribute going = unfinished expecting.Attribute going (λ id is. absurd (cc is))
+    by expecting.AfterAttribute going = unfinished expecting.AfterAttribute going (λ id is. absurd (cc is))
+    by expecting.Equal going = unfinished expecting.Equal going (λ id is. absurd (cc is))
+
+pub has_fault : (text : List ℕ) (lexer : Lexer) (values : Values) (reader : Reader) (next : Expecting) (fault : LexError) (error : NotationError)
+    → error ≡ of_lexer fault → Going text lexer values next reader → (fault ≡ lex.Memory) ⊎ FailsOn lexer fault → IsFaultOf text error
+has_fault text lexer values reader next fault error is going (inl memory) = subst (IsFaultOf text) (sym is) (is_fault text fault (inl memory))
+has_fault text lexer values reader next fault error is going (inr fails) = subst (IsFaultOf text) (sym is) (is_fault text fault (inr (going.fails fault fails)))
+
+-- the bytes of a text
+pub text_bytes : (text characters : List ℕ) (count : ℕ) → IsUtf8 text → count ≡ length text → characters ≡ chars text → count ≡ bytes characters
+text_bytes text characters count utf8 is same = is ∙ sym (ap length (encodes-chars text utf8)) ∙ ap bytes (sym same)

@@ -1,0 +1,79 @@
+-- What is open stays open in a table that has grown.
+use Rattle.std.proofs.Common.{◌≡◌, ◌∙◌, ap, subst, sym, append-nil, append_assoc, length-append, arith, ℕ, List, [], ◌∷◌, ◌++◌, length}
+use Rattle.std.proofs.lemmas.List.{get_or_at}
+use Rattle.cd_syntax.specs.Name.{Name, IsLabel}
+use Rattle.cd_model.specs.Thing.{Thing, Atom, Record}
+use Rattle.cd_documents.specs.Machine.{Frame}
+use Rattle.cd_cells.specs.declared.values.Values.{Values}
+use Rattle.cd_cells.specs.declared.cell.ValueId.{ValueId}
+use Rattle.cd_cells.specs.Cells.{thing_at, name_at}
+use Rattle.cd_cells.specs.Table.{table, names, Grows}
+use Rattle.cd_cells.proofs.InGrown.{thing_in_grown, name_in_grown}
+use Rattle.cd_notation.specs.declared.form.OpenForm.{OpenForm}
+use Rattle.cd_notation.specs.Inner.Open as the
+use Rattle.cd_notation.specs.Inner.Open.{IsAt, AreAt, IsLabelAt, AreLabelsAt, HasItems, HasLabels, IsOpen}
+
+pub itself : (values : Values) → Grows values values
+itself values = record {
+  things = ([], sym (append-nil (table values)));
+  labels = ([], sym (append-nil (names values)));
+}
+
+pub further : (one two three : Values) → Grows one two → Grows two three → Grows one three
+further one two three first then = record {
+  things = (first.things.0 ++ then.things.0, then.things.1 ∙ ap (λ all. all ++ then.things.0) first.things.1 ∙ append_assoc (table one) first.things.0 then.things.0);
+  labels = (first.labels.0 ++ then.labels.0, then.labels.1 ∙ ap (λ all. all ++ then.labels.0) first.labels.1 ∙ append_assoc (names one) first.labels.0 then.labels.0);
+}
+
+-- a value that was added last
+pub added : (all new : List Thing) (number : ℕ) (value : Thing) → new ≡ all ++ value ∷ [] → number ≡ length all → IsAt new number value
+added all new number value is last =
+    subst (λ (table : List Thing). IsAt table number value) (sym is)
+    record { within = omega (arith, last, length-append all (value ∷ [])); is = get_or_at all value [] (Atom []) number (sym last) }
+
+module _ (old new : Values) (grows : Grows old new) where
+  pub at_grown : (number : ℕ) (value : Thing) → IsAt (table old) number value → IsAt (table new) number value
+  at_grown number value at =
+      let longer : length (table new) ≡ length (table old ++ grows.things.0) = ap length grows.things.1 in
+      record {
+        within = omega (arith, at.within, longer, length-append (table old) grows.things.0);
+        is = ap (λ all. thing_at all number) grows.things.1 ∙ thing_in_grown (table old) grows.things.0 number at.within ∙ at.is;
+      }
+
+  pub are_grown : (ids : List ValueId) (values : List Thing) → AreAt (table old) ids values → AreAt (table new) ids values
+  are_grown _ _ the.AreAt.none = the.AreAt.none
+  are_grown _ _ (the.AreAt.one id value ids values at are) = the.AreAt.one id value ids values (at_grown id.0 value at) (are_grown ids values are)
+
+  label_grown : (number : ℕ) (label : Name) → IsLabelAt (names old) number label → IsLabelAt (names new) number label
+  label_grown number label at = record {
+    sound = at.sound;
+    is = ap (λ all. name_at all number) grows.labels.1 ∙ name_in_grown (names old) grows.labels.0 number (subst IsLabel (sym at.is) at.sound) ∙ at.is;
+  }
+
+  labels_grown : (numbers : List ℕ) (labels : List Name) → AreLabelsAt (names old) numbers labels → AreLabelsAt (names new) numbers labels
+  labels_grown _ _ the.AreLabelsAt.none = the.AreLabelsAt.none
+  labels_grown _ _ (the.AreLabelsAt.one number label numbers labels at are) =
+      the.AreLabelsAt.one number label numbers labels (label_grown number label at) (labels_grown numbers labels are)
+
+  pub items_grown : (from : ℕ) (items below : List ValueId) (values : List Thing) → HasItems (table old) from items below values → HasItems (table new) from items below values
+  items_grown from items below values has = record { top = has.top; is = has.is; at = are_grown has.top values has.at }
+
+  pub all_labels_grown : (from : ℕ) (numbers below : List ℕ) (labels : List Name) → HasLabels (names old) from numbers below labels → HasLabels (names new) from numbers below labels
+  all_labels_grown from numbers below labels has = record { top = has.top; is = has.is; at = labels_grown has.top labels has.at; apart = has.apart }
+
+  pub open_grown : (forms : List OpenForm) (items : List ValueId) (labels : List ℕ) (frames : List Frame)
+      → IsOpen (names old) (table old) forms items labels frames → IsOpen (names new) (table new) forms items labels frames
+  open_grown _ _ _ _ the.nothing = the.nothing
+  open_grown _ _ _ _ (the.tuple from forms items below labels values frames has rest) =
+      the.tuple from forms items below labels values frames (items_grown from items below values has) (open_grown forms below labels frames rest)
+  open_grown _ _ _ _ (the.sequence from forms items below labels values frames has rest) =
+      the.sequence from forms items below labels values frames (items_grown from items below values has) (open_grown forms below labels frames rest)
+  open_grown _ _ _ _ (the.fields first from forms items below numbers below_numbers labels values frames named has rest) =
+      the.fields first from forms items below numbers below_numbers labels values frames
+      (all_labels_grown first numbers below_numbers labels named) (items_grown from items below values has) (open_grown forms below below_numbers frames rest)
+  open_grown _ _ _ _ (the.tag tag name first from forms items below numbers below_numbers labels values frames at named has rest) =
+      the.tag tag name first from forms items below numbers below_numbers labels values frames (at_grown tag.0 (Atom name) at)
+      (all_labels_grown first numbers below_numbers labels named) (items_grown from items below values has) (open_grown forms below below_numbers frames rest)
+  open_grown _ _ _ _ (the.content tag attributes name all forms items numbers frames at at_attributes rest) =
+      the.content tag attributes name all forms items numbers frames (at_grown tag.0 (Atom name) at) (at_grown attributes.0 (Record all) at_attributes)
+      (open_grown forms items numbers frames rest)

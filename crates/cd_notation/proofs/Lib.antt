@@ -1,0 +1,11 @@
+pub mod Growth
+pub mod Gathering
+pub mod Putting
+pub mod Parts
+pub mod Stepping
+pub mod Cutting
+pub mod Lettering
+pub mod Collecting
+pub mod GoingOn
+pub mod Closing
+pub mod Words

@@ -1,0 +1,15 @@
+use Rattle.std.proofs.Common.{◌∙◌, sym, ap, subst}
+use Rattle.cd_cells.specs.Table.{table, names}
+use Rattle.cd_fields.specs.Open.{LabelsDiffer, fields_read}
+use Rattle.cd_notation.proofs.Parts.{differ_reversed, read_back, record_made}
+use Rattle.cd_notation.proofs.fields.sorted_record.Goals as goal
+
+pub sort_fields-requires-clause-differ : goal.sort_fields-requires-clause-differ
+sort_fields-requires-clause-differ c = subst LabelsDiffer (sym c.reverse.ensures.after) (differ_reversed _ c.requires.differ)
+
+pub returns-clause-is : goal.returns-clause-is
+returns-clause-is c =
+    let all = names c.args.values.now in
+    let things = table c.args.values.now in
+    let is = c.sort_fields.ensures.fields ∙ ap (fields_read all things) c.reverse.ensures.after ∙ read_back all things c.args.parts.now in
+    record_made c.record_of.result _ _ _ _ c.record_of.ensures.number c.record_of.ensures.added is

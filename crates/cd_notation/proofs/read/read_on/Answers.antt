@@ -1,0 +1,53 @@
+use Rattle.std.proofs.Common.{List, ℕ, sym, subst}
+use Rattle.std.specs.Str.{chars}
+use Rattle.cd_documents.specs.Machine.{step_on}
+use Rattle.cd_documents.specs.Reading.{most_open}
+use Rattle.cd_lex.specs.Lexing.{left, IsToken, token_with}
+use Rattle.cd_notation.specs.declared.reader.Step.{Step}
+use Rattle.cd_notation.specs.Inner.PlainTerminal.{plain_terminal}
+use Rattle.cd_notation.specs.Inner.Leading.{IsStep}
+use Rattle.cd_notation.proofs.Growth.{itself, further}
+use Rattle.cd_notation.proofs.GoingOn.{going_starts, goes_on, is_wrong, is_too_deep, at_end}
+use Rattle.cd_notation.proofs.read.read_on.Goals as goal
+
+pub loop-kind-init : goal.loop-kind-init
+loop-kind-init c = (going_starts _ _ _ c.requires.forms c.requires.items c.requires.labels c.requires.place c.requires.joined, itself _)
+
+pub loop-kind-preserved : goal.loop-kind-preserved
+loop-kind-preserved c =
+    let name = chars c.spelled-name.result.now in
+    let token = subst (λ (name : List ℕ). IsToken c.loop-kind.lexer c.next.new.self (token_with c.in-Token.kind c.in-Token.span name)) (sym c.spelled-name.ensures) c.in-Token.ensures in
+    let made = c.in_ok-made-in-Token.ensures.step c.loop-kind.invariant.0.now c.in-Token.span.from c.loop-kind.invariant.0.stands in
+    let stepped = step_on most_open c.loop-kind.invariant.0.now c.in-Token.span.from (plain_terminal c.terminal_of-is.result name) in
+    let led = subst (λ (made : Step). IsStep c.in-Token.span.from stepped c.step.new.values made c.step.new.self) c.in-Next.is made in (
+      goes_on (left c.args.lexer.now) c.loop-kind.lexer c.next.new.self c.loop-kind.values c.step.new.values c.loop-kind.expecting c.loop-kind.reader c.step.new.self
+          c.in-Token.kind c.in-Token.span name c.terminal_of-is.result c.loop-kind.invariant.0 token c.terminal_of-is.ensures.is
+          c.in-Next.next led,
+      further _ _ _ c.loop-kind.invariant.1 c.in_ok-made-in-Token.ensures.grows,
+    )
+
+pub returns-in-Wrong-clause-fault : goal.returns-in-Wrong-clause-fault
+returns-in-Wrong-clause-fault c =
+    let name = chars c.spelled-name.result.now in
+    let token = subst (λ (name : List ℕ). IsToken c.loop-kind.lexer c.next.new.self (token_with c.in-Token.kind c.in-Token.span name)) (sym c.spelled-name.ensures) c.in-Token.ensures in
+    let made = c.in_ok-made-in-Token.ensures.step c.loop-kind.invariant.0.now c.in-Token.span.from c.loop-kind.invariant.0.stands in
+    let stepped = step_on most_open c.loop-kind.invariant.0.now c.in-Token.span.from (plain_terminal c.terminal_of-is.result name) in
+    let led = subst (λ (made : Step). IsStep c.in-Token.span.from stepped c.step.new.values made c.step.new.self) c.in-Wrong.is made in
+    is_wrong (left c.args.lexer.now) c.loop-kind.lexer c.next.new.self c.loop-kind.values c.step.new.values c.loop-kind.expecting c.loop-kind.reader c.step.new.self
+    c.in-Token.kind c.in-Token.span name c.terminal_of-is.result c.loop-kind.invariant.0 token c.terminal_of-is.ensures.is led _ c.refused.ensures
+
+pub returns-in-TooDeep-clause-fault : goal.returns-in-TooDeep-clause-fault
+returns-in-TooDeep-clause-fault c =
+    let name = chars c.spelled-name.result.now in
+    let token = subst (λ (name : List ℕ). IsToken c.loop-kind.lexer c.next.new.self (token_with c.in-Token.kind c.in-Token.span name)) (sym c.spelled-name.ensures) c.in-Token.ensures in
+    let made = c.in_ok-made-in-Token.ensures.step c.loop-kind.invariant.0.now c.in-Token.span.from c.loop-kind.invariant.0.stands in
+    let stepped = step_on most_open c.loop-kind.invariant.0.now c.in-Token.span.from (plain_terminal c.terminal_of-is.result name) in
+    let led = subst (λ (made : Step). IsStep c.in-Token.span.from stepped c.step.new.values made c.step.new.self) c.in-TooDeep.is made in
+    is_too_deep (left c.args.lexer.now) c.loop-kind.lexer c.next.new.self c.loop-kind.values c.step.new.values c.loop-kind.expecting c.loop-kind.reader c.step.new.self
+    c.in-Token.kind c.in-Token.span name c.terminal_of-is.result c.loop-kind.invariant.0 token c.terminal_of-is.ensures.is led _ c.refused-in-TooDeep.ensures
+
+pub returns-in-End-clause-value : goal.returns-in-End-clause-value
+returns-in-End-clause-value c = (at_end _ _ _ _ _ _ _ c.ended.ensures c.requires.end c.loop-kind.invariant.0 c.in-End.ensures).value
+
+pub returns-in-End-clause-fault : goal.returns-in-End-clause-fault
+returns-in-End-clause-fault c = (at_end _ _ _ _ _ _ _ c.ended.ensures c.requires.end c.loop-kind.invariant.0 c.in-End.ensures).fault

@@ -1,0 +1,5 @@
+-- What serves private functions. No public clause speaks of it.
+pub mod PlainTerminal
+pub mod Open
+pub mod Leading
+pub mod Going

@@ -1,0 +1,134 @@
+//! A value comes next.
+ghost use Rattle.std.specs.Prelude.{◌<◌, [], ◌∷◌, Some, None, IfOk};
+ghost use Rattle.std.specs.Str.{chars};
+ghost use Rattle.cd_syntax.specs.Name.{IsLabel};
+ghost use Rattle.cd_model.specs.Thing.{Integer, Atom as AnAtom};
+ghost use Rattle.cd_cells.specs.declared.values.Values.{Values as SomeValues};
+ghost use Rattle.cd_cells.specs.Table.{Grows};
+ghost use Rattle.cd_documents.specs.Document.{characters_before, the_nil};
+ghost use Rattle.cd_documents.specs.Terminal.{Letters};
+ghost use Rattle.cd_documents.specs.Machine.{state, put as put_of};
+ghost use Rattle.cd_documents.specs.Machine.{AtValue as PlainAtValue, AtItem as PlainAtItem};
+ghost use Rattle.cd_documents.specs.Machine.{AtField as PlainAtField};
+ghost use Rattle.cd_documents.specs.Machine.{InTuple, InSequence, InRecord};
+ghost use Rattle.cd_documents.specs.Machine as machine;
+ghost use Rattle.cd_notation.specs.Inner.PlainTerminal.{plain_terminal, IsNamed};
+ghost use Rattle.cd_notation.specs.Inner.Leading.{HasForms, Follows};
+
+use crate::form::{Expecting, OpenForm};
+use crate::items::{gather, letters};
+use crate::reader::Reader;
+use crate::terminal::{Terminal, only_character};
+use cd_cells::Values;
+use std::alloc::AllocError;
+
+impl Reader {
+    pub(crate) fn at_value(
+        &mut self,
+        values: &mut Values,
+        is: Terminal,
+        name: &str,
+    ) -> Result<Option<Expecting>, AllocError>
+        requires forms { HasForms values.old self.old }
+        requires named { IsNamed is (chars name.now) }
+        ensures leads { IfOk result (λ next.
+            Follows (λ frames. machine.at_value frames (plain_terminal is (chars name.now)))
+            values.old self.old values.new next self.new) }
+        ensures grows { Grows values.old values.new }
+    {
+        match is {
+            Terminal::Number(n) => self.number(values, n),
+            Terminal::Letters => self.character(values, name),
+            Terminal::Text => self.text(values, name),
+            Terminal::Atom => self.atom(values, name),
+            Terminal::OpenTuple => self.open_tuple(),
+            Terminal::OpenSequence => self.open_sequence(),
+            Terminal::OpenRecord => self.open_record(),
+            Terminal::OpenTag => Ok(Some(Expecting::Tag)),
+            _ => Ok(None),
+        }
+    }
+
+    fn number(&mut self, values: &mut Values, n: i128) -> Result<Option<Expecting>, AllocError>
+        requires forms { HasForms values.old self.old }
+        ensures leads { IfOk result (λ next.
+            Follows (λ frames. Some (put_of (Integer n) frames))
+            values.old self.old values.new next self.new) }
+        ensures grows { Grows values.old values.new }
+    {
+        let id = values.int(n)?;
+        Ok(Some(self.put(values, id)?))
+    }
+
+    pub(crate) fn character(
+        &mut self,
+        values: &mut Values,
+        name: &str,
+    ) -> Result<Option<Expecting>, AllocError>
+        requires forms { HasForms values.old self.old }
+        ensures leads { IfOk result (λ next.
+            Follows (λ frames. machine.at_value frames (Letters (chars name.now)))
+            values.old self.old values.new next self.new) }
+        ensures grows { Grows values.old values.new }
+    {
+        let Some(c) = only_character(name) else {
+            return Ok(None);
+        };
+        let id = self.shared.character(values, c)?;
+        Ok(Some(self.put(values, id)?))
+    }
+
+    fn text(&mut self, values: &mut Values, name: &str) -> Result<Option<Expecting>, AllocError>
+        requires forms { HasForms values.old self.old }
+        ensures leads { IfOk result (λ next.
+            Follows (λ frames. Some (put_of (characters_before (chars name.now) the_nil) frames))
+            values.old self.old values.new next self.new) }
+        ensures grows { Grows values.old values.new }
+    {
+        let from = self.items.len();
+        letters(values, &mut self.shared, &mut self.items, name)?;
+        let nil = self.shared.nil(values)?;
+        let id = gather(values, &mut self.items, from, nil)?;
+        Ok(Some(self.put(values, id)?))
+    }
+
+    fn atom(&mut self, values: &mut Values, name: &str) -> Result<Option<Expecting>, AllocError>
+        requires forms { HasForms values.old self.old }
+        requires label { IsLabel (chars name.now) }
+        ensures leads { IfOk result (λ next.
+            Follows (λ frames. Some (put_of (AnAtom (chars name.now)) frames))
+            values.old self.old values.new next self.new) }
+        ensures grows { Grows values.old values.new }
+    {
+        let id = self.shared.atom(values, name)?;
+        Ok(Some(self.put(values, id)?))
+    }
+
+    fn open_tuple(&mut self) -> Result<Option<Expecting>, AllocError>
+        ensures leads { IfOk result (λ next. (values : SomeValues)
+            → Follows (λ frames. Some (state PlainAtValue (InTuple [] ∷ frames)))
+            values self.old values next self.new) }
+    {
+        self.forms.push(OpenForm::Tuple(self.items.len()))?;
+        Ok(Some(Expecting::Value))
+    }
+
+    fn open_sequence(&mut self) -> Result<Option<Expecting>, AllocError>
+        ensures leads { IfOk result (λ next. (values : SomeValues)
+            → Follows (λ frames. Some (state PlainAtItem (InSequence [] ∷ frames)))
+            values self.old values next self.new) }
+    {
+        self.forms.push(OpenForm::Sequence(self.items.len()))?;
+        Ok(Some(Expecting::Item))
+    }
+
+    fn open_record(&mut self) -> Result<Option<Expecting>, AllocError>
+        ensures leads { IfOk result (λ next. (values : SomeValues)
+            → Follows (λ frames. Some (state PlainAtField (InRecord [] [] ∷ frames)))
+            values self.old values next self.new) }
+    {
+        let first = self.labels.len();
+        self.forms.push(OpenForm::Record(first, self.items.len()))?;
+        Ok(Some(Expecting::Field))
+    }
+}

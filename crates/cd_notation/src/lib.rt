@@ -1,0 +1,19 @@
+//! Documents: the value of a text.
+#![tactic(auto)]
+
+mod at_field;
+mod at_item;
+mod at_tag;
+mod at_value;
+mod fields;
+mod form;
+mod items;
+mod labels;
+mod next_token;
+pub mod read;
+mod reader;
+mod shared;
+mod stack;
+mod terminal;
+
+pub use read::{NotationError, read_value};
