@@ -1,0 +1,13 @@
+pub mod Members
+pub mod Agreeing
+pub mod Steps
+pub mod InNode
+pub mod Texts
+pub mod Numbered
+pub mod Leading
+pub mod Naming
+pub mod Kept
+pub mod SameKeys
+pub mod Stepping
+pub mod Putting
+pub mod InTurn

@@ -1,0 +1,187 @@
+-- The steps of the code make what the tasks make.
+use Rattle.std.proofs.Common.{◌≡◌, ℕ, zero, suc, ◌+◌, ◌-◌, ◌<◌, List, [], ◌∷◌, ◌++◌, length, map, get_or, refl, sym, ap, ◌∙◌, subst, arith, append_assoc}
+use Rattle.std.proofs.lemmas.List.{map-append}
+use Rattle.cd_sets.specs.declared.node_id.NodeId.{NodeId}
+use Rattle.cd_syntax.specs.Name.{Name}
+use Rattle.cd_model.specs.AllOf.{AllOf}
+use Rattle.cd_model.specs.Formula.{Graph}
+use Rattle.cd_model.specs.Thing as thing
+use Rattle.cd_model.specs.Thing.{Thing, Fields}
+use Rattle.cd_cells.specs.Cells.{thing_at, name_at, fields_of, IsPart}
+use Rattle.cd_cells.specs.declared.cell.ValueId.{ValueId}
+use Rattle.cd_cells.specs.declared.cell.Part.{Part}
+use Rattle.cd_asking.specs.Inner.Shapes as plain
+use Rattle.cd_asking.specs.Inner.Shapes.{members, shape_of, fields_with}
+use Rattle.cd_asking.specs.Inner.Tasks as task
+use Rattle.cd_asking.specs.Inner.Tasks.{Covers, First, Second, Tag, Attributes, Content, At, after, answered, among, size, size_of_fields, weight, again, paired}
+use Rattle.cd_asking.specs.Inner.Asked.{set_at, done_by, plain_task, IsTask, IsStep, Grow, Found}
+use Rattle.cd_asking.specs.declared.node_sets.SetId.{SetId}
+use Rattle.cd_asking.specs.declared.task.Answered.{Answered}
+use Rattle.cd_asking.specs.declared.task.FieldTask.{FieldTask}
+use Rattle.cd_asking.specs.declared.task.Task.TheVariants as code
+use Rattle.cd_asking.specs.declared.task.Next.TheVariants.{Answer, Ask}
+use Rattle.cd_asking.proofs.Kept.{stays, still_within, done_stays, task_stays, task_within}
+use Rattle.cd_asking.proofs.Members.{each_by}
+use Rattle.cd_asking.proofs.Steps.{runs_stop, to_first, to_second, to_tag, to_attributes, to_content, to_field}
+
+pair_falls : (a b : ℕ) → a + (2 + b) < 3 + (a + b)
+pair_falls a b = omega arith
+
+second_falls : (b : ℕ) → b + 1 < 2 + b
+second_falls b = omega arith
+
+xml_falls : (a b c : ℕ) → a + (3 + (b + c)) < 4 + (a + (b + c))
+xml_falls a b c = omega arith
+
+attributes_fall : (b c : ℕ) → b + (2 + c) < 3 + (b + c)
+attributes_fall b c = omega arith
+
+field_falls : (a b : ℕ) → a + b < 1 + (a + b)
+field_falls a b = omega arith
+
+module _ (names : List Name) (graph : Graph) (table : List Thing) where
+  -- an answer
+  pub answers : (new : List (List NodeId)) (shape : plain.Shape) (ids : List NodeId) (answer : SetId) (work : ℕ) → 0 < work
+      → Found graph shape ids new answer → IsStep names graph table new (members graph shape ids) work (Answer answer)
+  answers new shape ids answer work some found = record { makes = found.1; falls = some; numbers = found.0 }
+
+  module _ (old new : List (List NodeId)) (grow : Grow old new) (set next : SetId) (within : set.0 < length old) (below : next.0 < length new) where
+    abbrev ids : List NodeId
+    ids = set_at old set
+
+    abbrev there : List NodeId
+    there = set_at new next
+
+    abbrev thing_of : ValueId → Thing
+    thing_of id = thing_at table id.0
+
+    set_stays : set_at new set ≡ ids
+    set_stays = stays old new grow set within
+
+    pub pair_step : (first second : ValueId) → first.0 < length table → second.0 < length table → Covers graph First ids there
+        → IsStep names graph table new (members graph (shape_of graph (thing.Pair (thing_of first) (thing_of second))) ids)
+        (size (thing.Pair (thing_of first) (thing_of second))) (Ask first next (code.OfSecond second set))
+    pair_step first second is is_too covers = record {
+      makes = ap (λ set. after graph (task.OfSecond (thing_of second) set) (members graph (shape_of graph (thing_of first)) there)) set_stays
+          ∙ to_first graph ids there (thing_of first) (thing_of second) covers;
+      falls = pair_falls (size (thing_of first)) (size (thing_of second));
+      numbers = (is, below, (is_too, still_within old new grow set.0 within));
+    }
+
+    pub second_step : (second : ValueId) (first : SetId) → second.0 < length table → first.0 < length old → Covers graph Second ids there
+        → IsStep names graph table new (after graph (task.OfSecond (thing_of second) ids) (set_at old first))
+        (weight (task.OfSecond (thing_of second) ids)) (Ask second next (code.OfPairs set first 1))
+    second_step second first is is_too covers = record {
+      makes = ap (λ set. after graph (task.OfPairs set (set_at new first) 1) (members graph (shape_of graph (thing_of second)) there)) set_stays
+          ∙ ap (λ first. after graph (task.OfPairs ids first 1) (members graph (shape_of graph (thing_of second)) there)) (stays old new grow first is_too)
+          ∙ to_second graph ids there (thing_of second) (set_at old first) covers;
+      falls = second_falls (size (thing_of second));
+      numbers = (is, below, (still_within old new grow set.0 within, still_within old new grow first.0 is_too));
+    }
+
+    pub xml_step : (tag attributes content : ValueId) → tag.0 < length table → attributes.0 < length table → content.0 < length table
+        → Covers graph Tag ids there
+        → IsStep names graph table new (members graph (shape_of graph (thing.Xml (thing_of tag) (thing_of attributes) (thing_of content))) ids)
+        (size (thing.Xml (thing_of tag) (thing_of attributes) (thing_of content))) (Ask tag next (code.OfAttributes attributes content set))
+    xml_step tag attributes content is are is_too covers = record {
+      makes = ap (λ set. after graph (task.OfAttributes (thing_of attributes) (thing_of content) set) (members graph (shape_of graph (thing_of tag)) there)) set_stays
+          ∙ to_tag graph ids there (thing_of tag) (thing_of attributes) (thing_of content) covers;
+      falls = xml_falls (size (thing_of tag)) (size (thing_of attributes)) (size (thing_of content));
+      numbers = (is, below, (are, is_too, still_within old new grow set.0 within));
+    }
+
+    pub attributes_step : (attributes content : ValueId) (tag : SetId) → attributes.0 < length table → content.0 < length table → tag.0 < length old
+        → Covers graph Attributes ids there
+        → IsStep names graph table new (after graph (task.OfAttributes (thing_of attributes) (thing_of content) ids) (set_at old tag))
+        (weight (task.OfAttributes (thing_of attributes) (thing_of content) ids)) (Ask attributes next (code.OfContent content set tag))
+    attributes_step attributes content tag are is is_too covers = record {
+      makes = ap (λ set. after graph (task.OfContent (thing_of content) set (set_at new tag)) (members graph (shape_of graph (thing_of attributes)) there)) set_stays
+          ∙ ap (λ tag. after graph (task.OfContent (thing_of content) ids tag) (members graph (shape_of graph (thing_of attributes)) there)) (stays old new grow tag is_too)
+          ∙ to_attributes graph ids there (thing_of attributes) (thing_of content) (set_at old tag) covers;
+      falls = attributes_fall (size (thing_of attributes)) (size (thing_of content));
+      numbers = (are, below, (is, still_within old new grow set.0 within, still_within old new grow tag.0 is_too));
+    }
+
+    pub content_step : (content : ValueId) (tag attributes : SetId) → content.0 < length table → tag.0 < length old → attributes.0 < length old
+        → Covers graph Content ids there
+        → IsStep names graph table new (after graph (task.OfContent (thing_of content) ids (set_at old tag)) (set_at old attributes))
+        (weight (task.OfContent (thing_of content) ids (set_at old tag))) (Ask content next (code.OfXml set tag attributes))
+    content_step content tag attributes is is_too are covers = record {
+      makes = ap (λ set. after graph (task.OfXml set (set_at new tag) (set_at new attributes)) (members graph (shape_of graph (thing_of content)) there)) set_stays
+          ∙ ap (λ tag. after graph (task.OfXml ids tag (set_at new attributes)) (members graph (shape_of graph (thing_of content)) there)) (stays old new grow tag is_too)
+          ∙ ap (λ fields. after graph (task.OfXml ids (set_at old tag) fields) (members graph (shape_of graph (thing_of content)) there)) (stays old new grow attributes are)
+          ∙ to_content graph ids there (thing_of content) (set_at old tag) (set_at old attributes) covers;
+      falls = second_falls (size (thing_of content));
+      numbers = (is, below, (still_within old new grow set.0 within, still_within old new grow tag.0 is_too, still_within old new grow attributes.0 are));
+    }
+
+    -- a field of a record
+    pub field_step : (field : FieldTask) (id : ValueId) (first : Part) → field.set ≡ set → id.0 ≡ first.value → field.label ≡ first.label
+        → AllOf (IsPart names (length table)) (first ∷ field.left.now) → AllOf (λ one. one.nodes.0 < length old) field.done.items
+        → Covers graph (At (name_at names first.label)) ids there
+        → IsStep names graph table new (members graph (plain.Record (answered (map (done_by names old) field.done.items)
+        ++ fields_with graph (fields_of names table (first ∷ field.left.now)))) ids)
+        (size_of_fields (fields_of names table (first ∷ field.left.now))) (Ask id next (code.OfField field))
+    field_step field id first set_is id_is label_is parts done covers =
+        let value = thing_at table first.value in
+        let left = fields_of names table field.left.now in
+        let value_is : thing_of id ≡ value = ap (thing_at table) id_is in
+        let found : List NodeId = members graph (shape_of graph value) there in record {
+          makes = ap (λ value. after graph (plain_task names table new (code.OfField field)) (members graph (shape_of graph value) there)) value_is
+              ∙ ap (λ (set : SetId). after graph (task.OfField (set_at new set) (map (done_by names new) field.done.items) (name_at names field.label) left) found) set_is
+              ∙ ap (λ set. after graph (task.OfField set (map (done_by names new) field.done.items) (name_at names field.label) left) found) set_stays
+              ∙ ap (λ all. after graph (task.OfField ids all (name_at names field.label) left) found) (done_stays old new grow names field.done.items done)
+              ∙ ap (λ number. after graph (task.OfField ids (map (done_by names old) field.done.items) (name_at names number) left) found) label_is
+              ∙ to_field graph ids there (map (done_by names old) field.done.items) (name_at names first.label) value left covers;
+          falls = subst (λ value. size value + size_of_fields left < 1 + (size (thing_at table first.value) + size_of_fields left)) (sym value_is)
+              (field_falls (size value) (size_of_fields left));
+          numbers = (
+            subst (λ number. number < length table) (sym id_is) parts.0.1,
+            below,
+            (
+              subst (λ (set : SetId). set.0 < length new) (sym set_is) (still_within old new grow set.0 within),
+              each_by _ _ field.done.items (λ one is. still_within old new grow one.nodes.0 is) done,
+              parts.1,
+            ),
+          );
+        }
+
+-- one field more has answered
+pub field_done : (graph : Graph) (done : List (Name × List NodeId)) (label : Name) (answer : List NodeId) (left : Fields) (set : List NodeId)
+    → members graph (plain.Record (answered (done ++ (label, answer) ∷ []) ++ fields_with graph left)) set
+    ≡ after graph (task.OfField set done label left) answer
+field_done graph done label answer left set = ap (λ fields. members graph (plain.Record fields) set)
+    (ap (λ all. all ++ fields_with graph left) (map-append _ done ((label, answer) ∷ []))
+    ∙ append_assoc (answered done) ((label, among answer) ∷ []) (fields_with graph left))
+
+-- after so many pairs of a row, which have made this, the others make what all make
+abbrev pub Runs : Graph → (set first : List NodeId) → (all : ℕ) → (start : List NodeId) → (done : ℕ) → (last : List NodeId) → Type 0
+Runs graph set first all start done last = (n : ℕ) → done + n ≡ all → again n (paired graph set first) last ≡ again all (paired graph set first) start
+
+pub runs_begin : (graph : Graph) (set first : List NodeId) (all : ℕ) (start : List NodeId) → Runs graph set first all start 0 start
+runs_begin graph set first all start n is = let same : n ≡ all = omega (arith, is) in ap (λ n. again n (paired graph set first) start) same
+
+pub runs_on : (graph : Graph) (set first : List NodeId) (all : ℕ) (start : List NodeId) (done : ℕ) (last next : List NodeId)
+    → Runs graph set first all start done last → next ≡ paired graph set first last → Runs graph set first all start (done + 1) next
+runs_on graph set first all start done last next runs is n count =
+    let more : done + suc n ≡ all = omega (arith, count) in
+    ap (again n (paired graph set first)) is ∙ runs (suc n) more
+
+pub runs_end : (graph : Graph) (set first : List NodeId) (all : ℕ) (start : List NodeId) (done : ℕ) (last : List NodeId)
+    → Runs graph set first all start done last → done ≡ all → last ≡ again all (paired graph set first) start
+runs_end graph set first all start done last runs is = let none : done + zero ≡ all = omega (arith, is) in runs zero none
+
+pub runs_stop_at : (graph : Graph) (set first : List NodeId) (all : ℕ) (start : List NodeId) (done : ℕ) (last : List NodeId)
+    → Runs graph set first all start done last → done < all → paired graph set first last ≡ last → last ≡ again all (paired graph set first) start
+runs_stop_at graph set first all start done last runs some same =
+    let left : done + (all - done) ≡ all = omega (arith, some) in
+    sym (runs_stop graph set first last (all - done) same) ∙ runs (all - done) left
+
+-- one more pair, over sets that grow
+pub one_pair : (graph : Graph) (names : List Name) (old sets new : List (List NodeId)) (set first last next : SetId) → Grow old sets
+    → set.0 < length old → first.0 < length old
+    → set_at new next ≡ members graph (plain.Pair (among (set_at sets first)) (among (set_at sets last))) (set_at sets set)
+    → set_at new next ≡ paired graph (set_at old set) (set_at old first) (set_at sets last)
+one_pair graph names old sets new set first last next grow at_set at_first is = is
+    ∙ ap (λ one. members graph (plain.Pair (among one) (among (set_at sets last))) (set_at sets set)) (stays old sets grow first at_first)
+    ∙ ap (members graph (plain.Pair (among (set_at old first)) (among (set_at sets last)))) (stays old sets grow set at_set)

@@ -1,0 +1,74 @@
+-- What tasks make of answers, step by step.
+use Rattle.std.proofs.Common.{◌≡◌, ℕ, zero, suc, List, [], ◌∷◌, ◌++◌, map, refl, sym, ap, ◌∙◌, append_assoc}
+use Rattle.std.proofs.lemmas.List.{map-append}
+use Rattle.cd_sets.specs.declared.node_id.NodeId.{NodeId}
+use Rattle.cd_syntax.specs.Name.{Name}
+use Rattle.cd_model.specs.Formula.{Graph}
+use Rattle.cd_model.specs.Thing as thing
+use Rattle.cd_model.specs.Thing.{Thing, Fields}
+use Rattle.cd_asking.specs.Inner.Shapes.{Nodes, Shape, Pair, Xml, Record, nodes_with, shape_of, fields_with, is_in, members}
+use Rattle.cd_asking.specs.Inner.Tasks as child
+use Rattle.cd_asking.specs.Inner.Tasks.{Covers, among, answered, Task, OfSecond, OfPairs, OfAttributes, OfContent, OfXml, OfField, again, paired, after, finish}
+use Rattle.cd_asking.proofs.Agreeing.{agree_same, agree_covered, pair_members, xml_members, record_members}
+
+module _ (graph : Graph) (set next : List NodeId) where
+  -- the value is asked at a set, and its first child at the one that this leads to
+  pub to_first : (first second : Thing) → Covers graph child.First set next
+      → after graph (OfSecond second set) (members graph (shape_of graph first) next)
+      ≡ (members graph (shape_of graph (thing.Pair first second)) set)
+  to_first first second covers = (pair_members graph _ _ _ _ set
+      (agree_covered graph child.First set next (shape_of graph first) covers) (agree_same graph child.Second set _))
+
+  pub to_second : (second : Thing) (first : List NodeId) → Covers graph child.Second set next
+      → after graph (OfPairs set first (suc zero)) (members graph (shape_of graph second) next)
+      ≡ after graph (OfSecond second set) first
+  to_second second first covers = (pair_members graph _ _ _ _ set
+      (agree_same graph child.First set _) (agree_covered graph child.Second set next (shape_of graph second) covers))
+
+  pub to_tag : (tag attributes content : Thing) → Covers graph child.Tag set next
+      → after graph (OfAttributes attributes content set) (members graph (shape_of graph tag) next)
+      ≡ (members graph (shape_of graph (thing.Xml tag attributes content)) set)
+  to_tag tag attributes content covers = (xml_members graph _ _ _ _ _ _ set
+      (agree_covered graph child.Tag set next (shape_of graph tag) covers) (agree_same graph child.Attributes set _) (agree_same graph child.Content set _))
+
+  pub to_attributes : (attributes content : Thing) (tag : List NodeId) → Covers graph child.Attributes set next
+      → after graph (OfContent content set tag) (members graph (shape_of graph attributes) next)
+      ≡ after graph (OfAttributes attributes content set) tag
+  to_attributes attributes content tag covers = (xml_members graph _ _ _ _ _ _ set
+      (agree_same graph child.Tag set _) (agree_covered graph child.Attributes set next (shape_of graph attributes) covers) (agree_same graph child.Content set _))
+
+  pub to_content : (content : Thing) (tag attributes : List NodeId) → Covers graph child.Content set next
+      → after graph (OfXml set tag attributes) (members graph (shape_of graph content) next)
+      ≡ after graph (OfContent content set tag) attributes
+  to_content content tag attributes covers = (xml_members graph _ _ _ _ _ _ set
+      (agree_same graph child.Tag set _) (agree_same graph child.Attributes set _) (agree_covered graph child.Content set next (shape_of graph content) covers))
+
+  -- a field of a record, of which these have answered
+  pub to_field : (done : List (Name × List NodeId)) (label : Name) (value : Thing) (left : Fields) → Covers graph (child.At label) set next
+      → after graph (OfField set done label left) (members graph (shape_of graph value) next)
+      ≡ (members graph (Record (answered done ++ fields_with graph (thing.Field label value left))) set)
+  to_field done label value left covers = (record_members graph (answered done) (fields_with graph left) label _ _ set
+      (agree_covered graph (child.At label) set next (shape_of graph value) covers))
+
+  -- and the next one
+  pub to_next_field : (done : List (Name × List NodeId)) (name label : Name) (answer : List NodeId) (value : Thing) (left : Fields)
+      → Covers graph (child.At label) set next
+      → after graph (OfField set (done ++ (name, answer) ∷ []) label left) (members graph (shape_of graph value) next)
+      ≡ after graph (OfField set done name (thing.Field label value left)) answer
+  to_next_field done name label answer value left covers =
+      to_field (done ++ (name, answer) ∷ []) label value left covers
+      ∙ ap (λ all. members graph (Record all) set)
+      (ap (λ all. all ++ fields_with graph (thing.Field label value left)) (map-append _ done ((name, answer) ∷ []))
+      ∙ append_assoc (answered done) ((name, among answer) ∷ []) (fields_with graph (thing.Field label value left)))
+
+-- the last task is done first
+pub last_first : (graph : Graph) (tasks : List Task) (task : Task) (answer : List NodeId)
+    → finish graph (tasks ++ task ∷ []) answer ≡ finish graph tasks (after graph task answer)
+last_first graph [] task answer = refl
+last_first graph (first ∷ tasks) task answer = ap (after graph first) (last_first graph tasks task answer)
+
+-- where one more step changes nothing, no further step does
+pub runs_stop : (graph : Graph) (set first : List NodeId) (answer : List NodeId) (count : ℕ) → paired graph set first answer ≡ answer
+    → again count (paired graph set first) answer ≡ answer
+runs_stop graph set first answer zero is = refl
+runs_stop graph set first answer (suc count) is = ap (again count (paired graph set first)) is ∙ runs_stop graph set first answer count is

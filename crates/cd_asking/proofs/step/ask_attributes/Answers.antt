@@ -1,0 +1,9 @@
+use Rattle.cd_graph.specs.Nodes.{nodes}
+use Rattle.cd_cells.specs.Table.{table, names}
+use Rattle.cd_asking.proofs.Stepping.{attributes_step}
+use Rattle.cd_asking.proofs.step.ask_attributes.Goals as goal
+
+pub returns-clause-step : goal.returns-clause-step
+returns-clause-step c = attributes_step (names c.args.values.now) (nodes c.args.graph.now) (table c.args.values.now)
+    c.args.asker.now.sets c.lead.new.self.sets c.lead.ensures.grows c.args.set c.in_ok-next.next c.requires.task.2 c.in_ok-next.ensures.within
+    c.args.rest.0 c.args.rest.1 c.args.tag c.requires.task.0 c.requires.task.1 c.requires.answer c.in_ok-next.ensures.covers

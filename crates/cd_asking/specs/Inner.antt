@@ -1,0 +1,6 @@
+-- What serves private functions. No public clause speaks of it.
+pub mod Shapes
+pub mod Tasks
+pub mod Asked
+pub mod Known
+pub mod Running

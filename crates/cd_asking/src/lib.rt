@@ -1,0 +1,17 @@
+//! Whether a value is in a node of a graph.
+#![tactic(auto)]
+
+mod asker;
+pub mod asking;
+mod case;
+mod finding;
+mod led;
+mod node;
+mod node_sets;
+mod running;
+mod shape;
+mod step;
+mod task;
+mod tasks;
+
+pub use asking::is_in;

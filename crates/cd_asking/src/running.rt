@@ -1,0 +1,50 @@
+//! The steps in turn.
+ghost use Rattle.std.specs.Prelude.{◌≡◌, ◌<◌, IfOk, length};
+ghost use Rattle.cd_cells.specs.Cells.{thing_at};
+ghost use Rattle.cd_cells.specs.Table.{table, names};
+ghost use Rattle.cd_graph.specs.Nodes.{nodes};
+ghost use Rattle.cd_asking.specs.Inner.Shapes.{shape_of};
+ghost use Rattle.cd_asking.specs.Inner.Asked.{set_at, Grow, Found};
+ghost use Rattle.cd_asking.specs.Inner.Known.{IsAsker};
+
+use crate::asker::Asker;
+use crate::node_sets::SetId;
+use crate::step::{ask, go_on};
+use crate::task::{Next, Task};
+use crate::tasks::put;
+use cd_cells::{ValueId, Values};
+use cd_graph::Graph;
+use std::alloc::AllocError;
+
+/// The set of those nodes of a set that hold a value.
+pub(crate) fn members_with(
+    asker: &mut Asker,
+    graph: &Graph,
+    values: &Values,
+    id: ValueId,
+    set: SetId,
+) -> Result<SetId, AllocError>
+    requires value { id.0 < length (table values.now) }
+    requires set { set.0 < length asker.old.sets }
+    requires right { IsAsker (nodes graph.now) (names values.now) asker.old }
+    ensures found { let shape = shape_of (nodes graph.now) (thing_at (table values.now) id.0) in
+        IfOk result (Found (nodes graph.now) shape (set_at asker.old.sets set) asker.new.sets) }
+    ensures right { IsAsker (nodes graph.now) (names values.now) asker.new }
+    ensures grows { Grow asker.old.sets asker.new.sets }
+{
+    let _sound = values.len();
+    let mut tasks = Vec::new(asker.sets.allocator());
+    let mut next = ask(asker, graph, values, id, set)?;
+    loop {
+        match next {
+            Next::Ask(id, set, task) => {
+                put(&mut tasks, task)?;
+                next = ask(asker, graph, values, id, set)?;
+            }
+            Next::Answer(answer) => match tasks.pop() {
+                Some(task) => next = go_on(asker, graph, values, task, answer)?,
+                None => return Ok(answer),
+            },
+        }
+    }
+}
