@@ -34,8 +34,8 @@ asks_work name a is size = (Work size.0, (a, rw is refl, size.1), λ disk reply 
 pub asks_run : (name a b : Bytes) → name ≡ codes "run" → GiveNotBuilt (name ∷ a ∷ b ∷ []) (codes "run")
 asks_run name a b is = (Run a b, rw is refl, λ disk reply says. says)
 
-pub asks_member : (name a b c : Bytes) → name ≡ codes "member" → GiveNotBuilt (name ∷ a ∷ b ∷ c ∷ []) (codes "member")
-asks_member name a b c is = (Member a b c, rw is refl, λ disk reply says. says)
+pub asks_member : (name a b c : Bytes) → name ≡ codes "member" → Give (name ∷ a ∷ b ∷ c ∷ []) (Member a b c)
+asks_member name a b c is = rw is refl
 
 pub asks_sub_types : (name option a b c : Bytes) → name ≡ codes "sub" → option ≡ codes "--types" → Give (name ∷ option ∷ a ∷ b ∷ c ∷ []) (SubTypes a b c)
 asks_sub_types name option a b c is types = rw (is, types) refl

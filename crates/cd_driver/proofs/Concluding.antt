@@ -8,7 +8,7 @@ use Rattle.cd_base.specs.FilesState.{FilesState}
 use Rattle.cd_base.specs.SinkState.{SinkState, Puts}
 use Rattle.cd_syntax.specs.TypeTree.{NoDeclaration}
 use Rattle.cd_replies.specs.Bytes.{Bytes}
-use Rattle.cd_driver.specs.Command.{Command, Sub, SubTypes, name_of}
+use Rattle.cd_driver.specs.Command.{Command, Sub, SubTypes, Member, name_of}
 use Rattle.cd_replies.specs.Reply.{Reply, not_built}
 use Rattle.cd_driver.specs.World.{World, world}
 use Rattle.cd_replies.specs.Disk.{Disk, Met, unmarked, marked}
@@ -19,6 +19,7 @@ use Rattle.cd_driver.specs.Inner.Telling.{Put, whole as put_whole, refused as pu
 use Rattle.cd_replies.specs.declared.message.Message.{Message}
 use Rattle.cd_replies.specs.Message.{reply_of}
 use Rattle.cd_replies.proofs.Replies.{IsReply, line_some}
+use Rattle.cd_member.proofs.MemberReplies.{member_is_reply}
 use Rattle.cd_sub.proofs.SubReplies.{sub_is_reply, sub_types_is_reply}
 
 -- each answer is a reply
@@ -28,6 +29,7 @@ not_built_is_reply name reply is = subst IsReply (sym is) (record { text = λ ou
 command_is_reply : (disk : Disk) (command : Command) (reply : Reply) → AnswerOf command disk reply → IsReply reply
 command_is_reply disk (Sub text1 text2) reply answers = sub_is_reply NoDeclaration text1 text2 reply answers
 command_is_reply disk (SubTypes file text1 text2) reply answers = sub_types_is_reply disk file text1 text2 reply answers
+command_is_reply disk (Member file document text) reply answers = member_is_reply disk file document text reply answers
 command_is_reply disk command reply is = not_built_is_reply (name_of command) reply is
 
 pub answer_is_reply : (words : List Bytes) (disk : Disk) (reply : Reply) → Answer words disk reply → IsReply reply

@@ -67,4 +67,5 @@ name_of (Work size) = codes "work"
 -- the files that a command reads, in this order; one that isn't built reads none
 abbrev pub files_of : Command → List Bytes
 files_of (SubTypes file first second) = file ∷ []
+files_of (Member file document type) = file ∷ document ∷ []
 files_of command = []

@@ -12,6 +12,9 @@ pub(crate) enum Request<'a> {
     Sub(&'a str, &'a str),
     /// The same, with the type declarations of the file of this name, which comes first.
     SubTypes(&'a str, &'a str, &'a str),
+    /// Whether the value of a document is in a type, with the type declarations of a file: the names
+    /// of the file and of the document, and the type text.
+    Member(&'a str, &'a str, &'a str),
     /// A command with this first word, that is not built.
     NotBuilt(&'static str),
 }
@@ -58,12 +61,12 @@ fn of_three<'a>(name: &str, first: &'a str, second: &'a str) -> Option<Request<'
     }
 }
 
-fn of_four(name: &str, first: &str, second: &str, third: &str) -> Option<Request<'static>>
+fn of_four<'a>(name: &str, first: &'a str, second: &'a str, third: &'a str) -> Option<Request<'a>>
     ensures { MatchOption result (HaveNoForm (name.now ∷ first.now ∷ second.now ∷ third.now ∷ []))
         (λ request. StandsFor (name.now ∷ first.now ∷ second.now ∷ third.now ∷ []) request) }
 {
     match name {
-        "member" => Some(Request::NotBuilt("member")),
+        "member" => Some(Request::Member(first, second, third)),
         _ => None,
     }
 }

@@ -1,10 +1,10 @@
--- What a call leaves of what is known of files, by the file that its words name.
+-- What a call leaves of what is known of files, by the files that its words name.
 use Rattle.std.proofs.Common.{◌≡◌, List, [], ◌∷◌, inl, inr, subst}
 use Rattle.cd_base.specs.FilesState.{FilesState, FailsToRead}
 use Rattle.cd_model.specs.AllOf.{AnyOf}
 use Rattle.cd_replies.specs.Bytes.{Bytes}
-use Rattle.cd_driver.specs.Command.{SubTypes, Give, files_of}
-use Rattle.cd_replies.specs.File.{ReadsThere}
+use Rattle.cd_driver.specs.Command.{Command, SubTypes, Give, files_of}
+use Rattle.cd_replies.specs.File.{ReadsThere, ReadsAmong}
 use Rattle.cd_driver.specs.FilesRead.{ReadsFilesOf, NamesNoFile}
 use Rattle.cd_laws.proofs.OneCommand.{one_command}
 
@@ -18,6 +18,12 @@ named words old new (inl same) file text1 text2 give = inl same
 named words old new (inr given) file text1 text2 give =
     at_file old new file
     (subst (λ command. AnyOf (FailsToRead old new) (files_of command)) (one_command words (SubTypes file text1 text2) given.0 give given.1) given.2)
+
+pub among : (words : List Bytes) (old new : FilesState) → ReadsFilesOf words old new
+    → (command : Command) → Give words command → ReadsAmong old new (files_of command)
+among words old new (inl same) command give = inl same
+among words old new (inr given) command give =
+    inr (subst (λ command. AnyOf (FailsToRead old new) (files_of command)) (one_command words command given.0 give given.1) given.2)
 
 pub unnamed : (words : List Bytes) (old new : FilesState) → ReadsFilesOf words old new → NamesNoFile words → new ≡ old
 unnamed words old new (inl same) none = same

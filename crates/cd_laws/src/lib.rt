@@ -5,18 +5,18 @@ ghost use Rattle.std.specs.Prelude.{◌≡◌, List};
 ghost use Rattle.cd_base.specs.FilesState.{FilesState};
 ghost use Rattle.cd_base.specs.declared.status.Status.{Status};
 ghost use Rattle.cd_replies.specs.Bytes.{Bytes};
-ghost use Rattle.cd_driver.specs.Command.{SubTypes, Give};
+ghost use Rattle.cd_driver.specs.Command.{Command, SubTypes, Give, files_of};
 ghost use Rattle.cd_replies.specs.Reply.{Reply};
 ghost use Rattle.cd_driver.specs.World.{World};
 ghost use Rattle.cd_replies.specs.Disk.{Disk};
 ghost use Rattle.cd_driver.specs.Answer.{Answer, FileIsKnown};
-ghost use Rattle.cd_replies.specs.File.{ReadsThere};
+ghost use Rattle.cd_replies.specs.File.{ReadsThere, ReadsAmong};
 ghost use Rattle.cd_driver.specs.FilesRead.{ReadsFilesOf, NamesNoFile};
 ghost use Rattle.cd_driver.specs.Causes.{Cause};
 ghost use Rattle.cd_laws.specs.Reasons.{Reason};
 
-/// Of what is built so far: the words and the files decide the status of an answer, where the file
-/// that the words name can't be read, or is told. So each status comes exactly where its rule
+/// Of what is built so far: the words and the files decide the status of an answer, where each file
+/// that the words' command reads can't be read, or is told. So each status comes exactly where its rule
 /// holds, want of memory and faults of writing aside.
 pub fn status_is_decided()
     ensures { (words : List Bytes) (disk : Disk) → FileIsKnown words disk → (first second : Reply)
@@ -29,12 +29,14 @@ pub fn causes()
         → Cause words before after status → Reason words before after status }
 {}
 
-/// Where the words name a file, what is known of files stays as it was, or the count of faults rose
-/// and this file is the last at which one came; where they name none, it stays as it was.
+/// Where the words' command reads files, what is known of files stays as it was, or the count of
+/// faults rose and the last fault came at one of these; where it reads none, it stays as it was.
 pub fn files_are_named()
     ensures read { (words : List Bytes) (old new : FilesState) → ReadsFilesOf words old new
         → (file text1 text2 : Bytes) → Give words (SubTypes file text1 text2)
         → ReadsThere old new file }
+    ensures among { (words : List Bytes) (old new : FilesState) → ReadsFilesOf words old new
+        → (command : Command) → Give words command → ReadsAmong old new (files_of command) }
     ensures unread { (words : List Bytes) (old new : FilesState) → ReadsFilesOf words old new
         → NamesNoFile words → new ≡ old }
 {}

@@ -22,8 +22,8 @@ pub refusal_is_reply : (origin text : Bytes) (against : Against) → IsReply (re
 refusal_is_reply origin text (Lexical Memory) = record { text = λ out err. line_some _ err; status = λ is. cc }
 refusal_is_reply origin text against = record { text = λ out err. line_some _ err; status = λ is. cc }
 
-pub file_is_reply : (disk : Disk) (name : Bytes) (reply : Reply) → FileRefusal disk name reply → IsReply reply
-file_is_reply disk name _ (unread is) = record { text = λ out err. line_some (codes "cannot read " ++ name) err; status = λ is. cc }
-file_is_reply disk name _ (large bytes has is) = record { text = λ out err. line_some (name ++ codes ": too large") err; status = λ is. cc }
-file_is_reply disk name _ (encoding bytes has size is) = record { text = λ out err. line_some _ err; status = λ is. cc }
-file_is_reply disk name _ (refused text has against stands) = refusal_is_reply name text against
+pub file_is_reply : (refuses : Bytes → Against → Type 0) (disk : Disk) (name : Bytes) (reply : Reply) → FileRefusal refuses disk name reply → IsReply reply
+file_is_reply refuses disk name _ (unread is) = record { text = λ out err. line_some (codes "cannot read " ++ name) err; status = λ is. cc }
+file_is_reply refuses disk name _ (large bytes has is) = record { text = λ out err. line_some (name ++ codes ": too large") err; status = λ is. cc }
+file_is_reply refuses disk name _ (encoding bytes has size is) = record { text = λ out err. line_some _ err; status = λ is. cc }
+file_is_reply refuses disk name _ (refused text has against stands) = refusal_is_reply name text against

@@ -1,11 +1,12 @@
 -- What reading a file as a text gives, and what it leaves.
-use Rattle.std.specs.Prelude.{◌≡◌, ◌⊎◌, ℕ, ◌<◌, ◌≤◌, Result, Ok, Err, String, Vec, IfSome, length}
-use Rattle.std.specs.Prelude.{string_bytes}
+use Rattle.std.specs.Prelude.{◌≡◌, ◌⊎◌, ℕ, ◌<◌, ◌≤◌, List, Result, Ok, Err, String, Vec, IfSome}
+use Rattle.std.specs.Prelude.{length, string_bytes}
 use Rattle.std.specs.Global.{Global}
 use Rattle.std.specs.Str.{IsUtf8}
 use Rattle.std.specs.Str.Lossy.{utf8_valid_len}
 use Rattle.std.specs.declared.alloc.AllocError.{AllocError}
 use Rattle.cd_base.specs.FilesState.{FilesState, FailsToRead}
+use Rattle.cd_model.specs.AllOf.{AnyOf}
 use Rattle.cd_replies.specs.Bytes.{Bytes}
 use Rattle.cd_replies.specs.Reply.{Reply, cannot_read, too_large, not_utf8}
 use Rattle.cd_replies.specs.Disk.{LARGEST}
@@ -48,3 +49,7 @@ said_of name (NotUtf8 valid) = not_utf8 name valid
 -- the file of this name was read, or a fault was counted at it
 abbrev pub ReadsThere : (old new : FilesState) → (name : Bytes) → Type 0
 ReadsThere old new name = (new ≡ old) ⊎ FailsToRead old new name
+
+-- files of these names were read, or a fault was counted at one of them
+abbrev pub ReadsAmong : (old new : FilesState) → (names : List Bytes) → Type 0
+ReadsAmong old new names = (new ≡ old) ⊎ AnyOf (FailsToRead old new) names

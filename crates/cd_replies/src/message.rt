@@ -208,3 +208,18 @@ pub fn no(alloc: Global, element: &str) -> Result<Message, AllocError>
         text: format!(in alloc; "no: {element}\n")?,
     })
 }
+
+/// No, on output.
+///
+/// # Errors
+///
+/// Want of memory.
+pub fn plain_no(alloc: Global) -> Result<Message, AllocError>
+    ensures { IfOk result (λ message. reply_of message ≡ says IsNo (codes "no")) }
+{
+    Ok(Message {
+        status: Status::No,
+        on_output: true,
+        text: String::from_str(alloc, "no\n")?,
+    })
+}

@@ -1,5 +1,5 @@
 -- Messages that tell an answer.
-use Rattle.std.proofs.Common.{◌≡◌, Result, Ok, Err, refl, sym, subst}
+use Rattle.std.proofs.Common.{◌≡◌, Result, Ok, Err}
 use Rattle.std.specs.Prelude.{IfOk, String, string_bytes}
 use Rattle.std.specs.Global.{Global}
 use Rattle.std.specs.declared.alloc.AllocError.{AllocError}
@@ -7,17 +7,16 @@ use Rattle.cd_base.specs.FilesState.{FilesState}
 use Rattle.cd_syntax.specs.TypeTree.{Declarations}
 use Rattle.cd_model.specs.Written.{Written}
 use Rattle.cd_replies.specs.Bytes.{Bytes}
-use Rattle.cd_replies.specs.Reply.{Reply, cannot_read, too_large, not_utf8}
-use Rattle.cd_replies.specs.Texts.{ReadsAs, Declares}
-use Rattle.cd_replies.specs.Disk.{Disk, HasText, marked, FileRefusal, unread, large, encoding}
+use Rattle.cd_replies.specs.Reply.{Reply, cannot_read}
+use Rattle.cd_replies.specs.Texts.{ReadsAs, Declares, RefusesDeclarations}
+use Rattle.cd_replies.specs.Disk.{Disk, HasText, marked, told_disk, marked_disk}
 use Rattle.cd_replies.proofs.Messages.{replies}
-use Rattle.cd_replies.proofs.FilesMet.{told_disk, marked_disk, has_bytes, met_same}
+use Rattle.cd_replies.proofs.FilesMet.{has_text, met_same, FaultMet, failed, granted, fault_met}
 use Rattle.cd_sub.specs.SubAnswer.{SubAnswer, yes, no, SubTypesAnswer, file_refused, on_texts}
 use Rattle.cd_sub.specs.Inner.Comparing.{ComparesTypes, within, outside}
 use Rattle.cd_replies.specs.Message.{IsAnswer, reply_of}
 use Rattle.cd_replies.specs.File.{IsFileRead, said_of}
 use Rattle.cd_replies.specs.declared.file.FileFault.{FileFault}
-use Rattle.cd_replies.specs.declared.file.FileFault.TheVariants.{Unread, TooLarge, NotUtf8}
 use Rattle.cd_replies.specs.declared.message.Message.{Message}
 
 -- what is told of two types that texts read as is the answer
@@ -32,26 +31,23 @@ compared declared text1 text2 first second is1 is2 (Ok message) compares = by_re
 compared declared text1 text2 first second is1 is2 (Err error) compares = tt
 
 -- what is said of a file that has no text is an answer
-pub answers_fault : (old new : FilesState) (name text1 text2 : Bytes) (fault : FileFault) → IsFileRead old new name (Ok (Err fault))
-    → (r : Result Message AllocError) → IfOk r (λ message. reply_of message ≡ said_of name fault) → IsAnswer (λ disk. SubTypesAnswer disk name text1 text2) old new r
-answers_fault old new name text1 text2 Unread is r said = (
+answers_met : (old new : FilesState) (name text1 text2 : Bytes) (reply : Reply) → FaultMet RefusesDeclarations old new name reply
+    → (r : Result Message AllocError) → IfOk r (λ message. reply_of message ≡ reply) → IsAnswer (λ disk. SubTypesAnswer disk name text1 text2) old new r
+answers_met old new name text1 text2 _ (failed is refusal) r said = (
   marked_disk old name,
   marked name is.rose is.last,
-  replies r (cannot_read name) (SubTypesAnswer (marked_disk old name) name text1 text2) said (file_refused (cannot_read name) (unread refl)),
+  replies r (cannot_read name) (SubTypesAnswer (marked_disk old name) name text1 text2) said (file_refused (cannot_read name) refusal),
 )
-answers_fault old new name text1 text2 TooLarge is r said = (
+answers_met old new name text1 text2 _ (granted same reply refusal) r said = (
   told_disk old,
-  met_same old new is.0,
-  replies r (too_large name) (SubTypesAnswer (told_disk old) name text1 text2) said
-      (file_refused (too_large name) (large is.1 (has_bytes old name is.1 is.2) is.3)),
+  met_same old new same,
+  replies r reply (SubTypesAnswer (told_disk old) name text1 text2) said (file_refused reply refusal),
 )
-answers_fault old new name text1 text2 (NotUtf8 valid) is r said = (
-  told_disk old,
-  met_same old new is.0,
-  replies r (not_utf8 name valid) (SubTypesAnswer (told_disk old) name text1 text2) said
-      (file_refused (not_utf8 name valid)
-      (subst (λ valid. FileRefusal (told_disk old) name (not_utf8 name valid)) (sym is.5) (encoding is.1 (has_bytes old name is.1 is.2) is.3 is.4))),
-)
+
+pub answers_fault : (old new : FilesState) (name text1 text2 : Bytes) (fault : FileFault) → IsFileRead old new name (Ok (Err fault))
+    → (r : Result Message AllocError) → IfOk r (λ message. reply_of message ≡ said_of name fault) → IsAnswer (λ disk. SubTypesAnswer disk name text1 text2) old new r
+answers_fault old new name text1 text2 fault is r said =
+    answers_met old new name text1 text2 (said_of name fault) (fault_met RefusesDeclarations old new name fault is) r said
 
 -- and so is what is said where it has one
 pub answers_text : (old new : FilesState) (name text1 text2 : Bytes) (text : String Global) → IsFileRead old new name (Ok (Ok text))
@@ -60,7 +56,7 @@ pub answers_text : (old new : FilesState) (name text1 text2 : Bytes) (text : Str
 answers_text old new name text1 text2 text is (Ok message) said = (
   told_disk old,
   met_same old new is.0,
-  said (told_disk old) (record { has = has_bytes old name (string_bytes text) is.1; size = is.2; encoded = is.3 }),
+  said (told_disk old) (has_text old new name text is),
 )
 answers_text old new name text1 text2 text is (Err error) said = (told_disk old, met_same old new is.0, tt)
 

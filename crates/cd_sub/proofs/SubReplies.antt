@@ -3,6 +3,7 @@ use Rattle.std.specs.Prelude.{codes}
 use Rattle.cd_syntax.specs.TypeTree.{Declarations}
 use Rattle.cd_replies.specs.Bytes.{Bytes}
 use Rattle.cd_replies.specs.Reply.{Reply}
+use Rattle.cd_replies.specs.Texts.{RefusesDeclarations}
 use Rattle.cd_replies.specs.Disk.{Disk}
 use Rattle.cd_sub.specs.SubAnswer.{SubAnswer, yes, no, first_refused, second_refused}
 use Rattle.cd_sub.specs.SubAnswer.{SubTypesAnswer, file_refused, on_texts}
@@ -15,5 +16,5 @@ sub_is_reply declared text1 text2 _ (first_refused against stands) = refusal_is_
 sub_is_reply declared text1 text2 _ (second_refused first is1 against stands) = refusal_is_reply (codes "T2") text2 against
 
 pub sub_types_is_reply : (disk : Disk) (file text1 text2 : Bytes) (reply : Reply) → SubTypesAnswer disk file text1 text2 reply → IsReply reply
-sub_types_is_reply disk file text1 text2 _ (file_refused reply refusal) = file_is_reply disk file reply refusal
+sub_types_is_reply disk file text1 text2 _ (file_refused reply refusal) = file_is_reply RefusesDeclarations disk file reply refusal
 sub_types_is_reply disk file text1 text2 _ (on_texts text has declared declares reply answers) = sub_is_reply declared text1 text2 reply answers

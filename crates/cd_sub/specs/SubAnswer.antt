@@ -7,7 +7,7 @@ use Rattle.cd_model.specs.Canonical.{canonical}
 use Rattle.cd_model.specs.Written.{Written}
 use Rattle.cd_replies.specs.Bytes.{Bytes}
 use Rattle.cd_replies.specs.Reply.{Reply, says, refusal}
-use Rattle.cd_replies.specs.Texts.{Against, ReadsAs, Declares, RefusesType}
+use Rattle.cd_replies.specs.Texts.{Against, ReadsAs, Declares, RefusesType, RefusesDeclarations}
 use Rattle.cd_replies.specs.Disk.{Disk, HasText, FileRefusal}
 use Rattle.cd_replies.specs.Within.{IsIn, IsOutside, IsWithin}
 
@@ -30,7 +30,7 @@ pub data SubAnswer (declared : Declarations) (text1 text2 : Bytes) : Reply → T
 
 -- the answers of `sub` with a file of declarations, which is taken first
 pub data SubTypesAnswer (disk : Disk) (file text1 text2 : Bytes) : Reply → Type 0 where
-  file_refused : (reply : Reply) → FileRefusal disk file reply
+  file_refused : (reply : Reply) → FileRefusal RefusesDeclarations disk file reply
       → SubTypesAnswer disk file text1 text2 reply
   on_texts : (text : Bytes) → HasText disk file text → (declared : Declarations)
       → Declares text declared

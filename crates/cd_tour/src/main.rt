@@ -1,5 +1,5 @@
-//! A tour of `sub` for those who work with documents: queries, each with its answer and what that
-//! means.
+//! A tour of `sub` and `member` for those who work with documents: queries, each with its answer
+//! and what that means.
 #![tactic(auto)]
 
 mod line;

@@ -7,7 +7,7 @@ pub(crate) struct Query {
 }
 
 /// Queries on the files of the folder in which the tour runs.
-pub(crate) const QUERIES: [Query; 10] = [
+pub(crate) const QUERIES: [Query; 13] = [
     Query {
         words: &["sub", "--types", "address.cd", "Book", "LaterBook"],
         meaning: "Each address book is one of the later version too, so those that are written stay valid.",
@@ -15,6 +15,18 @@ pub(crate) const QUERIES: [Query; 10] = [
     Query {
         words: &["sub", "--types", "address.cd", "LaterBook", "Book"],
         meaning: "The other way it is not so: this book has a phone that does not say of which kind it is.",
+    },
+    Query {
+        words: &["member", "address.cd", "friends.doc", "LaterBook"],
+        meaning: "Each document is a value, and this one is an address book of the later version.",
+    },
+    Query {
+        words: &["member", "address.cd", "friends.doc", "Book"],
+        meaning: "It is none of the first version, since the phone of Brian does not say of which kind it is.",
+    },
+    Query {
+        words: &["member", "address.cd", "typo.doc", "Book"],
+        meaning: "A fault in a document is told with its line and column: a text stands between quotes.",
     },
     Query {
         words: &[

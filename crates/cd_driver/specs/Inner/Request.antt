@@ -3,9 +3,10 @@ use Rattle.std.specs.Prelude.{◌≡◌, ℕ, List}
 use Rattle.cd_driver.specs.declared.request.Request.{Request}
 use Rattle.cd_driver.specs.declared.request.Request.TheVariants.{Sub as AsksSub}
 use Rattle.cd_driver.specs.declared.request.Request.TheVariants.{SubTypes as AsksSubTypes}
+use Rattle.cd_driver.specs.declared.request.Request.TheVariants.{Member as AsksMember}
 use Rattle.cd_driver.specs.declared.request.Request.TheVariants.{NotBuilt as AsksNotBuilt}
 use Rattle.cd_replies.specs.Bytes.{Bytes}
-use Rattle.cd_driver.specs.Command.{Command, Sub, SubTypes, IsNumeral, IsSize, Give}
+use Rattle.cd_driver.specs.Command.{Command, Sub, SubTypes, Member, IsNumeral, IsSize, Give}
 use Rattle.cd_replies.specs.Reply.{Reply, not_built}
 use Rattle.cd_replies.specs.Disk.{Disk}
 use Rattle.cd_driver.specs.Answer.{AnswerOf}
@@ -20,6 +21,8 @@ abbrev pub StandsFor : List Bytes → Request → Type 0
 StandsFor words (AsksSub first second) = Give words (Sub first.now second.now)
 StandsFor words (AsksSubTypes file first second) =
     Give words (SubTypes file.now first.now second.now)
+StandsFor words (AsksMember file document type) =
+    Give words (Member file.now document.now type.now)
 StandsFor words (AsksNotBuilt name) = GiveNotBuilt words name.now
 
 -- the word is a number of units, or a size

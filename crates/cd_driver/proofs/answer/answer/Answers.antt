@@ -1,5 +1,5 @@
-use Rattle.cd_driver.specs.Command.{texts, Sub, SubTypes}
-use Rattle.cd_driver.proofs.Commands.{answers_usage, answers_at_once, answers_command, answers_not_built, reads_file}
+use Rattle.cd_driver.specs.Command.{texts, Sub, SubTypes, Member}
+use Rattle.cd_driver.proofs.Commands.{answers_usage, answers_at_once, answers_command, answers_not_built, reads_file, reads_files}
 use Rattle.cd_driver.proofs.answer.answer.Goals as goal
 
 pub returns-in-None-clause-answer : goal.returns-in-None-clause-answer
@@ -19,6 +19,16 @@ pub returns-in-Some-SubTypes-clause-files : goal.returns-in-Some-SubTypes-clause
 returns-in-Some-SubTypes-clause-files g c =
     reads_file (texts c.args.words.now) _ _ c.in-Some-SubTypes.file.now c.in-Some-SubTypes.first.now c.in-Some-SubTypes.second.now
     (rw c.in-Some-SubTypes.field-0-is at c.in-Some-SubTypes.ensures) c.sub_types.ensures.read
+
+pub returns-in-Some-Member-clause-answer : goal.returns-in-Some-Member-clause-answer
+returns-in-Some-Member-clause-answer g c =
+    answers_command (texts c.args.words.now) _ _ (Member c.in-Some-Member.file.now c.in-Some-Member.document.now c.in-Some-Member.text.now)
+    (rw c.in-Some-Member.field-0-is at c.in-Some-Member.ensures) c.member.result c.member.ensures.answer
+
+pub returns-in-Some-Member-clause-files : goal.returns-in-Some-Member-clause-files
+returns-in-Some-Member-clause-files g c =
+    reads_files (texts c.args.words.now) _ _ (Member c.in-Some-Member.file.now c.in-Some-Member.document.now c.in-Some-Member.text.now)
+    (rw c.in-Some-Member.field-0-is at c.in-Some-Member.ensures) c.member.ensures.read
 
 pub returns-in-Some-NotBuilt-clause-answer : goal.returns-in-Some-NotBuilt-clause-answer
 returns-in-Some-NotBuilt-clause-answer g c =

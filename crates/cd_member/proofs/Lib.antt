@@ -1,0 +1,4 @@
+pub mod MemberReplies
+mod Finished
+mod Documents
+mod Standing

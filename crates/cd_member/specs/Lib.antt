@@ -1,0 +1,3 @@
+pub mod DocumentTexts
+pub mod MemberAnswer
+pub mod Inner

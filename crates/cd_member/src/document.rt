@@ -1,0 +1,58 @@
+//! Whether the value that a text stands for is in a type.
+ghost use Rattle.std.specs.Prelude.{◌≡◌, IfOk, if◌then◌else◌, codes};
+ghost use Rattle.cd_base.specs.declared.status.Status.TheVariants.{Done, No};
+ghost use Rattle.cd_syntax.specs.PlainTree.{plain, plain_declarations};
+ghost use Rattle.cd_replies.specs.Disk.{Disk, HasText};
+ghost use Rattle.cd_replies.specs.Message.{reply_of};
+ghost use Rattle.cd_replies.specs.Reply.{says};
+ghost use Rattle.cd_replies.specs.Texts.{AreSound, IsSound, type_of};
+ghost use Rattle.cd_member.specs.MemberAnswer.{DocumentAnswer};
+ghost use Rattle.cd_member.specs.Inner.DocumentErrors.{IsOfDocument};
+
+use crate::within::is_within;
+use cd_cells::Values;
+use cd_notation::{NotationError, read_value};
+use cd_replies::message::{Message, plain_no, refused, yes};
+use cd_replies::refusal::Refusal;
+use cd_syntax::type_tree::{Declarations, Tree};
+use std::alloc::{AllocError, Global};
+
+/// The answer on a document that has this text.
+pub(crate) fn of_text(
+    alloc: Global,
+    declared: &Declarations,
+    tree: &Tree,
+    document: &str,
+    text: &str,
+) -> Result<Message, AllocError>
+    requires declared { AreSound (plain_declarations declared.now) }
+    requires tree { IsSound (plain_declarations declared.now) (plain tree.now) }
+    ensures { IfOk result (λ message. (disk : Disk) → HasText disk document.now text.now
+        → DocumentAnswer disk document.now
+        (type_of (plain_declarations declared.now) (plain tree.now)) (reply_of message)) }
+{
+    let mut values = Values::new(alloc);
+    match read_value(alloc, &mut values, text) {
+        Ok(id) => yes_or_no(alloc, is_within(alloc, declared, tree, &values, id)?),
+        Err(error) => refused(alloc, document, text, refusal_of(error)?),
+    }
+}
+
+fn yes_or_no(alloc: Global, inside: bool) -> Result<Message, AllocError>
+    ensures { IfOk result (λ message. reply_of message
+        ≡ if inside then says Done (codes "yes") else says No (codes "no")) }
+{
+    if inside { yes(alloc) } else { plain_no(alloc) }
+}
+
+// What the fault of a document is against its text.
+fn refusal_of(error: NotationError) -> Result<Refusal, AllocError>
+    ensures { IsOfDocument error result }
+{
+    match error {
+        NotationError::Lex(fault) => Ok(Refusal::Lexical(fault)),
+        NotationError::Syntax(place) => Ok(Refusal::Syntax(place)),
+        NotationError::TooDeep(place) => Ok(Refusal::TooDeep(place)),
+        NotationError::Memory => Err(AllocError),
+    }
+}
