@@ -1,5 +1,5 @@
 -- What is known stays right when sets are added, and with one thing more.
-use Rattle.std.proofs.Common.{◌≡◌, ℕ, ◌+◌, ◌<◌, Bool, true, false, List, [], ◌∷◌, ◌++◌, Option, Some, None, length, map, refl, sym, ap, ◌∙◌, subst, arith, length-append, append_assoc, append-nil, ◌⊎◌, inl, inr}
+use Rattle.std.proofs.Common.{◌≡◌, ℕ, ◌+◌, ◌*◌, ◌<◌, Bool, true, false, List, [], ◌∷◌, ◌++◌, Option, Some, None, length, map, refl, sym, ap, ◌∙◌, subst, arith, length-append, append_assoc, append-nil, ◌⊎◌, inl, inr}
 use Rattle.std.specs.Prelude.{if◌then◌else◌}
 use Rattle.std.specs.Map.{lookup}
 use Rattle.std.proofs.lemmas.Bool.{cases_Bool}
@@ -12,12 +12,14 @@ use Rattle.cd_model.specs.Formula.{Graph}
 use Rattle.cd_model.specs.Thing.{Thing}
 use Rattle.cd_asking.specs.Inner.Shapes.{members}
 use Rattle.cd_asking.specs.Inner.Shapes as plain
-use Rattle.cd_asking.specs.Inner.Tasks.{Covers, among}
+use Rattle.cd_asking.specs.Inner.Tasks.{Covers, among, First, Second}
 use Rattle.cd_asking.specs.Inner.Asked.{set_at, plain_child, shape_by, done_by, plain_task, IsTask, IsCaseWithin, Grow, Found}
-use Rattle.cd_asking.specs.Inner.Known.{IsLead, IsAnswer, IsAsker}
+use Rattle.cd_asking.specs.Inner.Known.{LeadBoth, ArePairs, AreLetters, IsLead, IsAnswer, IsAsker}
 use Rattle.cd_asking.specs.declared.node_sets.SetId.{SetId}
 use Rattle.cd_asking.specs.declared.asker.Lead.{Lead}
 use Rattle.cd_asking.specs.declared.asker.Question.{Question}
+use Rattle.cd_asking.specs.Inner.Slots.{slot_at, PutsOnly}
+use Rattle.cd_asking.specs.declared.asker.PairLeads.{PairLeads}
 use Rattle.cd_asking.specs.declared.asker.Asker.{Asker}
 use Rattle.cd_asking.specs.declared.case.Case.{Case}
 use Rattle.cd_asking.specs.declared.case.Case.TheVariants as case
@@ -95,7 +97,7 @@ module _ (old new : List (List NodeId)) (grow : Grow old new) where
     task_stays table (code.OfAttributes attributes content set) within = cc (stays set within.2)
     task_stays table (code.OfContent content set tag) within = cc (stays set within.1, stays tag within.2)
     task_stays table (code.OfXml set tag attributes) within = cc (stays set within.0, stays tag within.1, stays attributes within.2)
-    task_stays table (code.OfField field) within = cc (stays field.set within.0, done_stays field.done.items within.1)
+    task_stays table (code.OfField field) within = cc (stays field.value.set within.0, done_stays field.value.done.items within.1)
 
     pub task_within : (values : ℕ) (is : Task) → IsTask names values (length old) is → IsTask names values (length new) is
     task_within values (code.OfSecond second set) within = (within.0, still_within set.0 within.1)
@@ -105,8 +107,8 @@ module _ (old new : List (List NodeId)) (grow : Grow old new) where
     task_within values (code.OfXml set tag attributes) within =
         (still_within set.0 within.0, still_within tag.0 within.1, still_within attributes.0 within.2)
     task_within values (code.OfField field) within = (
-      still_within field.set.0 within.0,
-      each_by _ _ field.done.items (λ one below. still_within one.nodes.0 below) within.1,
+      still_within field.value.set.0 within.0,
+      each_by _ _ field.value.done.items (λ one below. still_within one.nodes.0 below) within.1,
       within.2,
     )
 
@@ -158,10 +160,63 @@ module _ (old new : List (List NodeId)) (grow : Grow old new) where
         ),
       )
 
+-- the parts of pairs, and letters
+module _ (graph : Graph) (names : List Name) (old new : List (List NodeId)) (grow : Grow old new) where
+  leads_of_pair_stay : (set : ℕ) (ids : List NodeId) (leads : PairLeads) → LeadBoth graph old ids leads → LeadBoth graph new ids leads
+  leads_of_pair_stay set ids leads is = (
+    still_within old new grow leads.first.0 is.0,
+    still_within old new grow leads.second.0 is.1,
+    subst (Covers graph First ids) (sym (stays old new grow leads.first is.0)) is.2,
+    subst (Covers graph Second ids) (sym (stays old new grow leads.second is.1)) is.3,
+  )
+
+  pub pairs_stay : (pairs : List (Option PairLeads)) → ArePairs graph names old pairs → ArePairs graph names new pairs
+  pairs_stay pairs right set leads is =
+      let was = right set leads is in (
+        still_within old new grow set was.0,
+        subst (λ (ids : List NodeId). LeadBoth graph new ids leads) (sym (stays old new grow (record { 0 = set }) was.0)) (leads_of_pair_stay set _ leads was.1),
+      )
+
+  pub letters_stay : (letters : List (Option SetId)) → AreLetters graph names old letters → AreLetters graph names new letters
+  letters_stay letters right set c answer ascii is =
+      let was = right set c answer ascii is in (
+        still_within old new grow set was.0,
+        (
+          still_within old new grow answer.0 was.1.0,
+          stays old new grow answer was.1.0 ∙ was.1.1 ∙ ap (members graph (plain.Character c)) (sym (stays old new grow (record { 0 = set }) was.0)),
+        ),
+      )
+
+  -- with one thing more
+  pub more_pairs : (pairs after : List (Option PairLeads)) (set : SetId) (leads : PairLeads) → ArePairs graph names old pairs → set.0 < length old
+      → LeadBoth graph new (set_at old set) leads → PutsOnly set.0 leads pairs after → ArePairs graph names new after
+  more_pairs pairs after set leads right within is puts other one found = elim (puts other one found) [
+    | inl new_one ↦ subst (λ (number : ℕ). (number < length new) × LeadBoth graph new (set_at new (record { 0 = number })) one) (sym new_one.0)
+        (subst (λ (one : PairLeads). (set.0 < length new) × LeadBoth graph new (set_at new set) one) (sym new_one.1)
+        (still_within old new grow set.0 within, subst (λ (ids : List NodeId). LeadBoth graph new ids leads) (sym (stays old new grow set within)) is))
+    | inr was ↦ pairs_stay pairs right other one was
+  ]
+
+  pub more_letters : (letters after : List (Option SetId)) (set : SetId) (c : ℕ) (answer : SetId) → AreLetters graph names old letters
+      → set.0 < length old → c < 128 → Found graph (plain.Character c) (set_at old set) new answer
+      → PutsOnly (128 * set.0 + c) answer letters after → AreLetters graph names new after
+  more_letters letters after set c answer right within ascii is puts other d one small found = elim (puts (128 * other + d) one found) [
+    | inl new_one ↦
+        let same_set : other ≡ set.0 = omega (arith, new_one.0, small, ascii) in
+        let same_letter : d ≡ c = omega (arith, new_one.0, small, ascii) in
+        subst (λ (number : ℕ). (number < length new) × Found graph (plain.Character d) (set_at new (record { 0 = number })) new one) (sym same_set)
+        (subst (λ (d : ℕ). (set.0 < length new) × Found graph (plain.Character d) (set_at new set) new one) (sym same_letter)
+        (subst (λ (one : SetId). (set.0 < length new) × Found graph (plain.Character c) (set_at new set) new one) (sym new_one.1)
+        (still_within old new grow set.0 within, (is.0, is.1 ∙ ap (members graph (plain.Character c)) (sym (stays old new grow set within))))))
+    | inr was ↦ letters_stay letters right other d one small was
+  ]
+
 -- all that is known
 pub asker_stays : (graph : Graph) (names : List Name) (old : Asker) (new : List (List NodeId)) → Grow old.sets new → IsAsker graph names old
-    → IsAsker graph names (record { sets = new; leads = old.leads; answers = old.answers })
+    → IsAsker graph names (record { sets = new; pairs = old.pairs; letters = old.letters; leads = old.leads; answers = old.answers })
 asker_stays graph names old new grow right = record {
+  pairs = pairs_stay graph names old.sets new grow old.pairs.slots.items right.pairs;
+  letters = letters_stay graph names old.sets new grow old.letters.slots.items right.letters;
   leads = leads_stay old.sets new grow names graph old.leads.entries right.leads;
   answers = answers_stay old.sets new grow names graph old.answers.entries right.answers;
 }

@@ -1,6 +1,9 @@
 -- The steps of the code make what the tasks make.
-use Rattle.std.proofs.Common.{◌≡◌, ℕ, zero, suc, ◌+◌, ◌-◌, ◌<◌, List, [], ◌∷◌, ◌++◌, length, map, get_or, refl, sym, ap, ◌∙◌, subst, arith, append_assoc}
+use Rattle.std.proofs.Common.{◌≡◌, ℕ, zero, suc, ◌+◌, ◌-◌, ◌<◌, Option, Some, List, [], ◌∷◌, ◌++◌, length, map, get_or, refl, sym, ap, ◌∙◌, subst, arith, append_assoc}
+use Rattle.std.specs.Prelude.{MatchOption}
 use Rattle.std.proofs.lemmas.List.{map-append}
+use Rattle.std.specs.declared.alloc.Global.{Global}
+use Rattle.std.specs.declared.boxed.Box.{Box}
 use Rattle.cd_sets.specs.declared.node_id.NodeId.{NodeId}
 use Rattle.cd_syntax.specs.Name.{Name}
 use Rattle.cd_model.specs.AllOf.{AllOf}
@@ -14,11 +17,13 @@ use Rattle.cd_asking.specs.Inner.Shapes as plain
 use Rattle.cd_asking.specs.Inner.Shapes.{members, shape_of, fields_with}
 use Rattle.cd_asking.specs.Inner.Tasks as task
 use Rattle.cd_asking.specs.Inner.Tasks.{Covers, First, Second, Tag, Attributes, Content, At, after, answered, among, size, size_of_fields, weight, again, paired}
-use Rattle.cd_asking.specs.Inner.Asked.{set_at, done_by, plain_task, IsTask, IsStep, Grow, Found}
+use Rattle.cd_asking.specs.Inner.Asked.{set_at, done_by, left_to_do, plain_task, IsTask, IsStep, Grow, Found}
 use Rattle.cd_asking.specs.declared.node_sets.SetId.{SetId}
 use Rattle.cd_asking.specs.declared.task.Answered.{Answered}
 use Rattle.cd_asking.specs.declared.task.FieldTask.{FieldTask}
+use Rattle.cd_asking.specs.declared.task.Task.{Task}
 use Rattle.cd_asking.specs.declared.task.Task.TheVariants as code
+use Rattle.cd_asking.specs.declared.task.Next.{Next}
 use Rattle.cd_asking.specs.declared.task.Next.TheVariants.{Answer, Ask}
 use Rattle.cd_asking.proofs.Kept.{stays, still_within, done_stays, task_stays, task_within}
 use Rattle.cd_asking.proofs.Members.{each_by}
@@ -116,18 +121,19 @@ module _ (names : List Name) (graph : Graph) (table : List Thing) where
     }
 
     -- a field of a record
-    pub field_step : (field : FieldTask) (id : ValueId) (first : Part) → field.set ≡ set → id.0 ≡ first.value → field.label ≡ first.label
-        → AllOf (IsPart names (length table)) (first ∷ field.left.now) → AllOf (λ one. one.nodes.0 < length old) field.done.items
+    pub field_step : (box : Box FieldTask Global) (id : ValueId) (first : Part) → box.value.set ≡ set → id.0 ≡ first.value → box.value.label ≡ first.label
+        → AllOf (IsPart names (length table)) (first ∷ box.value.left.now) → AllOf (λ one. one.nodes.0 < length old) box.value.done.items
         → Covers graph (At (name_at names first.label)) ids there
-        → IsStep names graph table new (members graph (plain.Record (answered (map (done_by names old) field.done.items)
-        ++ fields_with graph (fields_of names table (first ∷ field.left.now)))) ids)
-        (size_of_fields (fields_of names table (first ∷ field.left.now))) (Ask id next (code.OfField field))
-    field_step field id first set_is id_is label_is parts done covers =
+        → IsStep names graph table new (members graph (plain.Record (answered (map (done_by names old) box.value.done.items)
+        ++ fields_with graph (fields_of names table (first ∷ box.value.left.now)))) ids)
+        (size_of_fields (fields_of names table (first ∷ box.value.left.now))) (Ask id next (code.OfField box))
+    field_step box id first set_is id_is label_is parts done covers =
+        let field = box.value in
         let value = thing_at table first.value in
         let left = fields_of names table field.left.now in
         let value_is : thing_of id ≡ value = ap (thing_at table) id_is in
         let found : List NodeId = members graph (shape_of graph value) there in record {
-          makes = ap (λ value. after graph (plain_task names table new (code.OfField field)) (members graph (shape_of graph value) there)) value_is
+          makes = ap (λ value. after graph (plain_task names table new (code.OfField box)) (members graph (shape_of graph value) there)) value_is
               ∙ ap (λ (set : SetId). after graph (task.OfField (set_at new set) (map (done_by names new) field.done.items) (name_at names field.label) left) found) set_is
               ∙ ap (λ set. after graph (task.OfField set (map (done_by names new) field.done.items) (name_at names field.label) left) found) set_stays
               ∙ ap (λ all. after graph (task.OfField ids all (name_at names field.label) left) found) (done_stays old new grow names field.done.items done)
@@ -145,6 +151,56 @@ module _ (names : List Name) (graph : Graph) (table : List Thing) where
             ),
           );
         }
+
+module _ (names : List Name) (graph : Graph) (table : List Thing) where
+  -- the same step, of the same nodes and as much work
+  pub same_step : (sets : List (List NodeId)) (nodes others : List NodeId) (work more : ℕ) (next : Next) → nodes ≡ others → work ≡ more
+      → IsStep names graph table sets nodes work next → IsStep names graph table sets others more next
+  same_step sets nodes others work more next same_nodes same_work step = record {
+    makes = step.makes ∙ same_nodes;
+    falls = subst (λ work. left_to_do names table sets next < work) same_work step.falls;
+    numbers = step.numbers;
+  }
+
+  -- a step stays one when sets are added
+  pub step_grows : (old new : List (List NodeId)) → Grow old new → (nodes : List NodeId) (work : ℕ) (next : Next)
+      → IsStep names graph table old nodes work next → IsStep names graph table new nodes work next
+  step_grows old new grow nodes work (Answer answer) step = record {
+    makes = stays old new grow answer step.numbers ∙ step.makes;
+    falls = step.falls;
+    numbers = still_within old new grow answer.0 step.numbers;
+  }
+  step_grows old new grow nodes work (Ask id set task) step =
+      let stay = task_stays old new grow names table task step.numbers.2 in record {
+        makes = ap (λ task. after graph task (members graph (shape_of graph (thing_at table id.0)) (set_at new set))) stay
+            ∙ ap (λ ids. after graph (plain_task names table old task) (members graph (shape_of graph (thing_at table id.0)) ids)) (stays old new grow set step.numbers.1)
+            ∙ step.makes;
+        falls = subst (λ task. size (thing_at table id.0) + weight task < work) (sym stay) step.falls;
+        numbers = (step.numbers.0, still_within old new grow set.0 step.numbers.1, task_within old new grow names (length table) task step.numbers.2);
+      }
+
+  -- a value that is asked answers at once
+  pub at_once : (old sets new : List (List NodeId)) → Grow old sets → (nodes : List NodeId) (work : ℕ) (id : ValueId) (set : SetId) (task : Task)
+      (value : Thing) (answer : SetId) (next : Next) → IsStep names graph table old nodes work (Ask id set task)
+      → value ≡ thing_at table id.0 → Found graph (shape_of graph value) (set_at old set) sets answer
+      → IsStep names graph table new (after graph (plain_task names table sets task) (set_at sets answer)) (weight (plain_task names table sets task)) next
+      → IsStep names graph table new nodes work next
+  at_once old sets new grow nodes work id set task value answer next asked value_is found step =
+      let stay = task_stays old sets grow names table task asked.numbers.2 in
+      let lighter = ap weight stay in
+      let falls = step.falls in
+      let before = asked.falls in record {
+        makes = step.makes ∙ ap (λ task. after graph task (set_at sets answer)) stay
+            ∙ ap (after graph (plain_task names table old task)) found.1
+            ∙ ap (λ value. after graph (plain_task names table old task) (members graph (shape_of graph value) (set_at old set))) value_is
+            ∙ asked.makes;
+        falls = omega (arith, lighter, falls, before);
+        numbers = step.numbers;
+      }
+
+-- what is so of the value of an option
+pub some_found : {X : Type 0} (o : Option X) (P : Type 0) (Q : X → Type 0) (x : X) → o ≡ Some x → MatchOption o P Q → Q x
+some_found o P Q x is found = subst (λ o. MatchOption o P Q) is found
 
 -- one field more has answered
 pub field_done : (graph : Graph) (done : List (Name × List NodeId)) (label : Name) (answer : List NodeId) (left : Fields) (set : List NodeId)
@@ -185,3 +241,18 @@ pub one_pair : (graph : Graph) (names : List Name) (old sets new : List (List No
 one_pair graph names old sets new set first last next grow at_set at_first is = is
     ∙ ap (λ one. members graph (plain.Pair (among one) (among (set_at sets last))) (set_at sets set)) (stays old sets grow first at_first)
     ∙ ap (members graph (plain.Pair (among (set_at old first)) (among (set_at sets last)))) (stays old sets grow set at_set)
+
+-- a field of a record has answered
+pub field_answered : (names : List Name) (graph : Graph) (table : List Thing) (sets : List (List NodeId)) (old new : FieldTask) (answer : SetId)
+    → new.set ≡ old.set → new.done.items ≡ old.done.items ++ record { label = old.label; nodes = answer } ∷ [] → new.left.now ≡ old.left.now
+    → members graph (plain.Record (answered (map (done_by names sets) new.done.items) ++ fields_with graph (fields_of names table new.left.now))) (set_at sets new.set)
+    ≡ after graph (task.OfField (set_at sets old.set) (map (done_by names sets) old.done.items) (name_at names old.label) (fields_of names table old.left.now))
+    (set_at sets answer)
+field_answered names graph table sets old new answer set_is done_is left_is =
+    let of_done = done_by names sets in
+    let left = fields_of names table old.left.now in
+    ap (λ (set : SetId). members graph (plain.Record (answered (map of_done new.done.items) ++ fields_with graph (fields_of names table new.left.now))) (set_at sets set)) set_is
+    ∙ ap (λ (parts : List Part). members graph (plain.Record (answered (map of_done new.done.items) ++ fields_with graph (fields_of names table parts))) (set_at sets old.set)) left_is
+    ∙ ap (λ (done : List Answered). members graph (plain.Record (answered (map of_done done) ++ fields_with graph left)) (set_at sets old.set)) done_is
+    ∙ ap (λ done. members graph (plain.Record (answered done ++ fields_with graph left)) (set_at sets old.set)) (map-append of_done old.done.items _)
+    ∙ field_done graph (map of_done old.done.items) (name_at names old.label) (set_at sets answer) left (set_at sets old.set)

@@ -4,3 +4,4 @@ pub mod Tasks
 pub mod Asked
 pub mod Known
 pub mod Running
+pub mod Slots

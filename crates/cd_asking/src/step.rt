@@ -2,6 +2,7 @@
 ghost use Rattle.std.specs.Prelude.{◌≡◌, ◌<◌, ◌∷◌, ◌++◌, map, length, IfOk};
 ghost use Rattle.cd_graph.specs.Nodes.{nodes};
 ghost use Rattle.cd_cells.specs.Cells.{thing_at, fields_of, IsPart};
+ghost use Rattle.cd_cells.specs.Looked.{looked, ArePartsBelow};
 ghost use Rattle.cd_cells.specs.Table.{table, names};
 ghost use Rattle.cd_model.specs.AllOf.{AllOf};
 ghost use Rattle.cd_model.specs.Thing as thing;
@@ -11,19 +12,19 @@ ghost use Rattle.cd_asking.specs.Inner.Shapes.{members, shape_of, fields_with};
 ghost use Rattle.cd_asking.specs.Inner.Tasks.{after, answered, size, size_of_fields, weight};
 ghost use Rattle.cd_asking.specs.Inner.Tasks.{again, paired};
 ghost use Rattle.cd_asking.specs.Inner.Asked.{set_at, shape_by, IsCase, IsCaseWithin, Grow, Found};
-ghost use Rattle.cd_asking.specs.Inner.Asked.{plain_shape, HasLabel, done_by, plain_task};
-ghost use Rattle.cd_asking.specs.Inner.Asked.{IsTask, IsStep};
+ghost use Rattle.cd_asking.specs.Inner.Asked.{done_by, plain_task};
+ghost use Rattle.cd_asking.specs.Inner.Asked.{IsTask, IsFieldTask, IsStep, HasParts};
 ghost use Rattle.cd_asking.specs.Inner.Known.{IsAsker};
 ghost use Rattle.cd_asking.specs.declared.task.Task.TheVariants.{OfSecond, OfAttributes, OfContent};
 ghost use Rattle.cd_asking.specs.declared.task.Task.TheVariants.{OfField};
 
 use crate::asker::Asker;
 use crate::case::Case;
-use crate::finding::{find_members, find_record};
+use crate::finding::find_record;
+use crate::leaf::leaf;
 use crate::led::Child;
 use crate::node_sets::SetId;
-use crate::shape::Shape;
-use crate::task::{Answered, FieldTask, Next, Task};
+use crate::task::{Answered, FieldTask, Next, Task, with_answer, with_left};
 use cd_cells::{Look, Part, ValueId, Values};
 use cd_graph::Graph;
 use std::alloc::AllocError;
@@ -47,40 +48,43 @@ pub(crate) fn ask<'v>(
     ensures right { IsAsker (nodes graph.now) (names values.now) asker.new }
     ensures grows { Grow asker.old.sets asker.new.sets }
 {
-    match values.look(id) {
-        Look::Int(n) => answer_basic(asker, graph, values, set, &Shape::Integer(n)),
-        Look::Char(c) => answer_case(asker, graph, values, set, Case::Letter(c)),
-        Look::Atom(name) => answer_case(asker, graph, values, set, Case::Atom(name)),
+    let look = values.look(id);
+    match leaf(asker, graph, values, look, set)? {
+        Some(answer) => Ok(Next::Answer(answer)),
+        None => ask_part(asker, graph, values, id, look, set),
+    }
+}
+
+// The first part of a value is asked.
+fn ask_part<'v>(
+    asker: &mut Asker,
+    graph: &Graph,
+    values: &'v Values,
+    id: ValueId,
+    look: Look<'v>,
+    set: SetId,
+) -> Result<Next<'v>, AllocError>
+    requires parts { HasParts look }
+    requires value { id.0 < length (table values.now) }
+    requires below { ArePartsBelow (names values.now) id.0 look }
+    requires set { set.0 < length asker.old.sets }
+    requires values { AllOf IsValue (table values.now) }
+    requires right { IsAsker (nodes graph.now) (names values.now) asker.old }
+    ensures step { let is = looked (names values.now) (table values.now) look.entry in
+        let ids = members (nodes graph.now) (shape_of (nodes graph.now) is) (set_at asker.old.sets set) in
+        IfOk result (IsStep (names values.now) (nodes graph.now) (table values.now)
+        asker.new.sets ids (size is)) }
+    ensures right { IsAsker (nodes graph.now) (names values.now) asker.new }
+    ensures grows { Grow asker.old.sets asker.new.sets }
+{
+    match look {
         Look::Pair(first, second) => ask_pair(asker, graph, values, set, first, second),
         Look::Xml(tag, attributes, content) => {
             ask_xml(asker, graph, values, set, tag, (attributes, content))
         }
-        Look::Record(parts) => {
-            let done = Vec::new(asker.sets.allocator());
-            ask_fields(asker, graph, values, set, done, parts)
-        }
-        Look::Closure(_, _) => answer_basic(asker, graph, values, set, &Shape::Function),
+        Look::Record(parts) => ask_record(asker, graph, values, set, parts),
+        _ => unreachable!(),
     }
-}
-
-// The answer of a value without parts.
-fn answer_basic<'v>(
-    asker: &mut Asker,
-    graph: &Graph,
-    values: &'v Values,
-    set: SetId,
-    shape: &Shape<'_>,
-) -> Result<Next<'v>, AllocError>
-    requires label { HasLabel shape.now }
-    requires right { IsAsker (nodes graph.now) (names values.now) asker.old }
-    ensures step { let ids = members (nodes graph.now) (plain_shape shape.now) (set_at asker.old.sets set) in
-        IfOk result (IsStep (names values.now) (nodes graph.now) (table values.now)
-        asker.new.sets ids 1) }
-    ensures right { IsAsker (nodes graph.now) (names values.now) asker.new }
-    ensures grows { Grow asker.old.sets asker.new.sets }
-{
-    let answer = find_members(&mut asker.sets, graph, set, shape)?;
-    Ok(Next::Answer(answer))
 }
 
 // The answer of a value whose answers are kept.
@@ -118,6 +122,7 @@ fn ask_pair<'v>(
     requires first { first.0 < length (table values.now) }
     requires second { second.0 < length (table values.now) }
     requires set { set.0 < length asker.old.sets }
+    requires values { AllOf IsValue (table values.now) }
     requires right { IsAsker (nodes graph.now) (names values.now) asker.old }
     ensures step { let all = table values.now in
         let is = thing.Pair (thing_at all first.0) (thing_at all second.0) in
@@ -126,8 +131,11 @@ fn ask_pair<'v>(
     ensures right { IsAsker (nodes graph.now) (names values.now) asker.new }
     ensures grows { Grow asker.old.sets asker.new.sets }
 {
-    let next = asker.lead(graph, values, set, Child::First)?;
-    Ok(Next::Ask(first, next, Task::OfSecond(second, set)))
+    let leads = asker.pair_leads(graph, values, set)?;
+    match leaf(asker, graph, values, values.look(first), leads.first)? {
+        Some(answer) => ask_second(asker, graph, values, second, set, answer),
+        None => Ok(Next::Ask(first, leads.first, Task::OfSecond(second, set))),
+    }
 }
 
 // The tag of an XML value is asked.
@@ -143,6 +151,7 @@ fn ask_xml<'v>(
     requires attributes { rest.0.0 < length (table values.now) }
     requires content { rest.1.0 < length (table values.now) }
     requires set { set.0 < length asker.old.sets }
+    requires values { AllOf IsValue (table values.now) }
     requires right { IsAsker (nodes graph.now) (names values.now) asker.old }
     ensures step { let all = table values.now in
         let is = thing.Xml (thing_at all tag.0) (thing_at all rest.0.0) (thing_at all rest.1.0) in
@@ -152,97 +161,124 @@ fn ask_xml<'v>(
     ensures grows { Grow asker.old.sets asker.new.sets }
 {
     let next = asker.lead(graph, values, set, Child::Tag)?;
-    Ok(Next::Ask(tag, next, Task::OfAttributes(rest.0, rest.1, set)))
+    match leaf(asker, graph, values, values.look(tag), next)? {
+        Some(answer) => ask_attributes(asker, graph, values, set, answer, rest),
+        None => Ok(Next::Ask(tag, next, Task::OfAttributes(rest.0, rest.1, set))),
+    }
 }
 
-// The next field of a record is asked, or else the record answers.
-fn ask_fields<'v>(
+// The first field of a record is asked.
+fn ask_record<'v>(
     asker: &mut Asker,
     graph: &Graph,
     values: &'v Values,
     set: SetId,
-    done: Vec<Answered>,
-    left: &'v [Part],
+    parts: &'v [Part],
 ) -> Result<Next<'v>, AllocError>
-    requires left { AllOf (IsPart (names values.now) (length (table values.now))) left.now }
-    requires done { AllOf (λ one. one.nodes.0 < length asker.old.sets) done.items }
+    requires parts { AllOf (IsPart (names values.now) (length (table values.now))) parts.now }
     requires set { set.0 < length asker.old.sets }
     requires right { IsAsker (nodes graph.now) (names values.now) asker.old }
     ensures step { let all = table values.now in
-        let fields = fields_of (names values.now) all left.now in
-        let shape = shapes.Record (answered (map (done_by (names values.now) asker.old.sets) done.items)
+        let is = thing.Record (fields_of (names values.now) all parts.now) in
+        let ids = members (nodes graph.now) (shape_of (nodes graph.now) is) (set_at asker.old.sets set) in
+        IfOk result (IsStep (names values.now) (nodes graph.now) all asker.new.sets ids (size is)) }
+    ensures right { IsAsker (nodes graph.now) (names values.now) asker.new }
+    ensures grows { Grow asker.old.sets asker.new.sets }
+{
+    let alloc = asker.sets.allocator();
+    let task = FieldTask {
+        set,
+        done: Vec::new(alloc),
+        label: 0,
+        left: parts,
+    };
+    ask_rest(asker, graph, values, Box::new(alloc, task)?)
+}
+
+// The next field of a record is asked, or else the record answers.
+fn ask_rest<'v>(
+    asker: &mut Asker,
+    graph: &Graph,
+    values: &'v Values,
+    task: Box<FieldTask<'v>>,
+) -> Result<Next<'v>, AllocError>
+    requires task { IsFieldTask (names values.now) (length (table values.now))
+        (length asker.old.sets) task.value }
+    requires right { IsAsker (nodes graph.now) (names values.now) asker.old }
+    ensures step { let all = table values.now in
+        let is = task.entry.value in
+        let fields = fields_of (names values.now) all is.left.now in
+        let shape = shapes.Record
+        (answered (map (done_by (names values.now) asker.old.sets) is.done.items)
         ++ fields_with (nodes graph.now) fields) in
-        let ids = members (nodes graph.now) shape (set_at asker.old.sets set) in
+        let ids = members (nodes graph.now) shape (set_at asker.old.sets is.set) in
         IfOk result (IsStep (names values.now) (nodes graph.now) all asker.new.sets ids
         (size_of_fields fields)) }
     ensures right { IsAsker (nodes graph.now) (names values.now) asker.new }
     ensures grows { Grow asker.old.sets asker.new.sets }
 {
-    match left {
-        [] => {
-            let answer = answer_record(asker, graph, values, set, done.as_slice())?;
-            Ok(Next::Answer(answer))
+    match task.left {
+        [] => answer_record(asker, graph, values, task.set, task.done.as_slice()),
+        [field, rest @ ..] => {
+            ask_field(
+                asker,
+                graph,
+                values,
+                *field,
+                with_left(task, field.label, rest),
+            )
         }
-        [field, rest @ ..] => ask_field(asker, graph, values, set, done, *field, rest),
     }
 }
 
-// A field of a record is asked, after which come these.
+// A field of a record is asked.
 fn ask_field<'v>(
     asker: &mut Asker,
     graph: &Graph,
     values: &'v Values,
-    set: SetId,
-    done: Vec<Answered>,
     field: Part,
-    rest: &'v [Part],
+    task: Box<FieldTask<'v>>,
 ) -> Result<Next<'v>, AllocError>
     requires field { IsPart (names values.now) (length (table values.now)) field }
-    requires rest { AllOf (IsPart (names values.now) (length (table values.now))) rest.now }
-    requires done { AllOf (λ one. one.nodes.0 < length asker.old.sets) done.items }
-    requires set { set.0 < length asker.old.sets }
+    requires label { task.value.label ≡ field.label }
+    requires task { IsFieldTask (names values.now) (length (table values.now))
+        (length asker.old.sets) task.value }
     requires right { IsAsker (nodes graph.now) (names values.now) asker.old }
     ensures step { let all = table values.now in
-        let fields = fields_of (names values.now) all (field ∷ rest.now) in
-        let shape = shapes.Record (answered (map (done_by (names values.now) asker.old.sets) done.items)
+        let task_is = task.entry.value in
+        let fields = fields_of (names values.now) all (field ∷ task_is.left.now) in
+        let shape = shapes.Record
+        (answered (map (done_by (names values.now) asker.old.sets) task_is.done.items)
         ++ fields_with (nodes graph.now) fields) in
-        let ids = members (nodes graph.now) shape (set_at asker.old.sets set) in
+        let ids = members (nodes graph.now) shape (set_at asker.old.sets task_is.set) in
         IfOk result (IsStep (names values.now) (nodes graph.now) all asker.new.sets ids
         (size_of_fields fields)) }
     ensures right { IsAsker (nodes graph.now) (names values.now) asker.new }
     ensures grows { Grow asker.old.sets asker.new.sets }
 {
-    let label = field.label;
-    let next = asker.lead(graph, values, set, Child::At(label))?;
-    let task = FieldTask {
-        set,
-        done,
-        label,
-        left: rest,
-    };
+    let next = asker.lead(graph, values, task.set, Child::At(task.label))?;
     Ok(Next::Ask(field.id(), next, Task::OfField(task)))
 }
 
 // The answer of a record whose fields have answered.
-fn answer_record(
+fn answer_record<'v>(
     asker: &mut Asker,
     graph: &Graph,
-    values: &Values,
+    values: &'v Values,
     set: SetId,
     done: &[Answered],
-) -> Result<SetId, AllocError>
+) -> Result<Next<'v>, AllocError>
     requires set { set.0 < length asker.old.sets }
     requires right { IsAsker (nodes graph.now) (names values.now) asker.old }
-    ensures found { let fields = answered (map (done_by (names values.now) asker.old.sets) done.now) in
-        IfOk result (Found (nodes graph.now) (shapes.Record fields) (set_at asker.old.sets set)
-        asker.new.sets) }
+    ensures step { let fields = answered (map (done_by (names values.now) asker.old.sets) done.now) in
+        let ids = members (nodes graph.now) (shapes.Record fields) (set_at asker.old.sets set) in
+        IfOk result (IsStep (names values.now) (nodes graph.now) (table values.now)
+        asker.new.sets ids 1) }
     ensures right { IsAsker (nodes graph.now) (names values.now) asker.new }
     ensures grows { Grow asker.old.sets asker.new.sets }
 {
-    match done {
-        [] => asker.answer(graph, values, set, Case::Empty),
-        [_, ..] => find_record(&mut asker.sets, graph, values, set, done),
-    }
+    let answer = find_record(&mut asker.sets, graph, values, set, done)?;
+    Ok(Next::Answer(answer))
 }
 
 /// The next step, where a value has answered and this task was to be done then.
@@ -255,6 +291,7 @@ pub(crate) fn go_on<'v>(
 ) -> Result<Next<'v>, AllocError>
     requires task { IsTask (names values.now) (length (table values.now)) (length asker.old.sets) task }
     requires answer { answer.0 < length asker.old.sets }
+    requires values { AllOf IsValue (table values.now) }
     requires right { IsAsker (nodes graph.now) (names values.now) asker.old }
     ensures step { let all = table values.now in
         let is = plain_task (names values.now) all asker.old.sets task.entry in
@@ -307,8 +344,8 @@ fn ask_second<'v>(
     ensures right { IsAsker (nodes graph.now) (names values.now) asker.new }
     ensures grows { Grow asker.old.sets asker.new.sets }
 {
-    let next = asker.lead(graph, values, set, Child::Second)?;
-    Ok(Next::Ask(second, next, Task::OfPairs(set, first, 1)))
+    let leads = asker.pair_leads(graph, values, set)?;
+    Ok(Next::Ask(second, leads.second, Task::OfPairs(set, first, 1)))
 }
 
 // The answer of pairs in a row, from the answer of the last second part.
@@ -355,6 +392,7 @@ fn ask_attributes<'v>(
     requires task { IsTask (names values.now) (length (table values.now)) (length asker.old.sets)
         (OfAttributes rest.0 rest.1 set) }
     requires answer { tag.0 < length asker.old.sets }
+    requires values { AllOf IsValue (table values.now) }
     requires right { IsAsker (nodes graph.now) (names values.now) asker.old }
     ensures step { let all = table values.now in
         let is = plain_task (names values.now) all asker.old.sets (OfAttributes rest.0 rest.1 set) in
@@ -364,7 +402,10 @@ fn ask_attributes<'v>(
     ensures grows { Grow asker.old.sets asker.new.sets }
 {
     let next = asker.lead(graph, values, set, Child::Attributes)?;
-    Ok(Next::Ask(rest.0, next, Task::OfContent(rest.1, set, tag)))
+    match leaf(asker, graph, values, values.look(rest.0), next)? {
+        Some(answer) => ask_content(asker, graph, values, set, rest.1, (tag, answer)),
+        None => Ok(Next::Ask(rest.0, next, Task::OfContent(rest.1, set, tag))),
+    }
 }
 
 // The content of an XML value is asked.
@@ -391,35 +432,25 @@ fn ask_content<'v>(
     Ok(Next::Ask(content, next, Task::OfXml(set, known.0, known.1)))
 }
 
-// The next field of a record is asked.
+// A field of a record has answered.
 fn ask_next_field<'v>(
     asker: &mut Asker,
     graph: &Graph,
     values: &'v Values,
-    field: FieldTask<'v>,
+    task: Box<FieldTask<'v>>,
     answer: SetId,
 ) -> Result<Next<'v>, AllocError>
-    requires task { IsTask (names values.now) (length (table values.now)) (length asker.old.sets)
-        (OfField field) }
+    requires task { IsFieldTask (names values.now) (length (table values.now))
+        (length asker.old.sets) task.value }
     requires answer { answer.0 < length asker.old.sets }
     requires right { IsAsker (nodes graph.now) (names values.now) asker.old }
     ensures step { let all = table values.now in
-        let is = plain_task (names values.now) all asker.old.sets (OfField field.entry) in
+        let is = plain_task (names values.now) all asker.old.sets (OfField task.entry) in
         let ids = after (nodes graph.now) is (set_at asker.old.sets answer) in
         IfOk result (IsStep (names values.now) (nodes graph.now) all asker.new.sets ids (weight is)) }
     ensures right { IsAsker (nodes graph.now) (names values.now) asker.new }
     ensures grows { Grow asker.old.sets asker.new.sets }
 {
-    let FieldTask {
-        set,
-        done,
-        label,
-        left,
-    } = field;
-    let mut done = done;
-    done.push(Answered {
-        label,
-        nodes: answer,
-    })?;
-    ask_fields(asker, graph, values, set, done, left)
+    let task = with_answer(task, answer)?;
+    ask_rest(asker, graph, values, task)
 }

@@ -1,6 +1,9 @@
 //! What is left to do while a value is asked.
+ghost use Rattle.std.specs.Prelude.{◌≡◌, ◌∷◌, ◌++◌, [], IfOk};
+
 use crate::node_sets::SetId;
 use cd_cells::{Part, ValueId};
+use std::alloc::AllocError;
 
 /// A field of a record that has answered.
 #[derive(Clone, Copy)]
@@ -26,7 +29,7 @@ pub(crate) enum Task<'v> {
     /// The content of an XML value at this set, whose tag and attributes are in these nodes.
     OfXml(SetId, SetId, SetId),
     /// A field of a record.
-    OfField(FieldTask<'v>),
+    OfField(Box<FieldTask<'v>>),
 }
 
 /// What is done with the answer of a field of a record.
@@ -49,4 +52,35 @@ pub(crate) enum Next<'v> {
     Answer(SetId),
     /// This value is asked at this set, and then the task is done.
     Ask(ValueId, SetId, Task<'v>),
+}
+
+/// The task of the next field, which has this label.
+pub(crate) fn with_left<'v>(
+    mut task: Box<FieldTask<'v>>,
+    label: u32,
+    left: &'v [Part],
+) -> Box<FieldTask<'v>>
+    ensures set { result.value.set ≡ task.entry.value.set }
+    ensures done { result.value.done.items ≡ task.entry.value.done.items }
+    ensures label { result.value.label ≡ label }
+    ensures left { result.value.left.now ≡ left.now }
+{
+    task.label = label;
+    task.left = left;
+    task
+}
+
+/// The task where its field has answered.
+pub(crate) fn with_answer<'v>(
+    mut task: Box<FieldTask<'v>>,
+    nodes: SetId,
+) -> Result<Box<FieldTask<'v>>, AllocError>
+    ensures set { IfOk result (λ new. new.value.set ≡ task.entry.value.set) }
+    ensures done { let old = task.entry.value in IfOk result (λ new. new.value.done.items
+        ≡ old.done.items ++ record { label = old.label; nodes = nodes } ∷ []) }
+    ensures left { IfOk result (λ new. new.value.left.now ≡ task.entry.value.left.now) }
+{
+    let label = task.label;
+    task.done.push(Answered { label, nodes })?;
+    Ok(task)
 }

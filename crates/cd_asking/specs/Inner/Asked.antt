@@ -12,6 +12,8 @@ use Rattle.cd_asking.specs.Inner.Shapes as plain
 use Rattle.cd_asking.specs.Inner.Shapes.{Nodes, members, shape_of}
 use Rattle.cd_asking.specs.Inner.Tasks as child
 use Rattle.cd_asking.specs.Inner.Tasks.{among, after, size, weight}
+use Rattle.cd_cells.specs.declared.cell.Look.{Look}
+use Rattle.cd_cells.specs.declared.cell.Look.TheVariants as look
 use Rattle.cd_asking.specs.declared.node_sets.SetId.{SetId}
 use Rattle.cd_asking.specs.declared.led.Child.{Child as CodeChild}
 use Rattle.cd_asking.specs.declared.led.Child.TheVariants.{First, Second, Tag, Attributes, Content, At}
@@ -21,6 +23,7 @@ use Rattle.cd_asking.specs.declared.shape.Held.{Held}
 use Rattle.cd_asking.specs.declared.case.Case.{Case}
 use Rattle.cd_asking.specs.declared.case.Case.TheVariants as case
 use Rattle.cd_asking.specs.declared.task.Answered.{Answered}
+use Rattle.cd_asking.specs.declared.task.FieldTask.{FieldTask}
 use Rattle.cd_asking.specs.declared.task.Task.{Task}
 use Rattle.cd_asking.specs.declared.task.Task.TheVariants as code
 use Rattle.cd_asking.specs.declared.task.Next.{Next}
@@ -57,6 +60,13 @@ plain_shape Function = plain.Function
 abbrev pub HasLabel : CodeShape → Type 0
 HasLabel (Atom name) = IsLabel (chars name.now)
 HasLabel _ = Unit {0}
+
+-- the value has parts
+abbrev pub HasParts : Look → Type 0
+HasParts (look.Pair first second) = Unit {0}
+HasParts (look.Xml tag attributes content) = Unit {0}
+HasParts (look.Record parts) = 0 < length parts.now
+HasParts _ = ⊥
 
 -- sets are only added
 abbrev pub Grow : (old new : List (List NodeId)) → Type 0
@@ -109,8 +119,8 @@ module _ (names : List Name) where
   plain_task table sets (code.OfXml set tag attributes) =
       child.OfXml (set_at sets set) (set_at sets tag) (set_at sets attributes)
   plain_task table sets (code.OfField field) =
-      child.OfField (set_at sets field.set) (map (done_by sets) field.done.items)
-      (name_at names field.label) (fields_of names table field.left.now)
+      child.OfField (set_at sets field.value.set) (map (done_by sets) field.value.done.items)
+      (name_at names field.value.label) (fields_of names table field.value.left.now)
 
   -- what is done next makes this of the sets
   abbrev pub made : Graph → List Thing → List (List NodeId) → Next → List NodeId
@@ -126,6 +136,11 @@ module _ (names : List Name) where
       size (thing_at table id.0) + weight (plain_task table sets task)
 
   -- the numbers of a task name values and sets
+  abbrev pub IsFieldTask : (values sets : ℕ) → FieldTask → Type 0
+  IsFieldTask values sets field = (field.set.0 < sets)
+      × AllOf (λ one. one.nodes.0 < sets) field.done.items
+      × AllOf (IsPart names values) field.left.now
+
   abbrev pub IsTask : (values sets : ℕ) → Task → Type 0
   IsTask values sets (code.OfSecond second set) = (second.0 < values) × (set.0 < sets)
   IsTask values sets (code.OfPairs set first count) = (set.0 < sets) × (first.0 < sets)
@@ -135,9 +150,7 @@ module _ (names : List Name) where
       (content.0 < values) × (set.0 < sets) × (tag.0 < sets)
   IsTask values sets (code.OfXml set tag attributes) =
       (set.0 < sets) × (tag.0 < sets) × (attributes.0 < sets)
-  IsTask values sets (code.OfField field) = (field.set.0 < sets)
-      × AllOf (λ one. one.nodes.0 < sets) field.done.items
-      × AllOf (IsPart names values) field.left.now
+  IsTask values sets (code.OfField field) = IsFieldTask values sets field.value
 
   abbrev pub IsNext : (values sets : ℕ) → Next → Type 0
   IsNext values sets (Answer answer) = answer.0 < sets

@@ -1,9 +1,29 @@
+use Rattle.std.proofs.lemmas.Result.{IfOk-weaker}
 use Rattle.cd_graph.specs.Nodes.{nodes}
+use Rattle.cd_cells.specs.Looked.{looked}
 use Rattle.cd_cells.specs.Table.{table, names}
-use Rattle.cd_asking.proofs.Stepping.{attributes_step}
+use Rattle.cd_asking.specs.Inner.Shapes.{shape_of}
+use Rattle.cd_asking.specs.Inner.Asked.{set_at, Found, HasParts}
+use Rattle.cd_asking.specs.declared.node_sets.SetId.{SetId}
+use Rattle.cd_asking.specs.declared.task.Task.TheVariants.{OfContent}
+use Rattle.cd_asking.proofs.Stepping.{attributes_step, step_grows, at_once, some_found}
 use Rattle.cd_asking.proofs.step.ask_attributes.Goals as goal
 
-pub returns-clause-step : goal.returns-clause-step
-returns-clause-step c = attributes_step (names c.args.values.now) (nodes c.args.graph.now) (table c.args.values.now)
+pub returns-in-Some-clause-step : goal.returns-in-Some-clause-step
+returns-in-Some-clause-step c =
+    let asked = attributes_step (names c.args.values.now) (nodes c.args.graph.now) (table c.args.values.now)
     c.args.asker.now.sets c.lead.new.self.sets c.lead.ensures.grows c.args.set c.in_ok-next.next c.requires.task.2 c.in_ok-next.ensures.within
-    c.args.rest.0 c.args.rest.1 c.args.tag c.requires.task.0 c.requires.task.1 c.requires.answer c.in_ok-next.ensures.covers
+    c.args.rest.0 c.args.rest.1 c.args.tag c.requires.task.0 c.requires.task.1 c.requires.answer c.in_ok-next.ensures.covers in
+    let Holds : SetId → Type 0 = Found (nodes c.args.graph.now)
+    (shape_of (nodes c.args.graph.now) (looked (names c.args.values.now) (table c.args.values.now) c.look.result))
+    (set_at c.lead.new.self.sets c.in_ok-next.next) c.leaf.new.asker.sets in
+    let found = some_found c.in_ok-answer.field-0 (HasParts c.look.result) Holds c.in-Some.answer c.in-Some.is c.in_ok-answer.ensures.found in
+    IfOk-weaker c.ask_content.result _ _ (λ next step. at_once (names c.args.values.now) (nodes c.args.graph.now) (table c.args.values.now)
+    c.lead.new.self.sets c.leaf.new.asker.sets c.ask_content.new.asker.sets c.leaf.ensures.grows _ _ c.args.rest.0 c.in_ok-next.next (OfContent c.args.rest.1 c.args.set c.args.tag)
+    _ c.in-Some.answer next asked c.look.ensures.thing found step) c.ask_content.ensures.step
+
+pub returns-in-None-clause-step : goal.returns-in-None-clause-step
+returns-in-None-clause-step c = step_grows (names c.args.values.now) (nodes c.args.graph.now) (table c.args.values.now) c.lead.new.self.sets c.leaf.new.asker.sets c.leaf.ensures.grows _ _ _
+    (attributes_step (names c.args.values.now) (nodes c.args.graph.now) (table c.args.values.now)
+    c.args.asker.now.sets c.lead.new.self.sets c.lead.ensures.grows c.args.set c.in_ok-next.next c.requires.task.2 c.in_ok-next.ensures.within
+    c.args.rest.0 c.args.rest.1 c.args.tag c.requires.task.0 c.requires.task.1 c.requires.answer c.in_ok-next.ensures.covers)

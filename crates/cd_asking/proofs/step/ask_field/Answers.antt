@@ -6,5 +6,7 @@ use Rattle.cd_asking.proofs.step.ask_field.Goals as goal
 
 pub returns-clause-step : goal.returns-clause-step
 returns-clause-step c = field_step (names c.args.values.now) (nodes c.args.graph.now) (table c.args.values.now)
-    c.args.asker.now.sets c.lead.new.self.sets c.lead.ensures.grows c.args.set c.in_ok-next.next c.requires.set c.in_ok-next.ensures.within
-    _ c.id.result c.args.field refl c.id.ensures refl (c.requires.field, c.requires.rest) c.requires.done c.in_ok-next.ensures.covers
+    c.args.asker.now.sets c.lead.new.self.sets c.lead.ensures.grows c.args.task.value.set c.in_ok-next.next c.requires.task.0
+    c.in_ok-next.ensures.within c.args.task c.id.result c.args.field refl c.id.ensures c.requires.label
+    (c.requires.field, c.requires.task.2) c.requires.task.1
+    (rw c.requires.label at (rw (c.deref.ensures, c.deref-2.ensures) at c.in_ok-next.ensures.covers))

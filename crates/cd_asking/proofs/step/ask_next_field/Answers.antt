@@ -1,29 +1,17 @@
-use Rattle.std.proofs.Common.{◌≡◌, List, [], ◌∷◌, ◌++◌, map, ap, ◌∙◌, subst}
-use Rattle.std.specs.Prelude.{IfOk}
-use Rattle.std.proofs.lemmas.List.{map-append}
-use Rattle.cd_sets.specs.declared.node_id.NodeId.{NodeId}
+use Rattle.std.proofs.Common.{List, ap}
+use Rattle.std.proofs.lemmas.Result.{IfOk-weaker}
 use Rattle.cd_graph.specs.Nodes.{nodes}
-use Rattle.cd_cells.specs.Cells.{name_at, fields_of}
+use Rattle.cd_cells.specs.Cells.{fields_of}
 use Rattle.cd_cells.specs.Table.{table, names}
-use Rattle.cd_asking.specs.Inner.Shapes as shapes
-use Rattle.cd_asking.specs.Inner.Shapes.{members, fields_with}
-use Rattle.cd_asking.specs.Inner.Tasks.{answered, size_of_fields}
-use Rattle.cd_asking.specs.Inner.Asked.{set_at, done_by, IsStep}
-use Rattle.cd_asking.specs.declared.task.Answered.{Answered}
-use Rattle.cd_asking.proofs.Stepping.{field_done}
+use Rattle.cd_cells.specs.declared.cell.Part.{Part}
+use Rattle.cd_asking.specs.Inner.Tasks.{size_of_fields}
+use Rattle.cd_asking.proofs.Stepping.{field_answered, same_step}
 use Rattle.cd_asking.proofs.step.ask_next_field.Goals as goal
 
--- one field more has answered
 pub returns-clause-step : goal.returns-clause-step
 returns-clause-step c =
-    let graph = nodes c.args.graph.now in
-    let sets = c.args.asker.now.sets in
-    let field = c.args.field in
-    let left = fields_of (names c.args.values.now) (table c.args.values.now) field.left.now in
-    let done_of = done_by (names c.args.values.now) sets in
-    let made = ap (λ (all : List Answered). members graph (shapes.Record (answered (map done_of all) ++ fields_with graph left)) (set_at sets field.set))
-    c.in_ok-push.ensures.items
-    ∙ ap (λ all. members graph (shapes.Record (answered all ++ fields_with graph left)) (set_at sets field.set)) (map-append done_of field.done.items _)
-    ∙ field_done graph (map done_of field.done.items) (name_at (names c.args.values.now) field.label) (set_at sets c.args.answer) left (set_at sets field.set) in
-    subst (λ (ids : List NodeId). IfOk c.ask_fields.result (IsStep (names c.args.values.now) graph (table c.args.values.now)
-    c.ask_fields.new.asker.sets ids (size_of_fields left))) made c.ask_fields.ensures.step
+    let made = field_answered (names c.args.values.now) (nodes c.args.graph.now) (table c.args.values.now) c.args.asker.now.sets
+    c.args.task.value c.in_ok-task.task.value c.args.answer c.in_ok-task.ensures.set c.in_ok-task.ensures.done c.in_ok-task.ensures.left in
+    let left = ap (λ (left : List Part). size_of_fields (fields_of (names c.args.values.now) (table c.args.values.now) left)) c.in_ok-task.ensures.left in
+    IfOk-weaker c.ask_rest.result _ _ (λ next step. same_step (names c.args.values.now) (nodes c.args.graph.now) (table c.args.values.now)
+    c.ask_rest.new.asker.sets _ _ _ _ next made left step) c.ask_rest.ensures.step

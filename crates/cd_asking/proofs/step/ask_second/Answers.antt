@@ -5,5 +5,5 @@ use Rattle.cd_asking.proofs.step.ask_second.Goals as goal
 
 pub returns-clause-step : goal.returns-clause-step
 returns-clause-step c = second_step (names c.args.values.now) (nodes c.args.graph.now) (table c.args.values.now)
-    c.args.asker.now.sets c.lead.new.self.sets c.lead.ensures.grows c.args.set c.in_ok-next.next c.requires.task.1 c.in_ok-next.ensures.within
-    c.args.second c.args.first c.requires.task.0 c.requires.answer c.in_ok-next.ensures.covers
+    c.args.asker.now.sets c.pair_leads.new.self.sets c.pair_leads.ensures.grows c.args.set c.in_ok-leads.leads.second c.requires.task.1
+    c.in_ok-leads.ensures.leads.1 c.args.second c.args.first c.requires.task.0 c.requires.answer c.in_ok-leads.ensures.leads.3

@@ -5,7 +5,7 @@ use Rattle.cd_cells.specs.Table.{names}
 use Rattle.cd_asking.specs.Inner.Known.{IsAnswer, IsAsker}
 use Rattle.cd_asking.specs.declared.node_sets.SetId.{SetId}
 use Rattle.cd_asking.specs.declared.asker.Question.{Question}
-use Rattle.cd_asking.proofs.Kept.{found, inserted, answers_stay, leads_stay, new_answer}
+use Rattle.cd_asking.proofs.Kept.{pairs_stay, letters_stay, found, inserted, answers_stay, leads_stay, new_answer}
 use Rattle.cd_asking.proofs.SameKeys.{same_question, same_questions}
 use Rattle.cd_asking.proofs.asker.Asker.answer.Goals as goal
 
@@ -19,6 +19,10 @@ returns-in-Some-clause-found c = (entry c).2
 -- more sets change nothing
 pub returns-in_err-answer-clause-right : goal.returns-in_err-answer-clause-right
 returns-in_err-answer-clause-right c = record {
+  pairs = pairs_stay (nodes c.args.graph.now) (names c.args.values.now) c.args.self.now.sets c.find_case.new.sets c.find_case.ensures.grows
+      c.args.self.now.pairs.slots.items c.requires.right.pairs;
+  letters = letters_stay (nodes c.args.graph.now) (names c.args.values.now) c.args.self.now.sets c.find_case.new.sets c.find_case.ensures.grows
+      c.args.self.now.letters.slots.items c.requires.right.letters;
   answers = answers_stay c.args.self.now.sets c.find_case.new.sets c.find_case.ensures.grows (names c.args.values.now) (nodes c.args.graph.now)
       c.args.self.now.answers.entries c.requires.right.answers;
   leads = leads_stay c.args.self.now.sets c.find_case.new.sets c.find_case.ensures.grows (names c.args.values.now) (nodes c.args.graph.now)
@@ -27,6 +31,10 @@ returns-in_err-answer-clause-right c = record {
 
 pub returns-in_err-insert-clause-right : goal.returns-in_err-insert-clause-right
 returns-in_err-insert-clause-right c = record {
+  pairs = pairs_stay (nodes c.args.graph.now) (names c.args.values.now) c.args.self.now.sets c.find_case.new.sets c.find_case.ensures.grows
+      c.args.self.now.pairs.slots.items c.requires.right.pairs;
+  letters = letters_stay (nodes c.args.graph.now) (names c.args.values.now) c.args.self.now.sets c.find_case.new.sets c.find_case.ensures.grows
+      c.args.self.now.letters.slots.items c.requires.right.letters;
   answers = subst (AllOf (IsAnswer (nodes c.args.graph.now) (names c.args.values.now) c.find_case.new.sets)) (sym c.in_err-insert.ensures.err)
       (answers_stay c.args.self.now.sets c.find_case.new.sets c.find_case.ensures.grows (names c.args.values.now) (nodes c.args.graph.now)
       c.args.self.now.answers.entries c.requires.right.answers);
@@ -36,6 +44,10 @@ returns-in_err-insert-clause-right c = record {
 
 pub returns-clause-right : goal.returns-clause-right
 returns-clause-right c = record {
+  pairs = pairs_stay (nodes c.args.graph.now) (names c.args.values.now) c.args.self.now.sets c.find_case.new.sets c.find_case.ensures.grows
+      c.args.self.now.pairs.slots.items c.requires.right.pairs;
+  letters = letters_stay (nodes c.args.graph.now) (names c.args.values.now) c.args.self.now.sets c.find_case.new.sets c.find_case.ensures.grows
+      c.args.self.now.letters.slots.items c.requires.right.letters;
   answers = subst (AllOf (IsAnswer (nodes c.args.graph.now) (names c.args.values.now) c.find_case.new.sets)) (sym c.in_ok-insert.ensures.entries)
       (inserted same_question same_questions (IsAnswer (nodes c.args.graph.now) (names c.args.values.now) c.find_case.new.sets) c.args.self.now.answers.entries _ _
       (answers_stay c.args.self.now.sets c.find_case.new.sets c.find_case.ensures.grows (names c.args.values.now) (nodes c.args.graph.now)

@@ -5,7 +5,7 @@ use Rattle.cd_cells.specs.Table.{names}
 use Rattle.cd_asking.specs.Inner.Known.{IsLead, IsAsker}
 use Rattle.cd_asking.specs.declared.node_sets.SetId.{SetId}
 use Rattle.cd_asking.specs.declared.asker.Lead.{Lead}
-use Rattle.cd_asking.proofs.Kept.{found, inserted, leads_stay, answers_stay, new_lead}
+use Rattle.cd_asking.proofs.Kept.{pairs_stay, letters_stay, found, inserted, leads_stay, answers_stay, new_lead}
 use Rattle.cd_asking.proofs.SameKeys.{same_lead, same_leads}
 use Rattle.cd_asking.proofs.asker.Asker.lead.Goals as goal
 
@@ -22,6 +22,10 @@ returns-in-Some-clause-within c = (entry c).1
 -- more sets change nothing
 pub returns-in_err-next-clause-right : goal.returns-in_err-next-clause-right
 returns-in_err-next-clause-right c = record {
+  pairs = pairs_stay (nodes c.args.graph.now) (names c.args.values.now) c.args.self.now.sets c.find_lead.new.sets c.find_lead.ensures.grows
+      c.args.self.now.pairs.slots.items c.requires.right.pairs;
+  letters = letters_stay (nodes c.args.graph.now) (names c.args.values.now) c.args.self.now.sets c.find_lead.new.sets c.find_lead.ensures.grows
+      c.args.self.now.letters.slots.items c.requires.right.letters;
   leads = leads_stay c.args.self.now.sets c.find_lead.new.sets c.find_lead.ensures.grows (names c.args.values.now) (nodes c.args.graph.now)
       c.args.self.now.leads.entries c.requires.right.leads;
   answers = answers_stay c.args.self.now.sets c.find_lead.new.sets c.find_lead.ensures.grows (names c.args.values.now) (nodes c.args.graph.now)
@@ -30,6 +34,10 @@ returns-in_err-next-clause-right c = record {
 
 pub returns-in_err-insert-clause-right : goal.returns-in_err-insert-clause-right
 returns-in_err-insert-clause-right c = record {
+  pairs = pairs_stay (nodes c.args.graph.now) (names c.args.values.now) c.args.self.now.sets c.find_lead.new.sets c.find_lead.ensures.grows
+      c.args.self.now.pairs.slots.items c.requires.right.pairs;
+  letters = letters_stay (nodes c.args.graph.now) (names c.args.values.now) c.args.self.now.sets c.find_lead.new.sets c.find_lead.ensures.grows
+      c.args.self.now.letters.slots.items c.requires.right.letters;
   leads = subst (AllOf (IsLead (nodes c.args.graph.now) (names c.args.values.now) c.find_lead.new.sets)) (sym c.in_err-insert.ensures.err)
       (leads_stay c.args.self.now.sets c.find_lead.new.sets c.find_lead.ensures.grows (names c.args.values.now) (nodes c.args.graph.now)
       c.args.self.now.leads.entries c.requires.right.leads);
@@ -39,6 +47,10 @@ returns-in_err-insert-clause-right c = record {
 
 pub returns-clause-right : goal.returns-clause-right
 returns-clause-right c = record {
+  pairs = pairs_stay (nodes c.args.graph.now) (names c.args.values.now) c.args.self.now.sets c.find_lead.new.sets c.find_lead.ensures.grows
+      c.args.self.now.pairs.slots.items c.requires.right.pairs;
+  letters = letters_stay (nodes c.args.graph.now) (names c.args.values.now) c.args.self.now.sets c.find_lead.new.sets c.find_lead.ensures.grows
+      c.args.self.now.letters.slots.items c.requires.right.letters;
   leads = subst (AllOf (IsLead (nodes c.args.graph.now) (names c.args.values.now) c.find_lead.new.sets)) (sym c.in_ok-insert.ensures.entries)
       (inserted same_lead same_leads (IsLead (nodes c.args.graph.now) (names c.args.values.now) c.find_lead.new.sets) c.args.self.now.leads.entries _ _
       (leads_stay c.args.self.now.sets c.find_lead.new.sets c.find_lead.ensures.grows (names c.args.values.now) (nodes c.args.graph.now)
