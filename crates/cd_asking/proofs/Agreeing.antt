@@ -1,17 +1,16 @@
 -- Shapes whose parts agree where a set asks them have the same members in the set.
-use Rattle.std.proofs.Common.{◌≡◌, ◌&&◌, ◌||◌, not, Bool, true, false, List, [], ◌∷◌, ◌++◌, Option, Some, None, map, ◌⊎◌, inl, inr, refl, sym, ap, ◌∙◌, bytes_eq, true≢false}
-use Rattle.std.specs.Prelude.{IfSome, if◌then◌else◌}
-use Rattle.std.specs.List.{list_all, list_any}
+use Rattle.std.proofs.Common.{◌≡◌, ◌&&◌, ◌||◌, not, Bool, true, false, List, [], ◌∷◌, ◌++◌, Option, Some, None, ◌⊎◌, inl, inr, refl, sym, ap, ◌∙◌, bytes_eq, true≢false}
+use Rattle.std.specs.Prelude.{IfSome}
+use Rattle.std.specs.List.{list_all}
 use Rattle.std.proofs.lemmas.Bool.{cases_Bool}
 use Rattle.std.proofs.lemmas.Slice.Eq.{bytes_eq-Decides}
 use Rattle.cd_sets.specs.declared.node_id.NodeId.{NodeId}
-use Rattle.cd_sets.specs.IdSet.{holds}
 use Rattle.cd_syntax.specs.Name.{Name}
 use Rattle.cd_model.specs.AllOf.{AllOf}
 use Rattle.cd_model.specs.Formula as formula
 use Rattle.cd_model.specs.Formula.{Formula, Formulas, NoFormula, AFormula, Graph, Field, formula_at, field_of}
 use Rattle.cd_asking.specs.Inner.Shapes.{Nodes, Shape, Pair, Xml, Record, item_at, labels, in_field, in_named, is_named, in_rest, in_basic, in_formula, in_each, in_one, nodes_with, members}
-use Rattle.cd_asking.specs.Inner.Tasks.{Child, First, Second, Tag, Attributes, Content, At, led, EachBasic, EachOfFormulas, AsksIn, Covers, among}
+use Rattle.cd_asking.specs.Inner.Tasks.{Child, First, Second, Tag, Attributes, Content, At, led, EachBasic, EachOfFormulas, Covers, among}
 use Rattle.cd_asking.proofs.Members.{filtered, same_filter, each_by, both_by, always}
 
 -- facts of the formulas in a formula that are no connectives

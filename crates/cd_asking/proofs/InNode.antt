@@ -1,7 +1,7 @@
 -- Data is in a node as the test says.
 use Rattle.std.proofs.Common.{◌≡◌, ℕ, ◌&&◌, ◌||◌, not, Bool, true, false, List, [], ◌∷◌, Option, Some, None, ◌⊎◌, inl, inr, refl, sym, ap, ◌∙◌, bytes_eq, subst, true≢false}
 use Rattle.std.specs.Prelude.{if◌then◌else◌}
-use Rattle.std.specs.List.{list_all, list_any}
+use Rattle.std.specs.List.{list_all}
 use Rattle.std.specs.Ordering.{nat_cmp, is_eq}
 use Rattle.std.specs.declared.cmp.Ordering.TheVariants.{Less}
 use Rattle.std.proofs.lemmas.Map.Text.{is_eq-slice_cmp}
@@ -15,9 +15,8 @@ use Rattle.cd_model.specs.Formula as formula
 use Rattle.cd_model.specs.Formula.{Formula, Formulas, NoFormula, AFormula, Graph, Field, FormulaReader, formula_at, field_of, at_formula, holds, each_holds, one_holds, nodes}
 use Rattle.cd_model.specs.Thing as thing
 use Rattle.cd_model.specs.Thing.{Thing, Fields, NoField, IsValue, AreValues, IsData, AreData, LabelsRise}
-use Rattle.cd_model.specs.Types.{FieldOf, Mapping, Reader, reader, labelled, answers, absent, chosen, record_at}
-use Rattle.cd_model.proofs.RisingLabels.{nothing_more}
-use Rattle.cd_asking.specs.Inner.Shapes.{Nodes, Shape, Integer, Character, Atom, Pair, Xml, Record, Function, item_at, labels, in_field, in_named, is_named, in_rest, in_basic, in_formula, in_each, in_one, nodes_with, shape_of, fields_with, is_in}
+use Rattle.cd_model.specs.Types.{Mapping, reader, labelled, answers, chosen}
+use Rattle.cd_asking.specs.Inner.Shapes.{Nodes, Shape, item_at, labels, in_field, in_named, is_named, in_rest, in_basic, in_formula, in_each, in_one, shape_of, fields_with, is_in}
 use Rattle.cd_asking.proofs.Agreeing.{not_named}
 
 not_both : (one other : Bool) → (one && other) ≡ false → (one ≡ false) ⊎ (other ≡ false)

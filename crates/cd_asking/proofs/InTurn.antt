@@ -9,7 +9,7 @@ use Rattle.cd_cells.specs.Cells.{thing_at}
 use Rattle.cd_cells.specs.declared.cell.ValueId.{ValueId}
 use Rattle.cd_asking.specs.Inner.Shapes.{members, shape_of}
 use Rattle.cd_asking.specs.Inner.Tasks.{after, finish, size, weight}
-use Rattle.cd_asking.specs.Inner.Asked.{set_at, plain_task, made, left_to_do, IsTask, IsStep, Grow, Found}
+use Rattle.cd_asking.specs.Inner.Asked.{set_at, plain_task, IsTask, IsStep, Grow}
 use Rattle.cd_asking.specs.Inner.Known.{IsAsker}
 use Rattle.cd_asking.specs.Inner.Running.{finished, total, ArePut, IsRunning, steps_left}
 use Rattle.cd_asking.specs.declared.node_sets.SetId.{SetId}
@@ -17,7 +17,7 @@ use Rattle.cd_asking.specs.declared.asker.Asker.{Asker}
 use Rattle.cd_asking.specs.declared.task.Task.{Task}
 use Rattle.cd_asking.specs.declared.task.Next.{Next}
 use Rattle.cd_asking.specs.declared.task.Next.TheVariants.{Answer, Ask}
-use Rattle.cd_asking.proofs.Kept.{task_stays, task_within, grown_on, still_within}
+use Rattle.cd_asking.proofs.Kept.{task_stays, task_within, grown_on}
 use Rattle.cd_asking.proofs.Members.{each_by}
 use Rattle.cd_asking.proofs.Putting.{each_first, total_more, last_done}
 

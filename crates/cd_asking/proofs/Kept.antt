@@ -1,6 +1,5 @@
 -- What is known stays right when sets are added, and with one thing more.
-use Rattle.std.proofs.Common.{◌≡◌, ℕ, ◌+◌, ◌*◌, ◌<◌, Bool, true, false, List, [], ◌∷◌, ◌++◌, Option, Some, None, length, map, refl, sym, ap, ◌∙◌, subst, arith, length-append, append_assoc, append-nil, ◌⊎◌, inl, inr}
-use Rattle.std.specs.Prelude.{if◌then◌else◌}
+use Rattle.std.proofs.Common.{◌≡◌, ℕ, ◌+◌, ◌*◌, ◌<◌, Bool, true, false, List, [], ◌∷◌, ◌++◌, Option, Some, length, map, refl, sym, ap, ◌∙◌, subst, arith, length-append, append_assoc, append-nil, ◌⊎◌, inl, inr}
 use Rattle.std.specs.Map.{lookup}
 use Rattle.std.proofs.lemmas.Bool.{cases_Bool}
 use Rattle.std.proofs.lemmas.List.{get_or_append_left}
@@ -12,13 +11,13 @@ use Rattle.cd_model.specs.Formula.{Graph}
 use Rattle.cd_model.specs.Thing.{Thing}
 use Rattle.cd_asking.specs.Inner.Shapes.{members}
 use Rattle.cd_asking.specs.Inner.Shapes as plain
-use Rattle.cd_asking.specs.Inner.Tasks.{Covers, among, First, Second}
+use Rattle.cd_asking.specs.Inner.Tasks.{Covers, First, Second}
 use Rattle.cd_asking.specs.Inner.Asked.{set_at, plain_child, shape_by, done_by, plain_task, IsTask, IsCaseWithin, Grow, Found}
 use Rattle.cd_asking.specs.Inner.Known.{LeadBoth, ArePairs, AreLetters, IsLead, IsAnswer, IsAsker}
 use Rattle.cd_asking.specs.declared.node_sets.SetId.{SetId}
 use Rattle.cd_asking.specs.declared.asker.Lead.{Lead}
 use Rattle.cd_asking.specs.declared.asker.Question.{Question}
-use Rattle.cd_asking.specs.Inner.Slots.{slot_at, PutsOnly}
+use Rattle.cd_asking.specs.Inner.Slots.{PutsOnly}
 use Rattle.cd_asking.specs.declared.asker.PairLeads.{PairLeads}
 use Rattle.cd_asking.specs.declared.asker.Asker.{Asker}
 use Rattle.cd_asking.specs.declared.case.Case.{Case}

@@ -1,13 +1,11 @@
 -- Sets that have the nodes at which formulas ask a child, formula by formula.
-use Rattle.std.proofs.Common.{◌≡◌, ℕ, ◌+◌, ◌<◌, true, List, [], ◌∷◌, map, drop, get_or, length, sym, ap, ◌∙◌, subst, refl}
-use Rattle.std.specs.Prelude.{IfSome}
+use Rattle.std.proofs.Common.{◌≡◌, ℕ, ◌+◌, ◌<◌, List, map, drop, get_or, length, sym, subst}
 use Rattle.std.proofs.lemmas.List.{at_drop_more}
 use Rattle.cd_sets.specs.declared.node_id.NodeId.{NodeId}
-use Rattle.cd_sets.specs.IdSet.{holds}
 use Rattle.cd_model.specs.Formula.{Formula, Graph, formulas_of, formula_at}
 use Rattle.cd_graph.specs.PlainFormula.{plain}
 use Rattle.cd_graph.specs.declared.formula.Formula.{Formula as CodeFormula}
-use Rattle.cd_asking.specs.Inner.Tasks.{Child, led, EachBasic, AsksIn, AskIn, Covers, Includes}
+use Rattle.cd_asking.specs.Inner.Tasks.{Child, led, AsksIn, AskIn, Covers, Includes}
 use Rattle.cd_asking.proofs.Agreeing.{basic_by, some_by}
 
 module _ (child : Child) where

@@ -11,3 +11,4 @@ pub mod SameKeys
 pub mod Stepping
 pub mod Putting
 pub mod InTurn
+pub mod GoingAlong

@@ -1,6 +1,5 @@
 -- What a record type says of the labels that it names, label by label.
-use Rattle.std.proofs.Common.{◌≡◌, ℕ, zero, suc, ◌+◌, ◌<◌, ◌&&◌, Bool, true, false, List, [], ◌∷◌, drop, get_or, length, refl, sym, ap, ◌∙◌, arith, bytes_eq, Some, None, Option, subst}
-use Rattle.std.specs.Prelude.{if◌then◌else◌}
+use Rattle.std.proofs.Common.{◌≡◌, ℕ, zero, suc, ◌+◌, ◌<◌, ◌&&◌, Bool, List, [], ◌∷◌, drop, get_or, length, refl, sym, ap, ◌∙◌, arith, Some, None, Option, subst}
 use Rattle.std.specs.List.{list_all}
 use Rattle.std.specs.Ordering.{nat_cmp}
 use Rattle.std.specs.Cmp.Lexicographic.{slice_cmp}
@@ -13,7 +12,7 @@ use Rattle.cd_syntax.specs.Name.{Name}
 use Rattle.cd_model.specs.Formula.{AreRisingLabels, field_of}
 use Rattle.cd_graph.specs.PlainFormula.{plain_field, plain_named}
 use Rattle.cd_graph.specs.declared.fields.Field.{Field}
-use Rattle.cd_asking.specs.Inner.Shapes.{Nodes, item_at, labels, in_field, in_named}
+use Rattle.cd_asking.specs.Inner.Shapes.{Nodes, item_at, labels, in_field}
 use Rattle.cd_asking.proofs.InNode.{differs}
 
 later_above : (before : Name) (items : List (Name × Field)) (index : ℕ) (item : Name × Field) → AreRisingLabels (Some before) (plain_named items)

@@ -1,5 +1,5 @@
 -- The steps of the code make what the tasks make.
-use Rattle.std.proofs.Common.{◌≡◌, ℕ, zero, suc, ◌+◌, ◌-◌, ◌<◌, Option, Some, List, [], ◌∷◌, ◌++◌, length, map, get_or, refl, sym, ap, ◌∙◌, subst, arith, append_assoc}
+use Rattle.std.proofs.Common.{◌≡◌, ℕ, zero, suc, ◌+◌, ◌-◌, ◌<◌, Option, Some, List, [], ◌∷◌, ◌++◌, length, map, sym, ap, ◌∙◌, subst, arith, append_assoc}
 use Rattle.std.specs.Prelude.{MatchOption}
 use Rattle.std.proofs.lemmas.List.{map-append}
 use Rattle.std.specs.declared.alloc.Global.{Global}
@@ -17,7 +17,7 @@ use Rattle.cd_asking.specs.Inner.Shapes as plain
 use Rattle.cd_asking.specs.Inner.Shapes.{members, shape_of, fields_with}
 use Rattle.cd_asking.specs.Inner.Tasks as task
 use Rattle.cd_asking.specs.Inner.Tasks.{Covers, First, Second, Tag, Attributes, Content, At, after, answered, among, size, size_of_fields, weight, again, paired}
-use Rattle.cd_asking.specs.Inner.Asked.{set_at, done_by, left_to_do, plain_task, IsTask, IsStep, Grow, Found}
+use Rattle.cd_asking.specs.Inner.Asked.{set_at, done_by, left_to_do, plain_task, IsStep, Grow, Found}
 use Rattle.cd_asking.specs.declared.node_sets.SetId.{SetId}
 use Rattle.cd_asking.specs.declared.task.Answered.{Answered}
 use Rattle.cd_asking.specs.declared.task.FieldTask.{FieldTask}
@@ -25,7 +25,7 @@ use Rattle.cd_asking.specs.declared.task.Task.{Task}
 use Rattle.cd_asking.specs.declared.task.Task.TheVariants as code
 use Rattle.cd_asking.specs.declared.task.Next.{Next}
 use Rattle.cd_asking.specs.declared.task.Next.TheVariants.{Answer, Ask}
-use Rattle.cd_asking.proofs.Kept.{stays, still_within, done_stays, task_stays, task_within}
+use Rattle.cd_asking.proofs.Kept.{grown_none, stays, still_within, done_stays, task_stays, task_within}
 use Rattle.cd_asking.proofs.Members.{each_by}
 use Rattle.cd_asking.proofs.Steps.{runs_stop, to_first, to_second, to_tag, to_attributes, to_content, to_field}
 
@@ -197,6 +197,19 @@ module _ (names : List Name) (graph : Graph) (table : List Thing) where
         falls = omega (arith, lighter, falls, before);
         numbers = step.numbers;
       }
+
+-- the second part of a pair, where its set was found before the first part answered
+pub second_later : (names : List Name) (graph : Graph) (table : List Thing) (old sets new : List (List NodeId)) → Grow old sets → (grow : Grow sets new)
+    → (set next : SetId) → set.0 < length old → next.0 < length sets → (second : ValueId) (first : SetId) → second.0 < length table → first.0 < length new
+    → Covers graph Second (set_at old set) (set_at sets next)
+    → IsStep names graph table new (after graph (plain_task names table new (code.OfSecond second set)) (set_at new first))
+    (weight (plain_task names table new (code.OfSecond second set))) (Ask second next (code.OfPairs set first 1))
+second_later names graph table old sets new first_grow grow set next within below second first is is_too covers =
+    let inside = still_within sets new grow set.0 (still_within old sets first_grow set.0 within) in
+    let same_set = stays sets new grow set (still_within old sets first_grow set.0 within) ∙ stays old sets first_grow set within in
+    let covers_new = subst (λ (ids : List NodeId). Covers graph Second ids (set_at new next)) (sym same_set)
+    (subst (λ (ids : List NodeId). Covers graph Second (set_at old set) ids) (sym (stays sets new grow next below)) covers) in
+    second_step names graph table new new (grown_none new) set next inside (still_within sets new grow next.0 below) second first is is_too covers_new
 
 -- what is so of the value of an option
 pub some_found : {X : Type 0} (o : Option X) (P : Type 0) (Q : X → Type 0) (x : X) → o ≡ Some x → MatchOption o P Q → Q x

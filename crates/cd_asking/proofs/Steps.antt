@@ -1,12 +1,12 @@
 -- What tasks make of answers, step by step.
-use Rattle.std.proofs.Common.{◌≡◌, ℕ, zero, suc, List, [], ◌∷◌, ◌++◌, map, refl, sym, ap, ◌∙◌, append_assoc}
+use Rattle.std.proofs.Common.{◌≡◌, ℕ, zero, suc, List, [], ◌∷◌, ◌++◌, refl, ap, ◌∙◌, append_assoc}
 use Rattle.std.proofs.lemmas.List.{map-append}
 use Rattle.cd_sets.specs.declared.node_id.NodeId.{NodeId}
 use Rattle.cd_syntax.specs.Name.{Name}
 use Rattle.cd_model.specs.Formula.{Graph}
 use Rattle.cd_model.specs.Thing as thing
 use Rattle.cd_model.specs.Thing.{Thing, Fields}
-use Rattle.cd_asking.specs.Inner.Shapes.{Nodes, Shape, Pair, Xml, Record, nodes_with, shape_of, fields_with, is_in, members}
+use Rattle.cd_asking.specs.Inner.Shapes.{Record, shape_of, fields_with, members}
 use Rattle.cd_asking.specs.Inner.Tasks as child
 use Rattle.cd_asking.specs.Inner.Tasks.{Covers, among, answered, Task, OfSecond, OfPairs, OfAttributes, OfContent, OfXml, OfField, again, paired, after, finish}
 use Rattle.cd_asking.proofs.Agreeing.{agree_same, agree_covered, pair_members, xml_members, record_members}

@@ -3,5 +3,6 @@ pub mod Shapes
 pub mod Tasks
 pub mod Asked
 pub mod Known
+pub mod Along
 pub mod Running
 pub mod Slots

@@ -12,7 +12,7 @@ ghost use Rattle.cd_asking.specs.Inner.Asked.{Grow, Found};
 use crate::case::{Case, shape_of};
 use crate::led::{Child, led_from};
 use crate::node_sets::{NodeSets, SetId};
-use crate::shape::{Held, Shape, members_of};
+use crate::shape::{Held, Shape, hold_all, members_of};
 use crate::task::Answered;
 use cd_cells::Values;
 use cd_graph::Graph;
@@ -61,11 +61,15 @@ pub(crate) fn find_members(
     set: SetId,
     shape: &Shape<'_>,
 ) -> Result<SetId, AllocError>
-    requires { HasLabel shape.now }
+    requires set { set.0 < length sets.old }
+    requires label { HasLabel shape.now }
     ensures found { let ids = set_at sets.old set in
         IfOk result (Found (nodes graph.now) (plain_shape shape.now) ids sets.new) }
     ensures grows { Grow sets.old sets.new }
 {
+    if hold_all(graph, shape, sets.get(set)) {
+        return Ok(set);
+    }
     let ids = members_of(sets.allocator(), graph, shape, sets.get(set))?;
     sets.number(ids.as_slice())
 }

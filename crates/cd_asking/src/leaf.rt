@@ -45,8 +45,8 @@ pub(crate) fn leaf(
     }
 }
 
-// The same where there are some.
-fn leaf_at_some(
+/// The same where there are some.
+pub(crate) fn leaf_at_some(
     asker: &mut Asker,
     graph: &Graph,
     values: &Values,
@@ -82,10 +82,11 @@ fn basic(
     set: SetId,
     shape: Shape<'_>,
 ) -> Result<SetId, AllocError>
+    requires set { set.0 < length asker.old.sets }
     requires label { HasLabel shape }
     requires right { IsAsker (nodes graph.now) (names values.now) asker.old }
-    ensures found { IfOk result (Found (nodes graph.now) (plain_shape shape.entry) (set_at asker.old.sets set)
-        asker.new.sets) }
+    ensures found { let ids = set_at asker.old.sets set in
+        IfOk result (Found (nodes graph.now) (plain_shape shape.entry) ids asker.new.sets) }
     ensures right { IsAsker (nodes graph.now) (names values.now) asker.new }
     ensures grows { Grow asker.old.sets asker.new.sets }
 {

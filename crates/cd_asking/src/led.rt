@@ -34,7 +34,8 @@ pub(crate) fn led_from(
     child: Child,
     label: &Name,
 ) -> Result<IdSet, AllocError>
-    ensures { IfOk result (λ next. Covers (nodes graph.now) (child_by label.now child) set.now next) }
+    ensures { IfOk result
+        (λ next. Covers (nodes graph.now) (child_by label.now child) set.now next) }
 {
     let mut next = IdSet::new(alloc);
     for id in set {
@@ -135,7 +136,8 @@ fn led_of_pair(child: Child, first: NodeId, second: NodeId) -> Option<NodeId>
 
 // The node at which XML values ask the child.
 fn led_of_xml(child: Child, tag: NodeId, attributes: NodeId, content: NodeId) -> Option<NodeId>
-    ensures { (label : _) → result ≡ led (formula.Xml tag attributes content) (child_by label child) }
+    ensures { (label : _)
+        → result ≡ led (formula.Xml tag attributes content) (child_by label child) }
 {
     match child {
         Child::Tag => Some(tag),

@@ -1,6 +1,7 @@
 //! Whether a value is in a node of a graph.
 #![tactic(auto)]
 
+mod along;
 mod asker;
 pub mod asking;
 mod case;

@@ -1,5 +1,5 @@
 //! Whether a value whose parts have answered is in a formula.
-ghost use Rattle.std.specs.Prelude.{◌≡◌, IfOk, map, bytes_eq};
+ghost use Rattle.std.specs.Prelude.{◌≡◌, IfOk, IsTrue, map, bytes_eq};
 ghost use Rattle.std.specs.Option.{option_map};
 ghost use Rattle.std.specs.Str.{chars};
 ghost use Rattle.cd_sets.specs.IdSet.{holds};
@@ -10,7 +10,8 @@ ghost use Rattle.cd_graph.specs.PlainFormula.{plain, plain_formulas, plain_named
 ghost use Rattle.cd_model.specs.Formula as formula;
 ghost use Rattle.cd_asking.specs.Inner.Shapes.{in_formula as in_plain, in_each, in_one, in_basic};
 ghost use Rattle.cd_asking.specs.Inner.Shapes.{in_named as named_of, in_rest as rest_of, members};
-ghost use Rattle.cd_asking.specs.Inner.Shapes.{item_at, is_named as is_named_in, in_field as field_holds};
+ghost use Rattle.cd_asking.specs.Inner.Shapes.{item_at, is_named as is_named_in};
+ghost use Rattle.cd_asking.specs.Inner.Shapes.{in_field as field_holds};
 ghost use Rattle.cd_asking.specs.Inner.Tasks.{among};
 ghost use Rattle.cd_asking.specs.Inner.Asked.{plain_shape, HasLabel, held};
 
@@ -61,6 +62,19 @@ pub(crate) fn members_of(
         }
     }
     Ok(ids)
+}
+
+/// Whether each of some nodes holds the value.
+pub(crate) fn hold_all(graph: &Graph, shape: &Shape<'_>, set: &[NodeId]) -> bool
+    requires { HasLabel shape.now }
+    ensures { IsTrue result → members (nodes graph.now) (plain_shape shape.now) set.now ≡ set.now }
+{
+    for id in set {
+        if !is_in_node(graph, shape, *id) {
+            return false;
+        }
+    }
+    true
 }
 
 // Whether a node holds the value.
@@ -211,7 +225,8 @@ fn in_named(fields: &[Held<'_>], type_is: &Fields) -> bool
 
 // Whether what a record has at a label, if anything, is as a record type says.
 fn in_field(fields: &[Held<'_>], label: &Name, field: &Field) -> bool
-    ensures { result ≡ field_holds (item_at (map held fields.now) label.now) (plain_field field.now) }
+    ensures { result
+        ≡ field_holds (item_at (map held fields.now) label.now) (plain_field field.now) }
 {
     match find(fields, label.as_str()) {
         Some(nodes) => contains(nodes, field.node),

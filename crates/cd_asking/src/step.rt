@@ -14,14 +14,17 @@ ghost use Rattle.cd_asking.specs.Inner.Tasks.{again, paired};
 ghost use Rattle.cd_asking.specs.Inner.Asked.{set_at, shape_by, IsCase, IsCaseWithin, Grow, Found};
 ghost use Rattle.cd_asking.specs.Inner.Asked.{done_by, plain_task};
 ghost use Rattle.cd_asking.specs.Inner.Asked.{IsTask, IsFieldTask, IsStep, HasParts};
-ghost use Rattle.cd_asking.specs.Inner.Known.{IsAsker};
+ghost use Rattle.cd_asking.specs.Inner.Along.{GoesTo};
+ghost use Rattle.cd_asking.specs.Inner.Known.{IsAsker, LeadBoth};
+ghost use Rattle.cd_asking.specs.declared.task.Next.TheVariants.{Ask};
 ghost use Rattle.cd_asking.specs.declared.task.Task.TheVariants.{OfSecond, OfAttributes, OfContent};
-ghost use Rattle.cd_asking.specs.declared.task.Task.TheVariants.{OfField};
+ghost use Rattle.cd_asking.specs.declared.task.Task.TheVariants.{OfField, OfPairs};
 
-use crate::asker::Asker;
+use crate::along::along;
+use crate::asker::{Asker, PairLeads};
 use crate::case::Case;
 use crate::finding::find_record;
-use crate::leaf::leaf;
+use crate::leaf::{leaf, leaf_at_some};
 use crate::led::Child;
 use crate::node_sets::SetId;
 use crate::task::{Answered, FieldTask, Next, Task, with_answer, with_left};
@@ -29,7 +32,7 @@ use cd_cells::{Look, Part, ValueId, Values};
 use cd_graph::Graph;
 use std::alloc::AllocError;
 
-/// The first step for a value at a set of nodes.
+/// The first step for a value at a set of nodes, which answers at once where there are none.
 pub(crate) fn ask<'v>(
     asker: &mut Asker,
     graph: &Graph,
@@ -42,14 +45,70 @@ pub(crate) fn ask<'v>(
     requires values { AllOf IsValue (table values.now) }
     requires right { IsAsker (nodes graph.now) (names values.now) asker.old }
     ensures step { let is = thing_at (table values.now) id.0 in
-        let ids = members (nodes graph.now) (shape_of (nodes graph.now) is) (set_at asker.old.sets set) in
+        let shape = shape_of (nodes graph.now) is in
+        let ids = members (nodes graph.now) shape (set_at asker.old.sets set) in
         IfOk result (IsStep (names values.now) (nodes graph.now) (table values.now)
         asker.new.sets ids (size is)) }
     ensures right { IsAsker (nodes graph.now) (names values.now) asker.new }
     ensures grows { Grow asker.old.sets asker.new.sets }
 {
-    let look = values.look(id);
-    match leaf(asker, graph, values, look, set)? {
+    match asker.sets.get(set) {
+        [] => Ok(Next::Answer(set)),
+        [_, ..] => ask_some(asker, graph, values, id, set),
+    }
+}
+
+// The same where there are some.
+fn ask_some<'v>(
+    asker: &mut Asker,
+    graph: &Graph,
+    values: &'v Values,
+    id: ValueId,
+    set: SetId,
+) -> Result<Next<'v>, AllocError>
+    requires value { id.0 < length (table values.now) }
+    requires set { set.0 < length asker.old.sets }
+    requires values { AllOf IsValue (table values.now) }
+    requires right { IsAsker (nodes graph.now) (names values.now) asker.old }
+    ensures step { let is = thing_at (table values.now) id.0 in
+        let shape = shape_of (nodes graph.now) is in
+        let ids = members (nodes graph.now) shape (set_at asker.old.sets set) in
+        IfOk result (IsStep (names values.now) (nodes graph.now) (table values.now)
+        asker.new.sets ids (size is)) }
+    ensures right { IsAsker (nodes graph.now) (names values.now) asker.new }
+    ensures grows { Grow asker.old.sets asker.new.sets }
+{
+    match values.look(id) {
+        Look::Pair(first, second) => ask_pair(asker, graph, values, set, first, second),
+        look => ask_other(asker, graph, values, id, look, set),
+    }
+}
+
+// The first step for a value, which is most often no pair.
+fn ask_other<'v>(
+    asker: &mut Asker,
+    graph: &Graph,
+    values: &'v Values,
+    id: ValueId,
+    look: Look<'v>,
+    set: SetId,
+) -> Result<Next<'v>, AllocError>
+    requires value { id.0 < length (table values.now) }
+    requires thing { looked (names values.now) (table values.now) look
+        ≡ thing_at (table values.now) id.0 }
+    requires below { ArePartsBelow (names values.now) id.0 look }
+    requires set { set.0 < length asker.old.sets }
+    requires values { AllOf IsValue (table values.now) }
+    requires right { IsAsker (nodes graph.now) (names values.now) asker.old }
+    ensures step { let is = thing_at (table values.now) id.0 in
+        let shape = shape_of (nodes graph.now) is in
+        let ids = members (nodes graph.now) shape (set_at asker.old.sets set) in
+        IfOk result (IsStep (names values.now) (nodes graph.now) (table values.now)
+        asker.new.sets ids (size is)) }
+    ensures right { IsAsker (nodes graph.now) (names values.now) asker.new }
+    ensures grows { Grow asker.old.sets asker.new.sets }
+{
+    match leaf_at_some(asker, graph, values, look, set)? {
         Some(answer) => Ok(Next::Answer(answer)),
         None => ask_part(asker, graph, values, id, look, set),
     }
@@ -71,7 +130,8 @@ fn ask_part<'v>(
     requires values { AllOf IsValue (table values.now) }
     requires right { IsAsker (nodes graph.now) (names values.now) asker.old }
     ensures step { let is = looked (names values.now) (table values.now) look.entry in
-        let ids = members (nodes graph.now) (shape_of (nodes graph.now) is) (set_at asker.old.sets set) in
+        let shape = shape_of (nodes graph.now) is in
+        let ids = members (nodes graph.now) shape (set_at asker.old.sets set) in
         IfOk result (IsStep (names values.now) (nodes graph.now) (table values.now)
         asker.new.sets ids (size is)) }
     ensures right { IsAsker (nodes graph.now) (names values.now) asker.new }
@@ -126,14 +186,15 @@ fn ask_pair<'v>(
     requires right { IsAsker (nodes graph.now) (names values.now) asker.old }
     ensures step { let all = table values.now in
         let is = thing.Pair (thing_at all first.0) (thing_at all second.0) in
-        let ids = members (nodes graph.now) (shape_of (nodes graph.now) is) (set_at asker.old.sets set) in
+        let shape = shape_of (nodes graph.now) is in
+        let ids = members (nodes graph.now) shape (set_at asker.old.sets set) in
         IfOk result (IsStep (names values.now) (nodes graph.now) all asker.new.sets ids (size is)) }
     ensures right { IsAsker (nodes graph.now) (names values.now) asker.new }
     ensures grows { Grow asker.old.sets asker.new.sets }
 {
     let leads = asker.pair_leads(graph, values, set)?;
     match leaf(asker, graph, values, values.look(first), leads.first)? {
-        Some(answer) => ask_second(asker, graph, values, second, set, answer),
+        Some(answer) => ask_along(asker, graph, values, set, leads, (answer, second)),
         None => Ok(Next::Ask(first, leads.first, Task::OfSecond(second, set))),
     }
 }
@@ -155,7 +216,8 @@ fn ask_xml<'v>(
     requires right { IsAsker (nodes graph.now) (names values.now) asker.old }
     ensures step { let all = table values.now in
         let is = thing.Xml (thing_at all tag.0) (thing_at all rest.0.0) (thing_at all rest.1.0) in
-        let ids = members (nodes graph.now) (shape_of (nodes graph.now) is) (set_at asker.old.sets set) in
+        let shape = shape_of (nodes graph.now) is in
+        let ids = members (nodes graph.now) shape (set_at asker.old.sets set) in
         IfOk result (IsStep (names values.now) (nodes graph.now) all asker.new.sets ids (size is)) }
     ensures right { IsAsker (nodes graph.now) (names values.now) asker.new }
     ensures grows { Grow asker.old.sets asker.new.sets }
@@ -180,7 +242,8 @@ fn ask_record<'v>(
     requires right { IsAsker (nodes graph.now) (names values.now) asker.old }
     ensures step { let all = table values.now in
         let is = thing.Record (fields_of (names values.now) all parts.now) in
-        let ids = members (nodes graph.now) (shape_of (nodes graph.now) is) (set_at asker.old.sets set) in
+        let shape = shape_of (nodes graph.now) is in
+        let ids = members (nodes graph.now) shape (set_at asker.old.sets set) in
         IfOk result (IsStep (names values.now) (nodes graph.now) all asker.new.sets ids (size is)) }
     ensures right { IsAsker (nodes graph.now) (names values.now) asker.new }
     ensures grows { Grow asker.old.sets asker.new.sets }
@@ -270,7 +333,8 @@ fn answer_record<'v>(
 ) -> Result<Next<'v>, AllocError>
     requires set { set.0 < length asker.old.sets }
     requires right { IsAsker (nodes graph.now) (names values.now) asker.old }
-    ensures step { let fields = answered (map (done_by (names values.now) asker.old.sets) done.now) in
+    ensures step { let of_done = done_by (names values.now) asker.old.sets in
+        let fields = answered (map of_done done.now) in
         let ids = members (nodes graph.now) (shapes.Record fields) (set_at asker.old.sets set) in
         IfOk result (IsStep (names values.now) (nodes graph.now) (table values.now)
         asker.new.sets ids 1) }
@@ -289,14 +353,16 @@ pub(crate) fn go_on<'v>(
     task: Task<'v>,
     answer: SetId,
 ) -> Result<Next<'v>, AllocError>
-    requires task { IsTask (names values.now) (length (table values.now)) (length asker.old.sets) task }
+    requires task { IsTask (names values.now) (length (table values.now)) (length asker.old.sets)
+        task }
     requires answer { answer.0 < length asker.old.sets }
     requires values { AllOf IsValue (table values.now) }
     requires right { IsAsker (nodes graph.now) (names values.now) asker.old }
     ensures step { let all = table values.now in
         let is = plain_task (names values.now) all asker.old.sets task.entry in
         let ids = after (nodes graph.now) is (set_at asker.old.sets answer) in
-        IfOk result (IsStep (names values.now) (nodes graph.now) all asker.new.sets ids (weight is)) }
+        IfOk result (IsStep (names values.now) (nodes graph.now) all asker.new.sets ids
+        (weight is)) }
     ensures right { IsAsker (nodes graph.now) (names values.now) asker.new }
     ensures grows { Grow asker.old.sets asker.new.sets }
 {
@@ -336,16 +402,46 @@ fn ask_second<'v>(
     requires task { IsTask (names values.now) (length (table values.now)) (length asker.old.sets)
         (OfSecond second set) }
     requires answer { first.0 < length asker.old.sets }
+    requires values { AllOf IsValue (table values.now) }
     requires right { IsAsker (nodes graph.now) (names values.now) asker.old }
     ensures step { let all = table values.now in
         let is = plain_task (names values.now) all asker.old.sets (OfSecond second set) in
         let ids = after (nodes graph.now) is (set_at asker.old.sets first) in
-        IfOk result (IsStep (names values.now) (nodes graph.now) all asker.new.sets ids (weight is)) }
+        IfOk result (IsStep (names values.now) (nodes graph.now) all asker.new.sets ids
+        (weight is)) }
     ensures right { IsAsker (nodes graph.now) (names values.now) asker.new }
     ensures grows { Grow asker.old.sets asker.new.sets }
 {
     let leads = asker.pair_leads(graph, values, set)?;
-    Ok(Next::Ask(second, leads.second, Task::OfPairs(set, first, 1)))
+    ask_along(asker, graph, values, set, leads, (first, second))
+}
+
+// The second part of a pair is asked, where the first part is in these nodes. Pairs after it that
+// are like it are passed.
+fn ask_along<'v>(
+    asker: &mut Asker,
+    graph: &Graph,
+    values: &'v Values,
+    set: SetId,
+    leads: PairLeads,
+    pair: (SetId, ValueId),
+) -> Result<Next<'v>, AllocError>
+    requires second { pair.1.0 < length (table values.now) }
+    requires first { pair.0.0 < length asker.old.sets }
+    requires leads { LeadBoth (nodes graph.now) asker.old.sets (set_at asker.old.sets set) leads }
+    requires values { AllOf IsValue (table values.now) }
+    requires right { IsAsker (nodes graph.now) (names values.now) asker.old }
+    ensures goes { IfOk result (GoesTo (names values.now) (nodes graph.now) (table values.now)
+        asker.old.sets asker.new.sets (Ask pair.1 leads.second (OfPairs set pair.0 1))) }
+    ensures right { IsAsker (nodes graph.now) (names values.now) asker.new }
+    ensures grows { Grow asker.old.sets asker.new.sets }
+{
+    let (first, second) = pair;
+    if leads.second.0 != set.0 {
+        return Ok(Next::Ask(second, leads.second, Task::OfPairs(set, first, 1)));
+    }
+    let (id, count) = along(asker, graph, values, leads, first, second)?;
+    Ok(Next::Ask(id, leads.second, Task::OfPairs(leads.second, first, count)))
 }
 
 // The answer of pairs in a row, from the answer of the last second part.
@@ -361,7 +457,8 @@ fn answer_pairs<'v>(
     requires first { pair.1.0 < length asker.old.sets }
     requires answer { answer.0 < length asker.old.sets }
     requires right { IsAsker (nodes graph.now) (names values.now) asker.old }
-    ensures step { let step = paired (nodes graph.now) (set_at asker.old.sets pair.0) (set_at asker.old.sets pair.1) in
+    ensures step { let set = set_at asker.old.sets pair.0 in
+        let step = paired (nodes graph.now) set (set_at asker.old.sets pair.1) in
         let ids = again count step (set_at asker.old.sets answer) in
         IfOk result (IsStep (names values.now) (nodes graph.now) (table values.now)
         asker.new.sets ids 1) }
@@ -395,9 +492,11 @@ fn ask_attributes<'v>(
     requires values { AllOf IsValue (table values.now) }
     requires right { IsAsker (nodes graph.now) (names values.now) asker.old }
     ensures step { let all = table values.now in
-        let is = plain_task (names values.now) all asker.old.sets (OfAttributes rest.0 rest.1 set) in
+        let is = plain_task (names values.now) all asker.old.sets
+        (OfAttributes rest.0 rest.1 set) in
         let ids = after (nodes graph.now) is (set_at asker.old.sets tag) in
-        IfOk result (IsStep (names values.now) (nodes graph.now) all asker.new.sets ids (weight is)) }
+        IfOk result (IsStep (names values.now) (nodes graph.now) all asker.new.sets ids
+        (weight is)) }
     ensures right { IsAsker (nodes graph.now) (names values.now) asker.new }
     ensures grows { Grow asker.old.sets asker.new.sets }
 {
@@ -424,7 +523,8 @@ fn ask_content<'v>(
     ensures step { let all = table values.now in
         let is = plain_task (names values.now) all asker.old.sets (OfContent content set known.0) in
         let ids = after (nodes graph.now) is (set_at asker.old.sets known.1) in
-        IfOk result (IsStep (names values.now) (nodes graph.now) all asker.new.sets ids (weight is)) }
+        IfOk result (IsStep (names values.now) (nodes graph.now) all asker.new.sets ids
+        (weight is)) }
     ensures right { IsAsker (nodes graph.now) (names values.now) asker.new }
     ensures grows { Grow asker.old.sets asker.new.sets }
 {
@@ -447,7 +547,8 @@ fn ask_next_field<'v>(
     ensures step { let all = table values.now in
         let is = plain_task (names values.now) all asker.old.sets (OfField task.entry) in
         let ids = after (nodes graph.now) is (set_at asker.old.sets answer) in
-        IfOk result (IsStep (names values.now) (nodes graph.now) all asker.new.sets ids (weight is)) }
+        IfOk result (IsStep (names values.now) (nodes graph.now) all asker.new.sets ids
+        (weight is)) }
     ensures right { IsAsker (nodes graph.now) (names values.now) asker.new }
     ensures grows { Grow asker.old.sets asker.new.sets }
 {

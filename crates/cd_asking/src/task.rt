@@ -24,7 +24,8 @@ pub(crate) enum Task<'v> {
     OfPairs(SetId, SetId, u64),
     /// The tag: attributes and a content are asked, for the XML value at this set.
     OfAttributes(ValueId, ValueId, SetId),
-    /// The attributes: a content is asked, for the XML value at this set whose tag is in these nodes.
+    /// The attributes: a content is asked, for the XML value at this set whose tag is in these
+    /// nodes.
     OfContent(ValueId, SetId, SetId),
     /// The content of an XML value at this set, whose tag and attributes are in these nodes.
     OfXml(SetId, SetId, SetId),

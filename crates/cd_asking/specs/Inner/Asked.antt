@@ -1,5 +1,5 @@
 -- What the numbers of the code stand for.
-use Rattle.std.specs.Prelude.{◌≡◌, ℕ, ◌+◌, ◌<◌, Bool, List, [], ◌∷◌, ◌++◌, Option, map}
+use Rattle.std.specs.Prelude.{◌≡◌, ℕ, ◌+◌, ◌<◌, List, [], ◌++◌, map}
 use Rattle.std.specs.Prelude.{length, slice_index_or}
 use Rattle.std.specs.Str.{chars}
 use Rattle.cd_sets.specs.declared.node_id.NodeId.{NodeId}
@@ -16,9 +16,11 @@ use Rattle.cd_cells.specs.declared.cell.Look.{Look}
 use Rattle.cd_cells.specs.declared.cell.Look.TheVariants as look
 use Rattle.cd_asking.specs.declared.node_sets.SetId.{SetId}
 use Rattle.cd_asking.specs.declared.led.Child.{Child as CodeChild}
-use Rattle.cd_asking.specs.declared.led.Child.TheVariants.{First, Second, Tag, Attributes, Content, At}
+use Rattle.cd_asking.specs.declared.led.Child.TheVariants.{First, Second, Tag, Attributes}
+use Rattle.cd_asking.specs.declared.led.Child.TheVariants.{Content, At}
 use Rattle.cd_asking.specs.declared.shape.Shape.{Shape as CodeShape}
-use Rattle.cd_asking.specs.declared.shape.Shape.TheVariants.{Integer, Character, Atom, Pair, Xml, Record, Function}
+use Rattle.cd_asking.specs.declared.shape.Shape.TheVariants.{Integer, Character, Atom, Pair}
+use Rattle.cd_asking.specs.declared.shape.Shape.TheVariants.{Xml, Record, Function}
 use Rattle.cd_asking.specs.declared.shape.Held.{Held}
 use Rattle.cd_asking.specs.declared.case.Case.{Case}
 use Rattle.cd_asking.specs.declared.case.Case.TheVariants as case

@@ -1,5 +1,5 @@
 -- Whether data is in a node of a graph, as a test that computes.
-use Rattle.std.specs.Prelude.{◌≡◌, ℕ, ℤ, Bool, true, false, not, ◌&&◌, ◌||◌, List, [], ◌∷◌, Option}
+use Rattle.std.specs.Prelude.{ℕ, ℤ, Bool, true, false, not, ◌&&◌, ◌||◌, List, [], ◌∷◌, Option}
 use Rattle.std.specs.Prelude.{Some, None, bytes_eq, if◌then◌else◌, map}
 use Rattle.std.specs.List.{list_all, list_any, filter}
 use Rattle.cd_sets.specs.declared.node_id.NodeId.{NodeId}

@@ -1,5 +1,5 @@
 -- What is left to do while a value is asked at a set of nodes.
-use Rattle.std.specs.Prelude.{◌≡◌, ℕ, zero, suc, ◌+◌, Bool, true, List, [], ◌∷◌, ◌++◌, Option, map}
+use Rattle.std.specs.Prelude.{◌≡◌, ℕ, zero, suc, ◌+◌, true, List, [], ◌∷◌, ◌++◌, Option, map}
 use Rattle.std.specs.Prelude.{Some, None, IfSome}
 use Rattle.cd_sets.specs.declared.node_id.NodeId.{NodeId}
 use Rattle.cd_sets.specs.IdSet.{holds}
@@ -10,7 +10,7 @@ use Rattle.cd_model.specs.Formula.{Formula, Formulas, NoFormula, AFormula, Graph
 use Rattle.cd_model.specs.Formula.{field_of}
 use Rattle.cd_model.specs.Thing as thing
 use Rattle.cd_model.specs.Thing.{Thing, Fields, NoField}
-use Rattle.cd_asking.specs.Inner.Shapes.{Nodes, Shape, Pair, Xml, Record, is_in, fields_with, members}
+use Rattle.cd_asking.specs.Inner.Shapes.{Nodes, Pair, Xml, Record, is_in, fields_with, members}
 
 -- a child of a value
 pub data Child : Type 0 where

@@ -1,10 +1,10 @@
-use Rattle.std.proofs.Common.{◌≡◌, subst, sym, Bool}
+use Rattle.std.proofs.Common.{subst, sym, Bool}
 use Rattle.std.proofs.lemmas.Result.{IfOk-weaker}
 use Rattle.cd_graph.specs.Nodes.{nodes}
 use Rattle.cd_cells.specs.Cells.{thing_at}
 use Rattle.cd_cells.specs.Table.{table}
 use Rattle.cd_model.specs.Formula as formula
-use Rattle.cd_model.specs.Interfaces.{Interfaces, admits, value_in_node}
+use Rattle.cd_model.specs.Interfaces.{admits, value_in_node}
 use Rattle.cd_model.specs.Types.{closure_maps}
 use Rattle.cd_asking.proofs.InNode.{data_in_node}
 use Rattle.cd_asking.proofs.Members.{at_index}

@@ -1,6 +1,5 @@
 use Rattle.std.proofs.Common.{rules}
 use Rattle.cd_graph.proofs.Sizes.{items_fall}
-use Rattle.cd_asking.specs.Inner.Tasks.{Includes}
 use Rattle.cd_asking.specs.Inner.Asked.{child_by}
 use Rattle.cd_asking.proofs.Leading.{next_formula}
 use Rattle.cd_asking.proofs.led.+add_led.Goals as goal

@@ -1,7 +1,7 @@
-use Rattle.std.proofs.Common.{drop_of_length-le, ap, sym, subst, refl, List}
+use Rattle.std.proofs.Common.{drop_of_length-le, sym, subst, refl, List}
 use Rattle.cd_sets.specs.declared.node_id.NodeId.{NodeId}
 use Rattle.cd_graph.specs.Nodes.{nodes}
-use Rattle.cd_asking.specs.Inner.Tasks.{Covers, AsksIn}
+use Rattle.cd_asking.specs.Inner.Tasks.{Covers}
 use Rattle.cd_asking.specs.Inner.Asked.{child_by}
 use Rattle.cd_asking.proofs.Leading.{next_node}
 use Rattle.cd_asking.proofs.led.led_from.Goals as goal

@@ -1,4 +1,4 @@
-use Rattle.std.proofs.Common.{◌≡◌, List, drop}
+use Rattle.std.proofs.Common.{List, drop}
 use Rattle.cd_sets.specs.declared.node_id.NodeId.{NodeId}
 use Rattle.cd_graph.specs.Nodes.{nodes}
 use Rattle.cd_asking.specs.Inner.Tasks.{Covers, Includes}

@@ -1,4 +1,4 @@
-use Rattle.std.proofs.Common.{◌≡◌, sym, ◌∙◌, true, false}
+use Rattle.std.proofs.Common.{sym, ◌∙◌, true, false}
 use Rattle.std.specs.Prelude.{map}
 use Rattle.cd_asking.specs.Inner.Asked.{held}
 use Rattle.cd_asking.proofs.Naming.{next_label}

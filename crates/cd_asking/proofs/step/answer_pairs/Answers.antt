@@ -1,11 +1,8 @@
-use Rattle.std.proofs.Common.{◌≡◌, ◌<◌, length, arith, sym, ap, ◌∙◌, subst}
-use Rattle.std.specs.Prelude.{List}
-use Rattle.cd_sets.specs.declared.node_id.NodeId.{NodeId}
+use Rattle.std.proofs.Common.{◌≡◌, arith, sym, ap, ◌∙◌}
 use Rattle.cd_graph.specs.Nodes.{nodes}
-use Rattle.cd_cells.specs.Table.{table, names}
+use Rattle.cd_cells.specs.Table.{names}
 use Rattle.cd_asking.specs.Inner.Tasks.{paired}
 use Rattle.cd_asking.specs.Inner.Asked.{set_at}
-use Rattle.cd_asking.specs.declared.node_sets.SetId.{SetId}
 use Rattle.cd_asking.proofs.Kept.{grown_on, stays, still_within}
 use Rattle.cd_asking.proofs.Stepping.{one_pair, runs_on, runs_end, runs_stop_at}
 use Rattle.cd_asking.proofs.step.answer_pairs.Goals as goal

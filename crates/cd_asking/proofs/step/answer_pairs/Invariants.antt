@@ -1,4 +1,4 @@
-use Rattle.std.proofs.Common.{◌≡◌, ◌<◌, ◌+◌, ℕ, length}
+use Rattle.std.proofs.Common.{◌<◌, length}
 use Rattle.cd_graph.specs.Nodes.{nodes}
 use Rattle.cd_cells.specs.Table.{names}
 use Rattle.cd_asking.specs.Inner.Asked.{set_at, Grow}

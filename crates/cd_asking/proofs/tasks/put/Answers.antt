@@ -1,4 +1,4 @@
-use Rattle.std.proofs.Common.{◌≡◌, sym, subst}
+use Rattle.std.proofs.Common.{sym, subst}
 use Rattle.std.specs.Prelude.{OnOk}
 use Rattle.cd_asking.specs.Inner.Running.{ArePut}
 use Rattle.cd_asking.specs.declared.task.Task.{Task}

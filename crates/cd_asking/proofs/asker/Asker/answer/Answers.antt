@@ -1,10 +1,8 @@
-use Rattle.std.proofs.Common.{◌≡◌, List, sym, ◌∙◌, subst}
+use Rattle.std.proofs.Common.{sym, ◌∙◌, subst}
 use Rattle.cd_model.specs.AllOf.{AllOf}
 use Rattle.cd_graph.specs.Nodes.{nodes}
 use Rattle.cd_cells.specs.Table.{names}
-use Rattle.cd_asking.specs.Inner.Known.{IsAnswer, IsAsker}
-use Rattle.cd_asking.specs.declared.node_sets.SetId.{SetId}
-use Rattle.cd_asking.specs.declared.asker.Question.{Question}
+use Rattle.cd_asking.specs.Inner.Known.{IsAnswer}
 use Rattle.cd_asking.proofs.Kept.{pairs_stay, letters_stay, found, inserted, answers_stay, leads_stay, new_answer}
 use Rattle.cd_asking.proofs.SameKeys.{same_question, same_questions}
 use Rattle.cd_asking.proofs.asker.Asker.answer.Goals as goal

@@ -1,10 +1,8 @@
-use Rattle.std.proofs.Common.{◌≡◌, List, sym, ◌∙◌, subst}
+use Rattle.std.proofs.Common.{sym, ◌∙◌, subst}
 use Rattle.cd_model.specs.AllOf.{AllOf}
 use Rattle.cd_graph.specs.Nodes.{nodes}
 use Rattle.cd_cells.specs.Table.{names}
-use Rattle.cd_asking.specs.Inner.Known.{IsLead, IsAsker}
-use Rattle.cd_asking.specs.declared.node_sets.SetId.{SetId}
-use Rattle.cd_asking.specs.declared.asker.Lead.{Lead}
+use Rattle.cd_asking.specs.Inner.Known.{IsLead}
 use Rattle.cd_asking.proofs.Kept.{pairs_stay, letters_stay, found, inserted, leads_stay, answers_stay, new_lead}
 use Rattle.cd_asking.proofs.SameKeys.{same_lead, same_leads}
 use Rattle.cd_asking.proofs.asker.Asker.lead.Goals as goal

@@ -1,4 +1,4 @@
-use Rattle.std.proofs.Common.{sym, ◌∙◌, subst, ◌<◌, arith}
+use Rattle.std.proofs.Common.{sym, ◌∙◌}
 use Rattle.cd_graph.specs.Nodes.{nodes}
 use Rattle.cd_cells.specs.Table.{names}
 use Rattle.cd_asking.proofs.Kept.{asker_stays, pairs_stay, leads_stay, answers_stay, more_letters}

@@ -1,4 +1,3 @@
-use Rattle.std.proofs.Common.{sym, ◌∙◌, subst, ◌<◌, arith}
 use Rattle.cd_graph.specs.Nodes.{nodes}
 use Rattle.cd_cells.specs.Table.{names}
 use Rattle.cd_asking.proofs.Kept.{asker_stays, letters_stay, leads_stay, answers_stay, more_pairs}

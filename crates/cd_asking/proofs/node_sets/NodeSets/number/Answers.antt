@@ -1,7 +1,6 @@
 use Rattle.std.specs.Prelude.{unwrap_or, slice_get}
-use Rattle.std.proofs.Common.{◌≡◌, List, [], ◌++◌, map, subst, sym, ◌∙◌, ap}
+use Rattle.std.proofs.Common.{◌≡◌, List, [], ◌++◌, map, subst}
 use Rattle.cd_sets.specs.declared.node_id.NodeId.{NodeId}
-use Rattle.cd_asking.specs.Inner.Asked.{set_at}
 use Rattle.cd_asking.proofs.Numbered.{found_at, stored_at, sets_grow, numbered}
 use Rattle.cd_asking.proofs.node_sets.NodeSets.number.Goals as goal
 

@@ -1,0 +1,36 @@
+-- Pairs in a row that are alike.
+use Rattle.std.specs.Prelude.{◌<◌, ℕ, List, length}
+use Rattle.cd_sets.specs.declared.node_id.NodeId.{NodeId}
+use Rattle.cd_syntax.specs.Name.{Name}
+use Rattle.cd_model.specs.Formula.{Graph}
+use Rattle.cd_model.specs.Thing.{Thing}
+use Rattle.cd_cells.specs.declared.cell.ValueId.{ValueId}
+use Rattle.cd_asking.specs.Inner.Asked.{set_at, IsStep, Grow}
+use Rattle.cd_asking.specs.Inner.Known.{LeadBoth}
+use Rattle.cd_asking.specs.declared.asker.PairLeads.{PairLeads}
+use Rattle.cd_asking.specs.declared.node_sets.SetId.{SetId}
+use Rattle.cd_asking.specs.declared.task.Task.TheVariants.{OfPairs}
+use Rattle.cd_asking.specs.declared.task.Next.{Next}
+use Rattle.cd_asking.specs.declared.task.Next.TheVariants.{Ask}
+
+-- a value is asked, which is the second part of the last of so many pairs that are asked at the
+-- same set, and whose first parts are in these nodes
+abbrev pub after_alike : (id : ValueId) (set first : SetId) (count : ℕ) → Next
+after_alike id set first count = Ask id set (OfPairs set first count)
+
+-- what is done next may be this in place of that, where sets were added
+abbrev pub GoesTo : List Name → Graph → List Thing → (old new : List (List NodeId))
+    → (from to : Next) → Type 0
+GoesTo names graph table old new from to = (nodes : List NodeId) (work : ℕ)
+    → IsStep names graph table old nodes work from → IsStep names graph table new nodes work to
+
+-- so many pairs were gone along, from a value to another one
+pub record IsAlong (names : List Name) (graph : Graph) (table : List Thing)
+    (start now : List (List NodeId)) (leads : PairLeads) (first : SetId) (from id : ValueId)
+    (count : ℕ) : Type 0 where
+  pub within : id.0 < length table
+  pub grows : Grow start now
+  pub both : LeadBoth graph now (set_at now leads.second) leads
+  pub below : first.0 < length now
+  pub goes : GoesTo names graph table start now (after_alike from leads.second first 1)
+      (after_alike id leads.second first count)
