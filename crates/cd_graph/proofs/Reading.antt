@@ -1,7 +1,7 @@
 -- What a formula of the code is, form by form. Outside of this crate the fold is stuck, and these are its equations.
 use Rattle.std.proofs.Common.{◌≡◌, List, ap, ◌∙◌}
 use Rattle.std.specs.declared.alloc.Global.{Global}
-use Rattle.std.specs.declared.boxed.Box.{Box}
+use Rattle.std.specs.declared.rc.Rc.{Rc}
 use Rattle.cd_sets.specs.declared.node_id.NodeId.{NodeId}
 use Rattle.cd_intervals.specs.declared.int_set.IntSet.{IntSet}
 use Rattle.cd_intervals.specs.declared.char_set.CharSet.{CharSet}
@@ -56,7 +56,7 @@ plain_and formulas = plain_layer (code.And formulas) (layer.And formulas) (code.
 pub plain_or : (formulas : CodeFormulas) → plain (code.Or formulas) ≡ Or (plain_formulas formulas)
 plain_or formulas = plain_layer (code.Or formulas) (layer.Or formulas) (code.outs-Or formulas)
 
-pub plain_not : (is : Box CodeFormula Global) → plain (code.Not is) ≡ Not (plain is.value)
+pub plain_not : (is : Rc CodeFormula Global) → plain (code.Not is) ≡ Not (plain is.value)
 plain_not is = plain_layer (code.Not is) (layer.Not is) (code.outs-Not is)
 
 pub ruleset reading = (

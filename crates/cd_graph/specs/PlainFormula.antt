@@ -32,7 +32,7 @@ formula_layer (layer.Or formulas) = Or (formulas_of formulas)
 formula_layer (layer.Not one) = Not one.value
 
 abbrev pub list_layer : Formulas-F Formula (List Formula) → List Formula
-list_layer formulas = formulas.items.items
+list_layer formulas = formulas.items.value.items
 
 -- the plain data that each is
 abbrev pub plain : CodeFormula → Formula

@@ -1,10 +1,10 @@
 //! The nodes that every graph begins with.
-ghost use Rattle.std.specs.Prelude.{◌≡◌, [], ◌∷◌, IfOk, codes};
+ghost use Rattle.std.specs.Prelude.{◌≡◌, [], ◌∷◌, IfOk, codes, map};
 ghost use Rattle.cd_intervals.specs.Atoms.{IsAtom};
 ghost use Rattle.cd_model.specs.Formula.{formulas_of, Pair, Record, Or};
 ghost use Rattle.cd_model.specs.BuiltIns.{node_named, all_ints, chars_to, all_atoms, atoms_of};
 ghost use Rattle.cd_model.specs.BuiltIns.{data_formula, built_ins};
-ghost use Rattle.cd_graph.specs.PlainFormula.{plain, plain_list};
+ghost use Rattle.cd_graph.specs.PlainFormula.{plain};
 
 use crate::fields::{FieldList, Fields};
 use crate::formula::{Formula, Formulas};
@@ -95,13 +95,11 @@ fn atoms(alloc: Global) -> Formula
 }
 
 // The records that have at each label nothing, or what is in this node.
-fn records(alloc: Global, rest: NodeId) -> Formula
-    ensures { plain result ≡ Record [] rest }
+fn records(alloc: Global, rest: NodeId) -> Result<Formula, AllocError>
+    ensures { IfOk result (λ is. plain is ≡ Record [] rest) }
 {
-    Formula::record(Fields {
-        named: FieldList::of(Vec::new(alloc)),
-        rest,
-    })
+    let named = FieldList::of(Vec::new(alloc))?;
+    Ok(Formula::record(Fields { named, rest }))
 }
 
 // The truth values.
@@ -113,7 +111,7 @@ fn truth_values(alloc: Global) -> Result<Formula, AllocError>
     let mut items = Vec::new(alloc);
     items.push(atom(alloc, "false")?)?;
     items.push(atom(alloc, "true")?)?;
-    Ok(Formula::or(Formulas::of(items)))
+    Ok(Formula::or(Formulas::of(items)?))
 }
 
 // The sequences of characters.
@@ -124,7 +122,7 @@ fn texts(alloc: Global) -> Result<Formula, AllocError>
     let mut items = Vec::new(alloc);
     items.push(Formula::pair(CHAR, STRING))?;
     items.push(atom(alloc, "nil")?)?;
-    Ok(Formula::or(Formulas::of(items)))
+    Ok(Formula::or(Formulas::of(items)?))
 }
 
 // What holds no function.
@@ -136,14 +134,14 @@ fn data_type(alloc: Global) -> Result<Formula, AllocError>
     items.push(characters(alloc, '\u{10FFFF}')?)?;
     items.push(atoms(alloc))?;
     items.push(Formula::pair(DATA, DATA))?;
-    items.push(records(alloc, DATA))?;
+    items.push(records(alloc, DATA)?)?;
     items.push(Formula::xml(ATOM, DATA, DATA))?;
-    Ok(Formula::or(Formulas::of(items)))
+    Ok(Formula::or(Formulas::of(items)?))
 }
 
 // The formulas that every graph begins with.
-pub(crate) fn built_ins(alloc: Global) -> Result<Formulas, AllocError>
-    ensures { IfOk result (λ formulas. plain_list formulas ≡ built_ins) }
+pub(crate) fn built_ins(alloc: Global) -> Result<Vec<Formula>, AllocError>
+    ensures { IfOk result (λ formulas. map plain formulas.items ≡ built_ins) }
 {
     let mut items = Vec::new(alloc);
     items.push(Formula::none())?;
@@ -156,9 +154,9 @@ pub(crate) fn built_ins(alloc: Global) -> Result<Formulas, AllocError>
     items.push(texts(alloc)?)?;
     items.push(Formula::arrow(EMPTY, ANY))?;
     items.push(Formula::pair(ANY, ANY))?;
-    items.push(records(alloc, ANY))?;
+    items.push(records(alloc, ANY)?)?;
     items.push(Formula::xml(ANY, ANY, ANY))?;
     items.push(data_type(alloc)?)?;
     items.push(atom(alloc, "nil")?)?;
-    Ok(Formulas::of(items))
+    Ok(items)
 }

@@ -7,6 +7,7 @@ use cd_sets::node_id::NodeId;
 use cd_syntax::name::Name;
 use std::alloc::AllocError;
 use std::marker::Model;
+use std::rc::Rc;
 
 /// What a record type says of one label.
 #[derive(Clone, Copy, PartialEq, Eq)]
@@ -21,7 +22,7 @@ pub struct Field {
 /// list.
 #[derive(Drop)]
 pub struct FieldList {
-    items: Vec<(Name, Field)>,
+    items: Rc<Vec<(Name, Field)>>,
 }
 
 impl Model for FieldList {
@@ -34,18 +35,24 @@ impl Model for FieldList {
 
     ghost use Rattle.cd_graph.specs.PlainFormula.{plain_named};
 
-    ghost view = { λ list. list.items.items };
+    ghost view = { λ list. list.items.value.items };
 
-    ghost invariant = { λ list. AreRisingLabels None (plain_named list.items.items) };
+    ghost invariant = { λ list. AreRisingLabels None (plain_named list.items.value.items) };
 }
 
 impl FieldList {
     /// The list of these fields.
-    pub fn of(items: Vec<(Name, Field)>) -> FieldList
+    ///
+    /// # Errors
+    ///
+    /// Want of memory.
+    pub fn of(items: Vec<(Name, Field)>) -> Result<FieldList, AllocError>
         requires { AreRisingLabels None (plain_named items.items) }
-        ensures { result ≡ items.items }
+        ensures { IfOk result (λ list. list ≡ items.items) }
     {
-        FieldList { items }
+        let alloc = *items.allocator();
+        let items = Rc::new(alloc, items)?;
+        Ok(FieldList { items })
     }
 
     /// The fields, by rising label.
@@ -56,14 +63,11 @@ impl FieldList {
         self.items.as_slice()
     }
 
-    /// An equal list.
+    /// An equal list, which shares its fields.
     pub fn copy(&self) -> Result<FieldList, AllocError>
         ensures { IfOk result (λ copy. copy ≡ self.now) }
     {
-        let mut items = Vec::new(*self.items.allocator());
-        for (label, field) in self.items.iter() {
-            items.push((label.copy()?, *field))?;
-        }
+        let items = self.items.clone()?;
         Ok(FieldList { items })
     }
 }

@@ -1,4 +1,4 @@
-ghost use Rattle.std.specs.Prelude.{◌≡◌, ◌++◌, map, IfOk, OnOk, OnErr};
+ghost use Rattle.std.specs.Prelude.{◌≡◌, map, IfOk};
 ghost use Rattle.cd_graph.specs.PlainFormula.{plain, plain_list};
 
 use crate::fields::Fields;
@@ -7,8 +7,10 @@ use cd_intervals::char_set::CharSet;
 use cd_intervals::int_set::IntSet;
 use cd_sets::node_id::NodeId;
 use std::alloc::{AllocError, Global};
+use std::rc::Rc;
 
-/// What a node of a graph holds. Node numbers stand only under constructors.
+/// What a node of a graph holds. Node numbers stand only under constructors. A copy shares its
+/// parts.
 #[cycle(formula)]
 #[derive(Drop)]
 pub enum Formula {
@@ -35,19 +37,24 @@ pub enum Formula {
     /// What is in one of these.
     Or(Formulas),
     /// What is not in this one.
-    Not(Box<Formula>),
+    Not(Rc<Formula>),
 }
 
 /// A list of formulas.
 #[cycle(formula)]
 #[derive(Drop)]
 pub struct Formulas {
-    items: Vec<Formula>,
+    items: Rc<Vec<Formula>>,
+    // How deep connectives nest here, with this one.
+    depth: usize,
 }
+
+/// So deep may connectives nest, since formulas are gone over by recursion. What is written nests less: the formulas of
+/// names do, where each name is a connective over the next one.
+const MOST_DEPTH: usize = 10_000;
 
 impl Formula {
     /// An equal formula.
-    #[cycle(formula_copy)]
     pub fn copy(&self) -> Result<Formula, AllocError>
         ensures { IfOk result (λ copy. plain copy ≡ plain self.now) }
     {
@@ -63,17 +70,38 @@ impl Formula {
             Formula::Arrow(argument, mapped) => Formula::Arrow(*argument, *mapped),
             Formula::And(formulas) => Formula::And(formulas.copy()?),
             Formula::Or(formulas) => Formula::Or(formulas.copy()?),
-            Formula::Not(formula) => Formula::Not(boxed(formula)?),
+            Formula::Not(formula) => Formula::Not(formula.clone()?),
         })
+    }
+
+    // How deep connectives nest.
+    fn depth(&self) -> usize {
+        match self {
+            Formula::And(formulas) => formulas.depth,
+            Formula::Or(formulas) => formulas.depth,
+            Formula::Not(negated) => negated.depth(),
+            _ => 0,
+        }
     }
 }
 
 impl Formulas {
     /// The list of these formulas.
-    pub fn of(items: Vec<Formula>) -> Formulas
-        ensures { plain_list result ≡ map plain items.items }
+    ///
+    /// # Errors
+    ///
+    /// Want of memory, also where connectives nest more than 10,000 deep.
+    pub fn of(items: Vec<Formula>) -> Result<Formulas, AllocError>
+        ensures { IfOk result (λ formulas. plain_list formulas ≡ map plain items.items) }
     {
-        Formulas { items }
+        let below = depth_of(items.as_slice());
+        if below >= MOST_DEPTH {
+            return Err(AllocError);
+        }
+        let alloc = *items.allocator();
+        let items = Rc::new(alloc, items)?;
+        let depth = below + 1;
+        Ok(Formulas { items, depth })
     }
 
     /// The formulas, in order.
@@ -84,37 +112,42 @@ impl Formulas {
     }
 
     /// An equal list.
-    #[cycle(formula_copy)]
     pub fn copy(&self) -> Result<Formulas, AllocError>
         ensures { IfOk result (λ copy. plain_list copy ≡ plain_list self.now) }
     {
-        let mut items = Vec::new(*self.items.allocator());
-        for item in self.items.as_slice() {
-            items.push(item.copy()?)?;
-        }
-        Ok(Formulas { items })
+        let items = self.items.clone()?;
+        let depth = self.depth;
+        Ok(Formulas { items, depth })
     }
 
-    // Where its memory comes from.
-    pub(crate) fn allocator(&self) -> Global {
-        *self.items.allocator()
-    }
-
-    // Puts others after these. Where memory runs out these stay as they were.
-    pub(crate) fn append(&mut self, others: Formulas) -> Result<(), AllocError>
-        ensures added { OnOk result
-            (plain_list self.new ≡ plain_list self.old ++ plain_list others) }
-        ensures kept { OnErr result (plain_list self.new ≡ plain_list self.old) }
+    // The formulas, which are copied where another list shares them.
+    pub(crate) fn into_items(self) -> Result<Vec<Formula>, AllocError>
+        ensures { IfOk result (λ items. map plain items.items ≡ plain_list self) }
     {
-        let mut items = others.items;
-        self.items.append(&mut items)
+        let alloc = *self.items.allocator();
+        match Rc::try_unwrap(self.items) {
+            Ok(items) => Ok(items),
+            Err(shared) => copies(alloc, shared.as_slice()),
+        }
     }
 }
 
-// A copy in a box of its own.
-#[cycle(formula_copy)]
-fn boxed(formula: &Box<Formula>) -> Result<Box<Formula>, AllocError>
-    ensures { IfOk result (λ copy. plain copy.value ≡ plain formula.now.value) }
+// How deep connectives nest in one of these.
+fn depth_of(formulas: &[Formula]) -> usize {
+    let mut most = 0;
+    for formula in formulas {
+        most = most.max(formula.depth());
+    }
+    most
+}
+
+// Copies of formulas.
+fn copies(alloc: Global, formulas: &[Formula]) -> Result<Vec<Formula>, AllocError>
+    ensures { IfOk result (λ copies. map plain copies.items ≡ map plain formulas.now) }
 {
-    Ok(Box::new(*Box::allocator(formula), formula.copy()?)?)
+    let mut items = Vec::new(alloc);
+    for formula in formulas {
+        items.push(formula.copy()?)?;
+    }
+    Ok(items)
 }

@@ -16,14 +16,15 @@ use crate::formula::{Formula, Formulas};
 use cd_sets::node_id::NodeId;
 use cd_sets::question::Question;
 use std::alloc::{AllocError, Global};
+use std::rc::Rc;
 
 /// A graph of types: a list of formulas, each under the number of its place, which begins with the
 /// built-in nodes.
 #[derive(Drop)]
 pub struct Graph {
-    formulas: Formulas,
-    ghost sound: { ∥ IsGraph (plain_list formulas) ∥₁ },
-    ghost built_in: { ∥ take 14 (plain_list formulas) ≡ built_in_formulas ∥₁ },
+    formulas: Vec<Formula>,
+    ghost sound: { ∥ IsGraph (map plain formulas.items) ∥₁ },
+    ghost built_in: { ∥ take 14 (map plain formulas.items) ≡ built_in_formulas ∥₁ },
 }
 
 impl Graph {
@@ -57,7 +58,7 @@ impl Graph {
         ensures sound { IsGraph (nodes self.new) }
     {
         let first = NodeId(self.len());
-        self.formulas.append(batch)?;
+        append(&mut self.formulas, batch)?;
         Ok(first)
     }
 
@@ -67,7 +68,8 @@ impl Graph {
         ensures formula { plain result.now ≡ formula_at (nodes self.now) id }
         ensures sound { IsFormula (length (nodes self.now)) (plain result.now) }
     {
-        &self.formulas.items()[id.0]
+        let formulas = self.formulas.as_slice();
+        &formulas[id.0]
     }
 
     /// The number of nodes.
@@ -76,7 +78,7 @@ impl Graph {
         ensures sound { IsGraph (nodes self.now) }
         ensures built_in { (more : PlainGraph) × (nodes self.now ≡ built_in_formulas ++ more) }
     {
-        self.formulas.items().len()
+        self.formulas.len()
     }
 
     /// A formula that holds just what is in each node of `pos` and in none of `neg`, made of copies
@@ -104,33 +106,47 @@ impl Graph {
         ensures { IfOk result (λ is. plain is ≡ question_formula (nodes self.now) question.now) }
     {
         let mut formulas = self.copies(question.pos.ids())?;
-        formulas.append(self.complements(question.neg.ids())?)?;
-        Ok(Formula::and(formulas))
+        let mut complements = self.complements(question.neg.ids())?;
+        formulas.append(&mut complements)?;
+        Ok(Formula::and(Formulas::of(formulas)?))
     }
 
     // Copies of the formulas of nodes.
-    fn copies(&self, ids: &[NodeId]) -> Result<Formulas, AllocError>
+    fn copies(&self, ids: &[NodeId]) -> Result<Vec<Formula>, AllocError>
         requires { AllOf (λ id. id.0 < length (nodes self.now)) ids.now }
-        ensures { IfOk result (λ formulas. plain_list formulas ≡ inside (nodes self.now) ids.now) }
+        ensures { IfOk result
+            (λ formulas. map plain formulas.items ≡ inside (nodes self.now) ids.now) }
     {
-        let mut formulas = Vec::new(self.formulas.allocator());
+        let mut formulas = Vec::new(*self.formulas.allocator());
         for id in ids {
             formulas.push(self.formula(*id).copy()?)?;
         }
-        Ok(Formulas::of(formulas))
+        Ok(formulas)
     }
 
     // For each of the nodes what is outside it, with a copy of its formula.
-    fn complements(&self, ids: &[NodeId]) -> Result<Formulas, AllocError>
+    fn complements(&self, ids: &[NodeId]) -> Result<Vec<Formula>, AllocError>
         requires { AllOf (λ id. id.0 < length (nodes self.now)) ids.now }
-        ensures { IfOk result (λ formulas. plain_list formulas ≡ outside (nodes self.now) ids.now) }
+        ensures { IfOk result
+            (λ formulas. map plain formulas.items ≡ outside (nodes self.now) ids.now) }
     {
-        let alloc = self.formulas.allocator();
+        let alloc = *self.formulas.allocator();
         let mut formulas = Vec::new(alloc);
         for id in ids {
             let copy = self.formula(*id).copy()?;
-            formulas.push(Formula::not(Box::new(alloc, copy)?))?;
+            formulas.push(Formula::not(Rc::new(alloc, copy)?))?;
         }
-        Ok(Formulas::of(formulas))
+        Ok(formulas)
     }
+}
+
+// Puts a batch after formulas. Where memory runs out these stay as they were.
+fn append(formulas: &mut Vec<Formula>, batch: Formulas) -> Result<(), AllocError>
+    ensures added { OnOk result
+        (map plain formulas.new.items ≡ map plain formulas.old.items ++ plain_list batch) }
+    ensures kept { OnErr result (map plain formulas.new.items ≡ map plain formulas.old.items) }
+{
+    let mut items = batch.into_items()?;
+    formulas.append(&mut items)?;
+    Ok(())
 }

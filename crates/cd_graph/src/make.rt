@@ -9,6 +9,7 @@ use cd_intervals::atom_set::AtomSet;
 use cd_intervals::char_set::CharSet;
 use cd_intervals::int_set::IntSet;
 use cd_sets::node_id::NodeId;
+use std::rc::Rc;
 
 impl Formula {
     /// Nothing.
@@ -89,7 +90,7 @@ impl Formula {
     }
 
     /// What is not in this one.
-    pub fn not(negated: Box<Formula>) -> Formula
+    pub fn not(negated: Rc<Formula>) -> Formula
         ensures { plain result ≡ formula.Not (plain negated.value) }
     {
         Formula::Not(negated)

@@ -40,7 +40,7 @@ fn formulas_of_states(alloc: Global, first: usize, regular: &Reg) -> Result<Form
     let mut batch = Vec::new(alloc);
     batch.push(start_of(alloc, first, regular)?.formula(alloc)?)?;
     add_states(alloc, regular, first, &Next::finish(alloc), &mut batch)?;
-    Ok(Formulas::of(batch))
+    Ok(Formulas::of(batch)?)
 }
 
 // What may come next in the state to start in.

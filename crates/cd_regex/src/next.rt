@@ -70,7 +70,7 @@ impl Next {
             items.push(Formula::pair(edge.item, edge.to))?;
         }
         add_end(alloc, self.ends(), &mut items)?;
-        Ok(Formula::or(Formulas::of(items)))
+        Ok(Formula::or(Formulas::of(items)?))
     }
 }
 

@@ -92,5 +92,5 @@ pub(crate) fn close(
     let (leaves, mut batches) = with_leaves(alloc, counts, tables)?;
     let mut formulas = formulas_of(alloc, old, counts, &leaves)?;
     formulas.append(&mut batches)?;
-    Ok(Formulas::of(formulas))
+    Ok(Formulas::of(formulas)?)
 }

@@ -22,6 +22,7 @@ use cd_shapes::shape::Shape;
 use cd_shapes::tables::Tables;
 use cd_syntax::name::Name;
 use std::alloc::{AllocError, Global};
+use std::rc::Rc;
 
 /// The node of a place.
 pub(crate) fn node_of(counts: Counts, at: Place) -> NodeId
@@ -64,7 +65,7 @@ fn with_sign(alloc: Global, kept: bool, formula: Formula) -> Result<Formula, All
     if kept {
         Ok(formula)
     } else {
-        Ok(Formula::not(Box::new(alloc, formula)?))
+        Ok(Formula::not(Rc::new(alloc, formula)?))
     }
 }
 
@@ -88,7 +89,7 @@ fn copies(
     for at in places {
         items.push(copy_at(old, counts, formulas, *at)?)?;
     }
-    Ok(Formulas::of(items))
+    Ok(Formulas::of(items)?)
 }
 
 // Copies of the formulas at places with signs.
@@ -113,7 +114,7 @@ fn signed_copies(
         let copy = copy_at(old, counts, formulas, *at)?;
         items.push(with_sign(alloc, *kept, copy)?)?;
     }
-    Ok(Formulas::of(items))
+    Ok(Formulas::of(items)?)
 }
 
 // A field whose place is a node.
@@ -168,7 +169,7 @@ fn record_of(
         )) named.now) rest) }
 {
     let fields = fields_of(alloc, counts, named)?;
-    let named = FieldList::of(fields);
+    let named = FieldList::of(fields)?;
     Ok(Formula::record(Fields { named, rest }))
 }
 

@@ -38,7 +38,7 @@ formulas_of-requires-clause-ends c =
 
 -- the formulas are those that the tables say
 closed : (c : goal.After-drop-leaves-3)
-    → AllClose c.args.first (plain_tables c.args.tables) (nodes c.args.old.now) (plain_list c.of.result)
+    → AllClose c.args.first (plain_tables c.args.tables) (nodes c.args.old.now) (plain_list c.in_ok-of.field-0)
 closed c =
     let counts : Counts = record {
       nodes = c.len-nodes.result;
@@ -53,7 +53,7 @@ closed c =
     let sound : AreSound counts.nodes tables =
     subst (λ (count : ℕ). AreSound count tables) (sym c.len-nodes.ensures.count) c.requires.sound in
     subst (AllClose c.args.first tables (nodes c.args.old.now))
-    (sym (c.of.ensures ∙ ap (map plain) c.in_ok-append.ensures.items
+    (sym (c.in_ok-of.ensures ∙ ap (map plain) c.in_ok-append.ensures.items
     ∙ map-append plain c.in_ok-formulas.formulas.items c.in_ok-leaves.batches.items))
     (all_close counts tables leaves is_counted batches c.in_ok-leaves.ensures (nodes c.args.old.now)
     (map plain c.in_ok-formulas.formulas.items) sound
