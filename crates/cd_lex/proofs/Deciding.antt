@@ -1,8 +1,8 @@
 -- Each text spells tokens or has a first fault.
 use Rattle.std.proofs.Common.{◌≡◌, ℕ, ℤ, pos, neg_ℤ, zero, suc, ◌+◌, ◌-◌, ◌≤◌, Bool, true, false, true≢false, List, [], ◌∷◌, Option, Some, None, refl, sym, ap, subst, ◌∙◌, inl, inr, ◌⊎◌, arith, length}
-use Rattle.std.specs.Prelude.{◌==◌, ◌||◌, not, int_le}
+use Rattle.std.specs.Prelude.{◌==◌, int_le}
 use Rattle.std.specs.Char.{is_ascii_digit}
-use Rattle.std.proofs.lemmas.Bool.{cases_Bool, cases_eq, and_parts, eqb-true, ne_eqb}
+use Rattle.std.proofs.lemmas.Bool.{cases_Bool, cases_eq, and_parts, eqb-true}
 use Rattle.std.proofs.lemmas.Int.{ints}
 use Rattle.std.proofs.lemmas.List.{length-append}
 use Rattle.cd_syntax.specs.declared.sign.Sign.{Sign as ASign}
@@ -27,7 +27,7 @@ use Rattle.cd_lex.specs.Inner.Commenting.{within, left_from}
 use Rattle.cd_lex.specs.Inner.SignTable.{first_sign}
 use Rattle.cd_lex.proofs.Signing.{none_stands, first_stands}
 use Rattle.cd_lex.proofs.WordFronts.{word_front, number_front, negative_front, number_fault, negative_fault, atom_front, lone_backquote, no_word}
-use Rattle.cd_lex.proofs.Fronts.{blank_stands, comment_closes, comment_ends, text_stands, chars_stand, text_open, text_breaks, sign_stands, no_sign}
+use Rattle.cd_lex.proofs.Fronts.{blank_stands, comment_closes, comment_ends, text_stands, chars_stand, text_open, text_breaks, sign_stands, no_sign, other_by}
 use Rattle.cd_lex.proofs.DecidingQuotes.{AfterQuote, closed, broken, unended, after_quote}
 
 -- what stands at the front of a text
@@ -110,10 +110,11 @@ module _ (joined : Bool) (at : ℕ) where
       by (inr wide) = is_fault (TooWide at) (number_fault joined at c rest digit wide)
 
   atom_decided : (rest : List ℕ) → Front joined at (96 ∷ rest)
-  atom_decided [] = is_fault (BadChar at) (lone_backquote joined at [] (λ label. true≢false (sym label.0)))
+  atom_decided [] = is_fault (BadChar at) (lone_backquote joined at [] (no_word [] tt))
   atom_decided (c ∷ rest) = elim (cases_Bool (begins_word c)) [
     | inl begins ↦ by begins (cases_bytes (first_word (c ∷ rest)) (95 ∷ []))
-    | inr fails ↦ is_fault (BadChar at) (lone_backquote joined at (c ∷ rest) (no_word (c ∷ rest) (λ d others is. let same : d ≡ c = cc in ap begins_word same ∙ fails)))
+    | inr fails ↦ is_fault (BadChar at) (lone_backquote joined at (c ∷ rest)
+        (no_word (c ∷ rest) fails))
   ]
     where
       by : begins_word c ≡ true → (first_word (c ∷ rest) ≡ 95 ∷ []) ⊎ (first_word (c ∷ rest) ≡ 95 ∷ [] → ⊥) → Front joined at (96 ∷ c ∷ rest)
@@ -133,15 +134,6 @@ module _ (joined : Bool) (at : ℕ) where
   by_first c rest no_pair no_number =
       by (cases_eq c 34) (cases_eq c 39) (cases_eq c 96) (cases_Bool (is_blank c)) (cases_Bool (begins_word c)) (cases_Bool (is_ascii_digit c))
     where
-      none_of : (blank word digit text chars : Bool) → blank ≡ false → word ≡ false → digit ≡ false → text ≡ false → chars ≡ false
-          → not (blank || word || digit || (text || chars)) ≡ true
-      none_of true word digit text chars a b c d e = absurd (true≢false a)
-      none_of false true digit text chars a b c d e = absurd (true≢false b)
-      none_of false false true text chars a b c d e = absurd (true≢false c)
-      none_of false false false true chars a b c d e = absurd (true≢false d)
-      none_of false false false false true a b c d e = absurd (true≢false e)
-      none_of false false false false false a b c d e = refl
-
       by : ((c ≡ 34) ⊎ (c ≡ 34 → ⊥)) → ((c ≡ 39) ⊎ (c ≡ 39 → ⊥)) → ((c ≡ 96) ⊎ (c ≡ 96 → ⊥)) → ((is_blank c ≡ true) ⊎ (is_blank c ≡ false))
           → ((begins_word c ≡ true) ⊎ (begins_word c ≡ false)) → ((is_ascii_digit c ≡ true) ⊎ (is_ascii_digit c ≡ false)) → Front joined at (c ∷ rest)
       by (inl is) b q k w d = subst (λ c. Front joined at (c ∷ rest)) (sym is) (text_decided rest (after_quote 34 rest))
@@ -151,8 +143,7 @@ module _ (joined : Bool) (at : ℕ) where
       by (inr a) (inr b) (inr q) (inr k) (inl is) d = stands (Word (first_word (c ∷ rest))) (after_word (c ∷ rest)) (word_front joined c rest is)
       by (inr a) (inr b) (inr q) (inr k) (inr w) (inl is) = number_decided c rest is
       by (inr a) (inr b) (inr q) (inr k) (inr w) (inr d) =
-          let other : is_other c ≡ true = none_of (is_blank c) (begins_word c) (is_ascii_digit c) (c == 34) (c == 39) k w d (ne_eqb c 34 a) (ne_eqb c 39 b) in
-          sign_decided c rest other q no_pair no_number
+          sign_decided c rest (other_by c k w d a b) q no_pair no_number
 
 -- a negative number
 negative_decided : (at d : ℕ) (rest : List ℕ) → is_ascii_digit d ≡ true → Front false at (45 ∷ d ∷ rest)

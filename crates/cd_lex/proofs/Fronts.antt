@@ -1,10 +1,11 @@
 -- What stands at the front of a text, or is a fault there: comments, quotes, signs.
-use Rattle.std.proofs.Common.{◌≡◌, ℕ, ◌+◌, ◌-◌, ◌<◌, ◌≤◌, length, Bool, true, false, List, [], ◌∷◌, ◌++◌, Some, None, inl, inr, ◌⊎◌, refl, sym, ap, subst, ◌∙◌, arith}
+use Rattle.std.proofs.Common.{◌≡◌, ℕ, ◌+◌, ◌-◌, ◌<◌, ◌≤◌, length, Bool, true, false, true≢false, List, [], ◌∷◌, ◌++◌, Option, Some, None, MatchOption, inl, inr, ◌⊎◌, refl, sym, ap, subst, ◌∙◌, arith}
 use Rattle.std.proofs.lemmas.List.{length-append, append_assoc}
 use Rattle.std.proofs.lemmas.Str.{encodes-append}
-use Rattle.std.specs.Prelude.{encode_utf8_all, ◌&&◌, ◌==◌}
+use Rattle.std.specs.Prelude.{encode_utf8_all, ◌&&◌, ◌||◌, ◌==◌, not}
 use Rattle.std.specs.Char.{is_ascii_digit}
 use Rattle.std.proofs.lemmas.Bool.{ne_eqb}
+use Rattle.cd_syntax.specs.Name.{begins_word}
 use Rattle.cd_syntax.specs.Digits.{BeginsWithNoDigit}
 use Rattle.cd_syntax.specs.declared.sign.Sign.{Sign as ASign}
 use Rattle.cd_syntax.specs.declared.sign.Sign.TheVariants as sign
@@ -20,7 +21,7 @@ use Rattle.cd_lex.specs.declared.lexer.Kind.{Kind}
 use Rattle.cd_lex.specs.declared.lexer.Kind.TheVariants as kind
 use Rattle.cd_lex.specs.Lexing.{with_characters}
 use Rattle.cd_lex.specs.Inner.Prefixes.{BeginsWithOther}
-use Rattle.cd_lex.specs.Inner.Standing.{IsDroppedTo, IsTokenTo, IsSignTo}
+use Rattle.cd_lex.specs.Inner.Standing.{BeginsWithNoSign, IsDroppedTo, IsTokenTo, IsSignTo}
 use Rattle.cd_lex.specs.Inner.Commenting.{within, left_from}
 use Rattle.cd_lex.proofs.Commenting.{closed_left, never_closed}
 use Rattle.cd_lex.proofs.SignFronts.{lone_stands, open_parenthesis}
@@ -225,3 +226,39 @@ pub no_sign : (joined : Bool) (at c : ℕ) (rest : List ℕ) → is_other c ≡ 
     → Breaks joined at (c ∷ rest) (BadChar at)
 no_sign joined at c rest other no_backquote none =
     faults.character c rest other none (λ name more is label ends. let same : c ≡ 96 = cc in no_backquote same)
+
+-- a character that begins nothing else
+pub other_by : (c : ℕ) → tokens.is_blank c ≡ false → begins_word c ≡ false
+    → is_ascii_digit c ≡ false → (c ≡ 34 → ⊥) → (c ≡ 39 → ⊥) → is_other c ≡ true
+other_by c no_blank no_word no_digit a b =
+    none_of (tokens.is_blank c) (begins_word c) (is_ascii_digit c) (c == 34)
+    (c == 39) no_blank no_word no_digit (ne_eqb c 34 a) (ne_eqb c 39 b)
+  where
+    none_of : (blank word digit text chars : Bool) → blank ≡ false → word ≡ false
+        → digit ≡ false → text ≡ false → chars ≡ false
+        → not (blank || word || digit || (text || chars)) ≡ true
+    none_of true word digit text chars a b c d e = absurd (true≢false a)
+    none_of false true digit text chars a b c d e = absurd (true≢false b)
+    none_of false false true text chars a b c d e = absurd (true≢false c)
+    none_of false false false true chars a b c d e = absurd (true≢false d)
+    none_of false false false false true a b c d e = absurd (true≢false e)
+    none_of false false false false false a b c d e = refl
+
+-- a sign that was taken off, if it begins with neither `(` nor `-`
+pub sign_taken : (found : Option ASign) (c : ℕ) (text new : List ℕ) → (c ≡ 40 → ⊥) → (c ≡ 45 → ⊥)
+    → MatchOption found ((new ≡ text) × ((is : ASign) → BeginsWith (c ∷ text) is
+    → ⊥)) (λ is. IsSignTo (c ∷ text) is new)
+    → MatchOption found ((new ≡ text) × BeginsWithNoSign (c ∷ text)) (λ is. (joined : Bool)
+    → IsTokenTo joined (c ∷ text) (Sign is) new)
+sign_taken None c text new no_parenthesis no_minus none = (none.0, λ a b. none.1)
+sign_taken (Some is) c text new no_parenthesis no_minus stands = λ joined. other_sign_stands
+    joined c text is new no_parenthesis no_minus stands
+
+pub parenthesis_taken : (found : Option ASign) (c : ℕ) (text : List ℕ) → c ≡ 40
+    → MatchOption found (Unit {0})
+    (λ is. (joined : Bool) → IsTokenTo joined (40 ∷ text) (Sign is) text)
+    → MatchOption found ((text ≡ text) × BeginsWithNoSign (c ∷ text))
+    (λ is. (joined : Bool) → IsTokenTo joined (c ∷ text) (Sign is) text)
+parenthesis_taken None c text at none = (refl, λ differs no_minus is begins. differs at)
+parenthesis_taken (Some is) c text at stands = λ joined.
+    subst (λ c. IsTokenTo joined (c ∷ text) (Sign is) text) (sym at) (stands joined)

@@ -30,7 +30,7 @@ use Rattle.cd_lex.specs.Inner.Commenting.{within, length_from}
 use Rattle.cd_lex.specs.Inner.SignTable.{first_sign}
 use Rattle.cd_lex.proofs.Commenting.{finds, closing_is}
 use Rattle.cd_lex.proofs.Signing.{first_is_longest, longest_is_first}
-use Rattle.cd_lex.proofs.Wording.{digits_taken, word_taken, taken_and_rest, left}
+use Rattle.cd_lex.proofs.Wording.{neither, digits_taken, word_taken, taken_and_rest, left}
 use Rattle.cd_lex.proofs.OneWay.{Outcome, Stop, More, Decided, decided_once}
 use Rattle.cd_lex.proofs.QuotesAreOne.{Read, Closed, Broken, Open, ReadsQuote, quote_once, extend, quotes_read, closes_read, breaks_read, ends_read}
 
@@ -170,10 +170,6 @@ blank_class c is = by (or_cases _ _ is)
     by : ((((c == 32) || (c == 9)) || (c == 10)) ≡ true) ⊎ ((c == 13) ≡ true) → class_of c ≡ Blank
     by (inl three) = by_three (or_cases _ _ three)
     by (inr same) = this 13 refl same
-
-neither : (x y : Bool) → x ≡ false → y ≡ false → (x || y) ≡ false
-neither true y one also = absurd (true≢false one)
-neither false y one also = also
 
 below_range : (lo hi c : ℕ) → c < lo → is_in_range lo hi c ≡ false
 below_range lo hi c below = ap (λ x. x && leb c hi) (lt-leb lo c below)

@@ -15,3 +15,5 @@ pub mod ReadingIsOne
 pub mod DecidingQuotes
 pub mod Deciding
 pub mod TokenReading
+pub mod Runs
+pub mod Blanks

@@ -1,14 +1,19 @@
 -- What is read between two quotes is what stands there.
-use Rattle.std.proofs.Common.{◌≡◌, ◌≢◌, ℕ, ◌≤◌, ◌<◌, true, false, List, [], ◌∷◌, ◌++◌, length, refl, sym, ap, subst, ◌∙◌, inl, inr, arith, append_assoc, append-nil}
+use Rattle.std.proofs.Common.{◌≡◌, ◌≢◌, ℕ, ◌≤◌, ◌<◌, Bool, true, false, true≢false, List, [], ◌∷◌, ◌++◌, length, refl, sym, ap, subst, ◌∙◌, inl, inr, arith, append_assoc, append-nil}
+use Rattle.std.specs.Prelude.{take_while, not, ◌==◌}
+use Rattle.std.specs.List.{list_all}
 use Rattle.std.specs.Char.{IsScalar, is_ascii_digit}
+use Rattle.std.proofs.lemmas.Bool.{and_parts, and_from, eq-eqb, eqb-true, ne_eqb}
 use Rattle.std.proofs.Math.Utf8.{scalar, scalar_cases}
 use Rattle.cd_syntax.specs.Quotes.{Quotes, nothing, itself, letter, code, IsCode, IsEscapeLetter, BreaksEscape, no_letter, no_code, no_semicolon, EndsHalf, alone}
 use Rattle.cd_syntax.specs.Digits.{AreDigits, decimal_value, BeginsWithNoDigit}
-use Rattle.cd_lex.specs.Inner.Prefixes.{first_digits, after_digits}
+use Rattle.cd_lex.specs.Inner.Prefixes.{after, first_digits, after_digits}
 use Rattle.cd_lex.specs.Inner.Number.{number_after}
 use Rattle.cd_lex.specs.Inner.Quoted.{Means, IsClosed, IsBroken, IsOpen}
 use Rattle.cd_lex.specs.Inner.Quoting.{IsEscapeOf}
-use Rattle.cd_lex.proofs.Wording.{digits_stand, taken_and_rest}
+use Rattle.cd_lex.specs.Inner.Runs.{belongs, EndsRun}
+use Rattle.cd_lex.specs.declared.run.Run.TheVariants.{Quoted}
+use Rattle.cd_lex.proofs.Wording.{digits_stand, taken_and_rest, taken_pass}
 use Rattle.cd_lex.proofs.Prefixing.{number_after_le}
 
 -- a number past the greatest character is none, and stays none with more digits
@@ -28,31 +33,71 @@ further quote _ b _ y (letter l c a x is quotes) more = letter l c (a ++ b) (x +
 further quote _ b _ y (code digits a x are quotes) more =
     subst (λ w. Quotes quote (92 ∷ w) (decimal_value digits ∷ x ++ y)) (sym (append_assoc digits (59 ∷ a) b)) (code digits (a ++ b) (x ++ y) are (further quote a b x y quotes more))
 
-module _ (quote : ℕ) (text : List ℕ) where
-  -- nothing is read
-  pub nothing_read : (read : List ℕ) → read ≡ [] → Means quote text read text
-  nothing_read read none = record { written = []; is = refl; quotes = subst (Quotes quote []) (sym none) nothing }
+-- a run stands for itself
+run_quotes : (quote : ℕ) (cs : List ℕ) → list_all (belongs (Quoted quote)) cs ≡ true
+    → Quotes quote cs cs
+run_quotes quote [] all = nothing
+run_quotes quote (c ∷ cs) all =
+    let parts = and_parts (belongs (Quoted quote) c) (list_all (belongs (Quoted quote)) cs) all in
+    let differs = and_parts (not (c == quote)) (not (c == 92)) parts.0 in
+    itself c cs cs (unlike quote differs.0) (unlike 92 differs.1) (run_quotes quote cs parts.1)
+  where
+    unlike : (d : ℕ) → not (c == d) ≡ true → c ≢ d
+    unlike d differs same = true≢false (sym differs ∙ ap not (eq-eqb c d same))
 
-  -- a piece more is read
-  piece_read : (read left piece new read_then : List ℕ) (c : ℕ) → Means quote text read left → left ≡ piece ++ new → Quotes quote piece (c ∷ [])
-      → read_then ≡ read ++ c ∷ [] → Means quote text read_then new
-  piece_read read left piece new read_then c so at piece_is pushed = record {
-    written = so.written ++ piece;
-    is = so.is ∙ ap (λ rest. so.written ++ rest) at ∙ sym (append_assoc so.written piece new);
-    quotes = subst (Quotes quote (so.written ++ piece)) (sym pushed) (further quote so.written piece read (c ∷ []) so.quotes piece_is);
+-- where it ends, the quote stands or a `\`
+pub backslash_stops : (quote c : ℕ) (text rest : List ℕ) → EndsRun (Quoted quote) text
+    → text ≡ c ∷ rest → (c ≡ quote → ⊥) → c ≡ 92
+backslash_stops quote c text rest ends at differs = by (c == 92) refl
+  where
+    stops : belongs (Quoted quote) c ≡ false
+    stops = subst (EndsRun (Quoted quote)) at ends
+
+    by : (b : Bool) → (c == 92) ≡ b → c ≡ 92
+    by true is = eqb-true c 92 is
+    by false is = absurd (true≢false (sym (and_from (not (c == quote)) (not (c == 92))
+        (ap not (ne_eqb c quote differs)) (ap not is)) ∙ stops))
+
+module _ (quote : ℕ) (text : List ℕ) where
+  abbrev plain : ℕ → Bool
+  plain = belongs (Quoted quote)
+
+  -- a run is read
+  pub run_read : (read new : List ℕ) → read ≡ take_while plain text → new ≡ after plain text
+      → Means quote text read new
+  run_read read new read_is new_is = record {
+    written = take_while plain text;
+    is = taken_and_rest plain text ∙ ap (λ rest. take_while plain text ++ rest) (sym new_is);
+    quotes = subst (Quotes quote (take_while plain text)) (sym read_is)
+        (run_quotes quote (take_while plain text) (taken_pass plain text));
   }
 
-  pub character_read : (read left new read_then : List ℕ) (c : ℕ) → Means quote text read left → left ≡ c ∷ new → c ≢ quote → c ≢ 92
-      → read_then ≡ read ++ c ∷ [] → Means quote text read_then new
-  character_read read left new read_then c so at no_quote no_backslash pushed =
-      piece_read read left (c ∷ []) new read_then c so at (itself c [] [] no_quote no_backslash nothing) pushed
+  -- a piece more
+  piece_read : (read left piece characters new read_then : List ℕ) → Means quote text read left
+      → left ≡ piece ++ new → Quotes quote piece characters
+      → read_then ≡ read ++ characters → Means quote text read_then new
+  piece_read read left piece characters new read_then so at piece_is pushed = record {
+    written = so.written ++ piece;
+    is = so.is ∙ ap (λ rest. so.written ++ rest) at ∙ sym (append_assoc so.written piece new);
+    quotes = subst (Quotes quote (so.written ++ piece)) (sym pushed)
+        (further quote so.written piece read characters so.quotes piece_is);
+  }
 
-  pub escape_read : (read left ahead new read_then : List ℕ) (first c : ℕ) → Means quote text read left → left ≡ first ∷ ahead → first ≡ 92 → IsEscapeOf ahead c new
-      → read_then ≡ read ++ c ∷ [] → Means quote text read_then new
-  escape_read read left ahead new read_then first c so at backslash escape pushed =
-      piece_read read left (92 ∷ escape.written) new read_then c so
+  -- an escape, and a run after it
+  pub escape_read : (read left ahead mid new run read_then : List ℕ) (first c : ℕ)
+      → Means quote text read left → left ≡ first ∷ ahead → first ≡ 92
+      → IsEscapeOf ahead c mid → run ≡ take_while plain mid → new ≡ after plain mid
+      → read_then ≡ read ++ (c ∷ run) → Means quote text read_then new
+  escape_read read left ahead mid new run read_then first c so at backslash escape run_is new_is
+      pushed =
+      piece_read (read ++ c ∷ []) mid (take_while plain mid) (take_while plain mid) new read_then
+      (piece_read read left (92 ∷ escape.written) (c ∷ []) mid (read ++ c ∷ []) so
       (at ∙ ap (λ first. first ∷ ahead) backslash ∙ ap (λ rest. 92 ∷ rest) escape.is)
-      (escape.quotes quote) pushed
+      (escape.quotes quote) refl)
+      (taken_and_rest plain mid ∙ ap (λ rest. take_while plain mid ++ rest) (sym new_is))
+      (run_quotes quote (take_while plain mid) (taken_pass plain mid))
+      (pushed ∙ ap (λ run. read ++ (c ∷ run)) run_is ∙ sym
+      (append_assoc read (c ∷ []) (take_while plain mid)))
 
   -- the closing quote stands next
   pub closed : (read left new : List ℕ) (c : ℕ) → Means quote text read left → left ≡ c ∷ new → c ≡ quote → IsClosed quote text read new

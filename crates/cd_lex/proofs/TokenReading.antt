@@ -6,19 +6,21 @@ use Rattle.cd_syntax.specs.declared.tokens.Token.{Token}
 use Rattle.cd_syntax.specs.declared.tokens.TokenKind.{TokenKind}
 use Rattle.cd_syntax.specs.declared.tokens.LexError.{LexError}
 use Rattle.cd_syntax.specs.declared.tokens.LexError.TheVariants.{Memory}
-use Rattle.cd_syntax.specs.Tokens.{bytes, joins, token_at, Spells}
+use Rattle.cd_syntax.specs.Tokens.{bytes, joins, token_at, Spells, Writes}
 use Rattle.cd_syntax.specs.Tokens as tokens
 use Rattle.cd_syntax.specs.Faults.{Fails}
 use Rattle.cd_syntax.specs.Faults as faults
 use Rattle.cd_lex.specs.declared.lexer.Kind.{Kind}
 use Rattle.cd_lex.specs.declared.lexer.Lexer.{Lexer}
-use Rattle.cd_lex.specs.Lexing.{IsToken, SpellsOn, FailsOn, with_characters, token_with}
+use Rattle.cd_lex.specs.Lexing.{IsToken, SpellsOn, FailsOn, with_characters, token_with, IsSoundKind}
 use Rattle.cd_lex.specs.Inner.Standing.{IsDroppedTo, IsTokenTo, FaultAtFront}
 use Rattle.cd_lex.specs.Inner.Reading.{SpellsUpTo, FailsUpTo, IsReadTo, IsTokenRead, HasRead}
 use Rattle.cd_lex.proofs.Fronts.{bytes_append}
 
 -- where a piece ends
-piece_ends : (end : ℕ) (text written new : List ℕ) → bytes text ≤ end → text ≡ written ++ new → (end - bytes text + bytes written ≡ end - bytes new) × (bytes new ≤ end)
+pub piece_ends : (end : ℕ) (text written new : List ℕ) → bytes text ≤ end
+    → text ≡ written ++ new → (end - bytes text + bytes written ≡ end - bytes new)
+    × (bytes new ≤ end)
 piece_ends end text written new fits is =
     let split : bytes text ≡ bytes written + bytes new = ap bytes is ∙ bytes_append written new in
     (omega arith, omega arith)
@@ -26,9 +28,33 @@ piece_ends end text written new fits is =
 shorter : (text written new : List ℕ) → text ≡ written ++ new → length text ≡ length written + length new
 shorter text written new is = ap length is ∙ length-append written new
 
+-- the token is sound
+writes_sound : (joined : Bool) (written text : List ℕ) (kind : TokenKind)
+    → Writes joined written text kind → IsSoundKind kind
+writes_sound joined _ _ _ (tokens.word name text is ends) = is
+writes_sound joined _ _ _ (tokens.number digits text are begins fits) = tt
+writes_sound joined _ _ _ (tokens.negative digits text apart are begins fits) = tt
+writes_sound joined _ _ _ (tokens.chars written characters text is) = tt
+writes_sound joined _ _ _ (tokens.text written characters text is) = tt
+writes_sound joined _ _ _ (tokens.atom name text is ends) = is
+writes_sound joined _ _ _ (tokens.sign is text longest no_comment no_number) = tt
+
 module _ (end : ℕ) (joined : Bool) (text : List ℕ) where
   pub starts : bytes text ≤ end → IsReadTo end joined text [] joined text
   starts fits = record { spells = λ more spells. spells; fails = λ fault fails. fails; fits = fits; within = omega arith }
+
+  -- one part after the other
+  pub onward : (now next : Bool) (left new : List ℕ) → IsReadTo end joined text [] now left
+      → IsReadTo end now left [] next new → IsReadTo end joined text [] next new
+  onward now next left new so more =
+      let within = so.within in
+      let within_left = more.within in
+      record {
+        spells = λ list spells. so.spells list (more.spells list spells);
+        fails = λ fault fails. so.fails fault (more.fails fault fails);
+        fits = more.fits;
+        within = omega arith;
+      }
 
   -- what is left after a front
   pub drops : (now : Bool) (left new : List ℕ) → IsReadTo end joined text [] now left → IsDroppedTo left new → IsReadTo end joined text [] false new
@@ -66,6 +92,7 @@ module _ (end : ℕ) (joined : Bool) (text : List ℕ) where
           within = omega arith;
         },
         omega arith,
+        writes_sound now is.written new kind is.writes,
       )
 
   pub faulty : (now : Bool) (left : List ℕ) (at : ℕ) (fault : LexError) → IsReadTo end joined text [] now left → at ≡ end - bytes left → FaultAtFront now at left fault
@@ -116,4 +143,5 @@ token_taken old new is span read same joined = record {
   fails = λ fault fails. read.0.fails fault (subst (λ end. Fails (joins (with_characters is new.buffer)) (end - bytes new.cursor) new.cursor fault) same
       (subst (λ joined. Fails joined (new.end - bytes new.cursor) new.cursor fault) joined fails));
   shorter = read.1;
+  sound = read.2;
 }

@@ -1,6 +1,10 @@
 -- The tokens at the front of a text that begin with a word or a digit, and atoms.
-use Rattle.std.proofs.Common.{◌≡◌, ◌≢◌, ℕ, ℤ, pos, neg_ℤ, ◌<◌, ◌==◌, inr, Bool, true, false, true≢false, List, [], ◌∷◌, ◌++◌, refl, sym, ap, subst, ◌∙◌, length, drop, arith}
-use Rattle.std.specs.Prelude.{IsTrue}
+use Rattle.std.proofs.Common.{◌≡◌, ◌≢◌, ℕ, ℤ, pos, neg_ℤ, ◌<◌, ◌^◌, ◌==◌, inr, Bool, true, false, true≢false, List, [], ◌∷◌, ◌++◌, refl, sym, ap, subst, ◌∙◌, length, drop, arith, bytes_eq}
+use Rattle.std.specs.Prelude.{IsTrue, MatchBool}
+use Rattle.std.specs.Str.{chars, IsUtf8}
+use Rattle.std.proofs.Math.Utf8.{encodes}
+use Rattle.std.proofs.lemmas.Str.{encodes-chars}
+use Rattle.std.proofs.lemmas.Slice.Eq.{bytes_eq-Decides}
 use Rattle.std.specs.Char.{is_ascii_digit}
 use Rattle.std.proofs.lemmas.Bool.{and_parts}
 use Rattle.std.proofs.lemmas.Int.{ints}
@@ -14,10 +18,9 @@ use Rattle.cd_syntax.specs.Integer.{IsInteger}
 use Rattle.cd_syntax.specs.Name.{begins_word, goes_on_word, is_word, IsLabel}
 use Rattle.cd_syntax.specs.Digits.{AreDigits, decimal_value, BeginsWithNoDigit}
 use Rattle.cd_syntax.specs.Signs.{characters}
-use Rattle.cd_syntax.specs.Tokens.{EndsWord}
 use Rattle.cd_syntax.specs.Tokens as tokens
 use Rattle.cd_syntax.specs.Faults.{Breaks, character as breaks_character, number as breaks_number, negative as breaks_negative}
-use Rattle.cd_lex.specs.Inner.Prefixes.{first_word, after_word, first_digits, after_digits}
+use Rattle.cd_lex.specs.Inner.Prefixes.{BeginsWithNoWord, IsWordTo, first_word, after_word, first_digits, after_digits}
 use Rattle.cd_lex.specs.Inner.Number.{with_sign}
 use Rattle.cd_lex.specs.Inner.Standing.{IsTokenTo, FaultAtFront}
 use Rattle.cd_lex.proofs.Wording.{word_stands, digits_stand, taken_first, taken_none, taken_and_rest, word_taken}
@@ -32,17 +35,37 @@ pub word_length : (name : List ℕ) → IsTrue (is_word name) → 0 < length nam
 word_length [] is = absurd (true≢false (sym is))
 word_length (c ∷ cs) is = omega arith
 
--- where a word begins, it is a token
+-- where a word begins, it stands there
+pub word_there : (c : ℕ) (rest : List ℕ) → begins_word c ≡ true
+    → IsWordTo (c ∷ rest) (first_word (c ∷ rest)) (after_word (c ∷ rest))
+word_there c rest begins =
+    let stood = word_stands c rest begins in
+    record { is = taken_and_rest goes_on_word (c ∷ rest); stands = stood.0; ends = stood.1 }
+
+-- what was taken off is the word
+pub word_taken_off : (text : List ℕ) (c : ℕ) (rest word new : List ℕ) → text ≡ c ∷ rest
+    → begins_word c ≡ true → word ≡ first_word text → new ≡ after_word text
+    → IsWordTo text word new
+word_taken_off text c rest word new at begins word_is new_is =
+    subst (λ text. IsWordTo text word new) (sym at)
+    (subst (λ word. IsWordTo (c ∷ rest) word new) (sym (word_is ∙ ap first_word at))
+    (subst (IsWordTo (c ∷ rest) (first_word (c ∷ rest))) (sym (new_is
+    ∙ ap after_word at)) (word_there c rest begins)))
+
+-- and a token
+pub word_token : (joined : Bool) (text word new : List ℕ) → IsWordTo text word new
+    → IsTokenTo joined text (Word word) new
+word_token joined text word new is = record {
+  written = word;
+  is = is.is;
+  some = word_length word is.stands;
+  writes = tokens.word word new is.stands is.ends;
+}
+
 pub word_front : (joined : Bool) (c : ℕ) (rest : List ℕ) → begins_word c ≡ true
     → IsTokenTo joined (c ∷ rest) (Word (first_word (c ∷ rest))) (after_word (c ∷ rest))
-word_front joined c rest begins =
-    let stood = word_stands c rest begins in
-    record {
-      written = first_word (c ∷ rest);
-      is = taken_and_rest goes_on_word (c ∷ rest);
-      some = word_length (first_word (c ∷ rest)) stood.0;
-      writes = tokens.word (first_word (c ∷ rest)) (after_word (c ∷ rest)) stood.0 stood.1;
-    }
+word_front joined c rest begins = word_token joined (c ∷ rest) (first_word (c ∷ rest))
+    (after_word (c ∷ rest)) (word_there c rest begins)
 
 -- digits stand where one does
 digits_are : (c : ℕ) (rest : List ℕ) → is_ascii_digit c ≡ true → AreDigits (first_digits (c ∷ rest)) × BeginsWithNoDigit (after_digits (c ∷ rest))
@@ -108,22 +131,37 @@ numeral_front false c rest new n digit is after = (
   λ yes. absurd (true≢false (sym yes)),
 )
 
+-- a number of few digits
+pub small_number : (joined : Bool) (text : List ℕ) (c : ℕ) (rest new : List ℕ) (m : ℕ) (n : ℤ)
+    → text ≡ c ∷ rest → is_ascii_digit c ≡ true → m ≡ decimal_value (first_digits (c ∷ rest))
+    → new ≡ after_digits (c ∷ rest) → m < 2 ^ 64 → n ≡ pos m
+    → IsTokenTo joined text (Int (to_z w128 (of_z w128 n))) new
+small_number joined text c rest new m n at digit value after small is =
+    let fits : IsInteger (pos m) = omega (arith, ints) in
+    let number = numeral_front false c rest new n digit
+    (is ∙ ap pos value, subst (λ m. IsInteger (pos m)) value fits) after in
+    subst (λ text. IsTokenTo joined text (Int (to_z w128 (of_z w128 n))) new) (sym at)
+    (number.0 joined refl)
+
 pub numeral_fault : (negative : Bool) (at c : ℕ) (rest : List ℕ) → is_ascii_digit c ≡ true → (IsInteger (with_sign negative (decimal_value (first_digits (c ∷ rest)))) → ⊥)
     → ((joined : Bool) → negative ≡ false → FaultAtFront joined at (c ∷ rest) (TooWide at)) × (negative ≡ true → FaultAtFront false at (45 ∷ c ∷ rest) (TooWide at))
 numeral_fault true at c rest digit wide = (λ joined no. absurd (true≢false no), λ yes. inr (negative_fault at c rest digit wide))
 numeral_fault false at c rest digit wide = (λ joined no. inr (number_fault joined at c rest digit wide), λ yes. absurd (true≢false (sym yes)))
 
 -- an atom stands after its backquote
+pub atom_token : (joined : Bool) (text word new : List ℕ) → IsWordTo text word new
+    → word ≢ 95 ∷ [] → IsTokenTo joined (96 ∷ text) (Atom word) new
+atom_token joined text word new is other = record {
+  written = 96 ∷ word;
+  is = ap (λ text. 96 ∷ text) is.is;
+  some = omega arith;
+  writes = tokens.atom word new (is.stands, other) is.ends;
+}
+
 pub atom_front : (joined : Bool) (c : ℕ) (rest : List ℕ) → begins_word c ≡ true → first_word (c ∷ rest) ≢ 95 ∷ []
     → IsTokenTo joined (96 ∷ c ∷ rest) (Atom (first_word (c ∷ rest))) (after_word (c ∷ rest))
-atom_front joined c rest begins other =
-    let stood = word_stands c rest begins in
-    record {
-      written = 96 ∷ first_word (c ∷ rest);
-      is = ap (λ text. 96 ∷ text) (taken_and_rest goes_on_word (c ∷ rest));
-      some = omega arith;
-      writes = tokens.atom (first_word (c ∷ rest)) (after_word (c ∷ rest)) (stood.0, other) stood.1;
-    }
+atom_front joined c rest begins other = atom_token joined (c ∷ rest) (first_word (c ∷ rest))
+    (after_word (c ∷ rest)) (word_there c rest begins) other
 
 -- no sign begins with a backquote
 abbrev begins_backquote : List ℕ → Bool
@@ -180,41 +218,42 @@ lone_backquote joined at text unlike = breaks_character 96 text refl
     unlike (subst IsLabel (sym same) label))
 
 -- no word stands where none begins
-pub no_word : (text : List ℕ) → ((c : ℕ) (rest : List ℕ) → text ≡ c ∷ rest → begins_word c ≡ false) → IsLabel (first_word text) → ⊥
+pub no_word : (text : List ℕ) → BeginsWithNoWord text → IsLabel (first_word text) → ⊥
 no_word [] none label = true≢false (sym label.0)
 no_word (c ∷ rest) none label = by (goes_on_word c) refl
   where
     by : (goes : Bool) → goes_on_word c ≡ goes → ⊥
     by true goes =
         let is : is_word (c ∷ first_word rest) ≡ true = ap is_word (sym (taken_first goes_on_word c rest goes)) ∙ label.0 in
-        true≢false (sym (and_parts (begins_word c) _ is).0 ∙ none c rest refl)
+        true≢false (sym (and_parts (begins_word c) _ is).0 ∙ none)
     by false fails = true≢false (sym label.0 ∙ ap is_word (taken_none goes_on_word c rest fails))
 
--- what was read into the buffer is the word
-pub word_read : (joined : Bool) (c : ℕ) (rest read new : List ℕ) → begins_word c ≡ true → read ≡ first_word (c ∷ rest) → new ≡ after_word (c ∷ rest)
-    → IsTokenTo joined (c ∷ rest) (Word read) new
-word_read joined c rest read new begins read_is new_is =
-    subst (λ read. IsTokenTo joined (c ∷ rest) (Word read) new) (sym read_is)
-    (subst (IsTokenTo joined (c ∷ rest) (Word (first_word (c ∷ rest)))) (sym new_is) (word_front joined c rest begins))
+pub no_atom : (joined : Bool) (at : ℕ) (text : List ℕ) → BeginsWithNoWord text
+    → Breaks joined at (96 ∷ text) (BadChar at)
+no_atom joined at text none = lone_backquote joined at text (no_word text none)
 
-pub atom_read : (joined : Bool) (text : List ℕ) (c : ℕ) (rest read new : List ℕ) → text ≡ c ∷ rest → begins_word c ≡ true → first_word (c ∷ rest) ≢ 95 ∷ []
-    → read ≡ first_word (c ∷ rest) → new ≡ after_word (c ∷ rest) → IsTokenTo joined (96 ∷ text) (Atom read) new
-atom_read joined text c rest read new at begins other read_is new_is =
-    subst (λ text. IsTokenTo joined (96 ∷ text) (Atom read) new) (sym at)
-    (subst (λ read. IsTokenTo joined (96 ∷ c ∷ rest) (Atom read) new) (sym read_is)
-    (subst (IsTokenTo joined (96 ∷ c ∷ rest) (Atom (first_word (c ∷ rest)))) (sym new_is) (atom_front joined c rest begins other)))
+pub underscore_alone : (joined : Bool) (at : ℕ) (text word new : List ℕ)
+    → IsWordTo text word new → word ≡ 95 ∷ [] → Breaks joined at (96 ∷ text) (BadChar at)
+underscore_alone joined at text word new is line =
+    let same : first_word text ≡ word = ap first_word is.is ∙ word_taken word new is.stands
+    is.ends in
+    lone_backquote joined at text (λ label. label.1 (same ∙ line))
 
--- no atom's word stands there
-pub no_atom_at : (joined : Bool) (at : ℕ) (text rest : List ℕ) (c : ℕ) → text ≡ c ∷ rest → begins_word c ≡ false → Breaks joined at (96 ∷ text) (BadChar at)
-no_atom_at joined at text rest c is fails =
-    lone_backquote joined at text (no_word text (λ d others also. let same : d ≡ c = cc in ap begins_word same ∙ fails))
+-- `_` as a text
+underscore_bytes : (text : List ℕ) → IsUtf8 text → chars text ≡ 95 ∷ [] → text ≡ 95 ∷ []
+unfolding lib.Utf8.encode
+underscore_bytes text utf8 is = sym (encodes-chars text utf8) ∙ ap encodes is
 
-pub no_atom_word : (joined : Bool) (at : ℕ) (text : List ℕ) → EndsWord text → Breaks joined at (96 ∷ text) (BadChar at)
-no_atom_word joined at text ends = lone_backquote joined at text (λ label. true≢false (sym label.0 ∙ ap is_word (none text ends)))
+underscore_chars : chars (95 ∷ []) ≡ 95 ∷ []
+unfolding chars
+underscore_chars = refl
+
+pub underscore_by : (text : List ℕ) → IsUtf8 text → MatchBool (bytes_eq text (95 ∷ []))
+    (chars text ≡ 95 ∷ []) (chars text ≢ 95 ∷ [])
+underscore_by text utf8 = by (bytes_eq text (95 ∷ [])) refl
   where
-    none : (text : List ℕ) → EndsWord text → first_word text ≡ []
-    none [] ends = refl
-    none (c ∷ rest) ends = taken_none goes_on_word c rest ends
-
-pub underscore_alone : (joined : Bool) (at : ℕ) (text rest : List ℕ) (c : ℕ) → text ≡ c ∷ rest → first_word (c ∷ rest) ≡ 95 ∷ [] → Breaks joined at (96 ∷ text) (BadChar at)
-underscore_alone joined at text rest c is line = lone_backquote joined at text (λ label. label.1 (ap first_word is ∙ line))
+    by : (b : Bool) → bytes_eq text (95 ∷ []) ≡ b → MatchBool b (chars text ≡ 95 ∷ [])
+        (chars text ≢ 95 ∷ [])
+    by true same = ap chars ((bytes_eq-Decides text (95 ∷ [])).0 same) ∙ underscore_chars
+    by false differ = λ is. true≢false (sym ((bytes_eq-Decides text (95 ∷ [])).1
+        (underscore_bytes text utf8 is)) ∙ differ)

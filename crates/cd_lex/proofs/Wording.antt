@@ -1,5 +1,5 @@
 -- What stands at the front of a text: its first digits, its first word.
-use Rattle.std.proofs.Common.{◌≡◌, ◌≢◌, ℕ, suc, ◌+◌, Bool, true, false, List, [], ◌∷◌, ◌++◌, ◌||◌, refl, sym, ap, subst, ◌∙◌, length, take, drop, arith}
+use Rattle.std.proofs.Common.{◌≡◌, ◌≢◌, ℕ, suc, ◌+◌, Bool, true, false, true≢false, List, [], ◌∷◌, ◌++◌, ◌||◌, refl, sym, ap, subst, ◌∙◌, length, drop, arith}
 use Rattle.std.specs.Prelude.{take_while, IsTrue}
 use Rattle.std.specs.Char.{is_ascii_digit}
 use Rattle.std.specs.Int.{is_in_range}
@@ -14,6 +14,10 @@ use Rattle.cd_syntax.specs.Name.{begins_word, goes_on_word, is_word}
 use Rattle.cd_syntax.specs.Digits.{AreDigits, BeginsWithNoDigit}
 use Rattle.cd_syntax.specs.Tokens.{EndsWord}
 
+pub neither : (x y : Bool) → x ≡ false → y ≡ false → (x || y) ≡ false
+neither true y one also = absurd (true≢false one)
+neither false y one also = also
+
 module _ {X : Type 0} (p : X → Bool) where
   -- what is taken passes
   pub taken_pass : (xs : List X) → list_all p (take_while p xs) ≡ true
@@ -27,9 +31,6 @@ module _ {X : Type 0} (p : X → Bool) where
   -- it and the rest are all
   pub taken_and_rest : (xs : List X) → xs ≡ take_while p xs ++ drop (length (take_while p xs)) xs
   taken_and_rest xs = sym (ap (λ n. take_while p xs ++ drop n xs) (length-prefix_len p xs) ∙ take-append-drop (prefix_len p xs) xs)
-
-  pub taken_again : (xs : List X) → take (length (take_while p xs)) xs ≡ take_while p xs
-  taken_again xs = ap (λ n. take n xs) (length-prefix_len p xs)
 
   -- what is left is empty or begins with what does not pass
   module _ (P : List X → Type 0) (empty : P []) (other : (x : X) (xs : List X) → p x ≡ false → P (x ∷ xs)) where

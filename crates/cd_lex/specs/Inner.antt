@@ -7,3 +7,4 @@ pub mod Quoting
 pub mod SignTable
 pub mod Reading
 pub mod Prefixes
+pub mod Runs

@@ -1,12 +1,12 @@
 -- What a lexer gives, one token after the other.
-use Rattle.std.specs.Prelude.{◌≡◌, ◌<◌, ◌-◌, ◌⊎◌, ℕ, Bool, List, [], ◌∷◌, length}
+use Rattle.std.specs.Prelude.{◌≡◌, ◌<◌, ◌-◌, ◌⊎◌, ℕ, Bool, List, [], ◌∷◌, length, IsTrue}
 use Rattle.cd_syntax.specs.declared.tokens.Span.{Span}
 use Rattle.cd_syntax.specs.declared.tokens.Token.{Token}
 use Rattle.cd_syntax.specs.declared.tokens.TokenKind.{TokenKind}
 use Rattle.cd_syntax.specs.declared.tokens.TokenKind.TheVariants as token
 use Rattle.cd_syntax.specs.declared.tokens.LexError.{LexError}
 use Rattle.cd_syntax.specs.declared.tokens.LexError.TheVariants.{Memory}
-use Rattle.cd_syntax.specs.Name.{Name}
+use Rattle.cd_syntax.specs.Name.{Name, IsLabel, is_word}
 use Rattle.cd_syntax.specs.Tokens.{Spells, bytes}
 use Rattle.cd_syntax.specs.Faults.{Fails}
 use Rattle.cd_lex.specs.declared.lexer.Kind.{Kind}
@@ -49,11 +49,18 @@ with_characters (kind.Sign is) name = token.Sign is
 abbrev pub token_with : Kind → Span → Name → Token
 token_with is span name = record { kind = with_characters is name; span = span }
 
+-- the characters of a word are a word, and those of an atom are a word but `_`
+abbrev pub IsSoundKind : TokenKind → Type 0
+IsSoundKind (token.Word name) = IsTrue (is_word name)
+IsSoundKind (token.Atom name) = IsLabel name
+IsSoundKind _ = Unit {0}
+
 -- the token stands before what is left now
 pub record IsToken (old new : Lexer) (next : Token) : Type 0 where
   pub spells : (more : List Token) → SpellsOn new more → SpellsOn old (next ∷ more)
   pub fails : (fault : LexError) → FailsOn new fault → FailsOn old fault
   pub shorter : length (left new) < length (left old)
+  pub sound : IsSoundKind next.kind
 
 abbrev pub IsNext : (old : Lexer) → Lexeme → (new : Lexer) → Type 0
 IsNext old (AToken is span) new = IsToken old new (token_with is span (spelled new))

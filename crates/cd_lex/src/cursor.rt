@@ -1,12 +1,12 @@
-ghost use Rattle.std.specs.Prelude.{◌≡◌, ◌≢◌, ◌∷◌, [], true, MatchOption, MatchBool};
+ghost use Rattle.std.specs.Prelude.{◌≡◌, ◌<◌, ◌∷◌, [], true, MatchOption, MatchBool, take_while};
 ghost use Rattle.std.specs.Str.{chars};
 ghost use Rattle.std.specs.Char.{is_ascii_digit};
-ghost use Rattle.cd_syntax.specs.Name.{goes_on_word as goes_on_word_of};
 ghost use Rattle.cd_syntax.specs.Digits.{BeginsWithNoDigit};
-ghost use Rattle.cd_syntax.specs.Tokens.{EndsWord, bytes as bytes_of};
-ghost use Rattle.cd_lex.specs.Inner.Prefixes.{BeginsWithOther};
+ghost use Rattle.cd_syntax.specs.Tokens.{bytes as bytes_of};
+ghost use Rattle.cd_lex.specs.Inner.Prefixes.{BeginsWithOther, after};
+ghost use Rattle.cd_lex.specs.Inner.Runs.{belongs, HasAsciiQuote, EndsRun};
 
-use crate::word::goes_on_word;
+use crate::run::Run;
 use std::marker::Model;
 
 /// What is left of a text. A contract sees it as the list of its characters.
@@ -33,6 +33,7 @@ impl<'t> Cursor<'t> {
     }
 
     /// The same place.
+    #[inline(always)]
     pub(crate) fn again(&self) -> Cursor<'t>
         ensures { result ≡ self.now }
     {
@@ -47,6 +48,7 @@ impl<'t> Cursor<'t> {
     }
 
     /// The next character, which is taken off.
+    #[inline(always)]
     pub(crate) fn take(&mut self) -> Option<char>
         ensures { MatchOption result (self.old ≡ []) (λ c. self.old ≡ c ∷ self.new) }
     {
@@ -55,37 +57,24 @@ impl<'t> Cursor<'t> {
         found
     }
 
-    /// Takes this character off, if it is the next one.
+    /// Takes this character off, which is ASCII, if it is the next one.
+    #[inline(always)]
     pub(crate) fn take_this(&mut self, c: char) -> bool
+        requires { c < 128 }
         ensures { MatchBool result (self.old ≡ c ∷ self.new)
             ((self.new ≡ self.old) × BeginsWithOther c self.old) }
     {
-        let (found, rest) = first(self.rest);
-        match found {
-            Some(next) if next == c => {
+        match without(self.rest, c) {
+            Some(rest) => {
                 self.rest = rest;
                 true
             }
-            _ => false,
-        }
-    }
-
-    /// The next character, which is taken off, if a word goes on with it.
-    pub(crate) fn take_word(&mut self) -> Option<char>
-        ensures { MatchOption result ((self.new ≡ self.old) × EndsWord self.old)
-            (λ c. (self.old ≡ c ∷ self.new) × (goes_on_word_of c ≡ true)) }
-    {
-        let (found, rest) = first(self.rest);
-        match found {
-            Some(c) if goes_on_word(c) => {
-                self.rest = rest;
-                Some(c)
-            }
-            _ => None,
+            None => false,
         }
     }
 
     /// The next character, which is taken off, if it is a digit.
+    #[inline(always)]
     pub(crate) fn take_digit(&mut self) -> Option<char>
         ensures { MatchOption result ((self.new ≡ self.old) × BeginsWithNoDigit self.old)
             (λ c. (self.old ≡ c ∷ self.new) × (is_ascii_digit c ≡ true)) }
@@ -99,9 +88,23 @@ impl<'t> Cursor<'t> {
             _ => None,
         }
     }
+
+    /// The characters at the front that belong to a run, which are taken off.
+    #[inline(always)]
+    pub(crate) fn take_run(&mut self, run: Run) -> &'t str
+        requires { HasAsciiQuote run }
+        ensures run { chars result.now ≡ take_while (belongs run) self.old }
+        ensures rest { self.new ≡ after (belongs run) self.old }
+        ensures ends { EndsRun run self.new }
+    {
+        let (front, rest) = split(self.rest, run);
+        self.rest = rest;
+        front
+    }
 }
 
 // The first character of a text, and the rest.
+#[inline(always)]
 fn first<'t>(text: &'t str) -> (Option<char>, &'t str)
     ensures { MatchOption result.0 (chars text.now ≡ [])
         (λ c. chars text.now ≡ c ∷ chars result.1.now) }
@@ -109,6 +112,34 @@ fn first<'t>(text: &'t str) -> (Option<char>, &'t str)
     let mut left = text.chars();
     let found = left.next();
     (found, left.as_str())
+}
+
+// The text without this character, which is ASCII, at its front, if it stands there.
+#[inline(always)]
+fn without<'t>(text: &'t str, c: char) -> Option<&'t str>
+    requires { c < 128 }
+    ensures { MatchOption result (BeginsWithOther c (chars text.now))
+        (λ rest. chars text.now ≡ c ∷ chars rest.now) }
+{
+    match text.as_bytes() {
+        [] => None,
+        [first, ..] => {
+            if *first as char != c {
+                return None;
+            }
+            Some(text.split_at(1).1)
+        }
+    }
+}
+
+// The characters at the front of a text that belong to a run, and the rest.
+#[inline(always)]
+fn split<'t>(text: &'t str, run: Run) -> (&'t str, &'t str)
+    requires { HasAsciiQuote run }
+    ensures front { chars result.0.now ≡ take_while (belongs run) (chars text.now) }
+    ensures rest { chars result.1.now ≡ after (belongs run) (chars text.now) }
+{
+    text.split_at(run.length(text.as_bytes()))
 }
 
 // How many bytes a text has.

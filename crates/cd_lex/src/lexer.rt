@@ -4,7 +4,7 @@ ghost use Rattle.cd_syntax.specs.Tokens.{bytes as bytes_of};
 
 use crate::buffer::Buffer;
 use crate::cursor::Cursor;
-use crate::next_token::{joins, read_lexeme};
+use crate::next_token::{joins, read_lexeme, read_simple};
 use cd_syntax::sign::Sign;
 use cd_syntax::tokens::{LexError, Span};
 use std::alloc::Global;
@@ -43,7 +43,7 @@ pub struct Lexer<'t> {
     cursor: Cursor<'t>,
     end: usize,
     joined: bool,
-    buffer: Buffer,
+    buffer: Buffer<'t>,
     ghost fits: { bytes_of cursor ≤ end },
 }
 
@@ -70,6 +70,21 @@ impl<'t> Lexer<'t> {
 
     /// What stands next, which is taken off the text. After a fault nothing is promised.
     pub fn next(&mut self) -> Lexeme
+        ensures { IsNext self.old result self.new }
+    {
+        let mut cursor = self.cursor.again();
+        let Some((kind, span)) = read_simple(&mut cursor, &mut self.buffer, self.joined, self.end)
+        else {
+            return self.next_of_any();
+        };
+        self.cursor = cursor;
+        self.joined = joins(kind);
+        Lexeme::Token(kind, span)
+    }
+
+    // The same, for any token.
+    #[inline(never)]
+    fn next_of_any(&mut self) -> Lexeme
         ensures { IsNext self.old result self.new }
     {
         let mut cursor = self.cursor.again();

@@ -11,6 +11,7 @@ mod next_token;
 mod number;
 mod piece;
 mod quoted;
+mod run;
 mod signs;
 mod word;
 

@@ -1,4 +1,4 @@
-ghost use Rattle.std.specs.Prelude.{◌≡◌, ◌<◌, ◌-◌, ◌^◌, ◌∷◌, true, MatchOption, pos};
+ghost use Rattle.std.specs.Prelude.{◌≡◌, ◌<◌, ◌-◌, ◌^◌, ◌∷◌, true, IfSome, MatchOption, pos};
 ghost use Rattle.std.specs.Char.{is_ascii_digit};
 ghost use Rattle.cd_syntax.specs.Digits.{decimal_value};
 ghost use Rattle.cd_lex.specs.Inner.Prefixes.{first_digits, after_digits};
@@ -26,14 +26,30 @@ fn read_digits(cursor: &mut Cursor<'_>, first: char) -> Option<u128>
         (λ n. n ≡ decimal_value (first_digits (first ∷ cursor.old))) }
     ensures rest { MatchOption result Unit (λ n. cursor.new ≡ after_digits (first ∷ cursor.old)) }
 {
+    let mut ahead = cursor.again();
+    if let Some(value) = take_small(&mut ahead, first) {
+        *cursor = ahead;
+        return Some(u128::from(value));
+    }
+    read_more_digits(cursor, u128::from(digit(first)))
+}
+
+/// The number of the digits at the front of a text, of which the first was taken off before, if
+/// they are few.
+#[inline(always)]
+pub(crate) fn take_small(cursor: &mut Cursor<'_>, first: char) -> Option<u64>
+    requires { is_ascii_digit first ≡ true }
+    ensures { IfSome result (λ n. (n ≡ decimal_value (first_digits (first ∷ cursor.old)))
+        × (cursor.new ≡ after_digits (first ∷ cursor.old)) × (n < 2 ^ 64)) }
+{
     let mut value = u64::from(digit(first));
     while value < 100_000_000_000_000_000 {
         match cursor.take_digit() {
             Some(c) => value = value * 10 + u64::from(digit(c)),
-            None => return Some(u128::from(value)),
+            None => return Some(value),
         }
     }
-    read_more_digits(cursor, u128::from(value))
+    None
 }
 
 // The same from the value of the digits before.

@@ -1,9 +1,10 @@
-ghost use Rattle.std.specs.Prelude.{◌≡◌, ◌≤◌, ◌-◌, ◌⊎◌, ℕ, Bool, true, false, List, ◌∷◌, IfOk, IfErr};
+ghost use Rattle.std.specs.Prelude.{◌≡◌, ◌≤◌, ◌-◌, ◌⊎◌, ◌∷◌, ℕ, Bool, true, false, List};
+ghost use Rattle.std.specs.Prelude.{IfOk, IfErr};
 ghost use Rattle.std.specs.Char.{is_ascii_digit};
-ghost use Rattle.cd_syntax.specs.Name.{begins_word as begins_word_of};
-ghost use Rattle.cd_syntax.specs.Tokens.{is_blank as is_blank_of, bytes as bytes_of};
+ghost use Rattle.cd_syntax.specs.Name.{begins_word};
+ghost use Rattle.cd_syntax.specs.Tokens.{is_blank, bytes as bytes_of};
 ghost use Rattle.cd_syntax.specs.Faults.{is_other};
-ghost use Rattle.cd_lex.specs.Inner.Standing.{Stands, FaultAtFront};
+ghost use Rattle.cd_lex.specs.Inner.Standing.{BeginsWithNoSign, Stands, FaultAtFront};
 ghost use Rattle.cd_lex.specs.declared.lexer.Kind.TheVariants.{Text, Chars};
 
 use crate::buffer::Buffer;
@@ -12,31 +13,35 @@ use crate::cursor::Cursor;
 use crate::lexer::Kind;
 use crate::number::read_number;
 use crate::quoted::{Quoted, read_quoted};
-use crate::signs::{after_minus, read_sign};
-use crate::word::{begins_word, is_underscore, read_word};
+use crate::signs::after_minus;
+use crate::word::{is_underscore, take_word};
 use cd_syntax::sign::Sign;
 use cd_syntax::tokens::LexError;
 
 /// What stands at the front of a text.
 #[derive(Clone, Copy)]
 pub(crate) enum Piece {
-    /// A blank or a comment.
+    /// A comment.
     Dropped,
     /// A token, whose characters are in the buffer.
     Token(Kind),
 }
 
-/// Takes off what stands at the front of a text, of which this character was taken off before. The
-/// text begins at this byte of one that ends at that byte. It is joined where the token before it
-/// ends right here and keeps a `-` from being the sign of a number.
-pub(crate) fn front(
-    cursor: &mut Cursor<'_>,
-    buffer: &mut Buffer,
+/// Takes off what stands at the front of a text, of which this character was taken off before: no
+/// blank, no word, and no sign but one that begins with `(` or `-`. The text begins at this byte of
+/// one that ends at that byte. It is joined where the token before it ends right here and keeps a
+/// `-` from being the sign of a number.
+pub(crate) fn front<'t>(
+    cursor: &mut Cursor<'t>,
+    buffer: &mut Buffer<'t>,
     joined: bool,
     c: char,
     at: usize,
     end: usize,
 ) -> Result<Piece, LexError>
+    requires blank { is_blank c ≡ false }
+    requires word { begins_word c ≡ false }
+    requires sign { BeginsWithNoSign (c ∷ cursor.old) }
     requires at { at ≡ end - bytes_of (c ∷ cursor.old) }
     requires fits { bytes_of (c ∷ cursor.old) ≤ end }
     ensures piece { IfOk result
@@ -44,33 +49,13 @@ pub(crate) fn front(
     ensures fault { IfErr result (λ error. FaultAtFront joined at (c ∷ cursor.old) error) }
 {
     match c {
-        _ if is_blank(c) => Ok(Piece::Dropped),
-        _ if begins_word(c) => word(cursor, buffer, c),
         _ if c.is_ascii_digit() => number(cursor, false, c, at),
         '"' | '\'' => quoted(cursor, buffer, c, at, end),
         '`' => atom(cursor, buffer, at),
         '(' => parenthesis(cursor, at),
         '-' => minus(cursor, joined, at),
-        _ => sign(cursor, c, at),
+        _ => Err(no_token(cursor, c, at)),
     }
-}
-
-fn is_blank(c: char) -> bool
-    ensures { result ≡ is_blank_of c }
-{
-    matches!(c, ' ' | '\t' | '\n' | '\r')
-}
-
-// The word that begins with this character.
-fn word(cursor: &mut Cursor<'_>, buffer: &mut Buffer, c: char) -> Result<Piece, LexError>
-    requires { begins_word_of c ≡ true }
-    ensures piece { IfOk result
-        (λ piece. (joined : Bool) → Stands joined (c ∷ cursor.old) piece cursor.new buffer.new) }
-    ensures fault { IfErr result
-        (λ error. (joined : Bool) (at : ℕ) → FaultAtFront joined at (c ∷ cursor.old) error) }
-{
-    read_word(cursor, buffer, c)?;
-    Ok(Piece::Token(Kind::Word))
 }
 
 // The number that begins with this digit, after a `-` or without one.
@@ -91,9 +76,9 @@ fn number(cursor: &mut Cursor<'_>, negative: bool, c: char, at: usize) -> Result
 }
 
 // What stands between quotes, of which the first was taken off before.
-fn quoted(
-    cursor: &mut Cursor<'_>,
-    buffer: &mut Buffer,
+fn quoted<'t>(
+    cursor: &mut Cursor<'t>,
+    buffer: &mut Buffer<'t>,
     quote: char,
     at: usize,
     end: usize,
@@ -125,15 +110,15 @@ fn quoted_kind(quote: char) -> Kind
 }
 
 // The atom whose backquote was taken off before.
-fn atom(cursor: &mut Cursor<'_>, buffer: &mut Buffer, at: usize) -> Result<Piece, LexError>
+fn atom<'t>(cursor: &mut Cursor<'t>, buffer: &mut Buffer<'t>, at: usize) -> Result<Piece, LexError>
     ensures piece { IfOk result (λ piece. (joined : Bool)
         → Stands joined (96 ∷ cursor.old) piece cursor.new buffer.new) }
     ensures fault { IfErr result
         (λ error. (joined : Bool) → FaultAtFront joined at (96 ∷ cursor.old) error) }
 {
-    match cursor.take_word() {
-        Some(c) if begins_word(c) && !is_underscore(cursor, c) => {
-            read_word(cursor, buffer, c)?;
+    match take_word(cursor) {
+        Some(word) if !is_underscore(word) => {
+            buffer.set(word);
             Ok(Piece::Token(Kind::Atom))
         }
         _ => Err(LexError::BadChar(at)),
@@ -171,19 +156,14 @@ fn minus(cursor: &mut Cursor<'_>, joined: bool, at: usize) -> Result<Piece, LexE
     }
 }
 
-// The sign that begins with this character.
-fn sign(cursor: &mut Cursor<'_>, c: char, at: usize) -> Result<Piece, LexError>
+// The fault of a character that begins no token.
+fn no_token(cursor: &Cursor<'_>, c: char, at: usize) -> LexError
     requires other { is_other c ≡ true }
     requires backquote { c ≡ 96 → ⊥ }
     requires parenthesis { c ≡ 40 → ⊥ }
     requires minus { c ≡ 45 → ⊥ }
-    ensures piece { IfOk result (λ piece. (joined : Bool) (characters : List ℕ)
-        → Stands joined (c ∷ cursor.old) piece cursor.new characters) }
-    ensures fault { IfErr result
-        (λ error. (joined : Bool) → FaultAtFront joined at (c ∷ cursor.old) error) }
+    requires sign { BeginsWithNoSign (c ∷ cursor.now) }
+    ensures { (joined : Bool) → FaultAtFront joined at (c ∷ cursor.now) result }
 {
-    match read_sign(cursor, c) {
-        Some(sign) => Ok(Piece::Token(Kind::Sign(sign))),
-        None => Err(LexError::BadChar(at)),
-    }
+    LexError::BadChar(at)
 }

@@ -1,13 +1,16 @@
-ghost use Rattle.std.specs.Prelude.{◌≡◌, ◌≤◌, ◌<◌, ◌∷◌, true, IfOk, SomeIff, MatchOption, length};
+ghost use Rattle.std.specs.Prelude.{◌≡◌, ◌≤◌, ◌<◌, ◌∷◌, true, length};
+ghost use Rattle.std.specs.Prelude.{IfOk, IfSome, SomeIff, MatchOption};
+ghost use Rattle.std.specs.Str.{chars};
 ghost use Rattle.std.specs.Char.{IsScalar, is_ascii_digit};
 ghost use Rattle.cd_syntax.specs.Digits.{decimal_value};
 ghost use Rattle.cd_lex.specs.Inner.Prefixes.{first_digits, after_digits};
-ghost use Rattle.cd_lex.specs.Inner.Quoted.{IsQuoted};
+ghost use Rattle.cd_lex.specs.Inner.Quoted.{IsClosed, IsQuoted};
 ghost use Rattle.cd_lex.specs.Inner.Quoting.{IsMeant, IsEscape};
 
 use crate::buffer::Buffer;
 use crate::cursor::Cursor;
 use crate::number::digit;
+use crate::run::Run;
 use std::alloc::AllocError;
 
 /// What stands after an opening quote.
@@ -21,16 +24,30 @@ pub(crate) enum Quoted {
     Ends,
 }
 
+/// The characters between two `"`, the first of which was taken off before, if they stand for
+/// themselves. They are taken off with the closing quote.
+#[inline(always)]
+pub(crate) fn take_plain<'t>(cursor: &mut Cursor<'t>) -> Option<&'t str>
+    ensures { IfSome result (λ text. IsClosed 34 cursor.old (chars text.now) cursor.new) }
+{
+    let text = cursor.take_run(Run::Quoted('"'));
+    if cursor.take_this('"') {
+        return Some(text);
+    }
+    None
+}
+
 /// Reads what stands after an opening quote into the buffer, and takes it off up to the closing
 /// quote or the `\` that begins no escape.
-pub(crate) fn read_quoted(
-    cursor: &mut Cursor<'_>,
-    buffer: &mut Buffer,
+pub(crate) fn read_quoted<'t>(
+    cursor: &mut Cursor<'t>,
+    buffer: &mut Buffer<'t>,
     quote: char,
 ) -> Result<Quoted, AllocError>
+    requires { quote < 128 }
     ensures { IfOk result (λ quoted. IsQuoted quote cursor.old quoted cursor.new buffer.new) }
 {
-    buffer.clear();
+    buffer.set(cursor.take_run(Run::Quoted(quote)));
     loop {
         let mut ahead = cursor.again();
         let Some(c) = ahead.take() else {
@@ -40,14 +57,10 @@ pub(crate) fn read_quoted(
             *cursor = ahead;
             return Ok(Quoted::Closed);
         }
-        if c != '\\' {
-            buffer.push(c)?;
-            *cursor = ahead;
-            continue;
-        }
         match read_escape(&mut ahead) {
             Escape::Means(meant) => {
-                buffer.push(meant)?;
+                let run = ahead.take_run(Run::Quoted(quote));
+                buffer.push(meant, run)?;
                 *cursor = ahead;
             }
             Escape::Breaks => return Ok(Quoted::Breaks),

@@ -8,7 +8,7 @@ use Rattle.cd_syntax.specs.Faults.{Fails}
 use Rattle.cd_lex.specs.declared.lexer.Lexeme.{Lexeme}
 use Rattle.cd_lex.specs.declared.lexer.Lexeme.TheVariants.{Token, End, Fault}
 use Rattle.cd_lex.specs.declared.lexer.Lexer.{Lexer}
-use Rattle.cd_lex.specs.Lexing.{token_with, SpellsOn, FailsOn, left}
+use Rattle.cd_lex.specs.Lexing.{token_with, SpellsOn, FailsOn, left, IsSoundKind}
 
 -- the end of a text, whose whole ends at this byte, spells these tokens, and has this first fault
 abbrev pub SpellsUpTo : (end : ℕ) (joined : Bool) → List ℕ → List AToken → Type 0
@@ -27,10 +27,11 @@ pub record IsReadTo (end : ℕ) (joined : Bool) (text : List ℕ) (tokens : List
   pub fits : bytes left ≤ end
   pub within : length left ≤ length text
 
--- a token is read, and no less than one character
+-- a token is read, which is sound, and no less than one character
 abbrev pub IsTokenRead : (end : ℕ) (joined : Bool) → List ℕ → AToken → List ℕ → Type 0
 IsTokenRead end joined text token left =
-    IsReadTo end joined text (token ∷ []) (joins token.kind) left × (length left < length text)
+    IsReadTo end joined text (token ∷ []) (joins token.kind) left
+    × (length left < length text) × IsSoundKind token.kind
 
 abbrev pub IsLexeme : (end : ℕ) (joined : Bool) → List ℕ → Lexeme → (new characters : List ℕ)
     → Type 0

@@ -1,10 +1,10 @@
 -- What stands at the front of a text, and what is left after it.
-use Rattle.std.specs.Prelude.{◌≡◌, ℕ, ◌<◌, Bool, List, ◌++◌, length, ◌⊎◌}
+use Rattle.std.specs.Prelude.{◌≡◌, ℕ, ◌<◌, Bool, List, [], ◌∷◌, ◌++◌, length, ◌⊎◌}
 use Rattle.cd_syntax.specs.declared.sign.Sign.{Sign}
 use Rattle.cd_syntax.specs.declared.tokens.TokenKind.{TokenKind}
 use Rattle.cd_syntax.specs.declared.tokens.LexError.{LexError}
 use Rattle.cd_syntax.specs.declared.tokens.LexError.TheVariants.{Memory}
-use Rattle.cd_syntax.specs.Signs.{characters, IsLongest}
+use Rattle.cd_syntax.specs.Signs.{characters, BeginsWith, IsLongest}
 use Rattle.cd_syntax.specs.Tokens.{IsDropped, Writes}
 use Rattle.cd_syntax.specs.Faults.{Breaks}
 use Rattle.cd_lex.specs.declared.piece.Piece.{Piece}
@@ -34,6 +34,12 @@ Stands joined text (Token kind) new spelled =
 -- memory ran out, or this fault stands at the front of the text, which begins at this byte
 abbrev pub FaultAtFront : Bool → ℕ → List ℕ → LexError → Type 0
 FaultAtFront joined at text error = (error ≡ Memory) ⊎ Breaks joined at text error
+
+-- no sign stands first, but one that begins with `(` or `-`
+abbrev pub BeginsWithNoSign : List ℕ → Type 0
+BeginsWithNoSign [] = Unit {0}
+BeginsWithNoSign (c ∷ cs) = (c ≡ 40 → ⊥) → (c ≡ 45 → ⊥)
+    → (is : Sign) → BeginsWith (c ∷ cs) is → ⊥
 
 -- the longest sign
 pub record IsSignTo (text : List ℕ) (is : Sign) (new : List ℕ) : Type 0 where

@@ -1,17 +1,20 @@
-use Rattle.std.proofs.Common.{inr, sym, ◌∙◌}
-use Rattle.cd_lex.proofs.WordFronts.{atom_read, no_atom_at, no_atom_word, underscore_alone}
+use Rattle.std.proofs.Common.{inr, subst, sym, ◌∷◌}
+use Rattle.cd_syntax.specs.declared.tokens.TokenKind.TheVariants.{Atom}
+use Rattle.cd_lex.specs.Inner.Standing.{IsTokenTo}
+use Rattle.cd_lex.proofs.WordFronts.{atom_token, no_atom, underscore_alone}
 use Rattle.cd_lex.proofs.piece.atom.Goals as goal
 
-pub returns-in_ok-read_word-in-Some-clause-piece : goal.returns-in_ok-read_word-in-Some-clause-piece
-returns-in_ok-read_word-in-Some-clause-piece c = λ joined.
-    atom_read joined _ _ _ _ _ c.in-Some.ensures.0 (sym c.begins_word.ensures ∙ c.if-begins_word.true) c.if-not-is_underscore.ensures
-    c.in_ok-read_word-in-Some.ensures.word c.in_ok-read_word-in-Some.ensures.rest
+pub returns-in-Some-clause-piece : goal.returns-in-Some-clause-piece
+returns-in-Some-clause-piece c = λ joined.
+    subst (λ name. IsTokenTo joined (96 ∷ c.args.cursor.now) (Atom name) c.take_word.new.cursor)
+    (sym c.set.ensures)
+    (atom_token joined _ _ _ c.in-Some.ensures c.if-not-is_underscore.ensures)
 
 pub returns-in_default-clause-fault : goal.returns-in_default-clause-fault
-returns-in_default-clause-fault c = λ joined. inr (underscore_alone joined c.args.at _ _ _ c.in-Some.ensures.0 c.if-not-is_underscore.ensures)
+returns-in_default-clause-fault c = λ joined. inr
+    (underscore_alone joined c.args.at _ _ _ c.in-Some.ensures c.if-not-is_underscore.ensures)
 
 pub returns-in_default-2-clause-fault : goal.returns-in_default-2-clause-fault
-returns-in_default-2-clause-fault c = λ joined. inr (no_atom_at joined c.args.at _ _ _ c.in-Some.ensures.0 (sym c.begins_word.ensures ∙ c.if-begins_word.false))
-
-pub returns-in_default-3-clause-fault : goal.returns-in_default-3-clause-fault
-returns-in_default-3-clause-fault c = λ joined. inr (no_atom_word joined c.args.at c.args.cursor.now c.in_default.ensures.1)
+returns-in_default-2-clause-fault c = λ joined.
+    let none = rw c.in_default.is at c.take_word.ensures in
+    inr (no_atom joined c.args.at c.args.cursor.now none.1)

@@ -1,17 +1,24 @@
 use Rattle.std.proofs.Common.{sym, ◌∙◌}
-use Rattle.cd_lex.proofs.Quoting.{nothing_read, ended, character_read, escape_read}
+use Rattle.cd_lex.proofs.Quoting.{run_read, ended, escape_read, backslash_stops}
 use Rattle.cd_lex.proofs.quoted.read_quoted.Goals as goal
 
 pub loop-c-init : goal.loop-c-init
-loop-c-init c = nothing_read _ _ _ c.clear.ensures
+loop-c-init c = (
+  run_read c.args.quote c.args.cursor.now _ _ (c.set.ensures ∙ c.take_run.ensures.run)
+      c.take_run.ensures.rest,
+  c.take_run.ensures.ends,
+)
 
 pub returns-in_default : goal.returns-in_default
-returns-in_default c = ended _ _ _ _ c.loop-c.invariant (sym c.again-ahead.ensures ∙ c.in_default.ensures)
-
-pub loop-c-preserved-then-c-ne92 : goal.loop-c-preserved-then-c-ne92
-loop-c-preserved-then-c-ne92 c =
-    character_read _ _ _ _ _ _ _ c.loop-c.invariant (sym c.again-ahead.ensures ∙ c.in-Some.ensures) c.if-c-quote.false c.if-c-ne92.true c.in_ok-push.ensures
+returns-in_default c =
+    ended _ _ _ _ c.loop-c.invariant.0 (sym c.again-ahead.ensures ∙ c.in_default.ensures)
 
 pub loop-c-preserved : goal.loop-c-preserved
 loop-c-preserved c =
-    escape_read _ _ _ _ _ _ _ _ _ c.loop-c.invariant (sym c.again-ahead.ensures ∙ c.in-Some.ensures) c.if-c-ne92.false c.in-Means.ensures c.in_ok-push-in-Means.ensures
+    let at = sym c.again-ahead.ensures ∙ c.in-Some.ensures in
+    let backslash = backslash_stops _ _ _ _ c.loop-c.invariant.1 at c.if-c-quote.false in
+    let run = c.take_run-run.ensures in (
+      escape_read _ _ _ _ _ _ _ _ _ _ _ c.loop-c.invariant.0 at backslash c.in-Means.ensures
+          run.run run.rest c.in_ok-push-in-Means.ensures,
+      run.ends,
+    )

@@ -1,4 +1,4 @@
-use Rattle.std.proofs.Common.{sym, subst, ◌∷◌, MatchOption}
+use Rattle.std.proofs.Common.{◌≡◌, sym, subst, ◌∷◌, MatchOption}
 use Rattle.cd_syntax.specs.Signs.{BeginsWith}
 use Rattle.cd_syntax.specs.declared.sign.Sign.{Sign as ASign}
 use Rattle.cd_lex.specs.Inner.Standing.{IsSignTo}
@@ -7,7 +7,9 @@ use Rattle.cd_lex.proofs.SignFronts as sign
 use Rattle.cd_lex.proofs.signs.read_sign.Goals as goal
 
 pub returns-in-58 : goal.returns-in-58
-returns-in-58 c = subst (λ first. MatchOption c.after_colon.result ((is : ASign) → BeginsWith (first ∷ c.args.cursor.now) is → ⊥)
+returns-in-58 c = subst (λ first. MatchOption c.after_colon.result
+    ((c.after_colon.new.cursor ≡ c.args.cursor.now) × ((is : ASign)
+    → BeginsWith (first ∷ c.args.cursor.now) is → ⊥))
     (λ is. IsSignTo (first ∷ c.args.cursor.now) is c.after_colon.new.cursor)) (sym c.in-58.is) c.after_colon.ensures
 
 pub returns-in-60 : goal.returns-in-60

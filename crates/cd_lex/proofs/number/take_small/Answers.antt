@@ -1,6 +1,6 @@
 use Rattle.std.proofs.Common.{arith}
 use Rattle.cd_lex.proofs.Prefixing.{digits_begin, digits_go_on}
-use Rattle.cd_lex.proofs.number.read_digits.Goals as goal
+use Rattle.cd_lex.proofs.number.take_small.Goals as goal
 
 pub loop-value-init : goal.loop-value-init
 loop-value-init c =
