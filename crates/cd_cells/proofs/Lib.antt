@@ -3,3 +3,4 @@ pub mod TableLaws
 mod Texts
 pub mod InGrown
 pub mod TableGrows
+pub mod SharedCells

@@ -89,16 +89,19 @@ module _ (lists : Lists) where
       let at : length (table ++ one ∷ []) + index ≡ length table + suc index = omega (arith, length_push table one) in
       subst (λ place. IsCellAt lists (things_from lists table (cell ∷ cells)) (get_or cells index default) place) at rest
 
+  pub cell_within : (cells : List Stored) (index : ℕ) (default : Stored) → AreStored lists [] cells → index < length cells
+      → IsCellAt lists (things_from lists [] cells) (get_or cells index default) index
+  cell_within cells index default are within =
+      let place : length {A = Thing} [] + index ≡ index = omega arith in
+      subst (IsCellAt lists (things_from lists [] cells) (get_or cells index default)) place (cell_at [] cells index default are within)
+
   -- what is read of the cells of a table
   pub cell_read : (cells : List Stored) (index : ℕ) (cell : Stored) → AreStored lists [] cells
       → index < length (things_from lists [] cells) → cell ≡ get_or cells index cell
       → IsCellAt lists (things_from lists [] cells) cell index
   cell_read cells index cell are within is =
-      let inside : index < length cells = omega (arith, length_from [] cells) in
-      let place : length {A = Thing} [] + index ≡ index = omega arith in
-      let found = cell_at [] cells index cell are inside in
-      let placed = subst (IsCellAt lists (things_from lists [] cells) (get_or cells index cell)) place found in
-      subst (λ one. IsCellAt lists (things_from lists [] cells) one index) (sym is) placed
+      subst (λ one. IsCellAt lists (things_from lists [] cells) one index) (sym is)
+      (cell_within cells index cell are (omega (arith, within, length_from [] cells)))
 
   -- one more cell
   cells_push : (table : List Thing) (cells : List Stored) (cell : Stored) → AreStored lists table cells

@@ -1,4 +1,6 @@
 pub mod Cells
+pub mod Slots
+pub mod SharedCells
 pub mod OneProof
 pub mod Looked
 pub mod Table

@@ -1,18 +1,23 @@
--- That the cells of a table are sound has at most one proof, as a ghost field wants.
-use Rattle.std.specs.Prelude.{ℕ, List, [], ◌∷◌, ◌++◌, Option, Some, None, length}
+-- What a table keeps of its cells has at most one proof, as a ghost field wants.
+use Rattle.std.specs.Prelude.{ℕ, Bool, List, [], ◌∷◌, ◌++◌, Option, Some, None, length}
 use Rattle.std.proofs.Props.{props}
-use Rattle.std.specs.Coded.{×_prop, Unit-prop}
+use Rattle.std.specs.Coded.{×_prop, Π_prop, Unit-prop}
 use Rattle.cd_model.specs.AllOf.{AllOf}
 use Rattle.cd_syntax.specs.Name.{Name, IsAbove}
 use Rattle.cd_model.specs.Thing as thing
 use Rattle.cd_model.specs.Thing.{Thing, Fields, NoField, Field, IsAtom, IsRecord, LabelsRise}
 use Rattle.cd_cells.specs.declared.cell.Part.{Part}
+use Rattle.cd_cells.specs.declared.cell.ValueId.{ValueId}
 use Rattle.cd_cells.specs.declared.cell.Stored.{Stored}
 use Rattle.cd_cells.specs.declared.cell.Stored.TheVariants.{Pair, Xml, Short, Wide, Letter, Atom}
 use Rattle.cd_cells.specs.declared.cell.Stored.TheVariants.{Record, Closure}
 use Rattle.cd_cells.specs.declared.lists.Lists.{Lists}
+use Rattle.cd_cells.specs.declared.shared.Shared.{Shared}
 use Rattle.cd_cells.specs.Cells.{thing_at, fields_at, parts_at, thing_by, IsPart, AreParts}
 use Rattle.cd_cells.specs.Cells.{IsStored, AreStored}
+use Rattle.cd_cells.specs.Slots.{slot_at}
+use Rattle.cd_cells.specs.SharedCells.{is_letter, is_atom, is_nil, has_no_fields}
+use Rattle.cd_cells.specs.SharedCells.{IsNoneOrWith, EachIsWith, AreShared}
 
 above_prop : (before : Option Name) (label : Name) → IsProp (IsAbove before label)
 above_prop None label = Unit-prop
@@ -60,3 +65,22 @@ stored_prop lists table [] = Unit-prop
 stored_prop lists table (cell ∷ cells) =
     ×_prop (cell_prop lists table cell)
     (stored_prop lists (table ++ thing_by lists table cell ∷ []) cells)
+
+with_prop : (test : Stored → Bool) (cells : List Stored) (found : Option ValueId)
+    → IsProp (IsNoneOrWith test cells found)
+with_prop test cells None = Unit-prop
+with_prop test cells (Some id) = hlevel props
+
+each_with_prop : (test : ℕ → Stored → Bool) (cells : List Stored) (ids : List (Option ValueId))
+    → IsProp (EachIsWith test cells ids)
+each_with_prop test cells ids =
+    Π_prop (λ number. with_prop (test number) cells (slot_at ids number))
+
+pub shared_prop : (lists : Lists) (cells : List Stored) (shared : Shared)
+    → IsProp (AreShared lists cells shared)
+shared_prop lists cells shared = hlevel (
+  each_with_prop is_letter cells shared.letters,
+  each_with_prop is_atom cells shared.atoms,
+  with_prop (is_nil lists.names) cells shared.nil,
+  with_prop has_no_fields cells shared.no_fields,
+)

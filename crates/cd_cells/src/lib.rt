@@ -4,8 +4,11 @@
 pub mod cell;
 pub mod laws;
 mod lists;
+mod shared;
+pub mod slots;
 mod text_table;
 pub mod values;
 
 pub use cell::{Look, Part, ValueId};
+pub use slots::Slots;
 pub use values::Values;

@@ -4,6 +4,7 @@ ghost use Rattle.std.specs.Str.{chars};
 ghost use Rattle.cd_syntax.specs.Name.{Name};
 ghost use Rattle.cd_cells.specs.Cells.{name_at, HasEachOnce};
 
+use crate::slots::Slots;
 use indexmap::IndexSet;
 use std::alloc::{AllocError, Global};
 use std::marker::Model;
@@ -12,6 +13,8 @@ use std::marker::Model;
 #[derive(Drop)]
 pub(crate) struct TextTable {
     texts: IndexSet<String>,
+    /// Numbers that were found, each under the key of its text.
+    recent: Slots<usize>,
 }
 
 impl Model for TextTable {
@@ -31,11 +34,27 @@ impl TextTable {
     {
         TextTable {
             texts: IndexSet::new(alloc),
+            recent: Slots::new(alloc),
         }
     }
 
     /// The number of a text, which is added as the last one if it is not there.
     pub(crate) fn number(&mut self, text: &str) -> Result<usize, AllocError>
+        ensures found { IfOk result (λ number. name_at self.new number ≡ chars text.now) }
+        ensures grows { (more : List Name) × (self.new ≡ self.old ++ more) }
+    {
+        let key = key_of(text);
+        if let Some(number) = self.recent.get(key) {
+            if self.get(number) == text {
+                return Ok(number);
+            }
+        }
+        let number = self.find(text)?;
+        let _kept = self.recent.put(key, number);
+        Ok(number)
+    }
+
+    fn find(&mut self, text: &str) -> Result<usize, AllocError>
         ensures found { IfOk result (λ number. name_at self.new number ≡ chars text.now) }
         ensures grows { (more : List Name) × (self.new ≡ self.old ++ more) }
     {
@@ -63,5 +82,17 @@ impl TextTable {
         ensures once { HasEachOnce self.now }
     {
         self.texts.len()
+    }
+}
+
+// A number below 256, which tells most pairs of names apart.
+fn key_of(text: &str) -> usize {
+    match text.as_bytes() {
+        [] => 0,
+        [only] => usize::from(*only),
+        [first, .., last] => {
+            let ends = usize::from(*first).wrapping_add(usize::from(*last).wrapping_mul(8));
+            ends.wrapping_add(text.len()) % 256
+        }
     }
 }

@@ -1,10 +1,12 @@
 //! A table of values.
 ghost use Rattle.std.specs.Prelude.{[]};
 ghost use Rattle.cd_cells.specs.Cells.{AreStored};
-ghost use Rattle.cd_cells.specs.OneProof.{stored_prop};
+ghost use Rattle.cd_cells.specs.SharedCells.{AreShared};
+ghost use Rattle.cd_cells.specs.OneProof.{stored_prop, shared_prop};
 
 use crate::cell::{Look, Part, Stored, ValueId, small};
 use crate::lists::Lists;
+use crate::shared::Shared;
 use std::alloc::{AllocError, Global};
 
 /// A table of values, to which values are only added. A value, a name or a list of fields whose
@@ -13,21 +15,24 @@ use std::alloc::{AllocError, Global};
 pub struct Values {
     cells: Vec<Stored>,
     lists: Lists,
+    shared: Shared,
     ghost sound: { AreStored lists [] cells.items } by { stored_prop lists [] cells.items },
+    ghost known: { AreShared lists cells.items shared } by { shared_prop lists cells.items shared },
 }
 
 impl Values {
     ghost use Rattle.std.specs.Prelude.{◌≡◌, ◌<◌, ◌≤◌, ◌+◌, [], ◌∷◌, ◌++◌, List, None, length};
-    ghost use Rattle.std.specs.Prelude.{slice_index_or, pos, OnOk, OnErr, IfOk};
+    ghost use Rattle.std.specs.Prelude.{slice_index_or, pos, codes, OnOk, OnErr, IfOk, IfSome};
     ghost use Rattle.std.specs.Str.{chars};
     ghost use Rattle.cd_syntax.specs.Name.{IsLabel};
     ghost use Rattle.cd_model.specs.AllOf.{AllOf};
-    ghost use Rattle.cd_model.specs.Thing.{IsValue, IsAtom, IsRecord, LabelsRise};
+    ghost use Rattle.cd_model.specs.Thing.{IsValue, IsAtom, IsRecord, LabelsRise, NoField};
     ghost use Rattle.cd_model.specs.Thing.{Integer, Character, Atom as AnAtom, Pair as APair};
     ghost use Rattle.cd_model.specs.Thing.{Xml as AnXml, Record as ARecord, Closure as AClosure};
     ghost use Rattle.cd_cells.specs.Cells.{name_at, thing_at, fields_of, parts_at, thing_by};
     ghost use Rattle.cd_cells.specs.Cells.{HasEachOnce, IsPart, IsStored};
-    ghost use Rattle.cd_cells.specs.Table.{table, names, Grows};
+    ghost use Rattle.cd_cells.specs.Table.{table, names, IsAt, Grows};
+    ghost use Rattle.cd_cells.specs.SharedCells.{HasCell};
     ghost use Rattle.cd_cells.specs.Looked.{looked, ArePartsBelow};
 
     /// The table without values and names.
@@ -38,6 +43,7 @@ impl Values {
         Values {
             cells: Vec::new(alloc),
             lists: Lists::new(alloc),
+            shared: Shared::new(alloc),
         }
     }
 
@@ -47,6 +53,7 @@ impl Values {
         ensures number { IfOk result (λ id. id.0 ≡ length (table self.old)) }
         ensures added { let one = thing_by self.old.lists (table self.old) cell in
             OnOk result (table self.new ≡ table self.old ++ one ∷ []) }
+        ensures stored { IfOk result (λ id. HasCell self.new.cells.items id.0 cell) }
         ensures kept { OnErr result (table self.new ≡ table self.old) }
         ensures names { names self.new ≡ names self.old }
         ensures grows { Grows self.old self.new }
@@ -88,19 +95,44 @@ impl Values {
         self.push(Stored::Wide(at))
     }
 
-    /// Adds a character.
+    /// A character, which is added if no cell of it is known.
     ///
     /// # Errors
     ///
     /// Want of memory. No value is added.
+    #[inline]
+    #[tactic(auto, using(crate::proofs::TableGrows::stayed))]
     pub fn char(&mut self, c: char) -> Result<ValueId, AllocError>
-        ensures number { IfOk result (λ id. id.0 ≡ length (table self.old)) }
-        ensures added { OnOk result (table self.new ≡ table self.old ++ Character c ∷ []) }
+        ensures is { IfOk result (λ id. IsAt (table self.new) id.0 (Character c)) }
         ensures kept { OnErr result (table self.new ≡ table self.old) }
         ensures names { names self.new ≡ names self.old }
         ensures grows { Grows self.old self.new }
     {
-        self.push(Stored::Letter(c))
+        match self.known_char(c) {
+            Some(id) => Ok(id),
+            None => self.new_char(c),
+        }
+    }
+
+    fn known_char(&self, c: char) -> Option<ValueId>
+        ensures { IfSome result (λ id. IsAt (table self.now) id.0 (Character c)) }
+    {
+        self.shared.letters.get(c as usize)
+    }
+
+    fn new_char(&mut self, c: char) -> Result<ValueId, AllocError>
+        ensures is { IfOk result (λ id. IsAt (table self.new) id.0 (Character c)) }
+        ensures kept { OnErr result (table self.new ≡ table self.old) }
+        ensures names { names self.new ≡ names self.old }
+        ensures grows { Grows self.old self.new }
+    {
+        let id = self.push(Stored::Letter(c))?;
+        if !c.is_ascii() {
+            return Ok(id);
+        }
+        // Where memory runs out here, the character may get a cell again.
+        let _shared = self.shared.letters.put(c as usize, id);
+        Ok(id)
     }
 
     /// The number of a label, or of another name, in the table.
@@ -131,22 +163,77 @@ impl Values {
         self.lists.names.len()
     }
 
-    /// Adds the atom of a name.
+    /// The atom of a name, which is added if no cell of it is known.
     ///
     /// # Errors
     ///
     /// Want of memory. No value is added.
-    #[tactic(auto, using(crate::proofs::TableGrows::grew, crate::proofs::TableGrows::stayed))]
     pub fn atom(&mut self, name: &str) -> Result<ValueId, AllocError>
         requires { IsLabel (chars name.now) }
-        ensures number { IfOk result (λ id. id.0 ≡ length (table self.old)) }
-        ensures added { let one = AnAtom (chars name.now) in
-            OnOk result (table self.new ≡ table self.old ++ one ∷ []) }
+        ensures is { IfOk result (λ id. IsAt (table self.new) id.0 (AnAtom (chars name.now))) }
         ensures kept { OnErr result (table self.new ≡ table self.old) }
         ensures grows { Grows self.old self.new }
     {
         let name = self.label(name)?;
-        self.push(Stored::Atom(name))
+        match self.known_atom(name) {
+            Some(id) => Ok(id),
+            None => self.new_atom(name),
+        }
+    }
+
+    // The atom whose name has this number.
+    fn known_atom(&self, name: u32) -> Option<ValueId>
+        ensures { let one = AnAtom (name_at (names self.now) name) in
+            IfSome result (λ id. IsAt (table self.now) id.0 one) }
+    {
+        self.shared.atoms.get(name as usize)
+    }
+
+    fn new_atom(&mut self, name: u32) -> Result<ValueId, AllocError>
+        requires { IsLabel (name_at (names self.old) name) }
+        ensures is { let one = AnAtom (name_at (names self.old) name) in
+            IfOk result (λ id. IsAt (table self.new) id.0 one) }
+        ensures kept { OnErr result (table self.new ≡ table self.old) }
+        ensures names { names self.new ≡ names self.old }
+        ensures grows { Grows self.old self.new }
+    {
+        let id = self.push(Stored::Atom(name))?;
+        // Where memory runs out here, the atom may get a cell again.
+        let _shared = self.shared.atoms.put(name as usize, id);
+        Ok(id)
+    }
+
+    /// The atom `nil`, with which sequences end. It is added if no cell of it is known.
+    ///
+    /// # Errors
+    ///
+    /// Want of memory. No value is added.
+    #[inline]
+    pub fn nil(&mut self) -> Result<ValueId, AllocError>
+        ensures is { IfOk result (λ id. IsAt (table self.new) id.0 (AnAtom (codes "nil"))) }
+        ensures kept { OnErr result (table self.new ≡ table self.old) }
+        ensures grows { Grows self.old self.new }
+    {
+        match self.known_nil() {
+            Some(id) => Ok(id),
+            None => self.new_nil(),
+        }
+    }
+
+    fn known_nil(&self) -> Option<ValueId>
+        ensures { IfSome result (λ id. IsAt (table self.now) id.0 (AnAtom (codes "nil"))) }
+    {
+        self.shared.nil
+    }
+
+    fn new_nil(&mut self) -> Result<ValueId, AllocError>
+        ensures is { IfOk result (λ id. IsAt (table self.new) id.0 (AnAtom (codes "nil"))) }
+        ensures kept { OnErr result (table self.new ≡ table self.old) }
+        ensures grows { Grows self.old self.new }
+    {
+        let id = self.atom("nil")?;
+        self.shared.nil = Some(id);
+        Ok(id)
     }
 
     /// Adds a pair.
@@ -154,6 +241,7 @@ impl Values {
     /// # Errors
     ///
     /// Want of memory. No value is added.
+    #[inline]
     #[tactic(auto, using(crate::proofs::TableGrows::stayed))]
     pub fn pair(&mut self, first: ValueId, second: ValueId) -> Result<ValueId, AllocError>
         requires first { first.0 < length (table self.old) }
@@ -216,25 +304,69 @@ impl Values {
         self.lists.keep_parts(parts)
     }
 
-    /// Adds a record. Its labels rise strictly.
+    /// A record, whose labels rise strictly. It is added, unless it has no fields and a cell of
+    /// that record is known.
     ///
     /// # Errors
     ///
     /// Want of memory. No value is added.
-    #[tactic(auto, using(crate::proofs::TableGrows::grew, crate::proofs::TableGrows::stayed))]
     pub fn record_of(&mut self, parts: &[Part]) -> Result<ValueId, AllocError>
         requires parts { AllOf (IsPart (names self.old) (length (table self.old))) parts.now }
         requires rise { LabelsRise None (fields_of (names self.old) (table self.old) parts.now) }
-        ensures number { IfOk result (λ id. id.0 ≡ length (table self.old)) }
-        ensures added { let old = table self.old in
-            let one = ARecord (fields_of (names self.old) old parts.now) in
-            OnOk result (table self.new ≡ old ++ one ∷ []) }
+        ensures is { let one = ARecord (fields_of (names self.old) (table self.old) parts.now) in
+            IfOk result (λ id. IsAt (table self.new) id.0 one) }
+        ensures kept { OnErr result (table self.new ≡ table self.old) }
+        ensures names { names self.new ≡ names self.old }
+        ensures grows { Grows self.old self.new }
+    {
+        match parts {
+            [] => self.no_fields(),
+            [_, ..] => self.new_record(parts),
+        }
+    }
+
+    #[tactic(auto, using(crate::proofs::TableGrows::grew, crate::proofs::TableGrows::stayed))]
+    fn new_record(&mut self, parts: &[Part]) -> Result<ValueId, AllocError>
+        requires parts { AllOf (IsPart (names self.old) (length (table self.old))) parts.now }
+        requires rise { LabelsRise None (fields_of (names self.old) (table self.old) parts.now) }
+        ensures is { let one = ARecord (fields_of (names self.old) (table self.old) parts.now) in
+            IfOk result (λ id. IsAt (table self.new) id.0 one) }
         ensures kept { OnErr result (table self.new ≡ table self.old) }
         ensures names { names self.new ≡ names self.old }
         ensures grows { Grows self.old self.new }
     {
         let (from, count) = self.keep_parts(parts)?;
         self.push(Stored::Record(from, count))
+    }
+
+    // The record without fields.
+    fn no_fields(&mut self) -> Result<ValueId, AllocError>
+        ensures is { IfOk result (λ id. IsAt (table self.new) id.0 (ARecord NoField)) }
+        ensures kept { OnErr result (table self.new ≡ table self.old) }
+        ensures names { names self.new ≡ names self.old }
+        ensures grows { Grows self.old self.new }
+    {
+        match self.known_no_fields() {
+            Some(id) => Ok(id),
+            None => self.new_no_fields(),
+        }
+    }
+
+    fn known_no_fields(&self) -> Option<ValueId>
+        ensures { IfSome result (λ id. IsAt (table self.now) id.0 (ARecord NoField)) }
+    {
+        self.shared.no_fields
+    }
+
+    fn new_no_fields(&mut self) -> Result<ValueId, AllocError>
+        ensures is { IfOk result (λ id. IsAt (table self.new) id.0 (ARecord NoField)) }
+        ensures kept { OnErr result (table self.new ≡ table self.old) }
+        ensures names { names self.new ≡ names self.old }
+        ensures grows { Grows self.old self.new }
+    {
+        let id = self.push(Stored::Record(0, 0))?;
+        self.shared.no_fields = Some(id);
+        Ok(id)
     }
 
     /// Adds the closure of a function, which sees these names.

@@ -1,5 +1,5 @@
 -- A form that ends is a value.
-use Rattle.std.proofs.Common.{◌≡◌, ◌∙◌, ap, subst, sym, refl, ℕ, ◌<◌, List, ◌∷◌, Some, length}
+use Rattle.std.proofs.Common.{◌≡◌, ◌∙◌, ap, subst, sym, refl, ℕ, ◌<◌, ◌≤◌, ◌-◌, List, [], ◌∷◌, Some, drop, length}
 use Rattle.cd_syntax.specs.Name.{Name}
 use Rattle.cd_model.specs.AllOf.{AllOf}
 use Rattle.cd_model.specs.Thing.{Thing, Fields, NoField, Atom, Record}
@@ -8,7 +8,7 @@ use Rattle.cd_cells.specs.declared.values.Values.{Values}
 use Rattle.cd_cells.specs.declared.cell.ValueId.{ValueId}
 use Rattle.cd_cells.specs.declared.cell.Part.{Part}
 use Rattle.cd_cells.specs.Cells.{thing_at, IsPart}
-use Rattle.cd_cells.specs.Table.{table, names, Grows}
+use Rattle.cd_cells.specs.Table.{table, names, IsAt, Grows}
 use Rattle.cd_fields.specs.Open.{names_of, values_of, LabelsDiffer}
 use Rattle.cd_notation.specs.declared.form.OpenForm.{OpenForm}
 use Rattle.cd_notation.specs.declared.form.OpenForm.TheVariants as form
@@ -16,9 +16,11 @@ use Rattle.cd_notation.specs.declared.form.Expecting.{Expecting}
 use Rattle.cd_notation.specs.declared.form.Expecting.TheVariants as expecting
 use Rattle.cd_notation.specs.declared.reader.Reader.{Reader}
 use Rattle.cd_notation.specs.Inner.Open as the
-use Rattle.cd_notation.specs.Inner.Open.{IsAt, AreAt, AreLabelsAt, HasItems, HasLabels, IsOpen}
-use Rattle.cd_notation.specs.Inner.Leading.{Stands, Leads, IsGathered, ClosesForms, IsClosed, parts_of}
+use Rattle.cd_notation.specs.Inner.Open.{AreAt, AreLabelsAt, IsTop, HasItems, HasLabels, IsOpen}
+use Rattle.cd_notation.specs.Inner.Leading.{Stands, Leads, IsGathered, ClosesForms, IsClosed, parts_of, TakesRecord}
 use Rattle.cd_notation.proofs.Growth.{open_grown, items_grown}
+use Rattle.cd_notation.proofs.Collecting.{none_over}
+use Rattle.cd_notation.proofs.Cutting.{cut_top}
 use Rattle.cd_notation.proofs.Parts.{are_parts, same_fields, labels_differ}
 use Rattle.cd_notation.proofs.Stepping.{Led, lead_some, open_at}
 
@@ -39,6 +41,37 @@ ready values first from numbers below_numbers items below labels all parts named
       differ = labels_differ (names values) (table values) named.top has.top labels named.at named.apart;
       is = same;
     })
+
+no_names : (names : List Name) (numbers : List ℕ) (labels : List Name) → AreLabelsAt names numbers labels → numbers ≡ [] → labels ≡ []
+no_names names _ _ the.AreLabelsAt.none none = refl
+no_names names _ _ (the.AreLabelsAt.one number label numbers labels at are) none = absurd (cc none)
+
+-- a form without labels
+pub takes_none : (values new_values : Values) (old new : Reader) (first from id : ℕ) → length old.labels ≤ first → new.labels ≡ old.labels
+    → new.items ≡ drop (length old.items - from) old.items → IsAt (table new_values) id (Record NoField) → TakesRecord values old first from new_values id new
+takes_none values new_values old new first from id few same cut at below_numbers below named all has_labels has_items =
+    let none = none_over first old.labels has_labels.top below_numbers few has_labels.is in
+    record {
+      at = subst (λ (named : List Name). IsAt (table new_values) id (Record (with_fields named all NoField)))
+          (sym (no_names (names values) has_labels.top named has_labels.at none.0)) at;
+      labels = same ∙ none.1;
+      items = cut ∙ cut_top from has_items.top below old.items has_items.is.is has_items.is.under;
+    }
+
+-- its parts were collected
+pub takes_parts : (values new_values : Values) (old new : Reader) (first from id : ℕ) (parts : List Part)
+    → ((numbers below_numbers : List ℕ) (ids below : List ValueId) → IsTop first numbers below_numbers old.labels → IsTop from ids below old.items
+    → (parts ≡ parts_of numbers ids) × (new.labels ≡ below_numbers) × (new.items ≡ below))
+    → IsAt (table new_values) id (Record (with_fields (names_of (names values) parts) (values_of (table values) parts) NoField))
+    → TakesRecord values old first from new_values id new
+takes_parts values new_values old new first from id parts collects at below_numbers below named all has_labels has_items =
+    let got = collects has_labels.top below_numbers has_items.top below has_labels.is has_items.is in
+    let whole = ready values first from old.labels below_numbers old.items below named all parts has_labels has_items got.0 in
+    record {
+      at = subst (λ (fields : Fields). IsAt (table new_values) id (Record fields)) whole.is at;
+      labels = got.1;
+      items = got.2;
+    }
 
 -- the items of the form were gathered, and the value was put
 pub closed : (old one two : Values) (reader last : Reader) (from end id : ℕ) (left : List ValueId) (next : Expecting) → Grows old one
@@ -81,24 +114,24 @@ can_close old one reader from forms items below labels all frames grows are_form
 }
 
 -- a record ends
-pub ends_record : (values : Values) (next : Expecting) (reader : Reader) (frames rest : List Frame) (labels : List Name) (all : List Thing) (fields : Fields)
-    → frames ≡ InRecord labels all ∷ rest → fields ≡ with_fields labels all NoField → Stands values next reader (put (Record fields) rest)
+pub ends_record : (values : Values) (next : Expecting) (reader : Reader) (frames rest : List Frame) (labels : List Name) (all : List Thing)
+    → frames ≡ InRecord labels all ∷ rest → Stands values next reader (put (Record (with_fields labels all NoField)) rest)
     → Leads (close_record frames) values (Some next) reader
-ends_record values next reader frames rest labels all fields is made stands =
-    lead_some values next reader (close_record frames) (put (Record fields) rest)
-    (ap close_record is ∙ ap (λ (fields : Fields). Some (put (Record fields) rest)) (sym made)) stands
+ends_record values next reader frames rest labels all is stands =
+    lead_some values next reader (close_record frames) (put (Record (with_fields labels all NoField)) rest) (ap close_record is) stands
 
 -- a tag ends, and its content begins
 pub ends_tag : (values : Values) (tag id : ValueId) (forms : List OpenForm) (items : List ValueId) (numbers : List ℕ) (name : Name) (frames rest : List Frame)
-    (all : List Thing) (fields : Fields) {labels : List Name} → frames ≡ InTag name labels all ∷ rest → fields ≡ with_fields labels all NoField
-    → IsAt (table values) tag.0 (Atom name) → IsAt (table values) id.0 (Record fields) → IsOpen (names values) (table values) forms items numbers rest
+    (all : List Thing) (labels : List Name) → frames ≡ InTag name labels all ∷ rest
+    → IsAt (table values) tag.0 (Atom name) → IsAt (table values) id.0 (Record (with_fields labels all NoField))
+    → IsOpen (names values) (table values) forms items numbers rest
     → Led (close_tag frames) values expecting.Value (form.Content tag id ∷ forms) items numbers
-ends_tag values tag id forms items numbers name frames rest all fields {labels} is made tag_at id_at are = record {
-  now = state AtValue (InContent name fields ∷ rest);
-  is = ap close_tag is ∙ ap (λ (fields : Fields). Some (state AtValue (InContent name fields ∷ rest))) (sym made);
+ends_tag values tag id forms items numbers name frames rest all labels is tag_at id_at are = record {
+  now = state AtValue (InContent name (with_fields labels all NoField) ∷ rest);
+  is = ap close_tag is;
   stood = record {
-    frames = InContent name fields ∷ rest;
-    open_forms = the.content tag id name fields forms items numbers rest tag_at id_at are;
+    frames = InContent name (with_fields labels all NoField) ∷ rest;
+    open_forms = the.content tag id name (with_fields labels all NoField) forms items numbers rest tag_at id_at are;
     is = refl;
     within = tt;
   };

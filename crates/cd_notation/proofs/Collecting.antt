@@ -35,7 +35,7 @@ over from one before all (first ∷ rest) below popped more is =
     let same : first ≡ one = cc whole in
     record { rest = rest; is = ap (λ (x : _). x ∷ rest) same; others = record { is = cc whole; under = is.under } }
 
-none_over : {X : Type 0} (from : ℕ) (all top below : List X) → length all ≤ from → IsTop from top below all → (top ≡ []) × (all ≡ below)
+pub none_over : {X : Type 0} (from : ℕ) (all top below : List X) → length all ≤ from → IsTop from top below all → (top ≡ []) × (all ≡ below)
 none_over from all [] below less is = (refl, is.is)
 none_over from all (first ∷ rest) below less is = absurd (omega (arith, less, is.under, ap length is.is, length-append rest below))
 

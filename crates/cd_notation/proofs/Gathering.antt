@@ -5,11 +5,12 @@ use Rattle.cd_documents.specs.Machine.{pairs}
 use Rattle.cd_cells.specs.declared.values.Values.{Values}
 use Rattle.cd_cells.specs.declared.cell.ValueId.{ValueId}
 use Rattle.cd_cells.specs.Cells.{thing_at}
-use Rattle.cd_cells.specs.Table.{table, Grows}
+use Rattle.cd_cells.specs.Table.{table, IsAt, Grows}
+use Rattle.cd_cells.proofs.TableGrows.{last_at}
 use Rattle.cd_notation.specs.Inner.Open as the
-use Rattle.cd_notation.specs.Inner.Open.{IsAt, AreAt, IsTop, HasItems}
+use Rattle.cd_notation.specs.Inner.Open.{AreAt, IsTop, HasItems}
 use Rattle.cd_notation.specs.Inner.Leading.{IsGathered}
-use Rattle.cd_notation.proofs.Growth.{items_grown, added, further, itself}
+use Rattle.cd_notation.proofs.Growth.{items_grown, further, itself}
 
 -- the item on the top of a form
 pub record HasFirst (table : List Thing) (from : ℕ) (first : ValueId) (items below : List ValueId) (values : List Thing) : Type 0 where
@@ -78,7 +79,7 @@ still_on old new from first items below end id made grows is last more still =
       all = top.rest;
       last = Pair top.value still.last;
       has = items_grown old new grows from items below top.rest top.others;
-      at = added (table old) (table new) id (Pair top.value still.last) (is ∙ ap (λ (one : Thing). table old ++ one ∷ []) pair) last;
+      at = last_at (table old) (table new) id (Pair top.value still.last) (is ∙ ap (λ (one : Thing). table old ++ one ∷ []) pair) last;
       makes = ap (λ all. pairs all still.last) (sym top.is) ∙ still.makes;
     }
 

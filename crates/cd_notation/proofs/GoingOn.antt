@@ -6,12 +6,10 @@ use Rattle.std.specs.Str.{chars, IsUtf8}
 use Rattle.std.proofs.lemmas.Str.{encodes-chars}
 use Rattle.cd_syntax.specs.declared.tokens.Span.{Span}
 use Rattle.cd_syntax.specs.declared.tokens.Token.{Token}
-use Rattle.cd_syntax.specs.declared.tokens.TokenKind.{TokenKind}
 use Rattle.cd_syntax.specs.declared.tokens.LexError.{LexError}
 use Rattle.cd_syntax.specs.declared.tokens.LexError.TheVariants as lex
 use Rattle.cd_syntax.specs.Name.{Name}
-use Rattle.cd_syntax.specs.Tokens as tokens_of
-use Rattle.cd_syntax.specs.Tokens.{Spells, Writes, bytes, token_at}
+use Rattle.cd_syntax.specs.Tokens.{Spells, bytes}
 use Rattle.cd_syntax.specs.Faults.{Fails}
 use Rattle.cd_model.specs.Thing.{Thing}
 use Rattle.cd_documents.specs.Terminal.{terminal}
@@ -37,45 +35,25 @@ use Rattle.cd_notation.specs.declared.reader.Reader.{Reader}
 use Rattle.cd_notation.specs.declared.reader.Step.TheVariants as made_step
 use Rattle.cd_notation.specs.declared.terminal.Terminal.{Terminal as ATerminal}
 use Rattle.cd_notation.specs.Faulty.{IsFaultOf}
-use Rattle.cd_notation.specs.Inner.PlainTerminal.{plain_terminal, IsSoundKind}
+use Rattle.cd_notation.specs.Inner.PlainTerminal.{plain_terminal}
 use Rattle.cd_notation.specs.Inner.Open as the
 use Rattle.cd_notation.specs.Inner.Leading.{IsStep, plain_place}
 use Rattle.cd_notation.specs.Inner.Going.{Going, of_lexer, IsRefusal, ended_of}
-
--- the first token of a text is sound
-writes_sound : (joined : Bool) (written text : List ℕ) (kind : TokenKind) → Writes joined written text kind → IsSoundKind kind
-writes_sound joined _ _ _ (tokens_of.word name text is ends) = is
-writes_sound joined _ _ _ (tokens_of.number digits text are begins fits) = tt
-writes_sound joined _ _ _ (tokens_of.negative digits text apart are begins fits) = tt
-writes_sound joined _ _ _ (tokens_of.chars written characters text is) = tt
-writes_sound joined _ _ _ (tokens_of.text written characters text is) = tt
-writes_sound joined _ _ _ (tokens_of.atom name text is ends) = is
-writes_sound joined _ _ _ (tokens_of.sign is text longest no_comment no_number) = tt
-
-spelled_sound : (joined : Bool) (at : ℕ) (text : List ℕ) (tokens : List Token) → Spells joined at text tokens → (one : Token) (rest : List Token) → tokens ≡ one ∷ rest
-    → IsSoundKind one.kind
-spelled_sound _ _ _ _ (tokens_of.nothing _ _) one rest is = absurd (cc is)
-spelled_sound _ _ _ _ (tokens_of.dropped _ _ written text tokens dropped spells) one rest is = spelled_sound _ _ text tokens spells one rest is
-spelled_sound _ _ _ _ (tokens_of.token joined at written text kind tokens writes spells) one rest is =
-    let same : token_at at written kind ≡ one = cc is in
-    subst (λ (one : Token). IsSoundKind one.kind) same (writes_sound joined written text kind writes)
 
 -- a step of the reader, with what the machine does
 module _ (text : List ℕ) (lexer new_lexer : Lexer) (values new_values : Values) (next : Expecting) (reader new_reader : Reader)
     (kind : Kind) (span : Span) (name : Name) (is : ATerminal) (going : Going text lexer values next reader)
     (token_is : IsToken lexer new_lexer (token_with kind span name))
-    (terminal_is : IsSoundKind (with_characters kind name) → plain_terminal is name ≡ terminal (with_characters kind name)) where
+    (terminal_is : plain_terminal is name ≡ terminal (with_characters kind name)) where
   abbrev one : Token
   one = token_with kind span name
 
   abbrev stepped : Result State machine.Fault
   stepped = step_on most_open going.now span.from (plain_terminal is name)
 
-  -- what the machine makes of the token, if the rest spells tokens
-  same_step : (rest : List Token) → SpellsOn new_lexer rest → step most_open going.now one ≡ stepped
-  same_step rest spells =
-      let sound : IsSoundKind (with_characters kind name) = spelled_sound _ _ _ _ (token_is.spells rest spells) one rest refl in
-      ap (step_on most_open going.now span.from) (sym (terminal_is sound))
+  -- what the machine makes of the token
+  same_step : step most_open going.now one ≡ stepped
+  same_step = ap (step_on most_open going.now span.from) (sym terminal_is)
 
   abbrev going_on : List Token → Result State machine.Fault → Result (Option Thing) machine.Fault
   going_on rest made = ended (and_then made (λ after. reach most_open after rest))
@@ -83,7 +61,7 @@ module _ (text : List ℕ) (lexer new_lexer : Lexer) (values new_values : Values
   makes_on : (rest : List Token) → SpellsOn new_lexer rest → (all : List Token) × Spells false 0 text all × (run most_open start all ≡ going_on rest stepped)
   makes_on rest spells =
       let made = going.makes (one ∷ rest) (token_is.spells rest spells) in
-      (made.all, made.spells, made.runs ∙ ap (going_on rest) (same_step rest spells))
+      (made.all, made.spells, made.runs ∙ ap (going_on rest) same_step)
 
   pub goes_on : (after : Expecting) → IsStep span.from stepped new_values (made_step.Next after) new_reader → Going text new_lexer new_values after new_reader
   goes_on after led = by stepped refl led

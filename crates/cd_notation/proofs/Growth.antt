@@ -1,17 +1,16 @@
 -- What is open stays open in a table that has grown.
-use Rattle.std.proofs.Common.{◌≡◌, ◌∙◌, ap, subst, sym, append-nil, append_assoc, length-append, arith, ℕ, List, [], ◌∷◌, ◌++◌, length}
-use Rattle.std.proofs.lemmas.List.{get_or_at}
+use Rattle.std.proofs.Common.{◌≡◌, ◌∙◌, ap, subst, sym, append-nil, append_assoc, length-append, arith, ℕ, List, [], ◌++◌, length}
 use Rattle.cd_syntax.specs.Name.{Name, IsLabel}
 use Rattle.cd_model.specs.Thing.{Thing, Atom, Record}
 use Rattle.cd_documents.specs.Machine.{Frame}
 use Rattle.cd_cells.specs.declared.values.Values.{Values}
 use Rattle.cd_cells.specs.declared.cell.ValueId.{ValueId}
 use Rattle.cd_cells.specs.Cells.{thing_at, name_at}
-use Rattle.cd_cells.specs.Table.{table, names, Grows}
+use Rattle.cd_cells.specs.Table.{table, names, IsAt, Grows}
 use Rattle.cd_cells.proofs.InGrown.{thing_in_grown, name_in_grown}
 use Rattle.cd_notation.specs.declared.form.OpenForm.{OpenForm}
 use Rattle.cd_notation.specs.Inner.Open as the
-use Rattle.cd_notation.specs.Inner.Open.{IsAt, AreAt, IsLabelAt, AreLabelsAt, HasItems, HasLabels, IsOpen}
+use Rattle.cd_notation.specs.Inner.Open.{AreAt, IsLabelAt, AreLabelsAt, HasItems, HasLabels, IsOpen}
 
 pub itself : (values : Values) → Grows values values
 itself values = record {
@@ -24,12 +23,6 @@ further one two three first then = record {
   things = (first.things.0 ++ then.things.0, then.things.1 ∙ ap (λ all. all ++ then.things.0) first.things.1 ∙ append_assoc (table one) first.things.0 then.things.0);
   labels = (first.labels.0 ++ then.labels.0, then.labels.1 ∙ ap (λ all. all ++ then.labels.0) first.labels.1 ∙ append_assoc (names one) first.labels.0 then.labels.0);
 }
-
--- a value that was added last
-pub added : (all new : List Thing) (number : ℕ) (value : Thing) → new ≡ all ++ value ∷ [] → number ≡ length all → IsAt new number value
-added all new number value is last =
-    subst (λ (table : List Thing). IsAt table number value) (sym is)
-    record { within = omega (arith, last, length-append all (value ∷ [])); is = get_or_at all value [] (Atom []) number (sym last) }
 
 module _ (old new : Values) (grows : Grows old new) where
   pub at_grown : (number : ℕ) (value : Thing) → IsAt (table old) number value → IsAt (table new) number value

@@ -6,9 +6,9 @@ use Rattle.cd_model.specs.Thing.{Thing, Character}
 use Rattle.cd_documents.specs.Machine.{letters_onto}
 use Rattle.cd_cells.specs.declared.values.Values.{Values}
 use Rattle.cd_cells.specs.declared.cell.ValueId.{ValueId}
-use Rattle.cd_cells.specs.Table.{table, Grows}
+use Rattle.cd_cells.specs.Table.{table, IsAt, Grows}
 use Rattle.cd_notation.specs.Inner.Open as the
-use Rattle.cd_notation.specs.Inner.Open.{IsAt, AreAt, IsTop, HasItems}
+use Rattle.cd_notation.specs.Inner.Open.{AreAt, IsTop, HasItems}
 use Rattle.cd_notation.specs.Inner.Leading.{HasLetters}
 use Rattle.cd_notation.proofs.Growth.{are_grown, itself, further}
 
@@ -72,8 +72,3 @@ more_letters all cs from items new below values letters has = record {
   is = record { is = letters.is ∙ ap (λ (list : List ValueId). letters.top ++ list) has.is.is ∙ sym (append_assoc letters.top has.top below); under = has.is.under };
   at = subst (AreAt all (letters.top ++ has.top)) (sym (letters_over cs [] values)) (both_at all letters.top (letters_onto cs []) has.top values letters.at has.at);
 }
-
--- the characters alone
-pub letters_alone : (all : List Thing) (cs : List ℕ) (from : ℕ) (items new : List ValueId) → HasLetters all cs items new → from ≡ length items
-    → HasItems all from new items (letters_onto cs [])
-letters_alone all cs from items new letters under = record { top = letters.top; is = record { is = letters.is; under = under }; at = letters.at }

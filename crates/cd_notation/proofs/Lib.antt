@@ -5,7 +5,9 @@ pub mod Parts
 pub mod Stepping
 pub mod Cutting
 pub mod Lettering
+pub mod TextFromEnd
 pub mod Collecting
 pub mod GoingOn
 pub mod Closing
-pub mod Words
+pub mod OneCharacter
+pub mod Underscore

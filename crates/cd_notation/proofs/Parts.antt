@@ -1,12 +1,12 @@
 -- The labels and the values of a form as parts.
-use Rattle.std.proofs.Common.{◌≡◌, ◌∙◌, ap, subst, sym, refl, true≢false, arith, ℕ, zero, suc, ◌<◌, ◌==◌, Bool, true, false, ◌||◌, List, [], ◌∷◌, ◌++◌, length, map, reverse, Result, Ok, Err, IfOk, OnOk}
+use Rattle.std.proofs.Common.{◌≡◌, ◌∙◌, ap, subst, sym, refl, true≢false, arith, ℕ, zero, suc, ◌<◌, ◌==◌, Bool, true, false, ◌||◌, List, [], ◌∷◌, ◌++◌, length, map, reverse}
 use Rattle.std.proofs.lemmas.List.{reverse-append, reverse-reverse, map-append}
 use Rattle.std.specs.Prelude.{bytes_eq}
 use Rattle.std.proofs.lemmas.Slice.Eq.{bytes_eq-Decides}
 use Rattle.std.proofs.lemmas.Bool.Decides.{Decides-eqb, same_from_decides}
 use Rattle.cd_syntax.specs.Name.{Name, IsLabel}
 use Rattle.cd_model.specs.AllOf.{AllOf}
-use Rattle.cd_model.specs.Thing.{Thing, Fields, NoField, Record}
+use Rattle.cd_model.specs.Thing.{Thing, Fields, NoField}
 use Rattle.cd_documents.specs.Document.{is_among, with_field}
 use Rattle.cd_documents.specs.Machine.{with_fields}
 use Rattle.cd_cells.specs.declared.cell.Part.{Part}
@@ -14,9 +14,8 @@ use Rattle.cd_cells.specs.declared.cell.ValueId.{ValueId}
 use Rattle.cd_cells.specs.Cells.{thing_at, name_at, IsPart, HasEachOnce}
 use Rattle.cd_fields.specs.Open.{is_label_of, names_of, values_of, fields_read, LabelsDiffer}
 use Rattle.cd_notation.specs.Inner.Open as the
-use Rattle.cd_notation.specs.Inner.Open.{IsAt, AreAt, IsLabelAt, AreLabelsAt, AreApart}
+use Rattle.cd_notation.specs.Inner.Open.{AreAt, IsLabelAt, AreLabelsAt, AreApart}
 use Rattle.cd_notation.specs.Inner.Leading.{parts_of}
-use Rattle.cd_notation.proofs.Growth.{added}
 
 or_left : (b c : Bool) → (b || c) ≡ false → b ≡ false
 or_left false c is = refl
@@ -145,8 +144,3 @@ read_back names table parts =
       ap reverse (map_reverse (λ (part : Part). name_at names part.label) parts) ∙ reverse-reverse (names_of names parts),
       ap reverse (map_reverse (λ (part : Part). thing_at table part.value) parts) ∙ reverse-reverse (values_of table parts),
     )
-
-pub record_made : {E : Type 0} (result : Result ValueId E) (old new : List Thing) (one other : Fields) → IfOk result (λ id. id.0 ≡ length old)
-    → OnOk result (new ≡ old ++ Record one ∷ []) → one ≡ other → IfOk result (λ id. IsAt new id.0 (Record other))
-record_made (Ok id) old new one other last is same = added old new id.0 (Record other) (is ∙ ap (λ (fields : Fields). old ++ Record fields ∷ []) same) last
-record_made (Err error) old new one other last is same = tt

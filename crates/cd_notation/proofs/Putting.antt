@@ -6,16 +6,17 @@ use Rattle.cd_documents.specs.Machine.{Frame, State, state, put, InTuple, InSequ
 use Rattle.cd_cells.specs.declared.values.Values.{Values}
 use Rattle.cd_cells.specs.declared.cell.ValueId.{ValueId}
 use Rattle.cd_cells.specs.Cells.{thing_at}
-use Rattle.cd_cells.specs.Table.{table, names, Grows}
+use Rattle.cd_cells.specs.Table.{table, names, IsAt, Grows}
+use Rattle.cd_cells.proofs.TableGrows.{last_at}
 use Rattle.cd_notation.specs.declared.form.OpenForm.{OpenForm}
 use Rattle.cd_notation.specs.declared.form.OpenForm.TheVariants as form
 use Rattle.cd_notation.specs.declared.form.Expecting.{Expecting}
 use Rattle.cd_notation.specs.declared.form.Expecting.TheVariants as expecting
 use Rattle.cd_notation.specs.declared.reader.Reader.{Reader}
 use Rattle.cd_notation.specs.Inner.Open as the
-use Rattle.cd_notation.specs.Inner.Open.{IsAt, AreAt, IsTop, HasItems, IsOpen}
+use Rattle.cd_notation.specs.Inner.Open.{AreAt, IsTop, HasItems, IsOpen}
 use Rattle.cd_notation.specs.Inner.Leading.{IsOpenIn, HasForms, Stands, after_value_in, plain_place, frames_at, IsWithin}
-use Rattle.cd_notation.proofs.Growth.{open_grown, added, further, itself}
+use Rattle.cd_notation.proofs.Growth.{open_grown, further, itself}
 
 pub record StillPuts (values : Values) (forms : List OpenForm) (items : List ValueId) (labels : List ℕ) (value : ℕ) (made : State) : Type 0 where
   pub is : Thing
@@ -76,7 +77,7 @@ still_puts one two tag attributes forms items labels value id made grows is last
     record {
       is = Xml (Atom top.name) (Record top.all) top.is;
       frames = top.frames;
-      at = added (table one) (table two) id (Xml (Atom top.name) (Record top.all) top.is) (is ∙ ap (λ (new : Thing). table one ++ new ∷ []) xml) last;
+      at = last_at (table one) (table two) id (Xml (Atom top.name) (Record top.all) top.is) (is ∙ ap (λ (new : Thing). table one ++ new ∷ []) xml) last;
       open_forms = open_grown one two grows forms items labels top.frames top.open_forms;
       makes = top.makes;
     }

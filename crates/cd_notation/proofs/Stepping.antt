@@ -5,14 +5,14 @@ use Rattle.std.proofs.Common.{leb, ltb, Decides, true≢false, ◌<◌, ◌⊎�
 use Rattle.std.proofs.lemmas.Bool.Decides.{leb_tells, Decides-ltb}
 use Rattle.cd_syntax.specs.Name.{Name, only}
 use Rattle.cd_model.specs.Thing.{Thing, Atom, Character}
-use Rattle.cd_documents.specs.Document.{the_nil, is_among, characters_before}
+use Rattle.cd_documents.specs.Document.{the_nil, is_among}
 use Rattle.cd_documents.specs.Terminal as plain
 use Rattle.cd_documents.specs.Terminal.{Terminal}
 use Rattle.cd_documents.specs.Machine.{Frame, State, state, InTuple, InSequence, InRecord, InTag, AtValue, AtItem, AtField, AtAttribute, AtEqual, put, pairs, letters_onto, at_value, at_item, after_part, label_of, close_record, close_tag}
 use Rattle.cd_cells.specs.declared.values.Values.{Values}
 use Rattle.cd_cells.specs.declared.cell.ValueId.{ValueId}
 use Rattle.cd_cells.specs.Cells.{HasEachOnce}
-use Rattle.cd_cells.specs.Table.{table, names, Grows}
+use Rattle.cd_cells.specs.Table.{table, names, IsAt, Grows}
 use Rattle.cd_fields.specs.Open.{is_label_of}
 use Rattle.cd_notation.specs.declared.form.OpenForm.{OpenForm}
 use Rattle.cd_notation.specs.declared.form.OpenForm.TheVariants as form
@@ -20,13 +20,12 @@ use Rattle.cd_notation.specs.declared.form.Expecting.{Expecting}
 use Rattle.cd_notation.specs.declared.form.Expecting.TheVariants as expecting
 use Rattle.cd_notation.specs.declared.reader.Reader.{Reader}
 use Rattle.cd_notation.specs.Inner.Open as the
-use Rattle.cd_notation.specs.Inner.Open.{IsAt, AreAt, IsLabelAt, AreLabelsAt, AreApart, IsTop, HasItems, HasLabels, IsOpen}
-use Rattle.cd_notation.specs.Inner.Leading.{Stands, Leads, HasLetters, IsGathered, labels_from, frames_at}
+use Rattle.cd_notation.specs.Inner.Open.{AreAt, IsLabelAt, AreLabelsAt, AreApart, IsTop, HasItems, HasLabels, IsOpen}
+use Rattle.cd_notation.specs.Inner.Leading.{Stands, Leads, HasLetters, labels_from, frames_at}
 use Rattle.cd_notation.proofs.Growth.{at_grown, items_grown, all_labels_grown, open_grown}
 use Rattle.cd_notation.proofs.Putting.{Stood, stands_by}
 use Rattle.cd_notation.proofs.Parts.{same_test}
-use Rattle.cd_notation.proofs.Lettering.{more_letters, letters_alone}
-use Rattle.cd_documents.proofs.Completing.{letters_pairs}
+use Rattle.cd_notation.proofs.Lettering.{more_letters}
 
 pub lead_some : (values : Values) (next : Expecting) (reader : Reader) (made : Option State) (now : State) → made ≡ Some now → Stands values next reader now
     → Leads made values (Some next) reader
@@ -365,15 +364,6 @@ head_is one two all rest others is other = cc (is, other)
 pub open_at : (labels_named : List Name) (table : List Thing) (forms : List OpenForm) (items new : List ValueId) (labels : List ℕ) (frames : List Frame) → new ≡ items
     → IsOpen labels_named table forms items labels frames → IsOpen labels_named table forms new labels frames
 open_at names table forms items new labels frames is are = subst (λ (list : List ValueId). IsOpen names table forms list labels frames) (sym is) are
-
--- the characters of a text are a value
-pub text_made : (one two : Values) (all : List Thing) (cs : List ℕ) (from end id : ℕ) (items more left : List ValueId) → HasLetters (table one) cs items more → from ≡ length items
-    → Grows one two → IsAt (table two) end the_nil → IsGathered (table two) from more end all left id
-    → (left ≡ items) × IsAt all id (characters_before cs the_nil)
-text_made one two all cs from end id items more left letters under grows at gathers =
-    let has = items_grown one two grows from more items (letters_onto cs []) (letters_alone (table one) cs from items more letters under) in
-    let made = gathers items (letters_onto cs []) the_nil has at in
-    (made.0, subst (λ (value : Thing). IsAt all id value) (letters_pairs cs [] the_nil) made.1)
 
 pub no_head : (one : OpenForm) (all rest : List OpenForm) → all ≡ [] → all ≡ one ∷ rest → ⊥
 no_head one all rest none is = absurd (cc (none, is))

@@ -8,7 +8,6 @@ ghost use Rattle.cd_notation.specs.Inner.PlainTerminal.{plain_terminal, IsNamed}
 ghost use Rattle.cd_notation.specs.Inner.Leading.{HasForms, Follows};
 ghost use Rattle.cd_notation.specs.Inner.Leading.{labels_from};
 
-use crate::fields::{collect, record_of};
 use crate::form::{Expecting, OpenForm};
 use crate::reader::Reader;
 use crate::terminal::Terminal;
@@ -76,8 +75,7 @@ impl Reader {
             return Ok(None);
         };
         self.forms.drop_top();
-        let parts = collect(self.alloc, &mut self.labels, &mut self.items, first, from)?;
-        let id = record_of(values, &mut self.shared, parts)?;
+        let id = self.take_record(values, first, from)?;
         Ok(Some(self.put(values, id)?))
     }
 

@@ -50,7 +50,7 @@ impl Reader {
         let OpenForm::Sequence(from) = form else {
             return Ok(None);
         };
-        let nil = self.shared.nil(values)?;
+        let nil = values.nil()?;
         self.forms.drop_top();
         Ok(self.close(values, from, nil)?)
     }
@@ -86,7 +86,7 @@ impl Reader {
         let OpenForm::Sequence(_) = form else {
             return Ok(self.character(values, name)?);
         };
-        letters(values, &mut self.shared, &mut self.items, name)?;
+        letters(values, &mut self.items, name)?;
         Ok(Some(Expecting::Item))
     }
 

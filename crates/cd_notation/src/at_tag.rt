@@ -10,7 +10,6 @@ ghost use Rattle.cd_documents.specs.Machine as machine;
 ghost use Rattle.cd_notation.specs.Inner.PlainTerminal.{plain_terminal, IsNamed};
 ghost use Rattle.cd_notation.specs.Inner.Leading.{HasForms, Follows};
 
-use crate::fields::{collect, record_of};
 use crate::form::{Expecting, OpenForm};
 use crate::reader::Reader;
 use crate::terminal::Terminal;
@@ -47,13 +46,14 @@ impl Reader {
             values.old self.old values.new next self.new) }
         ensures grows { Grows values.old values.new }
     {
-        let tag = self.shared.atom(values, name)?;
+        let tag = values.atom(name)?;
         let first = self.labels.len();
         self.forms
             .push(OpenForm::Tag(tag, first, self.items.len()))?;
         Ok(Some(Expecting::Attribute))
     }
 
+    #[inline(always)]
     pub(crate) fn at_attribute(
         &mut self,
         values: &mut Values,
@@ -88,8 +88,7 @@ impl Reader {
             return Ok(None);
         };
         self.forms.drop_top();
-        let parts = collect(self.alloc, &mut self.labels, &mut self.items, first, from)?;
-        let id = record_of(values, &mut self.shared, parts)?;
+        let id = self.take_record(values, first, from)?;
         self.forms.push(OpenForm::Content(tag, id))?;
         Ok(Some(Expecting::Value))
     }

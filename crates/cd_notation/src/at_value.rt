@@ -16,13 +16,14 @@ ghost use Rattle.cd_notation.specs.Inner.PlainTerminal.{plain_terminal, IsNamed}
 ghost use Rattle.cd_notation.specs.Inner.Leading.{HasForms, Follows};
 
 use crate::form::{Expecting, OpenForm};
-use crate::items::{gather, letters};
+use crate::items::text_before;
 use crate::reader::Reader;
 use crate::terminal::{Terminal, only_character};
 use cd_cells::Values;
 use std::alloc::AllocError;
 
 impl Reader {
+    #[inline(always)]
     pub(crate) fn at_value(
         &mut self,
         values: &mut Values,
@@ -74,7 +75,7 @@ impl Reader {
         let Some(c) = only_character(name) else {
             return Ok(None);
         };
-        let id = self.shared.character(values, c)?;
+        let id = values.char(c)?;
         Ok(Some(self.put(values, id)?))
     }
 
@@ -85,10 +86,8 @@ impl Reader {
             values.old self.old values.new next self.new) }
         ensures grows { Grows values.old values.new }
     {
-        let from = self.items.len();
-        letters(values, &mut self.shared, &mut self.items, name)?;
-        let nil = self.shared.nil(values)?;
-        let id = gather(values, &mut self.items, from, nil)?;
+        let nil = values.nil()?;
+        let id = text_before(values, name, nil)?;
         Ok(Some(self.put(values, id)?))
     }
 
@@ -100,7 +99,7 @@ impl Reader {
             values.old self.old values.new next self.new) }
         ensures grows { Grows values.old values.new }
     {
-        let id = self.shared.atom(values, name)?;
+        let id = values.atom(name)?;
         Ok(Some(self.put(values, id)?))
     }
 

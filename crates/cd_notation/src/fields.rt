@@ -1,42 +1,71 @@
-ghost use Rattle.std.specs.Prelude.{◌≡◌, ℕ, List, length, IfOk};
+ghost use Rattle.std.specs.Prelude.{◌≡◌, ℕ, List, length, IfOk, OnOk};
 ghost use Rattle.cd_model.specs.AllOf.{AllOf};
 ghost use Rattle.cd_model.specs.Thing.{NoField, Record as ARecord};
 ghost use Rattle.cd_cells.specs.declared.cell.ValueId.{ValueId as AnId};
 ghost use Rattle.cd_cells.specs.Cells.{IsPart};
-ghost use Rattle.cd_cells.specs.Table.{table, names, Grows};
+ghost use Rattle.cd_cells.specs.Table.{table, names, IsAt, Grows};
 ghost use Rattle.cd_fields.specs.Open.{names_of, values_of, LabelsDiffer};
 ghost use Rattle.cd_documents.specs.Machine.{with_fields};
-ghost use Rattle.cd_notation.specs.Inner.Open.{IsAt, IsTop};
+ghost use Rattle.cd_notation.specs.Inner.Open.{IsTop};
 ghost use Rattle.cd_notation.specs.Inner.Leading.{parts_of, IsTaken};
+ghost use Rattle.cd_notation.specs.Inner.Leading.{HasFields, TakesRecord};
 
 use crate::labels::Labels;
-use crate::shared::Shared;
+use crate::reader::Reader;
 use crate::stack::Stack;
 use cd_cells::{Part, ValueId, Values};
 use cd_fields::sort_fields;
-use std::alloc::{AllocError, Global};
+use std::alloc::AllocError;
 
-/// The labels and the items down to these numbers as parts, the last one first. They are taken
-/// away.
-pub(crate) fn collect(
-    alloc: Global,
+impl Reader {
+    /// The record of a form, whose labels and items begin at these numbers. They are taken away.
+    pub(crate) fn take_record(
+        &mut self,
+        values: &mut Values,
+        first: usize,
+        from: usize,
+    ) -> Result<ValueId, AllocError>
+        requires { HasFields values.old self.old first from }
+        ensures is { IfOk result (λ id.
+            TakesRecord values.old self.old first from values.new id.0 self.new) }
+        ensures forms { self.new.forms ≡ self.old.forms }
+        ensures grows { Grows values.old values.new }
+    {
+        if self.labels.len() <= first {
+            self.items.cut(from);
+            return Ok(values.record_of(&[])?);
+        }
+        collect(
+            &mut self.parts,
+            &mut self.labels,
+            &mut self.items,
+            first,
+            from,
+        )?;
+        Ok(record_of_parts(values, &mut self.parts)?)
+    }
+}
+
+// The labels and the items down to these numbers as parts, the last one first. They are taken away.
+fn collect(
+    parts: &mut Vec<Part>,
     labels: &mut Labels,
     items: &mut Stack<ValueId>,
     first: usize,
     from: usize,
-) -> Result<Vec<Part>, AllocError>
-    ensures { IfOk result (λ parts. (numbers below_numbers : List ℕ) (ids below : List AnId)
+) -> Result<(), AllocError>
+    ensures { OnOk result ((numbers below_numbers : List ℕ) (ids below : List AnId)
         → IsTop first numbers below_numbers labels.old → IsTop from ids below items.old
-        → (parts.items ≡ parts_of numbers ids) × (labels.new ≡ below_numbers)
+        → (parts.new.items ≡ parts_of numbers ids) × (labels.new ≡ below_numbers)
         × (items.new ≡ below)) }
 {
-    let mut parts = Vec::new(alloc);
+    parts.clear();
     while let Some(part) = take_part(labels, items, first, from)? {
         parts.push(part)?;
     }
     labels.cut(first);
     items.cut(from);
-    Ok(parts)
+    Ok(())
 }
 
 fn take_part(
@@ -60,23 +89,15 @@ fn take_part(
     Ok(Some(Part::of(label, value)?))
 }
 
-/// The record of parts, of which the last one stands first.
-pub(crate) fn record_of(
-    values: &mut Values,
-    shared: &mut Shared,
-    parts: Vec<Part>,
-) -> Result<ValueId, AllocError>
-    requires parts { AllOf (IsPart (names values.old) (length (table values.old))) parts.items }
-    requires differ { LabelsDiffer parts.items }
+// The record of parts, of which the last one stands first.
+fn record_of_parts(values: &mut Values, parts: &mut Vec<Part>) -> Result<ValueId, AllocError>
+    requires parts { AllOf (IsPart (names values.old) (length (table values.old))) parts.old.items }
+    requires differ { LabelsDiffer parts.old.items }
     ensures is { IfOk result (λ id. IsAt (table values.new) id.0
-        (ARecord (with_fields (names_of (names values.old) parts.items)
-        (values_of (table values.old) parts.items) NoField))) }
+        (ARecord (with_fields (names_of (names values.old) parts.old.items)
+        (values_of (table values.old) parts.old.items) NoField))) }
     ensures grows { Grows values.old values.new }
 {
-    if parts.as_slice().is_empty() {
-        return shared.no_fields(values);
-    }
-    let mut parts = parts;
     sorted_record(values, parts.as_mut_slice())
 }
 

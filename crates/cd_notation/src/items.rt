@@ -2,11 +2,11 @@ ghost use Rattle.std.specs.Prelude.{◌≡◌, ◌<◌, List, length, IfOk, OnOk
 ghost use Rattle.std.specs.Str.{chars};
 ghost use Rattle.cd_model.specs.Thing.{Thing as AThing};
 ghost use Rattle.cd_cells.specs.declared.cell.ValueId.{ValueId as AnId};
-ghost use Rattle.cd_cells.specs.Table.{table, Grows};
+ghost use Rattle.cd_cells.specs.Table.{table, IsAt, Grows};
+ghost use Rattle.cd_documents.specs.Document.{characters_before};
 ghost use Rattle.cd_notation.specs.Inner.Open.{HasItems};
 ghost use Rattle.cd_notation.specs.Inner.Leading.{HasLetters, IsGathered};
 
-use crate::shared::Shared;
 use crate::stack::Stack;
 use cd_cells::{ValueId, Values};
 use std::alloc::AllocError;
@@ -38,7 +38,6 @@ pub(crate) fn gather(
 /// Puts characters on the items.
 pub(crate) fn letters(
     values: &mut Values,
-    shared: &mut Shared,
     items: &mut Stack<ValueId>,
     text: &str,
 ) -> Result<(), AllocError>
@@ -47,8 +46,28 @@ pub(crate) fn letters(
     ensures grows { Grows values.old values.new }
 {
     for c in text.chars() {
-        let id = shared.character(values, c)?;
+        let id = values.char(c)?;
         items.push(id)?;
     }
     Ok(())
+}
+
+/// The characters of a text as pairs that end so.
+#[inline(never)]
+pub(crate) fn text_before(
+    values: &mut Values,
+    text: &str,
+    end: ValueId,
+) -> Result<ValueId, AllocError>
+    requires { end.0 < length (table values.old) }
+    ensures pairs { IfOk result (λ id. (last : AThing) → IsAt (table values.old) end.0 last
+        → IsAt (table values.new) id.0 (characters_before (chars text.now) last)) }
+    ensures grows { Grows values.old values.new }
+{
+    let mut end = end;
+    for c in text.chars().rev() {
+        let letter = values.char(c)?;
+        end = values.pair(letter, end)?;
+    }
+    Ok(end)
 }

@@ -12,7 +12,6 @@ mod labels;
 mod next_token;
 pub mod read;
 mod reader;
-mod shared;
 mod stack;
 mod terminal;
 

@@ -38,7 +38,7 @@ impl Reader {
             values.new made self.new) }
         ensures grows { Grows values.old values.new }
     {
-        if is.opens() && self.is_full(expecting) {
+        if self.is_full(expecting) && is.opens() {
             return Ok(Step::TooDeep);
         }
         match self.after_terminal(values, expecting, is, name)? {

@@ -1,25 +1,23 @@
 ghost use Rattle.std.specs.Prelude.{◌≡◌, ◌<◌, [], List, length, IfOk, Some};
 ghost use Rattle.cd_model.specs.Thing.{Thing as AThing};
-ghost use Rattle.cd_cells.specs.Table.{table, Grows};
+ghost use Rattle.cd_cells.specs.Table.{table, IsAt, Grows};
 ghost use Rattle.cd_documents.specs.Machine.{Frame as AFrame, put as put_of};
-ghost use Rattle.cd_notation.specs.Inner.Open.{IsAt};
 ghost use Rattle.cd_notation.specs.Inner.Leading.{IsOpenIn, HasForms, Stands, after_value_in};
 
 use crate::form::{Expecting, OpenForm};
 use crate::labels::Labels;
-use crate::shared::Shared;
 use crate::stack::Stack;
-use cd_cells::{ValueId, Values};
+use cd_cells::{Part, ValueId, Values};
 use std::alloc::{AllocError, Global};
 
 /// The forms that are open, with their items and their labels.
 #[derive(Drop)]
 pub(crate) struct Reader {
-    pub(crate) alloc: Global,
     pub(crate) forms: Stack<OpenForm>,
     pub(crate) items: Stack<ValueId>,
     pub(crate) labels: Labels,
-    pub(crate) shared: Shared,
+    /// The parts of the record that was taken last.
+    pub(crate) parts: Vec<Part>,
 }
 
 /// What a token leads to.
@@ -41,11 +39,10 @@ impl Reader {
         ensures labels { result.labels ≡ [] }
     {
         Reader {
-            alloc,
             forms: Stack::new(alloc),
             items: Stack::new(alloc),
             labels: Labels::new(alloc),
-            shared: Shared::new(alloc),
+            parts: Vec::new(alloc),
         }
     }
 

@@ -2,16 +2,17 @@
 use Rattle.std.specs.Prelude.{◌≡◌, ◌<◌, ◌≤◌, ◌⊎◌, ◌++◌, ℕ, List, [], ◌∷◌, length}
 use Rattle.std.specs.Prelude.{Option, Some, None}
 use Rattle.std.specs.Prelude.{Result, Ok, Err}
-use Rattle.cd_model.specs.Thing.{Thing}
+use Rattle.cd_syntax.specs.Name.{Name}
+use Rattle.cd_model.specs.Thing.{Thing, NoField, Record}
 use Rattle.cd_documents.specs.Machine.{Place, AtValue, AtItem, AfterPart, AtField, AfterField}
 use Rattle.cd_documents.specs.Machine.{AtTag, AtAttribute, AfterAttribute, AtEqual, Done}
-use Rattle.cd_documents.specs.Machine.{Frame, InTag, State, state, letters_onto}
+use Rattle.cd_documents.specs.Machine.{Frame, InTag, State, state, letters_onto, with_fields}
 use Rattle.cd_documents.specs.Machine as machine
 use Rattle.cd_cells.specs.declared.values.Values.{Values}
 use Rattle.cd_cells.specs.declared.cell.ValueId.{ValueId}
 use Rattle.cd_cells.specs.declared.cell.Part.{Part}
 use Rattle.cd_cells.specs.Cells.{thing_at}
-use Rattle.cd_cells.specs.Table.{table, names}
+use Rattle.cd_cells.specs.Table.{table, names, IsAt}
 use Rattle.cd_notation.specs.declared.form.OpenForm.{OpenForm}
 use Rattle.cd_notation.specs.declared.form.OpenForm.TheVariants as form
 use Rattle.cd_notation.specs.declared.form.Expecting.{Expecting}
@@ -19,7 +20,7 @@ use Rattle.cd_notation.specs.declared.form.Expecting.TheVariants as expecting
 use Rattle.cd_notation.specs.declared.reader.Reader.{Reader}
 use Rattle.cd_notation.specs.declared.reader.Step.{Step}
 use Rattle.cd_notation.specs.declared.reader.Step.TheVariants as step
-use Rattle.cd_notation.specs.Inner.Open.{IsAt, AreAt, HasItems, IsOpen}
+use Rattle.cd_notation.specs.Inner.Open.{AreAt, HasItems, HasLabels, IsOpen}
 
 -- the forms that are open in a reader
 abbrev pub IsOpenIn : Values → Reader → List Frame → Type 0
@@ -127,6 +128,29 @@ IsClosed old_values old from end values next new = (below : List ValueId) (all :
     → IsAt (table old_values) end last
     → IsOpen (names old_values) (table old_values) old.forms below old.labels frames
     → Leads (Some (machine.put (machine.pairs all last) frames)) values next new
+
+-- the labels and the items of a form begin at these numbers
+pub record HasFields (values : Values) (reader : Reader) (first from : ℕ) : Type 0 where
+  pub below_numbers : List ℕ
+  pub below : List ValueId
+  pub named : List Name
+  pub all : List Thing
+  pub labels : HasLabels (names values) first reader.labels below_numbers named
+  pub items : HasItems (table values) from reader.items below all
+
+-- they were taken away, and their record has this number
+pub record IsRecordOf (named : List Name) (all : List Thing) (below_numbers : List ℕ)
+    (below : List ValueId) (values : Values) (id : ℕ) (new : Reader) : Type 0 where
+  pub at : IsAt (table values) id (Record (with_fields named all NoField))
+  pub labels : new.labels ≡ below_numbers
+  pub items : new.items ≡ below
+
+abbrev pub TakesRecord : Values → Reader → (first from : ℕ) → Values → (id : ℕ) → Reader → Type 0
+TakesRecord values old first from new_values id new = (below_numbers : List ℕ)
+    (below : List ValueId) (named : List Name) (all : List Thing)
+    → HasLabels (names values) first old.labels below_numbers named
+    → HasItems (table values) from old.items below all
+    → IsRecordOf named all below_numbers below new_values id new
 
 -- a label and an item of a form are taken off, as long as it has both
 pub record TakesPart (first from : ℕ) (labels : List ℕ) (items : List ValueId) (part : Part)

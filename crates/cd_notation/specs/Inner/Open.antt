@@ -1,18 +1,14 @@
 -- The forms that are open in a reader, and those of the machine that they are.
-use Rattle.std.specs.Prelude.{◌≡◌, ◌<◌, ℕ, false, List, [], ◌∷◌, ◌++◌, length}
+use Rattle.std.specs.Prelude.{◌≡◌, ℕ, false, List, [], ◌∷◌, ◌++◌, length}
 use Rattle.cd_syntax.specs.Name.{Name, IsLabel}
 use Rattle.cd_model.specs.Thing.{Thing, Atom, Record, Fields}
 use Rattle.cd_documents.specs.Document.{is_among}
 use Rattle.cd_documents.specs.Machine.{Frame, InTuple, InSequence, InRecord, InTag, InContent}
 use Rattle.cd_cells.specs.declared.cell.ValueId.{ValueId}
-use Rattle.cd_cells.specs.Cells.{thing_at, name_at}
+use Rattle.cd_cells.specs.Cells.{name_at}
+use Rattle.cd_cells.specs.Table.{IsAt}
 use Rattle.cd_notation.specs.declared.form.OpenForm.{OpenForm}
 use Rattle.cd_notation.specs.declared.form.OpenForm.TheVariants as form
-
--- the value with this number is this one
-pub record IsAt (table : List Thing) (number : ℕ) (value : Thing) : Type 0 where
-  pub within : number < length table
-  pub is : thing_at table number ≡ value
 
 pub data AreAt (table : List Thing) : List ValueId → List Thing → Type 0 where
   none : AreAt table [] []

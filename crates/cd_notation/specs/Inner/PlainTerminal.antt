@@ -1,8 +1,5 @@
 -- What a token is in a document, and the names of tokens.
-use Rattle.std.specs.Prelude.{IsTrue}
-use Rattle.cd_syntax.specs.declared.tokens.TokenKind.{TokenKind}
-use Rattle.cd_syntax.specs.declared.tokens.TokenKind.TheVariants as token
-use Rattle.cd_syntax.specs.Name.{Name, IsLabel, is_word}
+use Rattle.cd_syntax.specs.Name.{Name, IsLabel}
 use Rattle.cd_documents.specs.Terminal as plain
 use Rattle.cd_documents.specs.Terminal.{Terminal}
 use Rattle.cd_notation.specs.declared.terminal.Terminal.{Terminal as ATerminal}
@@ -33,9 +30,3 @@ abbrev pub IsNamed : ATerminal → Name → Type 0
 IsNamed the.Atom name = IsLabel name
 IsNamed the.Label name = IsLabel name
 IsNamed _ name = Unit {0}
-
--- what each token of a text has
-abbrev pub IsSoundKind : TokenKind → Type 0
-IsSoundKind (token.Word name) = IsTrue (is_word name)
-IsSoundKind (token.Atom name) = IsLabel name
-IsSoundKind _ = Unit {0}

@@ -13,6 +13,11 @@ use Rattle.cd_notation.proofs.read.read_on.Goals as goal
 pub loop-kind-init : goal.loop-kind-init
 loop-kind-init c = (going_starts _ _ _ c.requires.forms c.requires.items c.requires.labels c.requires.place c.requires.joined, itself _)
 
+pub terminal_of-is-requires : goal.terminal_of-is-requires
+terminal_of-is-requires c =
+    let token = subst (λ (name : List ℕ). IsToken c.loop-kind.lexer c.next.new.self (token_with c.in-Token.kind c.in-Token.span name)) (sym c.spelled-name.ensures) c.in-Token.ensures in
+    token.sound
+
 pub loop-kind-preserved : goal.loop-kind-preserved
 loop-kind-preserved c =
     let name = chars c.spelled-name.result.now in

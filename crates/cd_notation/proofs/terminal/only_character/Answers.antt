@@ -1,4 +1,4 @@
-use Rattle.cd_notation.proofs.Words.{only_one, not_only}
+use Rattle.cd_notation.proofs.OneCharacter.{only_one, not_only}
 use Rattle.std.proofs.Common.{◌∙◌, sym}
 use Rattle.cd_notation.proofs.terminal.only_character.Goals as goal
 

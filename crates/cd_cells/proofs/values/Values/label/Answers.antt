@@ -1,12 +1,16 @@
 use Rattle.std.proofs.Common.{[], ◌∙◌, sym, append-nil}
 use Rattle.cd_cells.specs.Table.{table}
 use Rattle.cd_cells.proofs.TableLaws.{same_things, still_sound}
+use Rattle.cd_cells.proofs.SharedCells.{shared_named}
 use Rattle.cd_cells.proofs.values.Values.label.Goals as goal
 
 pub invariant_of-self : goal.invariant_of-self
 invariant_of-self c =
     let old = c.args.self.now in
-    record { sound = still_sound old.lists c.keep_name.new.self c.keep_name.ensures.grows [] old.cells.items old.sound }
+    record {
+      sound = still_sound old.lists c.keep_name.new.self c.keep_name.ensures.grows [] old.cells.items old.sound;
+      known = shared_named old.lists c.keep_name.new.self c.keep_name.ensures.grows.names old.cells.items old.shared old.known;
+    }
 
 pub returns-clause-kept : goal.returns-clause-kept
 returns-clause-kept c =

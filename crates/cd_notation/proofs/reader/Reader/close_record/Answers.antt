@@ -1,7 +1,7 @@
 use Rattle.std.proofs.Common.{◌∙◌, ap, ◌∷◌}
 use Rattle.cd_notation.proofs.Growth.{itself, open_grown}
 use Rattle.cd_notation.proofs.Stepping.{lead_none, no_record, no_head, head_is, over_top_record, open_by}
-use Rattle.cd_notation.proofs.Closing.{ready, ends_record}
+use Rattle.cd_notation.proofs.Closing.{ends_record}
 use Rattle.cd_notation.proofs.reader.Reader.close_record.Goals as goal
 
 pub returns-in_default-clause-leads : goal.returns-in_default-clause-leads
@@ -14,27 +14,27 @@ returns-in_default-form c = record {
   grows = itself _;
 }
 
-pub record_of-requires-clause-parts : goal.record_of-requires-clause-parts
-record_of-requires-clause-parts c =
+pub take_record-requires : goal.take_record-requires
+take_record-requires c =
     let top = over_top_record _ _ _ _ _ _ _ _ _ (c.in-Some.ensures.1 ∙ ap (λ one. one ∷ c.in-Some.ensures.0) c.in-Record.is) c.requires.forms.1 in
-    (ready c.args.values.now _ _ _ _ _ _ _ _ _ top.named top.has (c.in_ok-parts.ensures _ _ _ _ top.named.is top.has.is).0).fit
+    record { below_numbers = top.below_numbers; below = top.below; named = top.labels; all = top.values; labels = top.named; items = top.has }
 
-pub record_of-requires-clause-differ : goal.record_of-requires-clause-differ
-record_of-requires-clause-differ c =
+pub put-requires-clause-within : goal.put-requires-clause-within
+put-requires-clause-within c =
     let top = over_top_record _ _ _ _ _ _ _ _ _ (c.in-Some.ensures.1 ∙ ap (λ one. one ∷ c.in-Some.ensures.0) c.in-Record.is) c.requires.forms.1 in
-    (ready c.args.values.now _ _ _ _ _ _ _ _ _ top.named top.has (c.in_ok-parts.ensures _ _ _ _ top.named.is top.has.is).0).differ
+    (c.in_ok-id.ensures.is _ _ _ _ top.named top.has).at.within
 
 pub put-requires-clause-forms : goal.put-requires-clause-forms
 put-requires-clause-forms c =
     let top = over_top_record _ _ _ _ _ _ _ _ _ (c.in-Some.ensures.1 ∙ ap (λ one. one ∷ c.in-Some.ensures.0) c.in-Record.is) c.requires.forms.1 in
-    let got = c.in_ok-parts.ensures _ _ _ _ top.named.is top.has.is in
-    (top.rest, open_by _ _ _ _ _ _ _ _ _ (c.drop_top.ensures _ _ c.in-Some.ensures.1) got.2 got.1 (open_grown _ _ c.in_ok-id.ensures.grows _ _ _ _ top.others))
+    let got = c.in_ok-id.ensures.is _ _ _ _ top.named top.has in
+    let rest = c.in_ok-id.ensures.forms ∙ c.drop_top.ensures _ _ c.in-Some.ensures.1 in
+    (top.rest, open_by _ _ _ _ _ _ _ _ _ rest got.items got.labels (open_grown _ _ c.in_ok-id.ensures.grows _ _ _ _ top.others))
 
 pub returns-clause-leads : goal.returns-clause-leads
 returns-clause-leads c = λ frames are.
     let top = over_top_record _ _ _ _ _ _ _ _ _ (c.in-Some.ensures.1 ∙ ap (λ one. one ∷ c.in-Some.ensures.0) c.in-Record.is) are in
-    let got = c.in_ok-parts.ensures _ _ _ _ top.named.is top.has.is in
-    let whole = ready c.args.values.now _ _ _ _ _ _ _ _ _ top.named top.has got.0 in
-    ends_record _ _ _ _ _ _ _ _ top.is whole.is
-    (c.in_ok-put.ensures.stands _ top.rest c.in_ok-id.ensures.is
-    (open_by _ _ _ _ _ _ _ _ _ (c.drop_top.ensures _ _ c.in-Some.ensures.1) got.2 got.1 (open_grown _ _ c.in_ok-id.ensures.grows _ _ _ _ top.others)))
+    let got = c.in_ok-id.ensures.is _ _ _ _ top.named top.has in
+    let rest = c.in_ok-id.ensures.forms ∙ c.drop_top.ensures _ _ c.in-Some.ensures.1 in
+    ends_record _ _ _ _ _ _ _ top.is
+    (c.in_ok-put.ensures.stands _ top.rest got.at (open_by _ _ _ _ _ _ _ _ _ rest got.items got.labels (open_grown _ _ c.in_ok-id.ensures.grows _ _ _ _ top.others)))

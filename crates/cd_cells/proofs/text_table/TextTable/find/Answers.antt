@@ -4,7 +4,7 @@ use Rattle.std.specs.Str.{chars}
 use Rattle.cd_syntax.specs.Name.{Name}
 use Rattle.cd_cells.specs.Cells.{name_at}
 use Rattle.cd_cells.proofs.Texts.{found_at, texts_grow}
-use Rattle.cd_cells.proofs.text_table.TextTable.number.Goals as goal
+use Rattle.cd_cells.proofs.text_table.TextTable.find.Goals as goal
 
 pub returns-in-Some-clause-found : goal.returns-in-Some-clause-found
 returns-in-Some-clause-found c =

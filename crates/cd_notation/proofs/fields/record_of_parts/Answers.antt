@@ -1,11 +1,10 @@
 use Rattle.std.proofs.Common.{List, IfOk, subst}
 use Rattle.cd_model.specs.Thing.{Record, NoField}
 use Rattle.cd_cells.specs.declared.cell.Part.{Part}
-use Rattle.cd_cells.specs.Table.{table, names}
+use Rattle.cd_cells.specs.Table.{table, names, IsAt}
 use Rattle.cd_documents.specs.Machine.{with_fields}
 use Rattle.cd_fields.specs.Open.{names_of, values_of}
-use Rattle.cd_notation.specs.Inner.Open.{IsAt}
-use Rattle.cd_notation.proofs.fields.record_of.Goals as goal
+use Rattle.cd_notation.proofs.fields.record_of_parts.Goals as goal
 
 pub returns-clause-is : goal.returns-clause-is
 returns-clause-is c =
