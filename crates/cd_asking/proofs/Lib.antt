@@ -7,7 +7,10 @@ pub mod Numbered
 pub mod Leading
 pub mod Naming
 pub mod Kept
+pub mod Cases
 pub mod SameKeys
+pub mod RowsAdded
+pub mod Grown
 pub mod Stepping
 pub mod Putting
 pub mod InTurn

@@ -1,5 +1,5 @@
 -- The number of a set among sets.
-use Rattle.std.proofs.Common.{◌≡◌, ℕ, Bool, true, false, List, [], ◌∷◌, ◌++◌, Some, map, get_or, slice_get, position, sym, ap, ◌∙◌, subst, append-nil}
+use Rattle.std.proofs.Common.{◌≡◌, ℕ, Bool, true, false, List, [], ◌∷◌, ◌++◌, Some, map, get_or, slice_get, position, refl, sym, ap, ◌∙◌, subst, inl, inr}
 use Rattle.std.specs.Prelude.{Result, Ok, Err, IfOk, OnErr, unwrap_or, if◌then◌else◌}
 use Rattle.std.specs.Option.{option_map}
 use Rattle.std.specs.List.{list_any}
@@ -12,7 +12,7 @@ use Rattle.cd_sets.specs.declared.node_id.NodeId.{NodeId}
 use Rattle.cd_sets.specs.Comparing.{same_id}
 use Rattle.cd_sets.proofs.Same.{sets_decide}
 use Rattle.cd_asking.specs.declared.node_sets.SetId.{SetId}
-use Rattle.cd_asking.specs.Inner.Asked.{set_at, Grow}
+use Rattle.cd_asking.specs.Inner.Asked.{set_at, AddsOnly}
 
 -- what has a number is the set of the number
 pub numbered : {E : Type 0} (sets : List (List NodeId)) (done : Result SetId E) (ids : List NodeId) (number : ℕ)
@@ -40,15 +40,15 @@ module _ {T : Type 0} (items : T → List NodeId) where
   stored_at sets owned ids number same stored =
       at_number sets number stored.0 stored.1 ∙ sym ((sets_decide (items owned) (items stored.0)).0 stored.2) ∙ same
 
-  -- sets are only added at the end, also where memory runs out
-  pub sets_grow : {R E : Type 0} (done : Result R E) (sets after : List T) (set : T)
+  -- this set alone is added, and none where memory runs out
+  pub set_added : {R E : Type 0} (done : Result R E) (sets after : List T) (set : T)
       → IfOk done (λ number. after ≡ insert_key (λ one other. pointwise same_id (items one) (items other)) sets set) → OnErr done (after ≡ sets)
-      → Grow (map items sets) (map items after)
-  sets_grow (Ok number) sets after set put kept =
-      subst (λ (all : List T). Grow (map items sets) (map items all)) (sym put)
+      → AddsOnly (items set) (map items sets) (map items after)
+  set_added (Ok number) sets after set put kept =
+      subst (λ (all : List T). AddsOnly (items set) (map items sets) (map items all)) (sym put)
       (by_test (list_any (λ other. pointwise same_id (items set) (items other)) sets))
     where
-      by_test : (there : Bool) → Grow (map items sets) (map items (if there then sets else sets ++ set ∷ []))
-      by_test true = ([], sym (append-nil (map items sets)))
-      by_test false = (items set ∷ [], map-append items sets (set ∷ []))
-  sets_grow (Err error) sets after set put kept = ([], ap (map items) kept ∙ sym (append-nil (map items sets)))
+      by_test : (there : Bool) → AddsOnly (items set) (map items sets) (map items (if there then sets else sets ++ set ∷ []))
+      by_test true = inl refl
+      by_test false = inr (map-append items sets (set ∷ []))
+  set_added (Err error) sets after set put kept = inl (ap (map items) kept)

@@ -1,9 +1,8 @@
 -- The steps of the code make what the tasks make.
 use Rattle.std.proofs.Common.{◌≡◌, ℕ, zero, suc, ◌+◌, ◌-◌, ◌<◌, Option, Some, List, [], ◌∷◌, ◌++◌, length, map, sym, ap, ◌∙◌, subst, arith, append_assoc}
+use Rattle.std.specs.Borrow.{Bor}
 use Rattle.std.specs.Prelude.{MatchOption}
 use Rattle.std.proofs.lemmas.List.{map-append}
-use Rattle.std.specs.declared.alloc.Global.{Global}
-use Rattle.std.specs.declared.boxed.Box.{Box}
 use Rattle.cd_sets.specs.declared.node_id.NodeId.{NodeId}
 use Rattle.cd_syntax.specs.Name.{Name}
 use Rattle.cd_model.specs.AllOf.{AllOf}
@@ -13,20 +12,21 @@ use Rattle.cd_model.specs.Thing.{Thing, Fields}
 use Rattle.cd_cells.specs.Cells.{thing_at, name_at, fields_of, IsPart}
 use Rattle.cd_cells.specs.declared.cell.ValueId.{ValueId}
 use Rattle.cd_cells.specs.declared.cell.Part.{Part}
+use Rattle.cd_asking.specs.Inner.Rows.{row_at}
 use Rattle.cd_asking.specs.Inner.Shapes as plain
 use Rattle.cd_asking.specs.Inner.Shapes.{members, shape_of, fields_with}
 use Rattle.cd_asking.specs.Inner.Tasks as task
 use Rattle.cd_asking.specs.Inner.Tasks.{Covers, First, Second, Tag, Attributes, Content, At, after, answered, among, size, size_of_fields, weight, again, paired}
-use Rattle.cd_asking.specs.Inner.Asked.{set_at, done_by, left_to_do, plain_task, IsStep, Grow, Found}
+use Rattle.cd_asking.specs.Inner.Asked.{set_at, done_by, left_to_do, plain_task, IsRow, IsStep, Grow, Grows, Found}
+use Rattle.cd_asking.specs.declared.asker.Asker.{Asker}
 use Rattle.cd_asking.specs.declared.node_sets.SetId.{SetId}
-use Rattle.cd_asking.specs.declared.task.Answered.{Answered}
-use Rattle.cd_asking.specs.declared.task.FieldTask.{FieldTask}
+use Rattle.cd_asking.specs.declared.row.Answered.{Answered}
+use Rattle.cd_asking.specs.declared.row.RowId.{RowId}
 use Rattle.cd_asking.specs.declared.task.Task.{Task}
 use Rattle.cd_asking.specs.declared.task.Task.TheVariants as code
 use Rattle.cd_asking.specs.declared.task.Next.{Next}
 use Rattle.cd_asking.specs.declared.task.Next.TheVariants.{Answer, Ask}
-use Rattle.cd_asking.proofs.Kept.{grown_none, stays, still_within, done_stays, task_stays, task_within}
-use Rattle.cd_asking.proofs.Members.{each_by}
+use Rattle.cd_asking.proofs.Kept.{grows_none, grows_on, stays, still_within, row_is, row_within, task_stays, task_within}
 use Rattle.cd_asking.proofs.Steps.{runs_stop, to_first, to_second, to_tag, to_attributes, to_content, to_field}
 
 pair_falls : (a b : ℕ) → a + (2 + b) < 3 + (a + b)
@@ -45,23 +45,24 @@ field_falls : (a b : ℕ) → a + b < 1 + (a + b)
 field_falls a b = omega arith
 
 module _ (names : List Name) (graph : Graph) (table : List Thing) where
-  -- an answer
-  pub answers : (new : List (List NodeId)) (shape : plain.Shape) (ids : List NodeId) (answer : SetId) (work : ℕ) → 0 < work
-      → Found graph shape ids new answer → IsStep names graph table new (members graph shape ids) work (Answer answer)
-  answers new shape ids answer work some found = record { makes = found.1; falls = some; numbers = found.0 }
-
-  module _ (old new : List (List NodeId)) (grow : Grow old new) (set next : SetId) (within : set.0 < length old) (below : next.0 < length new) where
+  module _ (old new : Asker) (grows : Grows old new) (set next : SetId) (within : set.0 < length old.sets) (below : next.0 < length new.sets) where
     abbrev ids : List NodeId
-    ids = set_at old set
+    ids = set_at old.sets set
 
     abbrev there : List NodeId
-    there = set_at new next
+    there = set_at new.sets next
+
+    stays_at : (id : SetId) → id.0 < length old.sets → set_at new.sets id ≡ set_at old.sets id
+    stays_at = stays old.sets new.sets grows.0
+
+    within_new : (id : SetId) → id.0 < length old.sets → id.0 < length new.sets
+    within_new id = still_within old.sets new.sets grows.0 id.0
 
     abbrev thing_of : ValueId → Thing
     thing_of id = thing_at table id.0
 
-    set_stays : set_at new set ≡ ids
-    set_stays = stays old new grow set within
+    set_stays : set_at new.sets set ≡ ids
+    set_stays = stays_at set within
 
     pub pair_step : (first second : ValueId) → first.0 < length table → second.0 < length table → Covers graph First ids there
         → IsStep names graph table new (members graph (shape_of graph (thing.Pair (thing_of first) (thing_of second))) ids)
@@ -70,18 +71,18 @@ module _ (names : List Name) (graph : Graph) (table : List Thing) where
       makes = ap (λ set. after graph (task.OfSecond (thing_of second) set) (members graph (shape_of graph (thing_of first)) there)) set_stays
           ∙ to_first graph ids there (thing_of first) (thing_of second) covers;
       falls = pair_falls (size (thing_of first)) (size (thing_of second));
-      numbers = (is, below, (is_too, still_within old new grow set.0 within));
+      numbers = (is, below, (is_too, within_new set within));
     }
 
-    pub second_step : (second : ValueId) (first : SetId) → second.0 < length table → first.0 < length old → Covers graph Second ids there
-        → IsStep names graph table new (after graph (task.OfSecond (thing_of second) ids) (set_at old first))
+    pub second_step : (second : ValueId) (first : SetId) → second.0 < length table → first.0 < length old.sets → Covers graph Second ids there
+        → IsStep names graph table new (after graph (task.OfSecond (thing_of second) ids) (set_at old.sets first))
         (weight (task.OfSecond (thing_of second) ids)) (Ask second next (code.OfPairs set first 1))
     second_step second first is is_too covers = record {
-      makes = ap (λ set. after graph (task.OfPairs set (set_at new first) 1) (members graph (shape_of graph (thing_of second)) there)) set_stays
-          ∙ ap (λ first. after graph (task.OfPairs ids first 1) (members graph (shape_of graph (thing_of second)) there)) (stays old new grow first is_too)
-          ∙ to_second graph ids there (thing_of second) (set_at old first) covers;
+      makes = ap (λ set. after graph (task.OfPairs set (set_at new.sets first) 1) (members graph (shape_of graph (thing_of second)) there)) set_stays
+          ∙ ap (λ first. after graph (task.OfPairs ids first 1) (members graph (shape_of graph (thing_of second)) there)) (stays_at first is_too)
+          ∙ to_second graph ids there (thing_of second) (set_at old.sets first) covers;
       falls = second_falls (size (thing_of second));
-      numbers = (is, below, (still_within old new grow set.0 within, still_within old new grow first.0 is_too));
+      numbers = (is, below, (within_new set within, within_new first is_too));
     }
 
     pub xml_step : (tag attributes content : ValueId) → tag.0 < length table → attributes.0 < length table → content.0 < length table
@@ -92,124 +93,128 @@ module _ (names : List Name) (graph : Graph) (table : List Thing) where
       makes = ap (λ set. after graph (task.OfAttributes (thing_of attributes) (thing_of content) set) (members graph (shape_of graph (thing_of tag)) there)) set_stays
           ∙ to_tag graph ids there (thing_of tag) (thing_of attributes) (thing_of content) covers;
       falls = xml_falls (size (thing_of tag)) (size (thing_of attributes)) (size (thing_of content));
-      numbers = (is, below, (are, is_too, still_within old new grow set.0 within));
+      numbers = (is, below, (are, is_too, within_new set within));
     }
 
-    pub attributes_step : (attributes content : ValueId) (tag : SetId) → attributes.0 < length table → content.0 < length table → tag.0 < length old
+    pub attributes_step : (attributes content : ValueId) (tag : SetId) → attributes.0 < length table → content.0 < length table → tag.0 < length old.sets
         → Covers graph Attributes ids there
-        → IsStep names graph table new (after graph (task.OfAttributes (thing_of attributes) (thing_of content) ids) (set_at old tag))
+        → IsStep names graph table new (after graph (task.OfAttributes (thing_of attributes) (thing_of content) ids) (set_at old.sets tag))
         (weight (task.OfAttributes (thing_of attributes) (thing_of content) ids)) (Ask attributes next (code.OfContent content set tag))
     attributes_step attributes content tag are is is_too covers = record {
-      makes = ap (λ set. after graph (task.OfContent (thing_of content) set (set_at new tag)) (members graph (shape_of graph (thing_of attributes)) there)) set_stays
-          ∙ ap (λ tag. after graph (task.OfContent (thing_of content) ids tag) (members graph (shape_of graph (thing_of attributes)) there)) (stays old new grow tag is_too)
-          ∙ to_attributes graph ids there (thing_of attributes) (thing_of content) (set_at old tag) covers;
+      makes = ap (λ set. after graph (task.OfContent (thing_of content) set (set_at new.sets tag)) (members graph (shape_of graph (thing_of attributes)) there)) set_stays
+          ∙ ap (λ tag. after graph (task.OfContent (thing_of content) ids tag) (members graph (shape_of graph (thing_of attributes)) there)) (stays_at tag is_too)
+          ∙ to_attributes graph ids there (thing_of attributes) (thing_of content) (set_at old.sets tag) covers;
       falls = attributes_fall (size (thing_of attributes)) (size (thing_of content));
-      numbers = (are, below, (is, still_within old new grow set.0 within, still_within old new grow tag.0 is_too));
+      numbers = (are, below, (is, within_new set within, within_new tag is_too));
     }
 
-    pub content_step : (content : ValueId) (tag attributes : SetId) → content.0 < length table → tag.0 < length old → attributes.0 < length old
+    pub content_step : (content : ValueId) (tag attributes : SetId) → content.0 < length table → tag.0 < length old.sets → attributes.0 < length old.sets
         → Covers graph Content ids there
-        → IsStep names graph table new (after graph (task.OfContent (thing_of content) ids (set_at old tag)) (set_at old attributes))
-        (weight (task.OfContent (thing_of content) ids (set_at old tag))) (Ask content next (code.OfXml set tag attributes))
+        → IsStep names graph table new (after graph (task.OfContent (thing_of content) ids (set_at old.sets tag)) (set_at old.sets attributes))
+        (weight (task.OfContent (thing_of content) ids (set_at old.sets tag))) (Ask content next (code.OfXml set tag attributes))
     content_step content tag attributes is is_too are covers = record {
-      makes = ap (λ set. after graph (task.OfXml set (set_at new tag) (set_at new attributes)) (members graph (shape_of graph (thing_of content)) there)) set_stays
-          ∙ ap (λ tag. after graph (task.OfXml ids tag (set_at new attributes)) (members graph (shape_of graph (thing_of content)) there)) (stays old new grow tag is_too)
-          ∙ ap (λ fields. after graph (task.OfXml ids (set_at old tag) fields) (members graph (shape_of graph (thing_of content)) there)) (stays old new grow attributes are)
-          ∙ to_content graph ids there (thing_of content) (set_at old tag) (set_at old attributes) covers;
+      makes = ap (λ set. after graph (task.OfXml set (set_at new.sets tag) (set_at new.sets attributes)) (members graph (shape_of graph (thing_of content)) there)) set_stays
+          ∙ ap (λ tag. after graph (task.OfXml ids tag (set_at new.sets attributes)) (members graph (shape_of graph (thing_of content)) there)) (stays_at tag is_too)
+          ∙ ap (λ fields. after graph (task.OfXml ids (set_at old.sets tag) fields) (members graph (shape_of graph (thing_of content)) there)) (stays_at attributes are)
+          ∙ to_content graph ids there (thing_of content) (set_at old.sets tag) (set_at old.sets attributes) covers;
       falls = second_falls (size (thing_of content));
-      numbers = (is, below, (still_within old new grow set.0 within, still_within old new grow tag.0 is_too, still_within old new grow attributes.0 are));
+      numbers = (is, below, (within_new set within, within_new tag is_too, within_new attributes are));
     }
 
     -- a field of a record
-    pub field_step : (box : Box FieldTask Global) (id : ValueId) (first : Part) → box.value.set ≡ set → id.0 ≡ first.value → box.value.label ≡ first.label
-        → AllOf (IsPart names (length table)) (first ∷ box.value.left.now) → AllOf (λ one. one.nodes.0 < length old) box.value.done.items
-        → Covers graph (At (name_at names first.label)) ids there
-        → IsStep names graph table new (members graph (plain.Record (answered (map (done_by names old) box.value.done.items)
-        ++ fields_with graph (fields_of names table (first ∷ box.value.left.now)))) ids)
-        (size_of_fields (fields_of names table (first ∷ box.value.left.now))) (Ask id next (code.OfField box))
-    field_step box id first set_is id_is label_is parts done covers =
-        let field = box.value in
-        let value = thing_at table first.value in
-        let left = fields_of names table field.left.now in
-        let value_is : thing_of id ≡ value = ap (thing_at table) id_is in
-        let found : List NodeId = members graph (shape_of graph value) there in record {
-          makes = ap (λ value. after graph (plain_task names table new (code.OfField box)) (members graph (shape_of graph value) there)) value_is
-              ∙ ap (λ (set : SetId). after graph (task.OfField (set_at new set) (map (done_by names new) field.done.items) (name_at names field.label) left) found) set_is
-              ∙ ap (λ set. after graph (task.OfField set (map (done_by names new) field.done.items) (name_at names field.label) left) found) set_stays
-              ∙ ap (λ all. after graph (task.OfField ids all (name_at names field.label) left) found) (done_stays old new grow names field.done.items done)
-              ∙ ap (λ number. after graph (task.OfField ids (map (done_by names old) field.done.items) (name_at names number) left) found) label_is
-              ∙ to_field graph ids there (map (done_by names old) field.done.items) (name_at names first.label) value left covers;
-          falls = subst (λ value. size value + size_of_fields left < 1 + (size (thing_at table first.value) + size_of_fields left)) (sym value_is)
-              (field_falls (size value) (size_of_fields left));
+    pub field_step : (row : RowId) (id : ValueId) (field : Part) (left : Bor (List Part)) → id.0 ≡ field.value
+        → IsPart names (length table) field → AllOf (IsPart names (length table)) left.now → IsRow names old.sets old.rows row
+        → Covers graph (At (name_at names field.label)) ids there
+        → IsStep names graph table new (members graph (plain.Record (answered (map (done_by names old.sets) (row_at old.rows row))
+        ++ fields_with graph (fields_of names table (field ∷ left.now)))) ids)
+        (size_of_fields (fields_of names table (field ∷ left.now))) (Ask id next (code.OfField set row field.label left))
+    field_step row id field left id_is part parts row_is_one covers =
+        let value : Thing = thing_at table field.value in
+        let fields : Fields = fields_of names table left.now in
+        let done : List (Name × List NodeId) = map (done_by names old.sets) (row_at old.rows row) in
+        let label : Name = name_at names field.label in
+        let value_is : thing_at table id.0 ≡ value = ap (thing_at table) id_is in
+        let done_same : map (done_by names new.sets) (row_at new.rows row) ≡ done =
+        row_is old.sets new.sets grows.0 names old.rows new.rows grows.1 row row_is_one in
+        record {
+          makes = ap (λ set. after graph (task.OfField set (map (done_by names new.sets) (row_at new.rows row)) label fields)
+              (members graph (shape_of graph (thing_at table id.0)) there)) set_stays
+              ∙ ap (λ done. after graph (task.OfField ids done label fields) (members graph (shape_of graph (thing_at table id.0)) there)) done_same
+              ∙ ap (λ value. after graph (task.OfField ids done label fields) (members graph (shape_of graph value) there)) value_is
+              ∙ to_field graph ids there done label value fields covers;
+          falls = subst (λ is. size is + size_of_fields fields < 1 + (size value + size_of_fields fields)) (sym value_is)
+              (field_falls (size value) (size_of_fields fields));
           numbers = (
-            subst (λ number. number < length table) (sym id_is) parts.0.1,
+            subst (λ number. number < length table) (sym id_is) part.1,
             below,
-            (
-              subst (λ (set : SetId). set.0 < length new) (sym set_is) (still_within old new grow set.0 within),
-              each_by _ _ field.done.items (λ one is. still_within old new grow one.nodes.0 is) done,
-              parts.1,
-            ),
+            (within_new set within, row_within old.sets new.sets grows.0 names old.rows new.rows grows.1 row row_is_one, part.0, parts),
           );
         }
 
 module _ (names : List Name) (graph : Graph) (table : List Thing) where
   -- the same step, of the same nodes and as much work
-  pub same_step : (sets : List (List NodeId)) (nodes others : List NodeId) (work more : ℕ) (next : Next) → nodes ≡ others → work ≡ more
-      → IsStep names graph table sets nodes work next → IsStep names graph table sets others more next
-  same_step sets nodes others work more next same_nodes same_work step = record {
+  pub same_step : (asker : Asker) (nodes others : List NodeId) (work more : ℕ) (next : Next) → nodes ≡ others → work ≡ more
+      → IsStep names graph table asker nodes work next → IsStep names graph table asker others more next
+  same_step asker nodes others work more next same_nodes same_work step = record {
     makes = step.makes ∙ same_nodes;
-    falls = subst (λ work. left_to_do names table sets next < work) same_work step.falls;
+    falls = subst (λ work. left_to_do names table asker next < work) same_work step.falls;
     numbers = step.numbers;
   }
 
-  -- a step stays one when sets are added
-  pub step_grows : (old new : List (List NodeId)) → Grow old new → (nodes : List NodeId) (work : ℕ) (next : Next)
+  -- a step stays one when sets and rows are added
+  pub step_grows : (old new : Asker) → Grows old new → (nodes : List NodeId) (work : ℕ) (next : Next)
       → IsStep names graph table old nodes work next → IsStep names graph table new nodes work next
-  step_grows old new grow nodes work (Answer answer) step = record {
-    makes = stays old new grow answer step.numbers ∙ step.makes;
+  step_grows old new grows nodes work (Answer answer) step = record {
+    makes = stays old.sets new.sets grows.0 answer step.numbers ∙ step.makes;
     falls = step.falls;
-    numbers = still_within old new grow answer.0 step.numbers;
+    numbers = still_within old.sets new.sets grows.0 answer.0 step.numbers;
   }
-  step_grows old new grow nodes work (Ask id set task) step =
-      let stay = task_stays old new grow names table task step.numbers.2 in record {
-        makes = ap (λ task. after graph task (members graph (shape_of graph (thing_at table id.0)) (set_at new set))) stay
-            ∙ ap (λ ids. after graph (plain_task names table old task) (members graph (shape_of graph (thing_at table id.0)) ids)) (stays old new grow set step.numbers.1)
+  step_grows old new grows nodes work (Ask id set task) step =
+      let stay = task_stays old new grows names table task step.numbers.2 in record {
+        makes = ap (λ task. after graph task (members graph (shape_of graph (thing_at table id.0)) (set_at new.sets set))) stay
+            ∙ ap (λ ids. after graph (plain_task names table old task) (members graph (shape_of graph (thing_at table id.0)) ids))
+            (stays old.sets new.sets grows.0 set step.numbers.1)
             ∙ step.makes;
         falls = subst (λ task. size (thing_at table id.0) + weight task < work) (sym stay) step.falls;
-        numbers = (step.numbers.0, still_within old new grow set.0 step.numbers.1, task_within old new grow names (length table) task step.numbers.2);
+        numbers = (
+          step.numbers.0,
+          still_within old.sets new.sets grows.0 set.0 step.numbers.1,
+          task_within old new grows names (length table) task step.numbers.2,
+        );
       }
 
   -- a value that is asked answers at once
-  pub at_once : (old sets new : List (List NodeId)) → Grow old sets → (nodes : List NodeId) (work : ℕ) (id : ValueId) (set : SetId) (task : Task)
+  pub at_once : (old middle new : Asker) → Grows old middle → (nodes : List NodeId) (work : ℕ) (id : ValueId) (set : SetId) (task : Task)
       (value : Thing) (answer : SetId) (next : Next) → IsStep names graph table old nodes work (Ask id set task)
-      → value ≡ thing_at table id.0 → Found graph (shape_of graph value) (set_at old set) sets answer
-      → IsStep names graph table new (after graph (plain_task names table sets task) (set_at sets answer)) (weight (plain_task names table sets task)) next
+      → value ≡ thing_at table id.0 → Found graph (shape_of graph value) (set_at old.sets set) middle.sets answer
+      → IsStep names graph table new (after graph (plain_task names table middle task) (set_at middle.sets answer)) (weight (plain_task names table middle task)) next
       → IsStep names graph table new nodes work next
-  at_once old sets new grow nodes work id set task value answer next asked value_is found step =
-      let stay = task_stays old sets grow names table task asked.numbers.2 in
+  at_once old middle new grows nodes work id set task value answer next asked value_is found step =
+      let stay = task_stays old middle grows names table task asked.numbers.2 in
       let lighter = ap weight stay in
       let falls = step.falls in
       let before = asked.falls in record {
-        makes = step.makes ∙ ap (λ task. after graph task (set_at sets answer)) stay
+        makes = step.makes ∙ ap (λ task. after graph task (set_at middle.sets answer)) stay
             ∙ ap (after graph (plain_task names table old task)) found.1
-            ∙ ap (λ value. after graph (plain_task names table old task) (members graph (shape_of graph value) (set_at old set))) value_is
+            ∙ ap (λ value. after graph (plain_task names table old task) (members graph (shape_of graph value) (set_at old.sets set))) value_is
             ∙ asked.makes;
         falls = omega (arith, lighter, falls, before);
         numbers = step.numbers;
       }
 
 -- the second part of a pair, where its set was found before the first part answered
-pub second_later : (names : List Name) (graph : Graph) (table : List Thing) (old sets new : List (List NodeId)) → Grow old sets → (grow : Grow sets new)
-    → (set next : SetId) → set.0 < length old → next.0 < length sets → (second : ValueId) (first : SetId) → second.0 < length table → first.0 < length new
-    → Covers graph Second (set_at old set) (set_at sets next)
-    → IsStep names graph table new (after graph (plain_task names table new (code.OfSecond second set)) (set_at new first))
+pub second_later : (names : List Name) (graph : Graph) (table : List Thing) (old middle new : Asker) → Grows old middle → Grows middle new
+    → (set next : SetId) → set.0 < length old.sets → next.0 < length middle.sets → (second : ValueId) (first : SetId) → second.0 < length table
+    → first.0 < length new.sets → Covers graph Second (set_at old.sets set) (set_at middle.sets next)
+    → IsStep names graph table new (after graph (plain_task names table new (code.OfSecond second set)) (set_at new.sets first))
     (weight (plain_task names table new (code.OfSecond second set))) (Ask second next (code.OfPairs set first 1))
-second_later names graph table old sets new first_grow grow set next within below second first is is_too covers =
-    let inside = still_within sets new grow set.0 (still_within old sets first_grow set.0 within) in
-    let same_set = stays sets new grow set (still_within old sets first_grow set.0 within) ∙ stays old sets first_grow set within in
-    let covers_new = subst (λ (ids : List NodeId). Covers graph Second ids (set_at new next)) (sym same_set)
-    (subst (λ (ids : List NodeId). Covers graph Second (set_at old set) ids) (sym (stays sets new grow next below)) covers) in
-    second_step names graph table new new (grown_none new) set next inside (still_within sets new grow next.0 below) second first is is_too covers_new
+second_later names graph table old middle new first_grows grows set next within below second first is is_too covers =
+    let all = grows_on old middle new first_grows grows in
+    let inside = still_within old.sets new.sets all.0 set.0 within in
+    let same_set = stays old.sets new.sets all.0 set within in
+    let covers_new = subst (λ (ids : List NodeId). Covers graph Second ids (set_at new.sets next)) (sym same_set)
+    (subst (λ (ids : List NodeId). Covers graph Second (set_at old.sets set) ids) (sym (stays middle.sets new.sets grows.0 next below)) covers) in
+    second_step names graph table new new (grows_none new) set next inside (still_within middle.sets new.sets grows.0 next.0 below) second first is is_too covers_new
 
 -- what is so of the value of an option
 pub some_found : {X : Type 0} (o : Option X) (P : Type 0) (Q : X → Type 0) (x : X) → o ≡ Some x → MatchOption o P Q → Q x
@@ -226,9 +231,6 @@ field_done graph done label answer left set = ap (λ fields. members graph (plai
 -- after so many pairs of a row, which have made this, the others make what all make
 abbrev pub Runs : Graph → (set first : List NodeId) → (all : ℕ) → (start : List NodeId) → (done : ℕ) → (last : List NodeId) → Type 0
 Runs graph set first all start done last = (n : ℕ) → done + n ≡ all → again n (paired graph set first) last ≡ again all (paired graph set first) start
-
-pub runs_begin : (graph : Graph) (set first : List NodeId) (all : ℕ) (start : List NodeId) → Runs graph set first all start 0 start
-runs_begin graph set first all start n is = let same : n ≡ all = omega (arith, is) in ap (λ n. again n (paired graph set first) start) same
 
 pub runs_on : (graph : Graph) (set first : List NodeId) (all : ℕ) (start : List NodeId) (done : ℕ) (last next : List NodeId)
     → Runs graph set first all start done last → next ≡ paired graph set first last → Runs graph set first all start (done + 1) next
@@ -255,17 +257,26 @@ one_pair graph names old sets new set first last next grow at_set at_first is = 
     ∙ ap (λ one. members graph (plain.Pair (among one) (among (set_at sets last))) (set_at sets set)) (stays old sets grow first at_first)
     ∙ ap (members graph (plain.Pair (among (set_at old first)) (among (set_at sets last)))) (stays old sets grow set at_set)
 
--- a field of a record has answered
-pub field_answered : (names : List Name) (graph : Graph) (table : List Thing) (sets : List (List NodeId)) (old new : FieldTask) (answer : SetId)
-    → new.set ≡ old.set → new.done.items ≡ old.done.items ++ record { label = old.label; nodes = answer } ∷ [] → new.left.now ≡ old.left.now
-    → members graph (plain.Record (answered (map (done_by names sets) new.done.items) ++ fields_with graph (fields_of names table new.left.now))) (set_at sets new.set)
-    ≡ after graph (task.OfField (set_at sets old.set) (map (done_by names sets) old.done.items) (name_at names old.label) (fields_of names table old.left.now))
-    (set_at sets answer)
-field_answered names graph table sets old new answer set_is done_is left_is =
-    let of_done = done_by names sets in
-    let left = fields_of names table old.left.now in
-    ap (λ (set : SetId). members graph (plain.Record (answered (map of_done new.done.items) ++ fields_with graph (fields_of names table new.left.now))) (set_at sets set)) set_is
-    ∙ ap (λ (parts : List Part). members graph (plain.Record (answered (map of_done new.done.items) ++ fields_with graph (fields_of names table parts))) (set_at sets old.set)) left_is
-    ∙ ap (λ (done : List Answered). members graph (plain.Record (answered (map of_done done) ++ fields_with graph left)) (set_at sets old.set)) done_is
-    ∙ ap (λ done. members graph (plain.Record (answered done ++ fields_with graph left)) (set_at sets old.set)) (map-append of_done old.done.items _)
-    ∙ field_done graph (map of_done old.done.items) (name_at names old.label) (set_at sets answer) left (set_at sets old.set)
+-- a field of a record has answered, which is the last one of a row
+pub field_answered : (names : List Name) (graph : Graph) (table : List Thing) (sets : List (List NodeId)) (set : SetId) (done : List Answered)
+    (field : Answered) (left : Fields)
+    → members graph (plain.Record (answered (map (done_by names sets) (done ++ field ∷ [])) ++ fields_with graph left)) (set_at sets set)
+    ≡ after graph (task.OfField (set_at sets set) (map (done_by names sets) done) (name_at names field.label) left) (set_at sets field.nodes)
+field_answered names graph table sets set done field left =
+    ap (λ done. members graph (plain.Record (answered done ++ fields_with graph left)) (set_at sets set)) (map-append (done_by names sets) done (field ∷ []))
+    ∙ field_done graph (map (done_by names sets) done) (name_at names field.label) (set_at sets field.nodes) left (set_at sets set)
+
+-- what is asked of a record, where the sets and the fields that have answered are these
+pub row_answered : (names : List Name) (graph : Graph) (table : List Thing) (asker : Asker) (sets others : List (List NodeId)) (set : SetId)
+    (done more : List Answered) (left : List Part) → sets ≡ others → done ≡ more → (next : Next)
+    → IsStep names graph table asker (members graph (plain.Record (answered (map (done_by names sets) done) ++ fields_with graph (fields_of names table left)))
+    (set_at sets set)) (size_of_fields (fields_of names table left)) next
+    → IsStep names graph table asker (members graph (plain.Record (answered (map (done_by names others) more) ++ fields_with graph (fields_of names table left)))
+    (set_at others set)) (size_of_fields (fields_of names table left)) next
+row_answered names graph table asker sets others set done more left same_sets same_done next step = record {
+  makes = step.makes
+      ∙ ap (λ sets. members graph (plain.Record (answered (map (done_by names sets) done) ++ fields_with graph (fields_of names table left))) (set_at sets set)) same_sets
+      ∙ ap (λ done. members graph (plain.Record (answered (map (done_by names others) done) ++ fields_with graph (fields_of names table left))) (set_at others set)) same_done;
+  falls = step.falls;
+  numbers = step.numbers;
+}

@@ -1,6 +1,5 @@
 -- What tasks make of answers, step by step.
-use Rattle.std.proofs.Common.{◌≡◌, ℕ, zero, suc, List, [], ◌∷◌, ◌++◌, refl, ap, ◌∙◌, append_assoc}
-use Rattle.std.proofs.lemmas.List.{map-append}
+use Rattle.std.proofs.Common.{◌≡◌, ℕ, zero, suc, List, [], ◌∷◌, ◌++◌, refl, ap, ◌∙◌}
 use Rattle.cd_sets.specs.declared.node_id.NodeId.{NodeId}
 use Rattle.cd_syntax.specs.Name.{Name}
 use Rattle.cd_model.specs.Formula.{Graph}
@@ -49,17 +48,6 @@ module _ (graph : Graph) (set next : List NodeId) where
       ≡ (members graph (Record (answered done ++ fields_with graph (thing.Field label value left))) set)
   to_field done label value left covers = (record_members graph (answered done) (fields_with graph left) label _ _ set
       (agree_covered graph (child.At label) set next (shape_of graph value) covers))
-
-  -- and the next one
-  pub to_next_field : (done : List (Name × List NodeId)) (name label : Name) (answer : List NodeId) (value : Thing) (left : Fields)
-      → Covers graph (child.At label) set next
-      → after graph (OfField set (done ++ (name, answer) ∷ []) label left) (members graph (shape_of graph value) next)
-      ≡ after graph (OfField set done name (thing.Field label value left)) answer
-  to_next_field done name label answer value left covers =
-      to_field (done ++ (name, answer) ∷ []) label value left covers
-      ∙ ap (λ all. members graph (Record all) set)
-      (ap (λ all. all ++ fields_with graph (thing.Field label value left)) (map-append _ done ((name, answer) ∷ []))
-      ∙ append_assoc (answered done) ((name, among answer) ∷ []) (fields_with graph (thing.Field label value left)))
 
 -- the last task is done first
 pub last_first : (graph : Graph) (tasks : List Task) (task : Task) (answer : List NodeId)

@@ -1,11 +1,12 @@
 //! Values whose answers are kept.
-ghost use Rattle.std.specs.Prelude.{◌≡◌, IfOk};
+ghost use Rattle.std.specs.Prelude.{◌≡◌, ◌<◌, ◌^◌, map};
 ghost use Rattle.std.specs.Str.{chars};
 ghost use Rattle.cd_cells.specs.Table.{names};
-ghost use Rattle.cd_asking.specs.Inner.Asked.{plain_shape, HasLabel, shape_by, IsCase};
+ghost use Rattle.cd_asking.specs.Inner.Asked.{plain_shape, held, HasLabel, shape_with, IsCase};
 
 use crate::node_sets::{NodeSets, SetId};
-use crate::shape::Shape;
+use crate::row::RowId;
+use crate::shape::{Held, Shape};
 use cd_cells::Values;
 
 /// A value whose answers are kept, by the sets of the nodes that hold its parts.
@@ -19,14 +20,37 @@ pub(crate) enum Case {
     Pair(SetId, SetId),
     /// An XML value.
     Xml(SetId, SetId, SetId),
-    /// The record without fields.
-    Empty,
+    /// A record with the fields of a row.
+    Record(RowId),
 }
 
-/// The value with the nodes of these sets.
-pub(crate) fn shape_of<'s>(sets: &'s NodeSets, values: &'s Values, case: Case) -> Shape<'s>
+impl Case {
+    /// A number, which is most often another one for another value.
+    pub(crate) fn number(self) -> usize
+        ensures { result < 2 ^ 36 }
+    {
+        match self {
+            Case::Letter(c) => c as usize,
+            Case::Atom(name) => name as usize,
+            Case::Pair(first, second) => 3 * first.0 as usize + second.0 as usize,
+            Case::Xml(tag, attributes, content) => {
+                5 * tag.0 as usize + 3 * attributes.0 as usize + content.0 as usize
+            }
+            Case::Record(row) => row.0 as usize,
+        }
+    }
+}
+
+/// The value with the nodes of these sets. A record has these fields.
+pub(crate) fn shape_of<'s>(
+    sets: &'s NodeSets,
+    values: &'s Values,
+    fields: &'s [Held<'s>],
+    case: Case,
+) -> Shape<'s>
     requires { IsCase (names values.now) case }
-    ensures shape { plain_shape result ≡ shape_by (names values.now) sets.now case }
+    ensures shape { plain_shape result
+        ≡ shape_with (names values.now) sets.now (map held fields.now) case }
     ensures label { HasLabel result }
 {
     match case {
@@ -36,6 +60,6 @@ pub(crate) fn shape_of<'s>(sets: &'s NodeSets, values: &'s Values, case: Case) -
         Case::Xml(tag, attributes, content) => {
             Shape::Xml(sets.get(tag), sets.get(attributes), sets.get(content))
         }
-        Case::Empty => Shape::Record(&[]),
+        Case::Record(_) => Shape::Record(fields),
     }
 }

@@ -1,19 +1,19 @@
 //! What is found of sets of nodes, and not known yet.
-ghost use Rattle.std.specs.Prelude.{◌≡◌, ◌<◌, ◌++◌, [], List, length, IfOk, map};
+ghost use Rattle.std.specs.Prelude.{◌≡◌, ◌<◌, length, IfOk, map};
 ghost use Rattle.cd_graph.specs.Nodes.{nodes};
 ghost use Rattle.cd_cells.specs.Table.{names};
-ghost use Rattle.cd_asking.specs.Inner.Shapes as plain;
 ghost use Rattle.cd_asking.specs.Inner.Shapes.{members};
 ghost use Rattle.cd_asking.specs.Inner.Tasks.{Covers, answered};
 ghost use Rattle.cd_asking.specs.Inner.Asked.{set_at, child_by, plain_child, plain_shape, HasLabel};
-ghost use Rattle.cd_asking.specs.Inner.Asked.{shape_by, IsCase, done_by, held};
-ghost use Rattle.cd_asking.specs.Inner.Asked.{Grow, Found};
+ghost use Rattle.cd_asking.specs.Inner.Asked.{shape_by, fields_by, IsCase, done_by, held};
+ghost use Rattle.cd_asking.specs.Inner.Asked.{AreNodesOf, Grow, Found};
 
 use crate::case::{Case, shape_of};
+use crate::field_rows::FieldRows;
 use crate::led::{Child, led_from};
 use crate::node_sets::{NodeSets, SetId};
+use crate::row::Answered;
 use crate::shape::{Held, Shape, hold_all, members_of};
-use crate::task::Answered;
 use cd_cells::Values;
 use cd_graph::Graph;
 use cd_sets::node_id::NodeId;
@@ -28,10 +28,12 @@ pub(crate) fn find_lead(
     set: SetId,
     child: Child,
 ) -> Result<SetId, AllocError>
+    requires sound { AreNodesOf (nodes graph.now) sets.old }
     ensures covers { let child_is = plain_child (names values.now) child in
         IfOk result (λ next. Covers (nodes graph.now) child_is (set_at sets.old set)
         (set_at sets.new next)) }
     ensures within { IfOk result (λ next. next.0 < length sets.new) }
+    ensures sound { AreNodesOf (nodes graph.now) sets.new }
     ensures grows { Grow sets.old sets.new }
 {
     let alloc = sets.allocator();
@@ -63,8 +65,10 @@ pub(crate) fn find_members(
 ) -> Result<SetId, AllocError>
     requires set { set.0 < length sets.old }
     requires label { HasLabel shape.now }
+    requires sound { AreNodesOf (nodes graph.now) sets.old }
     ensures found { let ids = set_at sets.old set in
         IfOk result (Found (nodes graph.now) (plain_shape shape.now) ids sets.new) }
+    ensures sound { AreNodesOf (nodes graph.now) sets.new }
     ensures grows { Grow sets.old sets.new }
 {
     if hold_all(graph, shape, sets.get(set)) {
@@ -77,52 +81,59 @@ pub(crate) fn find_members(
 /// The same of a value by its case.
 pub(crate) fn find_case(
     sets: &mut NodeSets,
+    rows: &FieldRows,
     graph: &Graph,
     values: &Values,
     set: SetId,
     case: Case,
 ) -> Result<SetId, AllocError>
-    requires { IsCase (names values.now) case }
-    ensures found { let shape = shape_by (names values.now) sets.old case in
+    requires case { IsCase (names values.now) case }
+    requires sound { AreNodesOf (nodes graph.now) sets.old }
+    ensures found { let shape = shape_by (names values.now) sets.old rows.now case in
         IfOk result (Found (nodes graph.now) shape (set_at sets.old set) sets.new) }
+    ensures sound { AreNodesOf (nodes graph.now) sets.new }
     ensures grows { Grow sets.old sets.new }
 {
-    let shape = shape_of(sets, values, case);
-    let ids = members_of(sets.allocator(), graph, &shape, sets.get(set))?;
+    let ids = case_members(sets, rows, graph, values, set, case)?;
     sets.number(ids.as_slice())
 }
 
-/// The same of a record whose fields have answered.
-pub(crate) fn find_record(
-    sets: &mut NodeSets,
-    graph: &Graph,
-    values: &Values,
-    set: SetId,
-    done: &[Answered],
-) -> Result<SetId, AllocError>
-    ensures found { let fields = answered (map (done_by (names values.now) sets.old) done.now) in
-        IfOk result (Found (nodes graph.now) (plain.Record fields) (set_at sets.old set) sets.new) }
-    ensures grows { Grow sets.old sets.new }
-{
-    let ids = record_members(sets, graph, values, set, done)?;
-    sets.number(ids.as_slice())
-}
-
-// Those nodes of a set that hold the record.
-fn record_members(
+// Those nodes of a set that hold the value.
+fn case_members(
     sets: &NodeSets,
+    rows: &FieldRows,
     graph: &Graph,
     values: &Values,
     set: SetId,
-    done: &[Answered],
+    case: Case,
 ) -> Result<Vec<NodeId>, AllocError>
-    ensures { let fields = answered (map (done_by (names values.now) sets.now) done.now) in
-        IfOk result (λ ids. ids.items
-        ≡ members (nodes graph.now) (plain.Record fields) (set_at sets.now set)) }
+    requires { IsCase (names values.now) case }
+    ensures { let shape = shape_by (names values.now) sets.now rows.now case in
+        IfOk result
+        (λ ids. ids.items ≡ members (nodes graph.now) shape (set_at sets.now set)) }
 {
-    let fields = held_fields(sets, values, done)?;
-    let shape = Shape::Record(fields.as_slice());
+    let fields = case_fields(sets, rows, values, case)?;
+    let shape = shape_of(sets, values, fields.as_slice(), case);
     members_of(sets.allocator(), graph, &shape, sets.get(set))
+}
+
+// The fields of a record with the nodes that hold their values. Another value has none.
+fn case_fields<'s>(
+    sets: &'s NodeSets,
+    rows: &FieldRows,
+    values: &'s Values,
+    case: Case,
+) -> Result<Vec<Held<'s>>, AllocError>
+    ensures { IfOk result
+        (λ fields. map held fields.items ≡ fields_by (names values.now) sets.now rows.now case) }
+{
+    match case {
+        Case::Record(row) => {
+            let done = rows.fields(row)?;
+            held_fields(sets, values, done.as_slice())
+        }
+        _ => Ok(Vec::new(sets.allocator())),
+    }
 }
 
 // The fields with the nodes that hold their values.

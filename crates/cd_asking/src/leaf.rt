@@ -5,23 +5,24 @@ ghost use Rattle.cd_cells.specs.Cells.{fields_of};
 ghost use Rattle.cd_cells.specs.Looked.{looked};
 ghost use Rattle.cd_cells.specs.Table.{table, names};
 ghost use Rattle.cd_model.specs.Thing.{IsValue};
+ghost use Rattle.cd_asking.specs.Known.{KnowsOf};
 ghost use Rattle.cd_asking.specs.Inner.Shapes as shapes;
 ghost use Rattle.cd_asking.specs.Inner.Shapes.{shape_of, fields_with};
-ghost use Rattle.cd_asking.specs.Inner.Asked.{set_at, plain_shape, HasLabel, Grow, Found};
+ghost use Rattle.cd_asking.specs.Inner.Asked.{set_at, plain_shape, HasLabel, Grows, Found};
 ghost use Rattle.cd_asking.specs.Inner.Asked.{HasParts};
-ghost use Rattle.cd_asking.specs.Inner.Known.{IsAsker};
 
 use crate::asker::Asker;
 use crate::case::Case;
 use crate::finding::find_members;
 use crate::node_sets::SetId;
+use crate::row::RowId;
 use crate::shape::Shape;
 use cd_cells::{Look, Part, Values};
 use cd_graph::Graph;
 use std::alloc::AllocError;
 
-/// The set of those nodes of a set that hold a value, if there are none to be asked, or the value has
-/// no parts.
+/// The set of those nodes of a set that hold a value, if there are none to be asked, or the value
+/// has no parts.
 pub(crate) fn leaf(
     asker: &mut Asker,
     graph: &Graph,
@@ -31,13 +32,37 @@ pub(crate) fn leaf(
 ) -> Result<Option<SetId>, AllocError>
     requires value { IsValue (looked (names values.now) (table values.now) look) }
     requires set { set.0 < length asker.old.sets }
-    requires right { IsAsker (nodes graph.now) (names values.now) asker.old }
+    requires right { KnowsOf (nodes graph.now) (names values.now) asker.old }
     ensures found { let is = looked (names values.now) (table values.now) look.entry in
         IfOk result (λ answer. MatchOption answer (HasParts look.entry)
         (Found (nodes graph.now) (shape_of (nodes graph.now) is) (set_at asker.old.sets set)
         asker.new.sets)) }
-    ensures right { IsAsker (nodes graph.now) (names values.now) asker.new }
-    ensures grows { Grow asker.old.sets asker.new.sets }
+    ensures right { KnowsOf (nodes graph.now) (names values.now) asker.new }
+    ensures grows { Grows asker.old asker.new }
+{
+    match look {
+        Look::Char(c) => Ok(Some(asker.letter(graph, values, set, c)?)),
+        look => leaf_at_any(asker, graph, values, look, set),
+    }
+}
+
+// The same of a value that is most often no character.
+fn leaf_at_any(
+    asker: &mut Asker,
+    graph: &Graph,
+    values: &Values,
+    look: Look<'_>,
+    set: SetId,
+) -> Result<Option<SetId>, AllocError>
+    requires value { IsValue (looked (names values.now) (table values.now) look) }
+    requires set { set.0 < length asker.old.sets }
+    requires right { KnowsOf (nodes graph.now) (names values.now) asker.old }
+    ensures found { let is = looked (names values.now) (table values.now) look.entry in
+        IfOk result (λ answer. MatchOption answer (HasParts look.entry)
+        (Found (nodes graph.now) (shape_of (nodes graph.now) is) (set_at asker.old.sets set)
+        asker.new.sets)) }
+    ensures right { KnowsOf (nodes graph.now) (names values.now) asker.new }
+    ensures grows { Grows asker.old asker.new }
 {
     match asker.sets.get(set) {
         [] => Ok(Some(set)),
@@ -55,13 +80,13 @@ pub(crate) fn leaf_at_some(
 ) -> Result<Option<SetId>, AllocError>
     requires value { IsValue (looked (names values.now) (table values.now) look) }
     requires set { set.0 < length asker.old.sets }
-    requires right { IsAsker (nodes graph.now) (names values.now) asker.old }
+    requires right { KnowsOf (nodes graph.now) (names values.now) asker.old }
     ensures found { let is = looked (names values.now) (table values.now) look.entry in
         IfOk result (λ answer. MatchOption answer (HasParts look.entry)
         (Found (nodes graph.now) (shape_of (nodes graph.now) is) (set_at asker.old.sets set)
         asker.new.sets)) }
-    ensures right { IsAsker (nodes graph.now) (names values.now) asker.new }
-    ensures grows { Grow asker.old.sets asker.new.sets }
+    ensures right { KnowsOf (nodes graph.now) (names values.now) asker.new }
+    ensures grows { Grows asker.old asker.new }
 {
     match look {
         Look::Int(n) => Ok(Some(basic(asker, graph, values, set, Shape::Integer(n))?)),
@@ -84,11 +109,11 @@ fn basic(
 ) -> Result<SetId, AllocError>
     requires set { set.0 < length asker.old.sets }
     requires label { HasLabel shape }
-    requires right { IsAsker (nodes graph.now) (names values.now) asker.old }
+    requires right { KnowsOf (nodes graph.now) (names values.now) asker.old }
     ensures found { let ids = set_at asker.old.sets set in
         IfOk result (Found (nodes graph.now) (plain_shape shape.entry) ids asker.new.sets) }
-    ensures right { IsAsker (nodes graph.now) (names values.now) asker.new }
-    ensures grows { Grow asker.old.sets asker.new.sets }
+    ensures right { KnowsOf (nodes graph.now) (names values.now) asker.new }
+    ensures grows { Grows asker.old asker.new }
 {
     find_members(&mut asker.sets, graph, set, &shape)
 }
@@ -102,16 +127,16 @@ fn empty(
     parts: &[Part],
 ) -> Result<Option<SetId>, AllocError>
     requires set { set.0 < length asker.old.sets }
-    requires right { IsAsker (nodes graph.now) (names values.now) asker.old }
+    requires right { KnowsOf (nodes graph.now) (names values.now) asker.old }
     ensures found { IfOk result (λ answer. MatchOption answer (0 < length parts.now)
         (Found (nodes graph.now) (shapes.Record (fields_with (nodes graph.now)
         (fields_of (names values.now) (table values.now) parts.now))) (set_at asker.old.sets set)
         asker.new.sets)) }
-    ensures right { IsAsker (nodes graph.now) (names values.now) asker.new }
-    ensures grows { Grow asker.old.sets asker.new.sets }
+    ensures right { KnowsOf (nodes graph.now) (names values.now) asker.new }
+    ensures grows { Grows asker.old asker.new }
 {
     match parts {
-        [] => Ok(Some(asker.answer(graph, values, set, Case::Empty)?)),
+        [] => Ok(Some(asker.answer(graph, values, set, Case::Record(RowId(0)))?)),
         [_, ..] => Ok(None),
     }
 }

@@ -1,11 +1,12 @@
 //! The nodes at which formulas ask a child of a value.
-ghost use Rattle.std.specs.Prelude.{◌≡◌, true, IfSome, IfOk, OnOk};
+ghost use Rattle.std.specs.Prelude.{◌≡◌, ◌<◌, ℕ, true, length, IfSome, IfOk, OnOk};
 ghost use Rattle.cd_sets.specs.IdSet.{holds};
 ghost use Rattle.cd_graph.specs.Nodes.{nodes};
 ghost use Rattle.cd_graph.specs.PlainFormula.{plain, plain_formulas, plain_named};
 ghost use Rattle.cd_model.specs.Formula as formula;
-ghost use Rattle.cd_asking.specs.Inner.Tasks.{led, AsksIn, AskIn, Covers, Includes};
-ghost use Rattle.cd_asking.specs.Inner.Asked.{child_by};
+ghost use Rattle.cd_model.specs.Formula.{IsFormula, AreFormulas};
+ghost use Rattle.cd_asking.specs.Inner.Tasks.{led, AsksIn, AskIn, Covers, Includes, HoldsBelow};
+ghost use Rattle.cd_asking.specs.Inner.Asked.{child_by, AreBelow};
 
 use crate::node::node_formula;
 use cd_graph::fields::Fields;
@@ -16,7 +17,7 @@ use cd_syntax::name::Name;
 use std::alloc::{AllocError, Global};
 
 /// A child of a value. A field of a record is named by the number of its label.
-#[derive(Clone, Copy, PartialEq, Eq, Hash)]
+#[derive(Clone, Copy)]
 pub(crate) enum Child {
     First,
     Second,
@@ -34,8 +35,9 @@ pub(crate) fn led_from(
     child: Child,
     label: &Name,
 ) -> Result<IdSet, AllocError>
-    ensures { IfOk result
+    ensures covers { IfOk result
         (λ next. Covers (nodes graph.now) (child_by label.now child) set.now next) }
+    ensures below { IfOk result (AreBelow (length (nodes graph.now))) }
 {
     let mut next = IdSet::new(alloc);
     for id in set {
@@ -54,6 +56,8 @@ fn add_led_from(
 ) -> Result<(), AllocError>
     ensures added { OnOk result
         (AsksIn (child_by label.now child) next.new (formula.formula_at (nodes graph.now) id)) }
+    ensures below { let bound = length (nodes graph.now) in
+        HoldsBelow bound next.old → HoldsBelow bound next.new }
     ensures grows { Includes next.old next.new }
 {
     match node_formula(graph, id) {
@@ -71,6 +75,8 @@ fn add_led(
     label: &Name,
 ) -> Result<(), AllocError>
     ensures added { OnOk result (AsksIn (child_by label.now child) next.new (plain formula.now)) }
+    ensures below { (bound : ℕ) → IsFormula bound (plain formula.now)
+        → HoldsBelow bound next.old → HoldsBelow bound next.new }
     ensures grows { Includes next.old next.new }
 {
     match formula {
@@ -101,6 +107,8 @@ fn add_all_led(
 ) -> Result<(), AllocError>
     ensures added { OnOk result
         (AskIn (child_by label.now child) next.new (plain_formulas formulas.now)) }
+    ensures below { (bound : ℕ) → AreFormulas bound (plain_formulas formulas.now)
+        → HoldsBelow bound next.old → HoldsBelow bound next.new }
     ensures grows { Includes next.old next.new }
 {
     for formula in formulas.items() {
@@ -112,6 +120,8 @@ fn add_all_led(
 // Adds a node, if there is one.
 fn add_one(next: &mut IdSet, id: Option<NodeId>) -> Result<(), AllocError>
     ensures added { OnOk result (IfSome id (λ id. holds next.new id ≡ true)) }
+    ensures below { (bound : ℕ) → IfSome id (λ id. id.0 < bound)
+        → HoldsBelow bound next.old → HoldsBelow bound next.new }
     ensures grows { Includes next.old next.new }
 {
     match id {

@@ -2,17 +2,19 @@
 #![tactic(auto)]
 
 mod along;
-mod asker;
+pub mod asker;
 pub mod asking;
 mod case;
+mod field_rows;
 mod finding;
+pub mod laws;
 mod leaf;
 mod led;
 mod node;
 mod node_sets;
+mod row;
 mod running;
 mod shape;
-mod slots;
 mod step;
 mod task;
 mod tasks;

@@ -1,7 +1,6 @@
 //! Sets of nodes, each once.
-ghost use Rattle.std.specs.Prelude.{◌≡◌, ◌<◌, ◌++◌, [], List, length, IfOk};
-ghost use Rattle.cd_sets.specs.declared.node_id.NodeId.{NodeId as AnId};
-ghost use Rattle.cd_asking.specs.Inner.Asked.{set_at};
+ghost use Rattle.std.specs.Prelude.{◌≡◌, ◌<◌, [], length, IfOk};
+ghost use Rattle.cd_asking.specs.Inner.Asked.{set_at, AddsOnly, Grow};
 
 use cd_sets::node_id::NodeId;
 use indexmap::IndexSet;
@@ -41,7 +40,8 @@ impl NodeSets {
     pub(crate) fn number(&mut self, ids: &[NodeId]) -> Result<SetId, AllocError>
         ensures found { IfOk result (λ id. set_at self.new id ≡ ids.now) }
         ensures within { IfOk result (λ id. id.0 < length self.new) }
-        ensures grows { (more : List (List AnId)) × (self.new ≡ self.old ++ more) }
+        ensures adds { AddsOnly ids.now self.old self.new }
+        ensures grows { Grow self.old self.new }
     {
         if let Some(number) = self.sets.get_index_of(ids) {
             return small(number);

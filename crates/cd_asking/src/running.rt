@@ -3,9 +3,9 @@ ghost use Rattle.std.specs.Prelude.{◌≡◌, ◌<◌, IfOk, length};
 ghost use Rattle.cd_cells.specs.Cells.{thing_at};
 ghost use Rattle.cd_cells.specs.Table.{table, names};
 ghost use Rattle.cd_graph.specs.Nodes.{nodes};
+ghost use Rattle.cd_asking.specs.Known.{KnowsOf};
 ghost use Rattle.cd_asking.specs.Inner.Shapes.{shape_of};
-ghost use Rattle.cd_asking.specs.Inner.Asked.{set_at, Grow, Found};
-ghost use Rattle.cd_asking.specs.Inner.Known.{IsAsker};
+ghost use Rattle.cd_asking.specs.Inner.Asked.{set_at, Grows, Found};
 
 use crate::asker::Asker;
 use crate::node_sets::SetId;
@@ -26,11 +26,11 @@ pub(crate) fn members_with(
 ) -> Result<SetId, AllocError>
     requires value { id.0 < length (table values.now) }
     requires set { set.0 < length asker.old.sets }
-    requires right { IsAsker (nodes graph.now) (names values.now) asker.old }
+    requires right { KnowsOf (nodes graph.now) (names values.now) asker.old }
     ensures found { let shape = shape_of (nodes graph.now) (thing_at (table values.now) id.0) in
         IfOk result (Found (nodes graph.now) shape (set_at asker.old.sets set) asker.new.sets) }
-    ensures right { IsAsker (nodes graph.now) (names values.now) asker.new }
-    ensures grows { Grow asker.old.sets asker.new.sets }
+    ensures right { KnowsOf (nodes graph.now) (names values.now) asker.new }
+    ensures grows { Grows asker.old asker.new }
 {
     let _sound = values.len();
     let mut tasks = Vec::new(asker.sets.allocator());

@@ -1,12 +1,7 @@
 -- What is known of numbers.
-use Rattle.std.specs.Prelude.{◌≡◌, ℕ, List, Option, Some, None, ◌⊎◌, slice_index_or}
+use Rattle.std.specs.Prelude.{◌≡◌, ℕ, List, Option, Some}
+use Rattle.cd_cells.specs.Slots.{slot_at}
 
-module _ {X : Type 0} where
-  -- the value of a number, if it has one
-  abbrev pub slot_at : List (Option X) → ℕ → Option X
-  slot_at slots number = slice_index_or slots number None
-
-  -- each value that is new is this one of this number
-  abbrev pub PutsOnly : (number : ℕ) → X → (old new : List (Option X)) → Type 0
-  PutsOnly number value old new = (other : ℕ) (one : X) → slot_at new other ≡ Some one
-      → ((other ≡ number) × (one ≡ value)) ⊎ (slot_at old other ≡ Some one)
+-- a fact of each number and its value
+abbrev pub EachSlot : {X : Type 0} → (ℕ → X → Type 0) → List (Option X) → Type 0
+EachSlot fact slots = (number : ℕ) (one : _) → slot_at slots number ≡ Some one → fact number one

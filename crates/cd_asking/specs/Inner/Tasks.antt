@@ -1,5 +1,5 @@
 -- What is left to do while a value is asked at a set of nodes.
-use Rattle.std.specs.Prelude.{◌≡◌, ℕ, zero, suc, ◌+◌, true, List, [], ◌∷◌, ◌++◌, Option, map}
+use Rattle.std.specs.Prelude.{◌≡◌, ◌<◌, ℕ, zero, suc, ◌+◌, true, List, [], ◌∷◌, ◌++◌, Option, map}
 use Rattle.std.specs.Prelude.{Some, None, IfSome}
 use Rattle.cd_sets.specs.declared.node_id.NodeId.{NodeId}
 use Rattle.cd_sets.specs.IdSet.{holds}
@@ -59,6 +59,10 @@ Covers graph child set next = AllOf (λ id. AsksIn child next (formula_at graph 
 -- the nodes of the one set are in the other
 abbrev pub Includes : (old new : List NodeId) → Type 0
 Includes old new = (id : NodeId) → holds old id ≡ true → holds new id ≡ true
+
+-- its nodes have numbers below this one
+abbrev pub HoldsBelow : ℕ → List NodeId → Type 0
+HoldsBelow bound set = (id : NodeId) → holds set id ≡ true → id.0 < bound
 
 -- a set of nodes by its members
 abbrev pub among : List NodeId → Nodes

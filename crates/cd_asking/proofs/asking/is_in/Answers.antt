@@ -1,21 +1,6 @@
-use Rattle.std.proofs.Common.{subst, sym, Bool}
-use Rattle.std.proofs.lemmas.Result.{IfOk-weaker}
+use Rattle.cd_cells.specs.Table.{names}
 use Rattle.cd_graph.specs.Nodes.{nodes}
-use Rattle.cd_cells.specs.Cells.{thing_at}
-use Rattle.cd_cells.specs.Table.{table}
-use Rattle.cd_model.specs.Formula as formula
-use Rattle.cd_model.specs.Interfaces.{admits, value_in_node}
-use Rattle.cd_model.specs.Types.{closure_maps}
-use Rattle.cd_asking.proofs.InNode.{data_in_node}
-use Rattle.cd_asking.proofs.Members.{at_index}
 use Rattle.cd_asking.proofs.asking.is_in.Goals as goal
 
-pub returns : goal.returns
-returns c =
-    let graph = nodes c.args.graph.now in
-    let is = thing_at (table c.args.values.now) c.args.id.0 in
-    IfOk-weaker c.is_in_by.result _ _ (λ answer same interfaces.
-    subst (λ (answer : Bool). value_in_node graph interfaces is c.args.node answer) (sym same)
-    (data_in_node graph (closure_maps (formula.nodes graph) (admits interfaces)) is c.args.node
-    (at_index _ (table c.args.values.now) c.args.id.0 _ c.len-sound.ensures.sound c.requires.value) c.requires.data))
-    c.is_in_by.ensures.answer
+pub is_in-requires-clause-knows : goal.is_in-requires-clause-knows
+is_in-requires-clause-knows c = c.new-asker.ensures (nodes c.args.graph.now) (names c.args.values.now)

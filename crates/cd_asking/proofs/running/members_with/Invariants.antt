@@ -8,9 +8,9 @@ use Rattle.cd_asking.proofs.running.members_with.Given as goal
 
 abbrev pub invariant-loop-next : goal.invariant-loop-next
 invariant-loop-next l =
-    IsRunning (names l.values) (nodes l.graph) (table l.values) l.fn.asker.sets
+    IsRunning (names l.values) (nodes l.graph) (table l.values) l.fn.asker
     (members (nodes l.graph) (shape_of (nodes l.graph) (thing_at (table l.values) l.fn.id.0)) (set_at l.fn.asker.sets l.fn.set))
     l.asker l.tasks.items l.next
 
 abbrev pub decreases-loop-next : goal.decreases-loop-next
-decreases-loop-next l = steps_left (names l.values) (table l.values) l.asker.sets l.tasks.items l.next
+decreases-loop-next l = steps_left (names l.values) (table l.values) l.asker l.tasks.items l.next

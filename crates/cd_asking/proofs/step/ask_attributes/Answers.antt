@@ -12,18 +12,18 @@ use Rattle.cd_asking.proofs.step.ask_attributes.Goals as goal
 pub returns-in-Some-clause-step : goal.returns-in-Some-clause-step
 returns-in-Some-clause-step c =
     let asked = attributes_step (names c.args.values.now) (nodes c.args.graph.now) (table c.args.values.now)
-    c.args.asker.now.sets c.lead.new.self.sets c.lead.ensures.grows c.args.set c.in_ok-next.next c.requires.task.2 c.in_ok-next.ensures.within
-    c.args.rest.0 c.args.rest.1 c.args.tag c.requires.task.0 c.requires.task.1 c.requires.answer c.in_ok-next.ensures.covers in
+    c.args.asker.now c.xml_leads.new.self c.xml_leads.ensures.grows c.args.set c.in_ok-leads.leads.attributes c.requires.task.2 c.in_ok-leads.ensures.leads.1
+    c.args.rest.0 c.args.rest.1 c.args.tag c.requires.task.0 c.requires.task.1 c.requires.answer c.in_ok-leads.ensures.leads.4 in
     let Holds : SetId → Type 0 = Found (nodes c.args.graph.now)
     (shape_of (nodes c.args.graph.now) (looked (names c.args.values.now) (table c.args.values.now) c.look.result))
-    (set_at c.lead.new.self.sets c.in_ok-next.next) c.leaf.new.asker.sets in
+    (set_at c.xml_leads.new.self.sets c.in_ok-leads.leads.attributes) c.leaf.new.asker.sets in
     let found = some_found c.in_ok-answer.field-0 (HasParts c.look.result) Holds c.in-Some.answer c.in-Some.is c.in_ok-answer.ensures.found in
     IfOk-weaker c.ask_content.result _ _ (λ next step. at_once (names c.args.values.now) (nodes c.args.graph.now) (table c.args.values.now)
-    c.lead.new.self.sets c.leaf.new.asker.sets c.ask_content.new.asker.sets c.leaf.ensures.grows _ _ c.args.rest.0 c.in_ok-next.next (OfContent c.args.rest.1 c.args.set c.args.tag)
+    c.xml_leads.new.self c.leaf.new.asker c.ask_content.new.asker c.leaf.ensures.grows _ _ c.args.rest.0 c.in_ok-leads.leads.attributes (OfContent c.args.rest.1 c.args.set c.args.tag)
     _ c.in-Some.answer next asked c.look.ensures.thing found step) c.ask_content.ensures.step
 
 pub returns-in-None-clause-step : goal.returns-in-None-clause-step
-returns-in-None-clause-step c = step_grows (names c.args.values.now) (nodes c.args.graph.now) (table c.args.values.now) c.lead.new.self.sets c.leaf.new.asker.sets c.leaf.ensures.grows _ _ _
+returns-in-None-clause-step c = step_grows (names c.args.values.now) (nodes c.args.graph.now) (table c.args.values.now) c.xml_leads.new.self c.leaf.new.asker c.leaf.ensures.grows _ _ _
     (attributes_step (names c.args.values.now) (nodes c.args.graph.now) (table c.args.values.now)
-    c.args.asker.now.sets c.lead.new.self.sets c.lead.ensures.grows c.args.set c.in_ok-next.next c.requires.task.2 c.in_ok-next.ensures.within
-    c.args.rest.0 c.args.rest.1 c.args.tag c.requires.task.0 c.requires.task.1 c.requires.answer c.in_ok-next.ensures.covers)
+    c.args.asker.now c.xml_leads.new.self c.xml_leads.ensures.grows c.args.set c.in_ok-leads.leads.attributes c.requires.task.2 c.in_ok-leads.ensures.leads.1
+    c.args.rest.0 c.args.rest.1 c.args.tag c.requires.task.0 c.requires.task.1 c.requires.answer c.in_ok-leads.ensures.leads.4)

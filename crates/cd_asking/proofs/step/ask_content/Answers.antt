@@ -5,5 +5,5 @@ use Rattle.cd_asking.proofs.step.ask_content.Goals as goal
 
 pub returns-clause-step : goal.returns-clause-step
 returns-clause-step c = content_step (names c.args.values.now) (nodes c.args.graph.now) (table c.args.values.now)
-    c.args.asker.now.sets c.lead.new.self.sets c.lead.ensures.grows c.args.set c.in_ok-next.next c.requires.task.1 c.in_ok-next.ensures.within
-    c.args.content c.args.known.0 c.args.known.1 c.requires.task.0 c.requires.task.2 c.requires.answer c.in_ok-next.ensures.covers
+    c.args.asker.now c.xml_leads.new.self c.xml_leads.ensures.grows c.args.set c.in_ok-leads.leads.content c.requires.task.1 c.in_ok-leads.ensures.leads.2
+    c.args.content c.args.known.0 c.args.known.1 c.requires.task.0 c.requires.task.2 c.requires.answer c.in_ok-leads.ensures.leads.5

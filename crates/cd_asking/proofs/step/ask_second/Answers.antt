@@ -8,10 +8,10 @@ use Rattle.cd_asking.proofs.step.ask_second.Goals as goal
 
 pub ask_along-requires-clause-leads : goal.ask_along-requires-clause-leads
 ask_along-requires-clause-leads c = leads_later (nodes c.args.graph.now) c.args.asker.now.sets c.pair_leads.new.self.sets c.pair_leads.new.self.sets
-    c.pair_leads.ensures.grows (grown_none c.pair_leads.new.self.sets) c.args.set c.requires.task.1 c.in_ok-leads.leads c.in_ok-leads.ensures.leads
+    c.pair_leads.ensures.grows.0 (grown_none c.pair_leads.new.self.sets) c.args.set c.requires.task.1 c.in_ok-leads.leads c.in_ok-leads.ensures.leads
 
 pub returns-clause-step : goal.returns-clause-step
 returns-clause-step c = IfOk-weaker c.ask_along.result _ _ (λ next goes. goes _ _ (second_step (names c.args.values.now) (nodes c.args.graph.now)
-    (table c.args.values.now) c.args.asker.now.sets c.pair_leads.new.self.sets c.pair_leads.ensures.grows c.args.set c.in_ok-leads.leads.second
+    (table c.args.values.now) c.args.asker.now c.pair_leads.new.self c.pair_leads.ensures.grows c.args.set c.in_ok-leads.leads.second
     c.requires.task.1 c.in_ok-leads.ensures.leads.1 c.args.second c.args.first c.requires.task.0 c.requires.answer c.in_ok-leads.ensures.leads.3))
     c.ask_along.ensures.goes

@@ -1,7 +1,9 @@
 use Rattle.std.specs.Prelude.{unwrap_or, slice_get}
-use Rattle.std.proofs.Common.{◌≡◌, List, [], ◌++◌, map, subst}
+use Rattle.std.proofs.Common.{◌≡◌, List, [], map, subst}
 use Rattle.cd_sets.specs.declared.node_id.NodeId.{NodeId}
-use Rattle.cd_asking.proofs.Numbered.{found_at, stored_at, sets_grow, numbered}
+use Rattle.cd_asking.specs.Inner.Asked.{AddsOnly, Grow}
+use Rattle.cd_asking.proofs.Kept.{adds_grow}
+use Rattle.cd_asking.proofs.Numbered.{found_at, stored_at, set_added, numbered}
 use Rattle.cd_asking.proofs.node_sets.NodeSets.number.Goals as goal
 
 pub returns-in-Some-clause-found : goal.returns-in-Some-clause-found
@@ -16,9 +18,16 @@ returns-clause-found c =
     (stored_at (λ set. set.items) c.insert_full.new.self.keys c.in_ok-owned.owned c.args.ids.now c.in_ok-number.number
     c.in_ok-owned.ensures.items c.in_ok-number.ensures.stored)
 
+pub returns-clause-adds : goal.returns-clause-adds
+returns-clause-adds c =
+    let put = c.insert_full.ensures in
+    let adds = set_added (λ set. set.items) c.insert_full.result c.self.inside.sets.keys c.insert_full.new.self.keys c.in_ok-owned.owned put.keys put.err in
+    subst (λ (sets : List (List NodeId)). AddsOnly c.args.ids.now sets (map (λ set. set.items) c.insert_full.new.self.keys)) c.self.view_is
+    (subst (λ (set : List NodeId). AddsOnly set (map (λ set. set.items) c.self.inside.sets.keys) (map (λ set. set.items) c.insert_full.new.self.keys))
+    c.in_ok-owned.ensures.items adds)
+
 pub returns-clause-grows : goal.returns-clause-grows
 returns-clause-grows c =
     let put = c.insert_full.ensures in
-    subst (λ (sets : List (List NodeId)). (more : List (List NodeId))
-    × (map (λ set. set.items) c.insert_full.new.self.keys ≡ sets ++ more)) c.self.view_is
-    (sets_grow (λ set. set.items) c.insert_full.result c.self.inside.sets.keys c.insert_full.new.self.keys c.in_ok-owned.owned put.keys put.err)
+    subst (λ (sets : List (List NodeId)). Grow sets (map (λ set. set.items) c.insert_full.new.self.keys)) c.self.view_is
+    (adds_grow _ _ _ (set_added (λ set. set.items) c.insert_full.result c.self.inside.sets.keys c.insert_full.new.self.keys c.in_ok-owned.owned put.keys put.err))
