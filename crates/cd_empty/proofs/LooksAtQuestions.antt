@@ -72,6 +72,12 @@ pub contradiction_is_covered : (family : List Question) (question : Question) �
     → IsCovered question family
 contradiction_is_covered family question is = inr (contradicts_by question.pos question.neg is)
 
+-- where it refuses none it doesn't
+pub none_refused : (pos neg : List NodeId) → length neg ≡ 0 → false ≡ list_any (holds neg) pos
+none_refused [] neg none = refl
+none_refused (id ∷ pos) [] none = none_refused pos [] none
+none_refused (id ∷ pos) (other ∷ neg) none = absurd (omega arith)
+
 -- and one without a number is not
 pub not_listed : (list : List Question) (question : Question) → ((number : ℕ) → slice_get list number ≡ Some question → ⊥)
     → NotIn list question

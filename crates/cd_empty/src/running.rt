@@ -12,10 +12,10 @@ ghost use Rattle.cd_empty.specs.Inner.Running.{IsRunning, Keeps, KeepsKnown, Has
 ghost use Rattle.cd_empty.specs.Inner.Running.{IsStepped, RunsOn, HasFound, IsOpened};
 ghost use Rattle.cd_empty.specs.Kept.{IsSound, kept, witnesses};
 
+use crate::boxes::Boxes;
 use crate::decider::Decider;
 use crate::doing::Doing;
 use crate::frame::Frame;
-use crate::stack::Stack;
 use crate::went::Went;
 use cd_elements::ElementId;
 use cd_graph::Graph;
@@ -44,7 +44,7 @@ impl Decider {
         ensures sound { IsSound (nodes graph.now) self.new }
         ensures keeps { Keeps self.old self.new }
     {
-        let mut frames = Stack::new(self.allocator());
+        let mut frames = Boxes::new(self.allocator());
         self.open(graph, &mut frames, question.copy()?)?;
         self.to_end(graph, &mut frames)
     }
@@ -53,7 +53,7 @@ impl Decider {
     fn to_end<'g>(
         &mut self,
         graph: &'g Graph,
-        frames: &mut Stack<Frame<'g>>,
+        frames: &mut Boxes<Frame<'g>>,
     ) -> Result<(), AllocError>
         requires { IsRunning (nodes graph.now) self.old frames.old }
         ensures ran { OnOk result
@@ -71,7 +71,7 @@ impl Decider {
     fn to_element<'g>(
         &mut self,
         graph: &'g Graph,
-        frames: &mut Stack<Frame<'g>>,
+        frames: &mut Boxes<Frame<'g>>,
     ) -> Result<bool, AllocError>
         requires { IsRunning (nodes graph.now) self.old frames.old }
         ensures ran { OnOk result
@@ -97,7 +97,7 @@ impl Decider {
     fn to_question<'g>(
         &mut self,
         graph: &'g Graph,
-        frames: &mut Stack<Frame<'g>>,
+        frames: &mut Boxes<Frame<'g>>,
     ) -> Result<Went, AllocError>
         requires { IsRunning (nodes graph.now) self.old frames.old }
         ensures ran { OnOk result
@@ -121,7 +121,7 @@ impl Decider {
     fn step<'g>(
         &mut self,
         graph: &'g Graph,
-        frames: &mut Stack<Frame<'g>>,
+        frames: &mut Boxes<Frame<'g>>,
     ) -> Result<Went, AllocError>
         requires { IsRunning (nodes graph.now) self.old frames.old }
         ensures ran { OnOk result
@@ -152,11 +152,11 @@ impl Decider {
 
     // Keeps an element of the question of the last frame. What was assumed since that frame was
     // opened is assumed no more.
-    fn find(&mut self, frame: Frame<'_>, id: ElementId) -> Result<(), AllocError>
-        requires { NotIn (map (λ one. one.0) (kept self.old)) frame.question }
+    fn find(&mut self, frame: Box<Frame<'_>>, id: ElementId) -> Result<(), AllocError>
+        requires { NotIn (map (λ one. one.0) (kept self.old)) frame.value.question }
         ensures kept { OnOk result
-            (kept self.new ≡ kept self.old ++ (frame.entry.question, Inhabited id) ∷ []) }
-        ensures list { OnOk result (self.new.list ≡ take frame.entry.place self.old.list) }
+            (kept self.new ≡ kept self.old ++ (frame.entry.value.question, Inhabited id) ∷ []) }
+        ensures list { OnOk result (self.new.list ≡ take frame.entry.value.place self.old.list) }
         ensures unchanged { OnErr result (self.new ≡ self.old) }
         ensures same { self.new ≡ record self.old {
           verdicts = self.new.verdicts;
@@ -167,7 +167,7 @@ impl Decider {
             place,
             question,
             ..
-        } = frame;
+        } = Box::into_inner(frame);
         self.verdicts.add_element(question, id)?;
         self.list.truncate(place);
         Ok(())
@@ -178,7 +178,7 @@ impl Decider {
     fn open<'g>(
         &mut self,
         graph: &'g Graph,
-        frames: &mut Stack<Frame<'g>>,
+        frames: &mut Boxes<Frame<'g>>,
         question: Question,
     ) -> Result<Went, AllocError>
         requires running { IsRunning (nodes graph.now) self.old frames.old }
@@ -223,7 +223,7 @@ impl Decider {
     fn assume<'g>(
         &mut self,
         graph: &'g Graph,
-        frames: &mut Stack<Frame<'g>>,
+        frames: &mut Boxes<Frame<'g>>,
         question: Question,
     ) -> Result<(), AllocError>
         requires running { IsRunning (nodes graph.now) self.old frames.old }
@@ -238,7 +238,8 @@ impl Decider {
         let place = self.list.len();
         let choices = Choices::of(self.allocator(), graph, &question)?;
         self.list.number(question.copy()?)?;
-        frames.push(Frame::new(self.allocator(), place, question, choices))?;
+        let frame = Frame::new(self.allocator(), place, question, choices);
+        frames.push(Box::new(self.allocator(), frame)?)?;
         Ok(())
     }
 }

@@ -17,7 +17,7 @@ impl<T: Drop> Model for Stack<T> {
 }
 
 impl<T: Drop> Stack<T> {
-    ghost use Rattle.std.specs.Prelude.{◌≡◌, ◌++◌, List, [], ◌∷◌, OnOk, MatchOption};
+    ghost use Rattle.std.specs.Prelude.{◌≡◌, ◌++◌, [], ◌∷◌, OnOk, MatchOption};
     ghost use Rattle.std.specs.Prelude.{IsTrue, ◌↔◌};
 
     /// No items.
@@ -50,6 +50,10 @@ impl<T: Drop> Stack<T> {
     {
         let mut items = items;
         items.reverse();
+        if self.is_empty() {
+            self.items = items;
+            return Ok(());
+        }
         self.items.append(&mut items)?;
         Ok(())
     }
@@ -60,14 +64,6 @@ impl<T: Drop> Stack<T> {
             (λ item. self.old ≡ item ∷ self.new) }
     {
         self.items.pop()
-    }
-
-    /// The item on the top.
-    pub(crate) fn top(&self) -> Option<&T>
-        ensures { MatchOption result (self.now ≡ [])
-            (λ item. (rest : List T) × (self.now ≡ item.now ∷ rest)) }
-    {
-        self.items.last()
     }
 
     /// Takes all items away.

@@ -79,8 +79,7 @@ impl Decider {
     {
         // The contract of this call says that the graph is sound, and how it begins.
         let _count = graph.len();
-        let questions = branch.questions(self.allocator())?;
-        match self.parts(questions.as_slice())? {
+        match self.parts_of(&branch)? {
             Parts::Missing => Ok(Doing::Worked),
             Parts::Unknown(question) => {
                 frame.branches.push(branch)?;

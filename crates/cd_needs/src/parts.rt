@@ -3,10 +3,11 @@ ghost use Rattle.std.specs.Prelude.{◌≡◌, ◌∷◌, ◌++◌, map, IfOk, O
 ghost use Rattle.cd_rules.specs.Needs.{question, pair_way, xml_way, arrow_way, result_questions};
 ghost use Rattle.cd_rules.specs.Needs.{splits, splits_in_three};
 
-use crate::sets_of::{attributes, contents, firsts, one, seconds, tags, with};
+use crate::sets_of::{contents, firsts, one, seconds, with_attributes, with_tags};
 use crate::split::{Split, splits};
 use crate::split_in_three::splits_in_three;
 use cd_graph::built_in::{ATOM, RECORD};
+use cd_sets::id_set::IdSet;
 use cd_sets::node_id::NodeId;
 use cd_sets::question::{Question, Questions};
 use std::alloc::{AllocError, Global};
@@ -107,14 +108,18 @@ pub fn pair_questions(
     ensures { IfOk result
         (λ questions. questions.items ≡ pair_way wanted.now (firsts.now, seconds.now)) }
 {
-    let mut questions = Vec::new(alloc);
+    let mut questions = Vec::with_capacity(alloc, 2)?;
     questions.push(question_of_firsts(alloc, wanted, firsts)?)?;
     questions.push(question_of_seconds(alloc, wanted, seconds)?)?;
     Ok(questions)
 }
 
-// What is in the first part of each wanted pair and in that of no refused one.
-fn question_of_firsts(
+/// What is in the first part of each wanted pair and in that of no refused one.
+///
+/// # Errors
+///
+/// Want of memory.
+pub fn question_of_firsts(
     alloc: Global,
     wanted: &[(NodeId, NodeId)],
     refused: &[(NodeId, NodeId)],
@@ -128,8 +133,12 @@ fn question_of_firsts(
     })
 }
 
-// What is in the second part of each wanted pair and in that of no refused one.
-fn question_of_seconds(
+/// What is in the second part of each wanted pair and in that of no refused one.
+///
+/// # Errors
+///
+/// Want of memory.
+pub fn question_of_seconds(
     alloc: Global,
     wanted: &[(NodeId, NodeId)],
     refused: &[(NodeId, NodeId)],
@@ -159,15 +168,19 @@ pub fn xml_questions(
     ensures { IfOk result (λ questions.
         questions.items ≡ xml_way wanted.now (tags.now, attributes.now, contents.now)) }
 {
-    let mut questions = Vec::new(alloc);
+    let mut questions = Vec::with_capacity(alloc, 3)?;
     questions.push(question_of_tags(alloc, ATOM, wanted, tags)?)?;
     questions.push(question_of_attributes(alloc, RECORD, wanted, attributes)?)?;
     questions.push(question_of_contents(alloc, wanted, contents)?)?;
     Ok(questions)
 }
 
-// What is in a node, and in the tag of each wanted element and in that of no refused one.
-fn question_of_tags(
+/// What is in a node, and in the tag of each wanted element and in that of no refused one.
+///
+/// # Errors
+///
+/// Want of memory.
+pub fn question_of_tags(
     alloc: Global,
     all: NodeId,
     wanted: &[(NodeId, NodeId, NodeId)],
@@ -176,13 +189,17 @@ fn question_of_tags(
     ensures { IfOk result (λ asked. asked
         ≡ question (all ∷ map (λ parts. parts.0) wanted.now) (map (λ parts. parts.0) refused.now)) }
 {
-    let pos = with(tags(alloc, wanted)?, all)?;
-    let neg = tags(alloc, refused)?;
+    let pos = with_tags(one(alloc, all)?, wanted)?;
+    let neg = with_tags(IdSet::new(alloc), refused)?;
     Ok(Question { pos, neg })
 }
 
-// What is in a node, and in the attributes of each wanted element and in those of no refused one.
-fn question_of_attributes(
+/// What is in a node, and in the attributes of each wanted element and in those of no refused one.
+///
+/// # Errors
+///
+/// Want of memory.
+pub fn question_of_attributes(
     alloc: Global,
     all: NodeId,
     wanted: &[(NodeId, NodeId, NodeId)],
@@ -191,13 +208,17 @@ fn question_of_attributes(
     ensures { IfOk result (λ asked. asked
         ≡ question (all ∷ map (λ parts. parts.1) wanted.now) (map (λ parts. parts.1) refused.now)) }
 {
-    let pos = with(attributes(alloc, wanted)?, all)?;
-    let neg = attributes(alloc, refused)?;
+    let pos = with_attributes(one(alloc, all)?, wanted)?;
+    let neg = with_attributes(IdSet::new(alloc), refused)?;
     Ok(Question { pos, neg })
 }
 
-// What is in the contents of each wanted element and in those of no refused one.
-fn question_of_contents(
+/// What is in the contents of each wanted element and in those of no refused one.
+///
+/// # Errors
+///
+/// Want of memory.
+pub fn question_of_contents(
     alloc: Global,
     wanted: &[(NodeId, NodeId, NodeId)],
     refused: &[(NodeId, NodeId, NodeId)],

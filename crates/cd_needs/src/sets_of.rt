@@ -1,5 +1,5 @@
 //! The set of one part of each of some pairs or XML types.
-ghost use Rattle.std.specs.Prelude.{◌≡◌, [], ◌∷◌, map, IfOk};
+ghost use Rattle.std.specs.Prelude.{◌≡◌, [], ◌∷◌, ◌++◌, map, IfOk};
 ghost use Rattle.cd_rules.specs.Needs.{set_of, with_id};
 
 use cd_sets::id_set::IdSet;
@@ -32,33 +32,36 @@ pub(crate) fn seconds(alloc: Global, pairs: &[(NodeId, NodeId)]) -> Result<IdSet
     Ok(set)
 }
 
-/// The set of the tags of XML types.
-pub(crate) fn tags(alloc: Global, triples: &[(NodeId, NodeId, NodeId)]) -> Result<IdSet, AllocError>
-    ensures { IfOk result (λ set. set ≡ set_of (map (λ parts. parts.0) triples.now)) }
-{
-    let mut set = IdSet::new(alloc);
-    for parts in triples {
-        set.insert(parts.0)?;
-    }
-    // The contract of this call says that the set rises.
-    let _rising = set.ids();
-    Ok(set)
-}
-
-/// The set of the attributes of XML types.
-pub(crate) fn attributes(
-    alloc: Global,
+/// A set with the tags of XML types too.
+pub(crate) fn with_tags(
+    set: IdSet,
     triples: &[(NodeId, NodeId, NodeId)],
 ) -> Result<IdSet, AllocError>
-    ensures { IfOk result (λ set. set ≡ set_of (map (λ parts. parts.1) triples.now)) }
+    ensures { IfOk result (λ all. all ≡ set_of (set ++ map (λ parts. parts.0) triples.now)) }
 {
-    let mut set = IdSet::new(alloc);
+    let mut all = set;
     for parts in triples {
-        set.insert(parts.1)?;
+        all.insert(parts.0)?;
     }
     // The contract of this call says that the set rises.
-    let _rising = set.ids();
-    Ok(set)
+    let _rising = all.ids();
+    Ok(all)
+}
+
+/// A set with the attributes of XML types too.
+pub(crate) fn with_attributes(
+    set: IdSet,
+    triples: &[(NodeId, NodeId, NodeId)],
+) -> Result<IdSet, AllocError>
+    ensures { IfOk result (λ all. all ≡ set_of (set ++ map (λ parts. parts.1) triples.now)) }
+{
+    let mut all = set;
+    for parts in triples {
+        all.insert(parts.1)?;
+    }
+    // The contract of this call says that the set rises.
+    let _rising = all.ids();
+    Ok(all)
 }
 
 /// The set of the contents of XML types.
@@ -77,8 +80,8 @@ pub(crate) fn contents(
     Ok(set)
 }
 
-/// A set with one more number.
-pub(crate) fn with(mut set: IdSet, id: NodeId) -> Result<IdSet, AllocError>
+// A set with one more number.
+fn with(mut set: IdSet, id: NodeId) -> Result<IdSet, AllocError>
     ensures { IfOk result (λ all. all ≡ with_id id set) }
 {
     let _before = set.ids();

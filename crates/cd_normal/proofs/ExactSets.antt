@@ -1,14 +1,17 @@
 -- Sets that hold exactly what passes, where nodes are taken one by one and formulas by halves.
 use Rattle.std.proofs.Common.{◌≡◌, ℕ, zero, suc, ◌-◌, ◌<◌, ◌≤◌, Bool, true, false, not, ◌&&◌, ◌||◌, List, [], ◌∷◌}
-use Rattle.std.proofs.Common.{map, take, drop, length, get_or, refl, sym, ap, ◌∙◌}
+use Rattle.std.proofs.Common.{map, take, drop, length, get_or, refl, sym, ap, ◌∙◌, true≢false, arith, ℤ}
+use Rattle.std.specs.List.{list_all}
 use Rattle.std.proofs.Math.Seq.{drop-length}
 use Rattle.cd_sets.specs.declared.node_id.NodeId.{NodeId}
+use Rattle.cd_syntax.specs.Name.{Name}
+use Rattle.cd_model.specs.Formula as formula
 use Rattle.cd_model.specs.Formula.{Formula, Graph, formula_at, formulas_of}
 use Rattle.cd_graph.specs.PlainFormula.{plain}
 use Rattle.cd_graph.specs.declared.formula.Formula.{Formula as CodeFormula}
 use Rattle.cd_rules.specs.BasicSets.{passes, all_pass, one_passes, in_all, in_none, integer_test, character_test, atom_test}
 use Rattle.cd_normal.specs.declared.basic_sets.Basics.{Basics}
-use Rattle.cd_normal.specs.Inner.ExactSets.{Passing, AreExact}
+use Rattle.cd_normal.specs.Inner.ExactSets.{Passing, AreExact, has_parts}
 use Rattle.cd_normal.proofs.Lists.{from_item_or}
 
 -- sets that hold what passes hold what passes in other words
@@ -74,3 +77,75 @@ pub none_refused : (graph : Graph) (ids : List NodeId) (test : Formula → Bool)
     → passed ≡ (passed && in_none test graph (drop (length ids) ids))
 none_refused graph ids test true = sym (ap (in_none test graph) (drop-length ids))
 none_refused graph ids test false = refl
+
+-- of no nodes all is wanted, and of the last one what is in it
+pub no_nodes : (graph : Graph) (ids : List NodeId) → length ids ≡ 0 → (test : Formula → Bool) → true ≡ in_all test graph ids
+no_nodes graph [] none test = refl
+no_nodes graph (id ∷ ids) none test = absurd (omega arith)
+
+and_true : (one : Bool) → one ≡ (one && true)
+and_true true = refl
+and_true false = refl
+
+pub last_wanted : (graph : Graph) (ids : List NodeId) (other : NodeId) → 0 < length ids → (formula : Formula)
+    → formula ≡ formula_at graph (get_or ids (length ids - 1) other) → (test : Formula → Bool)
+    → passes test formula ≡ in_all test graph (drop (length ids - 1) ids)
+last_wanted graph ids other some formula is test = and_true (passes test formula)
+    ∙ ap (λ left. passes test formula && in_all test graph left) (sym (drop-length ids))
+    ∙ one_wanted graph ids (length ids) other some (omega arith) formula is test
+
+-- the nodes before a place and those from it on are all
+pub all_of_parts : (test : Formula → Bool) (graph : Graph) (index : ℕ) (ids : List NodeId)
+    → (in_all test graph (drop index ids) && in_all test graph (take index ids)) ≡ in_all test graph ids
+all_of_parts test graph zero ids = sym (and_true (in_all test graph ids))
+all_of_parts test graph (suc index) [] = refl
+all_of_parts test graph (suc index) (id ∷ ids) =
+    turned (in_all test graph (drop index ids)) (passes test (formula_at graph id)) (in_all test graph (take index ids))
+    ∙ ap (λ rest. passes test (formula_at graph id) && rest) (all_of_parts test graph index ids)
+  where
+    turned : (one two three : Bool) → (one && (two && three)) ≡ (two && (one && three))
+    turned true two three = refl
+    turned false true three = refl
+    turned false false three = refl
+
+-- no integer, character or atom is of things that have parts
+both : (one two : Bool) → (one && two) ≡ true → (one ≡ true) × (two ≡ true)
+both true two are = (refl, are)
+both false two are = absurd (true≢false (sym are))
+
+none_passes : (test : Formula → Bool) → ((one : Formula) → has_parts one ≡ true → false ≡ passes test one) → (formulas : List CodeFormula)
+    → list_all (λ formula. has_parts (plain formula)) formulas ≡ true → false ≡ one_passes test (formulas_of (map plain formulas))
+none_passes test fails [] all = refl
+none_passes test fails (formula ∷ rest) all =
+    let parts = both (has_parts (plain formula)) (list_all (λ formula. has_parts (plain formula)) rest) all in
+    none_passes test fails rest parts.1
+    ∙ ap (λ passed. passed || one_passes test (formulas_of (map plain rest))) (fails (plain formula) parts.0)
+
+no_integer : (z : ℤ) (one : Formula) → has_parts one ≡ true → false ≡ passes (integer_test z) one
+no_integer z (formula.Pair first second) is = refl
+no_integer z (formula.Xml tag attributes content) is = refl
+no_integer z (formula.Record named rest) is = refl
+no_integer z (formula.Arrow argument mapped) is = refl
+no_integer z _ is = absurd (true≢false (sym is))
+
+no_character : (c : ℕ) (one : Formula) → has_parts one ≡ true → false ≡ passes (character_test c) one
+no_character c (formula.Pair first second) is = refl
+no_character c (formula.Xml tag attributes content) is = refl
+no_character c (formula.Record named rest) is = refl
+no_character c (formula.Arrow argument mapped) is = refl
+no_character c _ is = absurd (true≢false (sym is))
+
+no_atom : (name : Name) (one : Formula) → has_parts one ≡ true → false ≡ passes (atom_test name) one
+no_atom name (formula.Pair first second) is = refl
+no_atom name (formula.Xml tag attributes content) is = refl
+no_atom name (formula.Record named rest) is = refl
+no_atom name (formula.Arrow argument mapped) is = refl
+no_atom name _ is = absurd (true≢false (sym is))
+
+pub none_in_parts : (formulas : List CodeFormula) → list_all (λ formula. has_parts (plain formula)) formulas ≡ true → (sets : Basics)
+    → AreExact (λ test. false) sets → AreExact (λ test. one_passes test (formulas_of (map plain formulas))) sets
+none_in_parts formulas all sets exact = (
+  λ z is. exact.0 z is ∙ none_passes (integer_test z) (no_integer z) formulas all,
+  λ c is. exact.1 c is ∙ none_passes (character_test c) (no_character c) formulas all,
+  λ name is. exact.2 name is ∙ none_passes (atom_test name) (no_atom name) formulas all,
+)

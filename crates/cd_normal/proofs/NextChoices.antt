@@ -3,7 +3,7 @@ use Rattle.std.proofs.Common.{◌≡◌, Bool, true, false, not, List, [], ◌�
 use Rattle.cd_model.specs.Formula as formula
 use Rattle.cd_model.specs.Formula.{Formula}
 use Rattle.cd_rules.specs.PartialChoices.{Partial, GoesOn, unfolds, divides, extends, partial, each_signed}
-use Rattle.cd_rules.specs.PartialChoices.{wants_each, refuses_each, denies, wants_one, refuses_one}
+use Rattle.cd_rules.specs.PartialChoices.{wants_each, denies, refuses_one}
 use Rattle.cd_normal.specs.ChoicesGoOn.{TopGoesOn}
 use Rattle.cd_normal.specs.Inner.NextChoices.{next_choices, are_flat}
 use Rattle.cd_normal.proofs.Refusals.{goes_on_refusing, goes_on_wanting}

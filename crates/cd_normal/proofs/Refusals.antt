@@ -1,6 +1,6 @@
 -- Literals, and unions of such, that are refused together have one choice: the literals of the kind. Where one is wanted there is a
 -- choice for each of the kind.
-use Rattle.std.proofs.Common.{◌≡◌, Bool, true, false, ◌&&◌, List, [], ◌∷◌, ◌++◌, map, refl, ap, ap₂, subst, ◌∙◌, if◌then◌else◌}
+use Rattle.std.proofs.Common.{◌≡◌, Bool, true, false, List, [], ◌∷◌, ◌++◌, map, refl, ap₂, subst, if◌then◌else◌}
 use Rattle.cd_model.specs.Formula as formula
 use Rattle.cd_model.specs.Formula.{Formula, Formulas, NoFormula, AFormula}
 use Rattle.cd_model.specs.Kinds.{Kind}

@@ -1,4 +1,7 @@
-ghost use Rattle.std.specs.Prelude.{true, false, not, ◌&&◌, ◌||◌, ◌↔◌, IsTrue, IfOk};
+ghost use Rattle.std.specs.Prelude.{◌≡◌, ℤ, ℕ, true, false, not, ◌&&◌, ◌||◌, ◌↔◌, IsTrue, IfOk};
+ghost use Rattle.std.specs.Char.{IsScalar};
+ghost use Rattle.cd_intervals.specs.Interval.{holds};
+ghost use Rattle.cd_intervals.specs.Characters.{holds_character};
 ghost use Rattle.cd_model.specs.Formula as formula;
 ghost use Rattle.cd_normal.specs.HoldNothing.{HoldNothing};
 ghost use Rattle.cd_normal.specs.Inner.ExactSets.{AreExact, Passing};
@@ -83,10 +86,16 @@ impl Basics {
     }
 
     // Those that are of one of both.
-    pub(crate) fn union(&self, other: &Basics) -> Result<Basics, AllocError>
-        ensures { IfOk result (λ all. (one two : Passing) → AreExact one self.now
-            → AreExact two other.now → AreExact (λ test. one test || two test) all) }
+    pub(crate) fn union(self, other: Basics) -> Result<Basics, AllocError>
+        ensures { IfOk result (λ all. (one two : Passing) → AreExact one self
+            → AreExact two other → AreExact (λ test. one test || two test) all) }
     {
+        if self.is_empty() {
+            return Ok(other);
+        }
+        if other.is_empty() {
+            return Ok(self);
+        }
         Ok(Basics {
             integers: self.integers.union(&other.integers)?,
             characters: self.characters.union(&other.characters)?,
@@ -95,26 +104,69 @@ impl Basics {
     }
 
     // Those that are of both.
-    pub(crate) fn intersect(&self, other: &Basics) -> Result<Basics, AllocError>
+    pub(crate) fn intersect(&self, alloc: Global, other: &Basics) -> Result<Basics, AllocError>
         ensures { IfOk result (λ all. (one two : Passing) → AreExact one self.now
             → AreExact two other.now → AreExact (λ test. one test && two test) all) }
     {
         Ok(Basics {
-            integers: self.integers.intersect(&other.integers)?,
-            characters: self.characters.intersect(&other.characters)?,
+            integers: integers_of_both(alloc, &self.integers, &other.integers)?,
+            characters: characters_of_both(alloc, &self.characters, &other.characters)?,
             atoms: self.atoms.intersect(&other.atoms)?,
         })
     }
 
     // Those that are of this and not of the other.
-    pub(crate) fn minus(&self, other: &Basics) -> Result<Basics, AllocError>
+    pub(crate) fn minus(&self, alloc: Global, other: &Basics) -> Result<Basics, AllocError>
         ensures { IfOk result (λ all. (one two : Passing) → AreExact one self.now
             → AreExact two other.now → AreExact (λ test. one test && not (two test)) all) }
     {
         Ok(Basics {
-            integers: self.integers.minus(&other.integers)?,
-            characters: self.characters.minus(&other.characters)?,
+            integers: integers_without(alloc, &self.integers, &other.integers)?,
+            characters: characters_without(alloc, &self.characters, &other.characters)?,
             atoms: self.atoms.minus(&other.atoms)?,
         })
     }
+}
+
+// The integers of both sets.
+fn integers_of_both(alloc: Global, one: &IntSet, other: &IntSet) -> Result<IntSet, AllocError>
+    ensures { IfOk result (λ set. (z : ℤ) → holds set z ≡ (holds one.now z && holds other.now z)) }
+{
+    if one.is_empty() {
+        return Ok(IntSet::empty(alloc));
+    }
+    one.intersect(other)
+}
+
+// The integers of the one set that are not of the other.
+fn integers_without(alloc: Global, one: &IntSet, other: &IntSet) -> Result<IntSet, AllocError>
+    ensures { IfOk result (λ set. (z : ℤ)
+        → holds set z ≡ (holds one.now z && not (holds other.now z))) }
+{
+    if one.is_empty() {
+        return Ok(IntSet::empty(alloc));
+    }
+    one.minus(other)
+}
+
+// The characters of both sets.
+fn characters_of_both(alloc: Global, one: &CharSet, other: &CharSet) -> Result<CharSet, AllocError>
+    ensures { IfOk result (λ set. (c : ℕ) → IsScalar c
+        → holds_character set c ≡ (holds_character one.now c && holds_character other.now c)) }
+{
+    if one.is_empty() {
+        return Ok(CharSet::empty(alloc));
+    }
+    one.intersect(other)
+}
+
+// The characters of the one set that are not of the other.
+fn characters_without(alloc: Global, one: &CharSet, other: &CharSet) -> Result<CharSet, AllocError>
+    ensures { IfOk result (λ set. (c : ℕ) → IsScalar c
+        → holds_character set c ≡ (holds_character one.now c && not (holds_character other.now c))) }
+{
+    if one.is_empty() {
+        return Ok(CharSet::empty(alloc));
+    }
+    one.minus(other)
 }

@@ -47,8 +47,7 @@ impl<'g> Choices<'g> {
         ensures of_nodes { IfOk result
             (λ choices. AllOf (IsOfNodes (length (nodes graph.now))) (partials choices)) }
     {
-        let left = formulas_of(alloc, graph, question)?;
-        let items = of_each_kind(alloc, left.as_slice())?;
+        let items = of_each_kind(formulas_of(alloc, graph, question)?)?;
         // The contract of this call says that the formulas of the graph are sound.
         let _count = graph.len();
         Ok(Choices { items })
@@ -103,19 +102,20 @@ impl<'g> Choices<'g> {
 }
 
 // A choice of each kind that is to meet these formulas.
-fn of_each_kind<'g>(
-    alloc: Global,
-    left: &[Literal<'g>],
-) -> Result<Vec<PartialChoice<'g>>, AllocError>
+fn of_each_kind<'g>(left: Vec<Literal<'g>>) -> Result<Vec<PartialChoice<'g>>, AllocError>
     ensures { IfOk result (λ choices. plain_partials choices.items
-        ≡ map (λ kind. partial kind [] (plain_left left.now))
+        ≡ map (λ kind. partial kind [] (plain_left left.entry.items))
         (APair ∷ AnXml ∷ ARecord ∷ AFunction ∷ [])) }
 {
-    let mut choices = Vec::new(alloc);
-    choices.push(PartialChoice::of(alloc, Kind::Function, left)?)?;
-    choices.push(PartialChoice::of(alloc, Kind::Record, left)?)?;
-    choices.push(PartialChoice::of(alloc, Kind::Xml, left)?)?;
-    choices.push(PartialChoice::of(alloc, Kind::Pair, left)?)?;
+    let alloc = *left.allocator();
+    let mut choices = Vec::with_capacity(alloc, 4)?;
+    let copy = Vec::from_slice(alloc, left.as_slice())?;
+    choices.push(PartialChoice::of(Kind::Function, copy))?;
+    let copy = Vec::from_slice(alloc, left.as_slice())?;
+    choices.push(PartialChoice::of(Kind::Record, copy))?;
+    let copy = Vec::from_slice(alloc, left.as_slice())?;
+    choices.push(PartialChoice::of(Kind::Xml, copy))?;
+    choices.push(PartialChoice::of(Kind::Pair, left))?;
     Ok(choices)
 }
 
@@ -147,6 +147,7 @@ fn add_formulas<'g>(
         ≡ map (λ id. (formula_at (nodes graph.now) id, wanted)) ids.now
         ++ plain_left left.old.items) }
 {
+    left.reserve(ids.len())?;
     let mut index = ids.len();
     while index > 0 {
         index -= 1;

@@ -1,6 +1,7 @@
 //! The integers, characters and atoms that are in formulas and in questions.
 ghost use Rattle.std.specs.Prelude.{◌≡◌, ◌<◌, ◌&&◌, not, ℤ, ℕ, map, length, IfOk};
 ghost use Rattle.std.specs.Char.{IsScalar};
+ghost use Rattle.std.specs.List.{list_all};
 ghost use Rattle.cd_intervals.specs.Interval.{holds};
 ghost use Rattle.cd_intervals.specs.Characters.{holds_character};
 ghost use Rattle.cd_intervals.specs.Atoms.{IsAtom, holds as holds_atom};
@@ -13,7 +14,7 @@ ghost use Rattle.cd_graph.specs.PlainFormula.{plain};
 ghost use Rattle.cd_rules.specs.BasicSets.{passes, all_pass, one_passes, in_all, in_none};
 ghost use Rattle.cd_rules.specs.BasicSets.{question_passes, integer_test, character_test};
 ghost use Rattle.cd_rules.specs.BasicSets.{atom_test};
-ghost use Rattle.cd_normal.specs.Inner.ExactSets.{AreExact, Passing};
+ghost use Rattle.cd_normal.specs.Inner.ExactSets.{AreExact, Passing, has_parts};
 
 use crate::basic_sets::Basics;
 use cd_graph::{Formula, Graph};
@@ -42,16 +43,23 @@ pub fn basics(alloc: Global, graph: &Graph, question: &Question) -> Result<Basic
     without(alloc, graph, inside, question.neg.ids())
 }
 
-// Those that are in each of these nodes.
+// Those that are in each of these nodes. The built-in nodes come first, so it begins at the end.
 fn wanted(alloc: Global, graph: &Graph, ids: &[NodeId]) -> Result<Basics, AllocError>
     requires { AllOf (λ id. id.0 < length (nodes graph.now)) ids.now }
     ensures { IfOk result (AreExact (λ test. in_all test (nodes graph.now) ids.now)) }
 {
-    let mut all = Basics::all(alloc)?;
     let mut index = ids.len();
+    if index == 0 {
+        return Basics::all(alloc);
+    }
+    index -= 1;
+    let mut all = of_formula(alloc, graph.formula(ids[index]))?;
     while index > 0 {
+        if all.is_empty() {
+            return Ok(all);
+        }
         index -= 1;
-        all = of_formula(alloc, graph.formula(ids[index]))?.intersect(&all)?;
+        all = of_formula(alloc, graph.formula(ids[index]))?.intersect(alloc, &all)?;
     }
     Ok(all)
 }
@@ -69,7 +77,7 @@ fn without(alloc: Global, graph: &Graph, sets: Basics, ids: &[NodeId]) -> Result
     let mut index = ids.len();
     while index > 0 {
         index -= 1;
-        left = left.minus(&of_formula(alloc, graph.formula(ids[index]))?)?;
+        left = left.minus(alloc, &of_formula(alloc, graph.formula(ids[index]))?)?;
     }
     Ok(left)
 }
@@ -105,25 +113,56 @@ fn of_each(alloc: Global, formulas: &[Formula]) -> Result<Basics, AllocError>
         [_, ..] => {
             let half = formulas.len() / 2;
             let first = of_each(alloc, &formulas[..half])?;
-            first.intersect(&of_each(alloc, &formulas[half..])?)
+            if first.is_empty() {
+                return Ok(first);
+            }
+            first.intersect(alloc, &of_each(alloc, &formulas[half..])?)
         }
     }
 }
 
-// Those that are in one of the formulas, by halves.
+// Those that are in one of the formulas, by halves, until things with parts alone are left.
 #[cycle(basics)]
 fn of_one(alloc: Global, formulas: &[Formula]) -> Result<Basics, AllocError>
     ensures { IfOk result
         (AreExact (λ test. one_passes test (formulas_of (map plain formulas.now)))) }
 {
+    if have_parts(formulas) {
+        return Ok(Basics::none(alloc));
+    }
     match formulas {
         [] => Ok(Basics::none(alloc)),
         [formula, rest @ ..] if rest.is_empty() => of_formula(alloc, formula),
         [_, ..] => {
             let half = formulas.len() / 2;
             let first = of_one(alloc, &formulas[..half])?;
-            first.union(&of_one(alloc, &formulas[half..])?)
+            first.union(of_one(alloc, &formulas[half..])?)
         }
+    }
+}
+
+// Whether each of the formulas is of things that have parts.
+fn have_parts(formulas: &[Formula]) -> bool
+    ensures { result ≡ list_all (λ formula. has_parts (plain formula)) formulas.now }
+{
+    formulas.iter().all(has_parts)
+}
+
+// Whether a formula is of things that have parts.
+fn has_parts(formula: &Formula) -> bool
+    ensures { result ≡ has_parts (plain formula.now) }
+{
+    match formula {
+        Formula::Pair(_, _) | Formula::Xml(_, _, _) | Formula::Record(_) | Formula::Arrow(_, _) =>
+            true,
+        Formula::None
+        | Formula::All
+        | Formula::Ints(_)
+        | Formula::Chars(_)
+        | Formula::Atoms(_)
+        | Formula::And(_)
+        | Formula::Or(_)
+        | Formula::Not(_) => false,
     }
 }
 
@@ -132,5 +171,5 @@ fn others(alloc: Global, sets: &Basics) -> Result<Basics, AllocError>
     ensures { IfOk result (λ others. (passing : Passing) → AreExact passing sets.now
         → AreExact (λ test. not (passing test)) others) }
 {
-    Basics::all(alloc)?.minus(sets)
+    Basics::all(alloc)?.minus(alloc, sets)
 }

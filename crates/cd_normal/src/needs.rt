@@ -12,7 +12,7 @@ ghost use Rattle.cd_normal.specs.Inner.PlainKind.{plain_kind};
 
 use crate::kind::Kind;
 use crate::literal::Literal;
-use crate::side::{arrows, pairs, records, xmls};
+use crate::side::{arrows, pairs, records, wanted_xmls};
 use cd_graph::fields::Fields;
 use cd_needs::asking::question;
 use cd_needs::parts::{pair_questions, xml_questions};
@@ -51,7 +51,7 @@ fn needs_of_xmls(alloc: Global, choice: &[Literal<'_>]) -> Result<Vec<Question>,
     ensures { IfOk result
         (λ needs. AllOf (IsNeed AnXml (plain_choice choice.now)) needs.items) }
 {
-    let wanted = xmls(alloc, true, choice)?;
+    let wanted = wanted_xmls(alloc, choice)?;
     xml_questions(alloc, wanted.as_slice(), &[], &[], &[])
 }
 

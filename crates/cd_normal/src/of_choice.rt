@@ -43,8 +43,9 @@ fn clause_of_xmls<'g>(alloc: Global, choice: &[Literal<'g>]) -> Result<Clause<'g
     ensures { IfOk result
         (λ clause. plain_clause clause ≡ clause_by AnXml (plain_choice choice.now)) }
 {
-    let wanted = Rc::new(alloc, xmls(alloc, true, choice)?)?;
-    let refused = Rc::new(alloc, xmls(alloc, false, choice)?)?;
+    let (wanted, refused) = xmls(alloc, choice)?;
+    let wanted = Rc::new(alloc, wanted)?;
+    let refused = Rc::new(alloc, refused)?;
     Ok(Clause::Xmls(wanted, refused))
 }
 

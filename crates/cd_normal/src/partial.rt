@@ -26,20 +26,16 @@ pub(crate) struct PartialChoice<'g> {
 
 impl<'g> PartialChoice<'g> {
     /// A choice of which nothing is chosen yet.
-    pub(crate) fn of(
-        alloc: Global,
-        kind: Kind,
-        left: &[Literal<'g>],
-    ) -> Result<PartialChoice<'g>, AllocError>
-        ensures { IfOk result (λ is.
-            plain_partial is ≡ partial (plain_kind kind) [] (plain_left left.now)) }
+    pub(crate) fn of(kind: Kind, left: Vec<Literal<'g>>) -> PartialChoice<'g>
+        ensures { plain_partial result
+            ≡ partial (plain_kind kind) [] (plain_left left.entry.items) }
     {
-        Ok(PartialChoice {
+        PartialChoice {
             kind,
-            choice: Vec::new(alloc),
-            left: Vec::from_slice(alloc, left)?,
+            choice: Vec::new(*left.allocator()),
+            left,
             changed: false,
-        })
+        }
     }
 
     /// The same choice, with this formula before those that are left.
@@ -152,7 +148,9 @@ fn add_refused<'g>(
     ensures { OnOk result (plain_choice choice.new.items ≡ plain_choice choice.old.items
         ++ refused_of (plain_kind kind) (plain_formulas formulas.now)) }
 {
-    for formula in formulas.items() {
+    let formulas = formulas.items();
+    choice.reserve(formulas.len())?;
+    for formula in formulas {
         add_refused_in(choice, kind, formula)?;
     }
     Ok(())
@@ -213,6 +211,7 @@ fn add_each<'g>(
         ≡ each_signed (plain_formulas formulas.now) wanted ++ plain_left left.old.items) }
 {
     let formulas = formulas.items();
+    left.reserve(formulas.len())?;
     let mut index = formulas.len();
     while index > 0 {
         index -= 1;

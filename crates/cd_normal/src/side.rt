@@ -1,5 +1,5 @@
 //! The parts of the wanted literals of a choice, and of the refused ones.
-ghost use Rattle.std.specs.Prelude.{◌≡◌, ◌++◌, [], IfOk, OnOk};
+ghost use Rattle.std.specs.Prelude.{◌≡◌, ◌++◌, [], true, false, IfOk, OnOk};
 ghost use Rattle.std.specs.Option.{option_map};
 ghost use Rattle.cd_needs.specs.RecordType.{record_type, record_types};
 ghost use Rattle.cd_rules.specs.Clauses.{one_more, parts_in, pair_of, xml_of, record_of, arrow_of};
@@ -28,21 +28,41 @@ pub(crate) fn pairs(
     Ok(parts)
 }
 
-/// The parts of the XML elements that are wanted, or of those that are refused.
+/// The parts of the XML elements that are wanted.
+#[tactic(auto, using(crate::proofs::Lists::one_more_before))]
+pub(crate) fn wanted_xmls(
+    alloc: Global,
+    choice: &[Literal<'_>],
+) -> Result<Vec<(NodeId, NodeId, NodeId)>, AllocError>
+    ensures { IfOk result (λ parts. parts.items ≡ parts_in xml_of true (plain_choice choice.now)) }
+{
+    let mut parts = Vec::new(alloc);
+    for literal in choice {
+        add(&mut parts, true, literal.wanted, xml(literal.formula))?;
+    }
+    Ok(parts)
+}
+
+/// The parts of the XML elements that are wanted, and of those that are refused.
 #[tactic(auto, using(crate::proofs::Lists::one_more_before))]
 pub(crate) fn xmls(
     alloc: Global,
-    wanted: bool,
     choice: &[Literal<'_>],
-) -> Result<Vec<(NodeId, NodeId, NodeId)>, AllocError>
-    ensures { IfOk result (λ parts.
-        parts.items ≡ parts_in xml_of wanted (plain_choice choice.now)) }
+) -> Result<(Vec<(NodeId, NodeId, NodeId)>, Vec<(NodeId, NodeId, NodeId)>), AllocError>
+    ensures wanted { IfOk result (λ parts.
+        parts.0.items ≡ parts_in xml_of true (plain_choice choice.now)) }
+    ensures refused { IfOk result (λ parts.
+        parts.1.items ≡ parts_in xml_of false (plain_choice choice.now)) }
 {
-    let mut parts = Vec::with_capacity(alloc, choice.len())?;
+    // Most of them are refused.
+    let mut wanted = Vec::new(alloc);
+    let mut refused = Vec::with_capacity(alloc, choice.len())?;
     for literal in choice {
-        add(&mut parts, wanted, literal.wanted, xml(literal.formula))?;
+        let part = xml(literal.formula);
+        add(&mut wanted, true, literal.wanted, part)?;
+        add(&mut refused, false, literal.wanted, part)?;
     }
-    Ok(parts)
+    Ok((wanted, refused))
 }
 
 /// The fields of the records that are wanted, or of those that are refused.

@@ -1,5 +1,6 @@
 -- A number put at its place among strictly rising ones.
-use Rattle.std.proofs.Common.{◌≡◌, ℕ, zero, suc, ◌<◌, ◌==◌, ◌||◌, Bool, true, false, List, [], ◌∷◌, Option, Some, nat_le, cond, refl, arith}
+use Rattle.std.proofs.Common.{◌≡◌, ℕ, zero, suc, ◌<◌, ◌==◌, ◌||◌, Bool, true, false, List, [], ◌∷◌, ◌++◌, Option, Some, nat_le, cond, refl, arith, length}
+use Rattle.std.proofs.Math.Seq.{take-length, drop-length}
 use Rattle.std.specs.List.{insert}
 use Rattle.cd_sets.specs.declared.node_id.NodeId.{NodeId}
 use Rattle.cd_sets.specs.IdSet.{IsAbove, RiseFrom, holds, place_of}
@@ -19,3 +20,16 @@ rises_placed before (one ∷ ids) id rises above new =
         → (one.0 < id.0 → RiseFrom (Some one.0) (insert ids (place_of ids id) id)) → RiseFrom before (insert (one ∷ ids) (cond test 0 (suc (place_of ids id))) id)
     by true is on = (above, (grind arith, rises.1))
     by false is on = (rises.0, on (grind arith))
+
+-- above all of them it is none of them, and stands after them
+pub new_beyond : (ids : List NodeId) (id : NodeId) → place_of ids id ≡ length ids → holds ids id ≡ false
+new_beyond [] id last = refl
+new_beyond (one ∷ ids) id last = by (nat_le id.0 one.0) refl last (new_beyond ids id)
+  where
+    by : (test : Bool) → nat_le id.0 one.0 ≡ test → cond test 0 (suc (place_of ids id)) ≡ suc (length ids)
+        → (place_of ids id ≡ length ids → holds ids id ≡ false) → holds (one ∷ ids) id ≡ false
+    by true is last on = absurd (omega arith)
+    by false is last on = let none = on (omega arith) in grind (arith, is)
+
+pub inserted_last : (ids : List NodeId) (id : NodeId) → insert ids (length ids) id ≡ ids ++ id ∷ []
+inserted_last ids id = rw (take-length ids, drop-length ids) refl

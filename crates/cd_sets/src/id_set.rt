@@ -53,8 +53,10 @@ impl IdSet {
             → holds self.new one ≡ ((one.0 == id.0) || holds self.old one)) }
         ensures kept { OnErr result (self.new ≡ self.old) }
     {
-        if !self.contains(id) {
-            let place = place(self.ids.as_slice(), id);
+        let place = place(self.ids.as_slice(), id);
+        if place == self.ids.len() {
+            self.ids.push(id)?;
+        } else if !self.contains(id) {
             self.ids.insert(place, id)?;
         }
         Ok(())

@@ -1,5 +1,5 @@
 -- What is known of questions.
-use Rattle.std.specs.Prelude.{◌≡◌, List, [], ◌∷◌}
+use Rattle.std.specs.Prelude.{◌≡◌, List, [], ◌∷◌, ◌++◌, Option, Some, None}
 use Rattle.cd_sets.specs.declared.question.Question.{Question}
 use Rattle.cd_model.specs.AllOf.{AnyOf}
 use Rattle.cd_elements.specs.declared.shape.ElementId.{ElementId}
@@ -33,3 +33,12 @@ AreParts decider questions Missing =
 AreParts decider questions (Unknown question) =
     AnyOf (λ other. other ≡ question) questions × IsUnknown decider question
 AreParts decider questions (Are ids) = HaveElements decider ids.items questions
+
+-- the element of one more question is added; or it has none, or nothing is known of it
+abbrev pub AddsPart : Decider → Question → (before after : List ElementId) → Option Parts → Type 0
+AddsPart decider question before after None = (id : ElementId)
+    × (after ≡ before ++ id ∷ []) × IsKept (kept decider) question (Inhabited id)
+AddsPart decider question before after (Some Missing) = IsCovered question (known decider)
+AddsPart decider question before after (Some (Unknown other)) = (question ≡ other)
+    × IsUnknown decider other
+AddsPart decider question before after (Some (Are ids)) = ⊥

@@ -1,11 +1,12 @@
 -- Sets of integers, of characters and of atoms that hold exactly what passes.
-use Rattle.std.specs.Prelude.{◌≡◌, Bool, ℤ, ℕ}
+use Rattle.std.specs.Prelude.{◌≡◌, Bool, true, false, ℤ, ℕ}
 use Rattle.std.specs.Char.{IsScalar}
 use Rattle.cd_intervals.specs.Interval as integers
 use Rattle.cd_intervals.specs.Characters.{holds_character}
 use Rattle.cd_intervals.specs.Atoms as atoms
 use Rattle.cd_syntax.specs.Integer.{IsInteger}
 use Rattle.cd_syntax.specs.Name.{Name}
+use Rattle.cd_model.specs.Formula as formula
 use Rattle.cd_model.specs.Formula.{Formula}
 use Rattle.cd_rules.specs.BasicSets.{integer_test, character_test, atom_test}
 use Rattle.cd_normal.specs.declared.basic_sets.Basics.{Basics}
@@ -20,3 +21,11 @@ AreExact passing sets =
     × ((c : ℕ) → IsScalar c → holds_character sets.characters c ≡ passing (character_test c))
     × ((name : Name) → atoms.IsAtom name
     → atoms.holds sets.atoms name ≡ passing (atom_test name))
+
+-- a formula of things that have parts, none of which passes these tests
+abbrev pub has_parts : Formula → Bool
+has_parts (formula.Pair first second) = true
+has_parts (formula.Xml tag attributes content) = true
+has_parts (formula.Record named rest) = true
+has_parts (formula.Arrow argument mapped) = true
+has_parts _ = false

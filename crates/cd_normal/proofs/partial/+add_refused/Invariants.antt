@@ -17,5 +17,5 @@ decreases-add_refused l = size_list (plain_formulas l.formulas.now)
 -- with those of the formulas that are left it is the whole
 abbrev pub invariant-add_refused-loop-formula : goal.invariant-add_refused-loop-formula
 invariant-add_refused-loop-formula l =
-    plain_choice l.choice.items ++ refused_of (plain_kind l.kind) (formulas_of (map plain (drop l.formula-index l.formula-items)))
-    ≡ plain_choice l.fn.choice.items ++ refused_of (plain_kind l.kind) (plain_formulas l.formulas)
+    plain_choice l.choice.items ++ refused_of (plain_kind l.kind) (formulas_of (map plain (drop l.formula-index l.formulas)))
+    ≡ plain_choice l.fn.choice.items ++ refused_of (plain_kind l.kind) (formulas_of (map plain l.formulas))

@@ -1,4 +1,4 @@
-use Rattle.std.proofs.Common.{◌≡◌, ◌++◌, drop}
+use Rattle.std.proofs.Common.{◌≡◌, ◌++◌, true, false, drop}
 use Rattle.cd_rules.specs.Clauses.{parts_in, xml_of}
 use Rattle.cd_normal.specs.Inner.PlainChoice.{plain_choice}
 use Rattle.cd_normal.proofs.side.xmls.Given as goal
@@ -6,5 +6,5 @@ use Rattle.cd_normal.proofs.side.xmls.Given as goal
 -- the parts so far, and those of the literals that are left, are all
 abbrev pub invariant-loop-literal : goal.invariant-loop-literal
 invariant-loop-literal l =
-    l.parts.items ++ parts_in xml_of l.wanted (plain_choice (drop l.literal-index l.choice))
-    ≡ parts_in xml_of l.wanted (plain_choice l.choice)
+    (l.wanted.items ++ parts_in xml_of true (plain_choice (drop l.literal-index l.choice)) ≡ parts_in xml_of true (plain_choice l.choice))
+    × (l.refused.items ++ parts_in xml_of false (plain_choice (drop l.literal-index l.choice)) ≡ parts_in xml_of false (plain_choice l.choice))

@@ -3,6 +3,7 @@ use Rattle.cd_sets.specs.declared.question.Question.{Question}
 use Rattle.cd_graph.specs.Nodes.{nodes}
 use Rattle.cd_machine.specs.Machine.{NotIn, frame, work}
 use Rattle.cd_normal.specs.Partials.{partials}
+use Rattle.cd_empty.specs.declared.frame.Frame.{Frame}
 use Rattle.cd_empty.specs.Inner.Running.{IsStepped}
 use Rattle.cd_empty.specs.Kept.{table}
 use Rattle.cd_empty.proofs.OpenedQuestions.{is_added, stepped_by_question}
@@ -31,8 +32,9 @@ returns-clause-stepped c =
     let listed = subst (λ (question : Question). new ≡ old ++ question ∷ []) same
     (is_added old new c.in_ok-number.field-0.0 c.in_ok-copy.field-0 (subst (NotIn old) (sym same) c.requires.unknown.1)
     number.found number.grows) in
-    let plain = c.new.ensures.plain ∙ ap (λ place. frame place c.args.question (work choices None [] [])) c.len-place.ensures.count in
-    subst (IsStepped graph c.args.self.now _ c.args.frames.now) (sym c.in_ok-push.ensures)
-    (stepped_by_question graph c.args.self.now (record c.args.self.now { list = new }) c.args.question choices c.new.result
+    let plain = c.new-frame.ensures.plain ∙ ap (λ place. frame place c.args.question (work choices None [] [])) c.len-place.ensures.count in
+    let put = c.in_ok-push.ensures ∙ ap (λ (first : Frame). first ∷ c.args.frames.now) c.in_ok-new.ensures.ok in
+    subst (IsStepped graph c.args.self.now _ c.args.frames.now) (sym put)
+    (stepped_by_question graph c.args.self.now (record c.args.self.now { list = new }) c.args.question choices c.new-frame.result
     c.args.frames.now c.requires.running c.requires.unknown c.requires.asks c.requires.basic c.in_ok-choices.ensures.choices plain
-    (c.new.ensures.fit graph (table c.args.self.now) c.in_ok-choices.ensures.of_nodes) refl refl listed)
+    (c.new-frame.ensures.fit graph (table c.args.self.now) c.in_ok-choices.ensures.of_nodes) refl refl listed)

@@ -23,4 +23,4 @@ loop-question-preserved c =
     c.question-item.result c.loop-question-test.true c.question-item.is c.loop-question.invariant c.in-Has.ensures in
     subst (λ (next : ℕ). HaveElements c.args.self.now c.push.new.self.items (take next c.args.questions.now)) (sym (add-one place))
     (subst (λ (ids : List ElementId). HaveElements c.args.self.now ids (take (suc place) c.args.questions.now))
-    (sym c.in_ok-push-in-Has.ensures.items) have)
+    (sym c.in_ok-push-in-Has.ensures.ok) have)

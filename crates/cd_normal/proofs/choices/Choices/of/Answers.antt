@@ -7,5 +7,5 @@ use Rattle.cd_normal.proofs.choices.Choices.of.Goals as goal
 pub returns-clause-of_nodes : goal.returns-clause-of_nodes
 returns-clause-of_nodes c =
     let graph = nodes c.args.graph.now in
-    rw (c.in_ok-items.ensures, c.as_slice.ensures.value, c.in_ok-left.ensures)
+    rw (c.in_ok-items.ensures, c.in_ok-formulas_of.ensures)
     (partial_choices_are (length graph) graph c.len-count.ensures.sound c.args.question.now)
