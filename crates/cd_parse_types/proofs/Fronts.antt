@@ -1,8 +1,9 @@
 -- What is read of tokens, and of those before the first wrong one, says where the type at their front ends.
-use Rattle.std.proofs.Common.{◌≡◌, ◌≤◌, ◌<◌, ℕ, zero, suc, List, [], ◌∷◌, ◌++◌, Some, None, inl, inr, ◌⊎◌, length, take, drop, refl, sym, ap, subst, ◌∙◌, arith}
-use Rattle.std.proofs.lemmas.List.{append-nil, append_assoc, length-take-le, take_all, take-append-drop, take-append-le}
+use Rattle.std.proofs.Common.{◌≡◌, ◌≤◌, ◌<◌, ◌-◌, ℕ, zero, suc, List, [], ◌∷◌, ◌++◌, Some, None, inl, inr, ◌⊎◌, length, take, drop, refl, sym, ap, subst, ◌∙◌, arith}
+use Rattle.std.proofs.lemmas.List.{append-nil, append_assoc, length-take-le, length-drop, take_all, take-append-drop, take-append-le}
 use Rattle.std.proofs.lemmas.Bool.{cases_order}
 use Rattle.std.specs.List.{slice_get}
+use Rattle.std.proofs.lemmas.Option.{slice_get_within}
 use Rattle.cd_syntax.specs.declared.tokens.Token.{Token}
 use Rattle.cd_syntax.specs.TypeTree.{Tree as PlainTree}
 use Rattle.cd_syntax.specs.TypeGrammar.{IsTree}
@@ -11,7 +12,13 @@ use Rattle.cd_syntax.specs.declared.type_tree.Tree.{Tree}
 use Rattle.cd_type_reader.specs.Reading.{IsReading}
 use Rattle.cd_type_reader.specs.declared.reader.Reading.{Reading}
 use Rattle.cd_type_reader.specs.declared.reader.Reading.TheVariants.{Whole, Missing, Wrong, TooDeep}
+use Rattle.cd_type_reader.proofs.Ending.{none_goes_on}
 use Rattle.cd_parse_types.specs.Front.{IsFront, HaveNoFront}
+use Rattle.cd_parse_types.specs.Inner.Declaring.{HasKind, PartsAt}
+use Rattle.cd_syntax.specs.declared.sign.Sign.TheVariants as sign
+use Rattle.cd_syntax.specs.declared.tokens.TokenKind.{TokenKind}
+use Rattle.cd_syntax.specs.declared.tokens.TokenKind.TheVariants as token
+use Rattle.std.specs.Prelude.{codes}
 
 -- the place of a token that is there, and the end after the last one
 pub place_there : (tokens : List Token) (end index : ℕ) (token : Token) → slice_get tokens index ≡ Some token → place_of tokens end index ≡ token.span.from
@@ -112,3 +119,52 @@ reading_writes_none most tokens (Whole tree) begun is other = absurd (other tree
 reading_writes_none most tokens Missing begun is other = is.unfinished
 reading_writes_none most tokens (Wrong index) begun is other = wrong_writes_none most index tokens is
 reading_writes_none most tokens (TooDeep index) begun is other = absurd (begun_is_not_deep most index tokens begun is)
+
+-- the first tokens and the one after them
+one_more_taken : (tokens : List Token) (index : ℕ) (one : Token) → slice_get tokens index ≡ Some one
+    → take (suc index) tokens ≡ take index tokens ++ one ∷ []
+one_more_taken [] index one found = absurd cc
+one_more_taken (first ∷ tokens) zero one found = cc
+one_more_taken (first ∷ tokens) (suc index) one found = ap (λ taken. first ∷ taken) (one_more_taken tokens index one found)
+
+-- a token of a kind is there
+there : (tokens : List Token) (index : ℕ) (kind : TokenKind) → HasKind (slice_get tokens index) kind
+    → (one : Token) × (slice_get tokens index ≡ Some one) × (one.kind ≡ kind)
+there [] index kind has = absurd has
+there (one ∷ tokens) zero kind has = (one, refl, has)
+there (one ∷ tokens) (suc index) kind has = there tokens index kind has
+
+parting : (tokens : List Token) (index : ℕ) → PartsAt tokens index
+    → (one : Token) × (slice_get tokens index ≡ Some one) × ((one.kind ≡ token.Word (codes "type")) ⊎ (one.kind ≡ token.Sign sign.Semicolons))
+parting tokens index (inl has) = let one = there tokens index _ has in (one.0, one.1, inl one.2)
+parting tokens index (inr has) = let one = there tokens index _ has in (one.0, one.1, inr one.2)
+
+-- the first of the tokens from one on is that one
+from_on : (tokens : List Token) (index : ℕ) → slice_get (drop index tokens) 0 ≡ slice_get tokens index
+from_on [] zero = refl
+from_on [] (suc index) = refl
+from_on (one ∷ tokens) zero = refl
+from_on (one ∷ tokens) (suc index) = from_on tokens index
+
+pub parts_from_on : (tokens : List Token) (index : ℕ) → PartsAt (drop index tokens) 0 → PartsAt tokens index
+parts_from_on tokens index (inl has) = inl (subst (λ found. HasKind found (token.Word (codes "type"))) (from_on tokens index) has)
+parts_from_on tokens index (inr has) = inr (subst (λ found. HasKind found (token.Sign sign.Semicolons)) (from_on tokens index) has)
+
+-- all tokens from one on
+pub all_left : (tokens : List Token) (index : ℕ) → take (length tokens - index) (drop index tokens) ≡ drop index tokens
+all_left tokens index =
+    let left = length-drop index tokens in
+    take_all (length tokens - index) (drop index tokens) (omega (arith, left))
+
+-- a type that ends where no type goes on is at the front
+pub front_before : (most index : ℕ) (tokens : List Token) (is : PlainTree) → PartsAt tokens index
+    → IsTree most (take index tokens) is → IsFront most tokens index is
+front_before most index tokens is parts derived =
+    let one = parting tokens index parts in
+    let within = slice_get_within tokens index one.0 one.1 in
+    record {
+      within = omega (arith, within);
+      written = derived;
+      ends = λ less depth. subst (BeginNone AType depth) (sym (one_more_taken tokens index one.0 one.1))
+          (λ more it. none_goes_on most depth (take index tokens) is one.0 derived one.2 more it.0 it.1);
+    }

@@ -12,6 +12,7 @@ ghost use Rattle.cd_parse_types.specs.Inner.Declaring.{HasKind, HaveName, HaveHe
 
 use crate::error::{MOST_OPEN, ParseError, place_of};
 use crate::front::front;
+use crate::heads::{is_sign, is_word_type};
 use cd_syntax::name::Name;
 use cd_syntax::sign::Sign;
 use cd_syntax::tokens::{Token, TokenKind};
@@ -100,19 +101,6 @@ fn declared_name(tokens: &[Token], end: usize) -> Result<(&Name, usize), ParseEr
     Ok((found, place_of(tokens, end, 1)))
 }
 
-// Whether the first token is the word `type`.
-fn is_word_type(tokens: &[Token]) -> bool
-    ensures { IsTrue result ↔ HasKind (slice_get tokens.now 0) (token.Word (codes "type")) }
-{
-    let Some(first) = tokens.first() else {
-        return false;
-    };
-    let TokenKind::Word(name) = &first.kind else {
-        return false;
-    };
-    name.is_spelled(&['t', 'y', 'p', 'e'])
-}
-
 // The second token, where it is a name that a type may have.
 fn type_name(tokens: &[Token]) -> Option<&Name>
     ensures { MatchOption result ((name : AName) → HaveName tokens.now name → ⊥)
@@ -127,17 +115,4 @@ fn type_name(tokens: &[Token]) -> Option<&Name>
     } else {
         None
     }
-}
-
-// Whether the token with this number is this sign.
-fn is_sign(tokens: &[Token], index: usize, sign: Sign) -> bool
-    ensures { IsTrue result ↔ HasKind (slice_get tokens.now index) (token.Sign sign) }
-{
-    let Some(there) = tokens.get(index) else {
-        return false;
-    };
-    let TokenKind::Sign(found) = &there.kind else {
-        return false;
-    };
-    *found == sign
 }

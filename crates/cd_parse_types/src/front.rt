@@ -1,13 +1,15 @@
-ghost use Rattle.std.specs.Prelude.{◌≡◌, ◌≤◌, ◌+◌, ◌-◌, ℕ, IfOk, IfErr, drop, length};
+ghost use Rattle.std.specs.Prelude.{◌≡◌, ◌≤◌, ◌+◌, ◌-◌, ℕ, IfOk, IfErr, IfSome, drop, length};
 ghost use Rattle.cd_syntax.specs.PlainTree.{plain};
 ghost use Rattle.cd_syntax.specs.SyntaxFaults.{AType, IsWrong};
+ghost use Rattle.cd_syntax.specs.TypeGrammar.{IsTree};
 ghost use Rattle.cd_parse_types.specs.Front.{IsFront, IsFrontFault};
 
 use crate::error::{MOST_OPEN, ParseError, place_of};
+use crate::heads::next_head;
 use cd_syntax::tokens::Token;
 use cd_syntax::type_tree::Tree;
 use cd_type_reader::{Reading, read};
-use std::alloc::Global;
+use std::alloc::{AllocError, Global};
 
 /// The form that is read.
 #[derive(Clone, Copy, PartialEq, Eq)]
@@ -47,8 +49,47 @@ pub fn read_tree(
     }
 }
 
-/// The type that tokens begin, as far as it goes, and the number of its tokens.
+/// The type that tokens begin, as far as it goes, and the number of its tokens. Most often it ends
+/// where the next declaration seems to begin, and then they are read once.
 pub(crate) fn front(
+    alloc: Global,
+    tokens: &[Token],
+    end: usize,
+    most: usize,
+) -> Result<(Tree, usize), ParseError>
+    ensures tree { IfOk result (λ found. IsFront most tokens.now found.1 (plain found.0)) }
+    ensures fault { IfErr result (λ error. IsFrontFault most tokens.now end error) }
+{
+    let Some(index) = next_head(tokens) else {
+        return front_of_all(alloc, tokens, end, most);
+    };
+    let found = match whole(alloc, &tokens[..index], most) {
+        Ok(found) => found,
+        Err(_) => return Err(ParseError::Memory),
+    };
+    match found {
+        Some(tree) => Ok((tree, index)),
+        None => front_of_all(alloc, tokens, end, most),
+    }
+}
+
+// The type that all of the tokens write, if they write one.
+fn whole(alloc: Global, tokens: &[Token], most: usize) -> Result<Option<Tree>, AllocError>
+    ensures { IfOk result (λ whole.
+        IfSome whole (λ tree. IsTree most tokens.now (plain tree))) }
+{
+    let reading = match read(alloc, tokens, most) {
+        Ok(reading) => reading,
+        Err(_) => return Err(AllocError),
+    };
+    match reading {
+        Reading::Whole(tree) => Ok(Some(tree)),
+        _ => Ok(None),
+    }
+}
+
+// The same, wherever it ends.
+fn front_of_all(
     alloc: Global,
     tokens: &[Token],
     end: usize,

@@ -4,6 +4,7 @@
 pub mod declarations;
 pub mod error;
 pub mod front;
+mod heads;
 pub mod laws;
 pub mod types;
 

@@ -1,5 +1,5 @@
 -- What the functions that read declarations say of tokens.
-use Rattle.std.specs.Prelude.{◌≡◌, ℕ, ◌≤◌, true, List, [], ◌∷◌, ◌++◌, Option, Some, None, length}
+use Rattle.std.specs.Prelude.{◌≡◌, ◌⊎◌, ℕ, ◌≤◌, true, List, [], ◌∷◌, ◌++◌, Option, Some, None, length}
 use Rattle.std.specs.Prelude.{take, drop, codes}
 use Rattle.std.specs.List.{slice_get}
 use Rattle.cd_syntax.specs.declared.sign.Sign.TheVariants as sign
@@ -16,6 +16,11 @@ use Rattle.cd_syntax.specs.SyntaxFaults.{SomeDeclarations}
 abbrev pub HasKind : Option Token → TokenKind → Type 0
 HasKind None kind = ⊥
 HasKind (Some one) kind = one.kind ≡ kind
+
+-- the token with this number is the word `type` or the sign `;;`
+abbrev pub PartsAt : List Token → ℕ → Type 0
+PartsAt tokens index = HasKind (slice_get tokens index) (token.Word (codes "type"))
+    ⊎ HasKind (slice_get tokens index) (token.Sign sign.Semicolons)
 
 -- the second token is this name, which a type may have
 abbrev pub HaveName : List Token → Name → Type 0

@@ -1,17 +1,14 @@
-use Rattle.std.proofs.Common.{sym, subst}
-use Rattle.cd_syntax.specs.SyntaxFaults.{AType, IsDepthFault, at_end, at_depth}
-use Rattle.cd_type_reader.specs.Reading.{IsReading}
-use Rattle.cd_parse_types.proofs.Fronts.{no_front_whole}
+use Rattle.std.proofs.Common.{Option, subst, take}
+use Rattle.std.specs.Prelude.{IfSome}
+use Rattle.cd_syntax.specs.PlainTree.{plain}
+use Rattle.cd_syntax.specs.TypeGrammar.{IsTree}
+use Rattle.cd_syntax.specs.declared.type_tree.Tree.{Tree}
+use Rattle.cd_parse_types.proofs.Fronts.{front_before}
 use Rattle.cd_parse_types.proofs.front.front.Goals as goal
 
--- something is missing at the end
-pub returns-in-Missing-clause-fault : goal.returns-in-Missing-clause-fault
-returns-in-Missing-clause-fault c =
-    let unfinished = subst (IsReading c.args.most c.args.tokens.now) c.in-Missing.is c.in-Ok.ensures in
-    (at_end unfinished, no_front_whole c.args.most c.args.tokens.now unfinished)
-
--- the type is too deep from a token on
-pub returns-in-TooDeep-clause-fault : goal.returns-in-TooDeep-clause-fault
-returns-in-TooDeep-clause-fault c =
-    let deep = subst (IsReading c.args.most c.args.tokens.now) c.in-TooDeep.is c.in-Ok.ensures in
-    subst (IsDepthFault AType c.args.most c.args.tokens.now c.args.end) (sym c.place_of.ensures) (at_depth c.in-TooDeep.index deep)
+-- the type ends where no type goes on
+pub returns-in-Some-found-clause-tree : goal.returns-in-Some-found-clause-tree
+returns-in-Some-found-clause-tree c =
+    let first = take c.in-Some.index c.args.tokens.now in
+    front_before c.args.most c.in-Some.index c.args.tokens.now (plain c.in-Some-found.tree) c.in-Some.ensures
+    (subst (λ (found : Option Tree). IfSome found (λ tree. IsTree c.args.most first (plain tree))) c.in-Some-found.is c.in-Ok.ensures)

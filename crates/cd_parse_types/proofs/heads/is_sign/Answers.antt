@@ -4,7 +4,7 @@ use denote.Enum.Bare.{same_true, true_same}
 use Rattle.cd_syntax.specs.contracts.sign.Sign.{the_type}
 use Rattle.cd_syntax.specs.declared.tokens.TokenKind.TheVariants as token
 use Rattle.cd_parse_types.specs.Inner.Declaring.{HasKind}
-use Rattle.cd_parse_types.proofs.declarations.is_sign.Goals as goal
+use Rattle.cd_parse_types.proofs.heads.is_sign.Goals as goal
 
 -- the token that was found is of this sign where its sign is this one
 pub returns : goal.returns
