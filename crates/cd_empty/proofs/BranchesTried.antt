@@ -7,7 +7,7 @@ use Rattle.cd_model.specs.AllOf.{AllOf, AnyOf}
 use Rattle.cd_model.specs.Formula.{Graph}
 use Rattle.cd_elements.specs.declared.shape.ElementId.{ElementId}
 use Rattle.cd_elements.specs.Table.{Names, element_at, pairs_of}
-use Rattle.cd_machine.specs.Machine.{work, Works, drops, splits}
+use Rattle.cd_rules.specs.Machine.{work, Works, drops, splits}
 use Rattle.cd_members.specs.Attempts.{IsElementFor}
 use Rattle.cd_normal.specs.Partials.{partials}
 use Rattle.cd_normal.specs.PlainClause.{plain_clause}

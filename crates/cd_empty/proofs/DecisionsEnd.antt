@@ -6,9 +6,9 @@ use Rattle.cd_model.specs.Formula.{Graph}
 use Rattle.cd_holds.specs.Facts.{AreRight}
 use Rattle.cd_rules.specs.Family.{AsksNodes, IsClosed}
 use Rattle.cd_rules.proofs.Ones.{each_of_lists, one_on_left, one_on_right}
-use Rattle.cd_machine.specs.Machine.{IsWitness, NotIn}
-use Rattle.cd_machine.specs.Right.{Differ, IsRight, HasFirst}
-use Rattle.cd_machine.proofs.FramesKept.{closed_at_last}
+use Rattle.cd_rules.specs.Machine.{IsWitness, NotIn}
+use Rattle.cd_rules.specs.Right.{Differ, IsRight, HasFirst}
+use Rattle.cd_rules.proofs.FramesKept.{closed_at_last}
 use Rattle.cd_empty.specs.declared.decider.Decider.{Decider}
 use Rattle.cd_empty.specs.declared.verdict.Verdict.{Verdict}
 use Rattle.cd_empty.specs.Inner.PlainFrame.{settled, state_of}

@@ -9,8 +9,8 @@ use Rattle.cd_rules.proofs.Ones.{each_of_lists}
 use Rattle.cd_elements.specs.declared.shape.ElementId.{ElementId}
 use Rattle.cd_elements.specs.Table.{Names, element_at}
 use Rattle.cd_holds.specs.Facts.{AreRight}
-use Rattle.cd_machine.specs.Machine.{IsWitness, NotIn}
-use Rattle.cd_machine.specs.Right.{Differ}
+use Rattle.cd_rules.specs.Machine.{IsWitness, NotIn}
+use Rattle.cd_rules.specs.Right.{Differ}
 use Rattle.cd_empty.specs.declared.decider.Decider.{Decider}
 use Rattle.cd_empty.specs.declared.verdict.Verdict.{Verdict}
 use Rattle.cd_empty.specs.declared.verdict.Verdict.TheVariants.{Inhabited}

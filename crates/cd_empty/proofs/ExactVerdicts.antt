@@ -5,7 +5,7 @@ use Rattle.cd_model.specs.AllOf.{AllOf}
 use Rattle.cd_model.specs.BuiltIns.{built_ins}
 use Rattle.cd_model.specs.Formula.{Graph}
 use Rattle.cd_model.specs.Thing.{Thing}
-use Rattle.cd_machine.specs.Machine.{IsWitness}
+use Rattle.cd_rules.specs.Machine.{IsWitness}
 use Rattle.cd_rules.specs.Family.{IsOfFamily, IsClosed, AsksNodes}
 use Rattle.cd_rules.proofs.ClosedStays.{closed_stays}
 use Rattle.cd_rules.proofs.Covering.{covers_own}

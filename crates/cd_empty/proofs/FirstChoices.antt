@@ -6,8 +6,8 @@ use Rattle.cd_model.specs.Formula.{Graph}
 use Rattle.cd_model.specs.Kinds.{Kind}
 use Rattle.cd_elements.specs.declared.shape.ElementId.{ElementId}
 use Rattle.cd_elements.specs.Table.{element_at, pairs_of}
-use Rattle.cd_machine.specs.Machine.{Work, work, Works, goes_further, cuts, begins}
-use Rattle.cd_machine.proofs.WorkOfQuestion.{in_begun_clause}
+use Rattle.cd_rules.specs.Machine.{Work, work, Works, goes_further, cuts, begins}
+use Rattle.cd_rules.proofs.WorkOfQuestion.{in_begun_clause}
 use Rattle.cd_normal.specs.ChoicesGoOn.{IsOfNodes, TopGoesOn, GoesBy}
 use Rattle.cd_normal.specs.Partials.{partials}
 use Rattle.cd_normal.specs.PlainClause.{plain_clause}

@@ -8,9 +8,9 @@ use Rattle.cd_model.specs.Thing as thing
 use Rattle.cd_model.specs.Thing.{Thing, NoPair, Function, IsElement}
 use Rattle.cd_elements.specs.declared.shape.ElementId.{ElementId}
 use Rattle.cd_elements.specs.Table.{Names, element_at, pairs_of}
-use Rattle.cd_machine.specs.Machine.{IsWitness}
-use Rattle.cd_machine.specs.Right.{AreTasksOf}
-use Rattle.cd_machine.proofs.WorkOfQuestion.{in_begun_clause}
+use Rattle.cd_rules.specs.Machine.{IsWitness}
+use Rattle.cd_rules.specs.Right.{AreTasksOf}
+use Rattle.cd_rules.proofs.WorkOfQuestion.{in_begun_clause}
 use Rattle.cd_members.specs.Attempts.{IsElementFor, IsForArrow, IsPairFor}
 use Rattle.cd_normal.specs.PlainClause.{plain_clause}
 use Rattle.cd_normal.specs.declared.clause.Clause.{Clause as CodeClause}

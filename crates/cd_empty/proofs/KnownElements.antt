@@ -7,7 +7,7 @@ use Rattle.cd_model.specs.Membership.{answers}
 use Rattle.cd_model.specs.Thing.{Thing}
 use Rattle.cd_elements.specs.declared.shape.ElementId.{ElementId}
 use Rattle.cd_elements.specs.Table.{Names, element_at}
-use Rattle.cd_machine.specs.Machine.{IsWitness}
+use Rattle.cd_rules.specs.Machine.{IsWitness}
 use Rattle.cd_rules.specs.InWay.{AreInWay}
 use Rattle.cd_rules.proofs.Among.{of_each}
 use Rattle.cd_empty.specs.declared.decider.Decider.{Decider}

@@ -1,3 +1,4 @@
+mod Numbering
 pub mod EachAt
 pub mod Growing
 pub mod VerdictsFound

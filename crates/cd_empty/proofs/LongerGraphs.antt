@@ -10,7 +10,7 @@ use Rattle.cd_model.proofs.Extending.{kept_elements}
 use Rattle.cd_elements.specs.Table.{element_at}
 use Rattle.cd_holds.specs.Facts.{AreRight}
 use Rattle.cd_holds.proofs.FactsKept.{right_in_more}
-use Rattle.cd_machine.specs.Machine.{Witness, IsWitness}
+use Rattle.cd_rules.specs.Machine.{Witness, IsWitness}
 use Rattle.cd_rules.specs.Family.{AsksNodes}
 use Rattle.cd_rules.proofs.ClosedStays.{closed_stays}
 use Rattle.cd_rules.proofs.Ones.{each_weaker, each_of_two}

@@ -9,7 +9,7 @@ use Rattle.std.proofs.lemmas.Option.{none-some, same_Some}
 use Rattle.cd_sets.specs.declared.question.Question.{Question}
 use Rattle.cd_model.specs.AllOf.{AnyOf}
 use Rattle.cd_elements.specs.declared.shape.ElementId.{ElementId}
-use Rattle.cd_machine.specs.Machine.{NotIn}
+use Rattle.cd_rules.specs.Machine.{NotIn}
 use Rattle.cd_rules.specs.Family.{IsOfFamily, IsCovered}
 use Rattle.cd_rules.proofs.Covering.{covers_own}
 use Rattle.cd_rules.proofs.Ones.{one_on_left, one_on_right}

@@ -10,8 +10,8 @@ use Rattle.cd_rules.specs.BasicSets.{HasNoBasic}
 use Rattle.cd_rules.specs.Family.{AsksNodes}
 use Rattle.cd_rules.specs.PartialChoices.{Partial, partial_choices}
 use Rattle.cd_rules.proofs.ClausesByKind.{accounts_for_clauses, partial_choices_are}
-use Rattle.cd_machine.specs.Machine.{Witness, state, frame, work, NotIn, Step, opens, knows}
-use Rattle.cd_machine.specs.Right.{HasFirst}
+use Rattle.cd_rules.specs.Machine.{Witness, state, frame, work, NotIn, Step, opens, knows}
+use Rattle.cd_rules.specs.Right.{HasFirst}
 use Rattle.cd_empty.specs.declared.decider.Decider.{Decider}
 use Rattle.cd_empty.specs.declared.frame.Frame.{Frame}
 use Rattle.cd_empty.specs.declared.went.Went.{Went}

@@ -6,7 +6,7 @@ use Rattle.cd_model.specs.Formula.{Graph}
 use Rattle.cd_model.specs.Thing.{Thing, Function}
 use Rattle.cd_elements.specs.declared.shape.ElementId.{ElementId}
 use Rattle.cd_elements.specs.Table.{element_at, result_at, pair_before, pairs_of}
-use Rattle.cd_machine.specs.Machine.{Work, work, Works, IsWitness, goes_on}
+use Rattle.cd_rules.specs.Machine.{Work, work, Works, IsWitness, goes_on}
 use Rattle.cd_members.specs.Attempts.{IsForArrow, IsPairFor, IsAttempt}
 use Rattle.cd_members.specs.declared.attempt.Attempt.TheVariants.{Maps}
 use Rattle.cd_normal.specs.ChoicesGoOn.{IsOfNodes}

@@ -2,7 +2,7 @@
 use Rattle.std.proofs.Common.{◌≡◌, ◌<◌, List, [], length, Result, Ok, Err, OnOk, refl, ap, subst, ◌∙◌, arith}
 use Rattle.cd_sets.specs.declared.question.Question.{Question}
 use Rattle.cd_model.specs.Formula.{Graph}
-use Rattle.cd_machine.specs.Right.{HasFirst}
+use Rattle.cd_rules.specs.Right.{HasFirst}
 use Rattle.cd_empty.specs.declared.decider.Decider.{Decider}
 use Rattle.cd_empty.specs.declared.frame.Frame.{Frame}
 use Rattle.cd_empty.specs.declared.went.Went.{Went}

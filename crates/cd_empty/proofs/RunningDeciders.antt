@@ -10,13 +10,13 @@ use Rattle.cd_rules.proofs.Among.{of_each}
 use Rattle.cd_rules.proofs.Ones.{each_weaker, one_on_right}
 use Rattle.cd_elements.specs.declared.shape.ElementId.{ElementId}
 use Rattle.cd_elements.specs.Table.{element_at}
-use Rattle.cd_machine.specs.Machine.{Work, State, state, frame, IsWitness, IsDone, Works, NotIn, all_questions}
-use Rattle.cd_machine.specs.Machine.{Step, works, finds, leaves}
-use Rattle.cd_machine.specs.Right.{IsRight, IsWorkOf, Differ}
-use Rattle.cd_machine.specs.Weight.{frames_weight, IsFurther}
-use Rattle.cd_machine.proofs.FirstQuestion.{first_kept}
-use Rattle.cd_machine.proofs.QuestionsOnce.{in_neither}
-use Rattle.cd_machine.proofs.RunsAreRight.{step_right, right_at_first}
+use Rattle.cd_rules.specs.Machine.{Work, State, state, frame, IsWitness, IsDone, Works, NotIn, all_questions}
+use Rattle.cd_rules.specs.Machine.{Step, works, finds, leaves}
+use Rattle.cd_rules.specs.Right.{IsRight, IsWorkOf, Differ}
+use Rattle.cd_rules.specs.Weight.{frames_weight, IsFurther}
+use Rattle.cd_rules.proofs.FirstQuestion.{first_kept}
+use Rattle.cd_rules.proofs.QuestionsOnce.{in_neither}
+use Rattle.cd_rules.proofs.RunsAreRight.{step_right, right_at_first}
 use Rattle.cd_empty.specs.declared.decider.Decider.{Decider}
 use Rattle.cd_empty.specs.declared.frame.Frame.{Frame}
 use Rattle.cd_empty.specs.declared.verdict.Verdict.TheVariants.{Inhabited}

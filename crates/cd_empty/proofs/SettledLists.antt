@@ -5,8 +5,8 @@ use Rattle.std.proofs.lemmas.List.{map-append, take-append-drop, take_at}
 use Rattle.cd_sets.specs.declared.question.Question.{Question}
 use Rattle.cd_model.specs.AllOf.{AllOf, AnyOf}
 use Rattle.cd_model.specs.Thing.{Thing}
-use Rattle.cd_machine.specs.Machine.{NotIn}
-use Rattle.cd_machine.specs.Right.{Differ}
+use Rattle.cd_rules.specs.Machine.{NotIn}
+use Rattle.cd_rules.specs.Right.{Differ}
 use Rattle.cd_rules.proofs.Ones.{each_weaker, each_of_two, one_on_right}
 use Rattle.cd_elements.specs.Table.{element_at}
 use Rattle.cd_empty.specs.declared.verdict.Verdict.{Verdict}

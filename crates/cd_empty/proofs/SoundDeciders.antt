@@ -6,8 +6,8 @@ use Rattle.cd_model.specs.AllOf.{AllOf}
 use Rattle.cd_model.specs.Formula.{Graph}
 use Rattle.cd_model.specs.Thing.{Thing, Pairs}
 use Rattle.cd_holds.specs.Facts.{Fact, AreRight}
-use Rattle.cd_machine.specs.Machine.{IsWitness}
-use Rattle.cd_machine.specs.Right.{Differ, IsWorkOf}
+use Rattle.cd_rules.specs.Machine.{IsWitness}
+use Rattle.cd_rules.specs.Right.{Differ, IsWorkOf}
 use Rattle.cd_normal.specs.PlainClause.{plain_clause}
 use Rattle.cd_rules.specs.Family.{AsksNodes, IsClosed}
 use Rattle.cd_tasks.specs.PlainTask.{plain_task}

@@ -5,9 +5,9 @@ use Rattle.cd_model.specs.Formula.{Graph}
 use Rattle.cd_rules.specs.Family.{AsksNodes}
 use Rattle.cd_elements.specs.declared.shape.ElementId.{ElementId}
 use Rattle.cd_elements.specs.Table.{element_at}
-use Rattle.cd_machine.specs.Machine.{IsWitness, NotIn}
-use Rattle.cd_machine.specs.Right.{IsRight, HasFirst}
-use Rattle.cd_machine.proofs.WorkFalls.{step_further}
+use Rattle.cd_rules.specs.Machine.{IsWitness, NotIn}
+use Rattle.cd_rules.specs.Right.{IsRight, HasFirst}
+use Rattle.cd_rules.proofs.WorkFalls.{step_further}
 use Rattle.cd_empty.specs.declared.decider.Decider.{Decider}
 use Rattle.cd_empty.specs.declared.doing.Doing.TheVariants as doing
 use Rattle.cd_empty.specs.declared.frame.Frame.{Frame}

@@ -6,8 +6,8 @@ use Rattle.cd_sets.specs.declared.question.Question.{Question}
 use Rattle.cd_sets.specs.Asking.{same_question}
 use Rattle.cd_sets.proofs.Same.{questions_decide}
 use Rattle.cd_model.specs.AllOf.{AnyOf}
-use Rattle.cd_machine.specs.Machine.{NotIn}
-use Rattle.cd_machine.specs.Right.{Differ}
+use Rattle.cd_rules.specs.Machine.{NotIn}
+use Rattle.cd_rules.specs.Right.{Differ}
 use Rattle.cd_empty.specs.declared.verdict.Verdict.{Verdict}
 use Rattle.cd_empty.specs.Verdicts.{IsKept}
 

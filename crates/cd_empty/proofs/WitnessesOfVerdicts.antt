@@ -6,9 +6,9 @@ use Rattle.cd_model.specs.Thing.{Thing}
 use Rattle.cd_rules.proofs.Ones.{map_of_one}
 use Rattle.cd_elements.specs.declared.shape.ElementId.{ElementId}
 use Rattle.cd_elements.specs.Table.{element_at}
-use Rattle.cd_machine.specs.Machine.{NotIn}
-use Rattle.cd_machine.specs.Right.{Differ}
-use Rattle.cd_machine.proofs.QuestionsOnce.{in_neither}
+use Rattle.cd_rules.specs.Machine.{NotIn}
+use Rattle.cd_rules.specs.Right.{Differ}
+use Rattle.cd_rules.proofs.QuestionsOnce.{in_neither}
 use Rattle.cd_empty.specs.declared.verdict.Verdict.{Verdict}
 use Rattle.cd_empty.specs.declared.verdict.Verdict.TheVariants.{Empty, Inhabited}
 use Rattle.cd_empty.specs.Kept.{witnesses_in}

@@ -5,9 +5,9 @@ ghost use Rattle.cd_model.specs.Formula.{Graph as PlainGraph};
 ghost use Rattle.cd_graph.specs.Nodes.{nodes};
 ghost use Rattle.cd_rules.specs.Family.{AsksNodes};
 
+use crate::asked::Asked;
 use crate::verdict::Verdict;
 use crate::verdicts::Verdicts;
-use cd_asked::Asked;
 use cd_elements::Elements;
 use cd_graph::Graph;
 use cd_holds::Facts;

@@ -2,7 +2,7 @@ ghost use Rattle.std.specs.Prelude.{◌≡◌, [], None, List, length};
 ghost use Rattle.cd_model.specs.AllOf.{AllOf};
 ghost use Rattle.cd_model.specs.Formula.{Graph as PlainGraph};
 ghost use Rattle.cd_model.specs.Thing.{Thing};
-ghost use Rattle.cd_machine.specs.Machine.{frame, work};
+ghost use Rattle.cd_rules.specs.Machine.{frame, work};
 ghost use Rattle.cd_normal.specs.ChoicesGoOn.{IsOfNodes};
 ghost use Rattle.cd_normal.specs.Partials.{partials};
 ghost use Rattle.cd_empty.specs.Inner.Fit.{IsFit};

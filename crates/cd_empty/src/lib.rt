@@ -1,6 +1,7 @@
 //! Whether there is an element in some nodes of a graph and outside some others.
 #![tactic(auto)]
 
+mod asked;
 mod boxes;
 mod decider;
 mod doing;

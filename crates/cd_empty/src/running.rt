@@ -2,8 +2,8 @@
 ghost use Rattle.std.specs.Prelude.{◌≡◌, ◌<◌, ◌^◌, ◌++◌, [], ◌∷◌, length, map, take};
 ghost use Rattle.std.specs.Prelude.{IfOk, OnOk, OnErr, MatchBool};
 ghost use Rattle.cd_graph.specs.Nodes.{nodes};
-ghost use Rattle.cd_machine.specs.Machine.{NotIn};
-ghost use Rattle.cd_machine.specs.Right.{IsRight, HasFirst};
+ghost use Rattle.cd_rules.specs.Machine.{NotIn};
+ghost use Rattle.cd_rules.specs.Right.{IsRight, HasFirst};
 ghost use Rattle.cd_rules.specs.BasicSets.{HasNoBasic};
 ghost use Rattle.cd_rules.specs.Family.{AsksNodes};
 ghost use Rattle.cd_empty.specs.Inner.Doing.{IsUnknown};

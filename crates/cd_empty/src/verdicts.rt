@@ -2,14 +2,14 @@ ghost use Rattle.std.specs.Prelude.{◌≡◌, ◌++◌, ◌∷◌, [], List, So
 ghost use Rattle.std.specs.Prelude.{take};
 ghost use Rattle.std.specs.Prelude.{OnOk, OnErr, MatchOption};
 ghost use Rattle.cd_sets.specs.declared.question.Question.{Question as AQuestion};
-ghost use Rattle.cd_machine.specs.Machine.{NotIn};
-ghost use Rattle.cd_machine.specs.Right.{Differ};
+ghost use Rattle.cd_rules.specs.Machine.{NotIn};
+ghost use Rattle.cd_rules.specs.Right.{Differ};
 ghost use Rattle.cd_empty.specs.declared.verdict.Verdict.{Verdict as AVerdict};
 ghost use Rattle.cd_empty.specs.declared.verdict.Verdict.TheVariants.{Empty, Inhabited};
 ghost use Rattle.cd_empty.specs.Verdicts.{IsKept, family, without_elements};
 
+use crate::asked::{Asked, QuestionId};
 use crate::verdict::Verdict;
-use cd_asked::{Asked, QuestionId};
 use cd_elements::ElementId;
 use cd_sets::question::Question;
 use indexmap::IndexMap;

@@ -4,7 +4,7 @@ ghost use Rattle.cd_graph.specs.Nodes.{nodes};
 ghost use Rattle.cd_model.specs.AllOf.{AllOf};
 ghost use Rattle.cd_elements.specs.Table.{Names, element_at, pairs_of};
 ghost use Rattle.cd_members.specs.Attempts.{IsAttempt};
-ghost use Rattle.cd_machine.specs.Right.{IsWorkOf};
+ghost use Rattle.cd_rules.specs.Right.{IsWorkOf};
 ghost use Rattle.cd_model.specs.Thing.{Function};
 ghost use Rattle.cd_normal.specs.ChoicesGoOn.{IsOfNodes};
 ghost use Rattle.cd_normal.specs.Partials.{partials};

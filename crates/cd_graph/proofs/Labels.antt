@@ -6,7 +6,7 @@ use Rattle.std.proofs.lemmas.Str.{encodes-IsAscii, encodes-chars}
 use Rattle.std.proofs.lemmas.Str.Ascii.{IsAscii-nil, IsAscii-cons}
 use Rattle.std.specs.List.{list_all}
 use Rattle.std.specs.Str.{IsUtf8, IsAscii, chars}
-use Rattle.cd_intervals.specs.Atoms.{IsAtom}
+use Rattle.cd_sets.specs.Atoms.{IsAtom}
 use Rattle.cd_syntax.specs.Name.{IsLabel, is_word, begins_word, goes_on_word}
 
 first_is_ascii : (c : ℕ) → IsTrue (begins_word c) → c < 128

@@ -3,9 +3,9 @@ use Rattle.std.proofs.Common.{◌≡◌, List, ap, ◌∙◌}
 use Rattle.std.specs.declared.alloc.Global.{Global}
 use Rattle.std.specs.declared.rc.Rc.{Rc}
 use Rattle.cd_sets.specs.declared.node_id.NodeId.{NodeId}
-use Rattle.cd_intervals.specs.declared.int_set.IntSet.{IntSet}
-use Rattle.cd_intervals.specs.declared.char_set.CharSet.{CharSet}
-use Rattle.cd_intervals.specs.declared.atom_set.AtomSet.{AtomSet}
+use Rattle.cd_sets.specs.declared.int_set.IntSet.{IntSet}
+use Rattle.cd_sets.specs.declared.char_set.CharSet.{CharSet}
+use Rattle.cd_sets.specs.declared.atom_set.AtomSet.{AtomSet}
 use Rattle.cd_model.specs.Formula.{Formula, Nothing, Everything, Ints, Chars, Atoms, Pair, Xml, Record, Arrow, And, Or, Not}
 use Rattle.cd_graph.specs.PlainFormula.{plain, plain_list, plain_formulas, plain_named, formula_layer, list_layer}
 use Rattle.cd_graph.specs.declared.fields.Fields.{Fields}

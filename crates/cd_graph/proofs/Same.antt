@@ -4,9 +4,9 @@ use Rattle.std.proofs.Props.{props}
 use Rattle.std.specs.Coded.{×_prop, Unit-prop}
 use mathlib.Core.HLevel.{⊥_prop, collapsible→set}
 use Rattle.cd_sets.specs.declared.node_id.NodeId.{NodeId}
-use Rattle.cd_intervals.specs.declared.interval.Interval.{Interval}
-use Rattle.cd_intervals.specs.Characters.{CharInterval}
-use Rattle.cd_intervals.specs.Atoms.{Atoms as AtomSet}
+use Rattle.cd_sets.specs.declared.interval.Interval.{Interval}
+use Rattle.cd_sets.specs.Characters.{CharInterval}
+use Rattle.cd_sets.specs.Atoms.{Atoms as AtomSet}
 use Rattle.cd_syntax.specs.Name.{Name}
 use Rattle.cd_model.specs.Formula.{Formula, Formulas, Nothing, Everything, Ints, Chars, Atoms, Pair, Xml, Record, Arrow, And, Or, Not, NoFormula, AFormula, Field}
 

@@ -1,6 +1,6 @@
 //! The nodes that every graph begins with.
 ghost use Rattle.std.specs.Prelude.{◌≡◌, [], ◌∷◌, IfOk, codes, map};
-ghost use Rattle.cd_intervals.specs.Atoms.{IsAtom};
+ghost use Rattle.cd_sets.specs.Atoms.{IsAtom};
 ghost use Rattle.cd_model.specs.Formula.{formulas_of, Pair, Record, Or};
 ghost use Rattle.cd_model.specs.BuiltIns.{node_named, all_ints, chars_to, all_atoms, atoms_of};
 ghost use Rattle.cd_model.specs.BuiltIns.{data_formula, built_ins};
@@ -8,9 +8,9 @@ ghost use Rattle.cd_graph.specs.PlainFormula.{plain};
 
 use crate::fields::{FieldList, Fields};
 use crate::formula::{Formula, Formulas};
-use cd_intervals::atom_set::AtomSet;
-use cd_intervals::char_set::CharSet;
-use cd_intervals::int_set::IntSet;
+use cd_sets::atom_set::AtomSet;
+use cd_sets::char_set::CharSet;
+use cd_sets::int_set::IntSet;
 use cd_sets::node_id::NodeId;
 use cd_syntax::builtin::BuiltinName;
 use std::alloc::{AllocError, Global};

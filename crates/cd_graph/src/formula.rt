@@ -2,9 +2,9 @@ ghost use Rattle.std.specs.Prelude.{◌≡◌, map, IfOk};
 ghost use Rattle.cd_graph.specs.PlainFormula.{plain, plain_list};
 
 use crate::fields::Fields;
-use cd_intervals::atom_set::AtomSet;
-use cd_intervals::char_set::CharSet;
-use cd_intervals::int_set::IntSet;
+use cd_sets::atom_set::AtomSet;
+use cd_sets::char_set::CharSet;
+use cd_sets::int_set::IntSet;
 use cd_sets::node_id::NodeId;
 use std::alloc::{AllocError, Global};
 use std::rc::Rc;
@@ -49,9 +49,9 @@ pub struct Formulas {
     depth: usize,
 }
 
-/// So deep may connectives nest, since formulas are gone over by recursion. What is written nests less: the formulas of
-/// names do, where each name is a connective over the next one.
-const MOST_DEPTH: usize = 10_000;
+// So deep may connectives nest, since formulas are gone over by recursion. What is written nests
+// less, but names that are each a connective over the next one nest as deep as they are many.
+const MOST_DEPTH: usize = 2_000;
 
 impl Formula {
     /// An equal formula.
@@ -90,7 +90,7 @@ impl Formulas {
     ///
     /// # Errors
     ///
-    /// Want of memory, also where connectives nest more than 10,000 deep.
+    /// Want of memory, also where connectives nest more than 2,000 deep.
     pub fn of(items: Vec<Formula>) -> Result<Formulas, AllocError>
         ensures { IfOk result (λ formulas. plain_list formulas ≡ map plain items.items) }
     {

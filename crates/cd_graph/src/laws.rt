@@ -1,6 +1,6 @@
 //! Laws of formulas. Each is the contract of a function that does nothing.
 ghost use Rattle.std.specs.Prelude.{◌≡◌, ℕ, List, ◌↔◌};
-ghost use Rattle.cd_intervals.specs.Atoms.{IsAtom};
+ghost use Rattle.cd_sets.specs.Atoms.{IsAtom};
 ghost use Rattle.std.specs.Str.{IsUtf8, chars};
 ghost use Rattle.cd_syntax.specs.Name.{IsLabel};
 

@@ -5,9 +5,9 @@ ghost use Rattle.cd_graph.specs.PlainFormula.{plain, plain_formulas, plain_named
 
 use crate::fields::Fields;
 use crate::formula::{Formula, Formulas};
-use cd_intervals::atom_set::AtomSet;
-use cd_intervals::char_set::CharSet;
-use cd_intervals::int_set::IntSet;
+use cd_sets::atom_set::AtomSet;
+use cd_sets::char_set::CharSet;
+use cd_sets::int_set::IntSet;
 use cd_sets::node_id::NodeId;
 use std::rc::Rc;
 

@@ -1,6 +1,6 @@
 //! Whether an element is in a formula.
 ghost use Rattle.std.specs.Prelude.{◌≡◌, List};
-ghost use Rattle.cd_intervals.specs.Atoms as atoms;
+ghost use Rattle.cd_sets.specs.Atoms as atoms;
 ghost use Rattle.cd_syntax.specs.Name.{IsLabel};
 ghost use Rattle.cd_graph.specs.PlainFormula.{plain, plain_formulas};
 ghost use Rattle.cd_model.specs.Formula as formula;
@@ -14,9 +14,9 @@ use crate::finding::{Finding, opposite};
 use crate::parts::{at_arrow, at_pair, at_record, at_xml};
 use cd_elements::Shape;
 use cd_graph::{Formula, Formulas};
-use cd_intervals::atom_set::AtomSet;
-use cd_intervals::char_set::CharSet;
-use cd_intervals::int_set::IntSet;
+use cd_sets::atom_set::AtomSet;
+use cd_sets::char_set::CharSet;
+use cd_sets::int_set::IntSet;
 use cd_syntax::name::Name;
 
 /// Whether the element of a shape is in a formula, as far as it follows from what is known of the

@@ -6,7 +6,7 @@ use Rattle.std.proofs.lemmas.Str.{chars-IsAscii}
 use Rattle.std.proofs.lemmas.Str.Ascii.{IsAscii-nil, IsAscii-cons}
 use Rattle.std.specs.List.{list_all}
 use Rattle.std.specs.Str.{IsAscii, chars}
-use Rattle.cd_intervals.specs.Atoms.{Atoms, IsAtom, is_name, begins_name, goes_on_name, holds}
+use Rattle.cd_sets.specs.Atoms.{Atoms, IsAtom, is_name, begins_name, goes_on_name, holds}
 use Rattle.cd_syntax.specs.Name.{Name, IsLabel}
 use Rattle.cd_graph.proofs.Labels.{same_names}
 

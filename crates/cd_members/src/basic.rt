@@ -1,7 +1,7 @@
 //! Elements that are integers, characters or atoms.
 ghost use Rattle.std.specs.Prelude.{◌≡◌, ◌++◌, List, true, length, IfOk, MatchOption};
 ghost use Rattle.cd_sets.specs.declared.question.Question.{Question as AQuestion};
-ghost use Rattle.cd_intervals.specs.Atoms.{holds, HoldsNoAtom};
+ghost use Rattle.cd_sets.specs.Atoms.{holds, HoldsNoAtom};
 ghost use Rattle.cd_syntax.specs.Name.{IsLabel};
 ghost use Rattle.cd_graph.specs.Nodes.{nodes};
 ghost use Rattle.cd_model.specs.Membership.{asked, answers};
@@ -15,9 +15,9 @@ ghost use Rattle.cd_members.specs.Inner.Basic.{IsIn};
 
 use cd_elements::{ElementId, Elements, Shape};
 use cd_graph::Graph;
-use cd_intervals::atom_set::AtomSet;
 use cd_normal::basic_sets::Basics;
 use cd_normal::basics;
+use cd_sets::atom_set::AtomSet;
 use cd_sets::question::Question;
 use cd_syntax::name::Name;
 use std::alloc::{AllocError, Global};

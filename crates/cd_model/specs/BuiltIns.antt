@@ -1,7 +1,7 @@
 -- The built-in types: their formulas over any types, and the nodes that every graph begins with.
 use Rattle.std.specs.Prelude.{ℕ, List, [], ◌∷◌, codes}
 use Rattle.cd_sets.specs.declared.node_id.NodeId.{NodeId}
-use Rattle.cd_intervals.specs.Atoms.{listing, leaving_out}
+use Rattle.cd_sets.specs.Atoms.{listing, leaving_out}
 use Rattle.cd_syntax.specs.Integer.{LEAST, GREATEST}
 use Rattle.cd_syntax.specs.declared.builtin.BuiltinName.{BuiltinName}
 use Rattle.cd_syntax.specs.declared.builtin.BuiltinName.TheVariants as name

@@ -6,11 +6,11 @@ use Rattle.std.specs.List.{slice_get}
 use Rattle.std.specs.Option.{unwrap_or}
 use Rattle.cd_sets.specs.declared.node_id.NodeId.{NodeId}
 use Rattle.cd_sets.specs.declared.question.Question.{Question}
-use Rattle.cd_intervals.specs.declared.interval.Interval.{Interval}
-use Rattle.cd_intervals.specs.Interval as integers
-use Rattle.cd_intervals.specs.Characters.{CharInterval, holds_character}
-use Rattle.cd_intervals.specs.Atoms.{Atoms as AtomSet}
-use Rattle.cd_intervals.specs.Atoms as atoms
+use Rattle.cd_sets.specs.declared.interval.Interval.{Interval}
+use Rattle.cd_sets.specs.Interval as integers
+use Rattle.cd_sets.specs.Characters.{CharInterval, holds_character}
+use Rattle.cd_sets.specs.Atoms.{Atoms as AtomSet}
+use Rattle.cd_sets.specs.Atoms as atoms
 use Rattle.cd_syntax.specs.Name.{Name, IsLabel}
 use Rattle.cd_syntax.specs.Name.{IsAbove}
 use Rattle.cd_model.specs.AllOf.{AllOf, AnyOf}

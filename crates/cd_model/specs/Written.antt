@@ -7,8 +7,8 @@
 use Rattle.std.specs.Prelude.{◌≡◌, ℕ, suc, zero, Bool, true, false, not, List, [], ◌∷◌, Option}
 use Rattle.std.specs.Prelude.{Some, None, ◌⊎◌, length, codes, bytes_eq}
 use Rattle.std.specs.Option.{unwrap_or}
-use Rattle.cd_intervals.specs.Characters.{is_among}
-use Rattle.cd_intervals.specs.Interval.{is_between}
+use Rattle.cd_sets.specs.Characters.{is_among}
+use Rattle.cd_sets.specs.Interval.{is_between}
 use Rattle.cd_syntax.specs.Integer.{LEAST, GREATEST}
 use Rattle.cd_syntax.specs.Name.{Name}
 use Rattle.cd_syntax.specs.declared.builtin.BuiltinName.{BuiltinName}

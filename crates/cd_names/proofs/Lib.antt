@@ -1,3 +1,5 @@
+pub mod FirstPlaces
+mod DeclaredViews
 pub mod SameNames
 pub mod Sizes
 pub mod Views

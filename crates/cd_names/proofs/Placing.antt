@@ -8,8 +8,8 @@ use Rattle.cd_syntax.specs.TypeTree.{Declaration, Declarations, NoDeclaration, A
 use Rattle.cd_syntax.specs.PlainTree.{plain_declaration}
 use Rattle.cd_syntax.specs.declared.type_tree.Declaration.{Declaration as CodeDeclaration}
 use Rattle.cd_syntax.specs.declared.type_tree.RegKind.TheViews.{out-Declaration}
-use Rattle.cd_lookup.specs.Places.{first_place}
-use Rattle.cd_lookup.specs.NamesDeclared.{names_in}
+use Rattle.cd_names.specs.Places.{first_place}
+use Rattle.cd_names.specs.NamesDeclared.{names_in}
 use Rattle.cd_names.specs.Inner.Walk.{place_in}
 use Rattle.cd_names.proofs.Views.{declaration_is}
 

@@ -8,12 +8,12 @@ ghost use Rattle.cd_names.specs.Inner.Check.{type_walked, declarations_walked, a
 ghost use Rattle.cd_names.specs.Inner.PlainFound.{plain_told, plain_found};
 
 use crate::cycle::tell_cycles;
+use crate::declared_names;
 use crate::error::NameError;
 use crate::found::{Found, Told};
 use crate::frame::Frame;
 use crate::least::least;
 use crate::walk::{walk, walk_list};
-use cd_lookup::declared_names;
 use cd_syntax::type_tree::{Declarations, Tree};
 use std::alloc::{AllocError, Global};
 

@@ -1,9 +1,9 @@
 //! A list of declarations that a tree stands under.
 ghost use Rattle.std.specs.Prelude.{◌≡◌};
 ghost use Rattle.cd_syntax.specs.PlainTree.{plain_declarations};
-ghost use Rattle.cd_lookup.specs.NamesDeclared.{names_in};
+ghost use Rattle.cd_names.specs.NamesDeclared.{names_in};
 
-use cd_lookup::NameIndex;
+use crate::name_index::NameIndex;
 use cd_syntax::name::Name;
 use cd_syntax::type_tree::Declarations;
 

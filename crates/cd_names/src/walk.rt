@@ -11,10 +11,11 @@ ghost use Rattle.cd_names.specs.Inner.Walk.{walked_regulars};
 ghost use Rattle.cd_names.specs.Inner.PlainFound.{plain_frame, plain_frames, plain_start};
 ghost use Rattle.cd_names.specs.Inner.PlainFound.{plain_found};
 
+use crate::declarations::declared_names;
 use crate::found::{Found, Id, start_of};
 use crate::frame::Frame;
 use crate::lookup::{is_taken, place_of};
-use cd_lookup::{NameIndex, declared_names};
+use crate::name_index::NameIndex;
 use cd_syntax::type_tree::{
     Declarations, FieldTrees, RegKind, RegTree, RegTrees, Signed, Tree, TreeKind, Trees,
 };

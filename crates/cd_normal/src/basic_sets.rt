@@ -1,14 +1,14 @@
 ghost use Rattle.std.specs.Prelude.{◌≡◌, ℤ, ℕ, true, false, not, ◌&&◌, ◌||◌, ◌↔◌, IsTrue, IfOk};
 ghost use Rattle.std.specs.Char.{IsScalar};
-ghost use Rattle.cd_intervals.specs.Interval.{holds};
-ghost use Rattle.cd_intervals.specs.Characters.{holds_character};
+ghost use Rattle.cd_sets.specs.Interval.{holds};
+ghost use Rattle.cd_sets.specs.Characters.{holds_character};
 ghost use Rattle.cd_model.specs.Formula as formula;
 ghost use Rattle.cd_normal.specs.HoldNothing.{HoldNothing};
 ghost use Rattle.cd_normal.specs.Inner.ExactSets.{AreExact, Passing};
 
-use cd_intervals::atom_set::AtomSet;
-use cd_intervals::char_set::CharSet;
-use cd_intervals::int_set::IntSet;
+use cd_sets::atom_set::AtomSet;
+use cd_sets::char_set::CharSet;
+use cd_sets::int_set::IntSet;
 use std::alloc::{AllocError, Global};
 
 /// Integers, characters and atoms.

@@ -2,9 +2,9 @@
 ghost use Rattle.std.specs.Prelude.{◌≡◌, ◌<◌, ◌&&◌, not, ℤ, ℕ, map, length, IfOk};
 ghost use Rattle.std.specs.Char.{IsScalar};
 ghost use Rattle.std.specs.List.{list_all};
-ghost use Rattle.cd_intervals.specs.Interval.{holds};
-ghost use Rattle.cd_intervals.specs.Characters.{holds_character};
-ghost use Rattle.cd_intervals.specs.Atoms.{IsAtom, holds as holds_atom};
+ghost use Rattle.cd_sets.specs.Interval.{holds};
+ghost use Rattle.cd_sets.specs.Characters.{holds_character};
+ghost use Rattle.cd_sets.specs.Atoms.{IsAtom, holds as holds_atom};
 ghost use Rattle.cd_syntax.specs.Integer.{IsInteger};
 ghost use Rattle.cd_syntax.specs.Name.{Name};
 ghost use Rattle.cd_model.specs.AllOf.{AllOf};

@@ -9,7 +9,7 @@ use Rattle.cd_cells.specs.declared.cell.ValueId.{ValueId}
 use Rattle.cd_cells.specs.declared.cell.Part.{Part}
 use Rattle.cd_cells.specs.Cells.{thing_at, IsPart}
 use Rattle.cd_cells.specs.Table.{table, names, IsAt, Grows}
-use Rattle.cd_fields.specs.Open.{names_of, values_of, LabelsDiffer}
+use Rattle.cd_notation.specs.Open.{names_of, values_of, LabelsDiffer}
 use Rattle.cd_notation.specs.declared.form.OpenForm.{OpenForm}
 use Rattle.cd_notation.specs.declared.form.OpenForm.TheVariants as form
 use Rattle.cd_notation.specs.declared.form.Expecting.{Expecting}

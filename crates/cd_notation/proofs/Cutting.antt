@@ -3,7 +3,7 @@ use Rattle.std.proofs.Common.{◌≡◌, ◌∙◌, ap, sym, refl, arith, ℕ, �
 use Rattle.std.proofs.lemmas.List.{take-append-drop, reverse-append, reverse-reverse, length-reverse, length-drop, length-append}
 use Rattle.std.proofs.Math.Seq.{drop-append_seam}
 use Rattle.std.specs.List.{list_any}
-use Rattle.cd_fields.specs.Open.{is_label_of}
+use Rattle.cd_notation.specs.Open.{is_label_of}
 
 -- what is left of a list from its end on
 pub cut_view : {X : Type 0} (count : ℕ) (all : List X) → reverse (take count all) ≡ drop (length (reverse all) - count) (reverse all)

@@ -1,3 +1,7 @@
+pub mod LastPlaces
+pub mod Rising
+pub mod Different
+pub mod FieldsRead
 pub mod Growth
 pub mod Gathering
 pub mod Putting

@@ -12,7 +12,7 @@ use Rattle.cd_documents.specs.Machine.{with_fields}
 use Rattle.cd_cells.specs.declared.cell.Part.{Part}
 use Rattle.cd_cells.specs.declared.cell.ValueId.{ValueId}
 use Rattle.cd_cells.specs.Cells.{thing_at, name_at, IsPart, HasEachOnce}
-use Rattle.cd_fields.specs.Open.{is_label_of, names_of, values_of, fields_read, LabelsDiffer}
+use Rattle.cd_notation.specs.Open.{is_label_of, names_of, values_of, fields_read, LabelsDiffer}
 use Rattle.cd_notation.specs.Inner.Open as the
 use Rattle.cd_notation.specs.Inner.Open.{AreAt, IsLabelAt, AreLabelsAt, AreApart}
 use Rattle.cd_notation.specs.Inner.Leading.{parts_of}

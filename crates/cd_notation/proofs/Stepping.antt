@@ -13,7 +13,7 @@ use Rattle.cd_cells.specs.declared.values.Values.{Values}
 use Rattle.cd_cells.specs.declared.cell.ValueId.{ValueId}
 use Rattle.cd_cells.specs.Cells.{HasEachOnce}
 use Rattle.cd_cells.specs.Table.{table, names, IsAt, Grows}
-use Rattle.cd_fields.specs.Open.{is_label_of}
+use Rattle.cd_notation.specs.Open.{is_label_of}
 use Rattle.cd_notation.specs.declared.form.OpenForm.{OpenForm}
 use Rattle.cd_notation.specs.declared.form.OpenForm.TheVariants as form
 use Rattle.cd_notation.specs.declared.form.Expecting.{Expecting}

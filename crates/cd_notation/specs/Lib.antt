@@ -1,2 +1,4 @@
+pub mod Open
+pub mod OpenOf
 pub mod Faulty
 pub mod Inner

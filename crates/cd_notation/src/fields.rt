@@ -4,7 +4,7 @@ ghost use Rattle.cd_model.specs.Thing.{NoField, Record as ARecord};
 ghost use Rattle.cd_cells.specs.declared.cell.ValueId.{ValueId as AnId};
 ghost use Rattle.cd_cells.specs.Cells.{IsPart};
 ghost use Rattle.cd_cells.specs.Table.{table, names, IsAt, Grows};
-ghost use Rattle.cd_fields.specs.Open.{names_of, values_of, LabelsDiffer};
+ghost use Rattle.cd_notation.specs.Open.{names_of, values_of, LabelsDiffer};
 ghost use Rattle.cd_documents.specs.Machine.{with_fields};
 ghost use Rattle.cd_notation.specs.Inner.Open.{IsTop};
 ghost use Rattle.cd_notation.specs.Inner.Leading.{parts_of, IsTaken};
@@ -12,9 +12,9 @@ ghost use Rattle.cd_notation.specs.Inner.Leading.{HasFields, TakesRecord};
 
 use crate::labels::Labels;
 use crate::reader::Reader;
+use crate::sorting::sort_fields;
 use crate::stack::Stack;
 use cd_cells::{Part, ValueId, Values};
-use cd_fields::sort_fields;
 use std::alloc::AllocError;
 
 impl Reader {

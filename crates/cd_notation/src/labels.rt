@@ -1,5 +1,5 @@
+use crate::open_labels::OpenLabels;
 use crate::stack::Stack;
-use cd_fields::OpenLabels;
 use std::alloc::{AllocError, Global};
 use std::marker::Model;
 
@@ -13,7 +13,7 @@ pub(crate) struct Labels {
 
 impl Model for Labels {
     ghost use Rattle.std.specs.Prelude.{◌≡◌, ℕ, List, reverse};
-    ghost use Rattle.cd_fields.specs.OpenOf.{labels as open_labels};
+    ghost use Rattle.cd_notation.specs.OpenOf.{labels as open_labels};
 
     ghost Value = { List ℕ };
 
@@ -25,7 +25,7 @@ impl Model for Labels {
 impl Labels {
     ghost use Rattle.std.specs.Prelude.{◌≡◌, ◌++◌, ℕ, List, [], ◌∷◌, true, false, length};
     ghost use Rattle.std.specs.Prelude.{◌-◌, drop, IfOk, MatchOption};
-    ghost use Rattle.cd_fields.specs.Open.{is_label_of};
+    ghost use Rattle.cd_notation.specs.Open.{is_label_of};
 
     /// No labels.
     pub(crate) fn new(alloc: Global) -> Labels

@@ -10,8 +10,11 @@ mod form;
 mod items;
 mod labels;
 mod next_token;
+mod open_label;
+mod open_labels;
 pub mod read;
 mod reader;
+mod sorting;
 mod stack;
 mod terminal;
 

@@ -4,7 +4,7 @@ ghost use Rattle.cd_graph.specs.PlainFormula.{plain};
 ghost use Rattle.cd_regex.specs.Automaton.{finish, edge_formula, end_formulas, state_formula};
 
 use cd_graph::{Formula, Formulas};
-use cd_intervals::atom_set::AtomSet;
+use cd_sets::atom_set::AtomSet;
 use cd_sets::node_id::NodeId;
 use std::alloc::{AllocError, Global};
 use std::marker::Model;

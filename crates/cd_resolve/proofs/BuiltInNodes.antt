@@ -1,6 +1,6 @@
 -- The formulas of built-in nodes in graphs that begin with these nodes.
 use Rattle.std.proofs.Common.{◌≡◌, [], ◌∷◌, ◌++◌, ap, ◌∙◌, codes}
-use Rattle.cd_intervals.specs.Atoms.{listing}
+use Rattle.cd_sets.specs.Atoms.{listing}
 use Rattle.cd_syntax.specs.declared.builtin.BuiltinName.{BuiltinName}
 use Rattle.cd_model.specs.BuiltIns.{built_in, built_ins, node_named, EMPTY, NIL}
 use Rattle.cd_model.specs.Formula as formula

@@ -7,8 +7,8 @@ use Rattle.std.proofs.lemmas.Option.{slice_get_within}
 use Rattle.cd_model.specs.AllOf.{AllOf}
 use Rattle.cd_model.specs.BuiltIns.{node}
 use Rattle.cd_model.specs.Formula.{Graph, Formula, Nothing, IsFormula, IsGraph, formula_at}
-use Rattle.cd_order.specs.Order as order
-use Rattle.cd_order.specs.Order.{IsOrder, AreRows, row}
+use Rattle.cd_resolve.specs.Order as order
+use Rattle.cd_resolve.specs.Order.{IsOrder, AreRows, row}
 use Rattle.cd_shapes.specs.declared.place.Place.{Place}
 use Rattle.cd_shapes.specs.declared.place.Place.TheVariants as place
 use Rattle.cd_shapes.specs.Shape.{Shape, Leaf, Pair, Xml, Record, Arrow, And, Or, Sequence}

@@ -4,7 +4,7 @@ use Rattle.std.proofs.lemmas.List.{append_assoc, length-append}
 use Rattle.cd_model.specs.AllOf.{AllOf}
 use Rattle.cd_model.specs.BuiltIns.{node}
 use Rattle.cd_model.specs.Formula.{Graph, Formula, IsFormula, formula_at}
-use Rattle.cd_order.specs.Order.{Ends}
+use Rattle.cd_resolve.specs.Order.{Ends}
 use Rattle.cd_regex.specs.Regular.{Regular}
 use Rattle.cd_regex.specs.Sequences.{HoldsSequences}
 use Rattle.cd_shapes.specs.declared.place.Place.{Place}

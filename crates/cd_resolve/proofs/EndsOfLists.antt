@@ -1,6 +1,6 @@
 -- All ways from a number end where they end from each number that it leads to.
 use Rattle.std.proofs.Common.{ℕ, zero, suc, ◌+◌, ◌≤◌, List, [], ◌∷◌, ◌++◌, arith}
-use Rattle.cd_order.specs.Order.{AllOf, row, IsShort, Ends}
+use Rattle.cd_resolve.specs.Order.{AllOf, row, IsShort, Ends}
 
 -- what follows from a fact of a number holds of each, if the fact does
 pub each_so : (Fact Other : ℕ → Type 0) (numbers : List ℕ) → ((number : ℕ) → Fact number → Other number) → AllOf Fact numbers

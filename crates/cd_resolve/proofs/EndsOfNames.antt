@@ -12,7 +12,7 @@ use Rattle.cd_model.specs.Scope.{Scope, Declared}
 use Rattle.cd_model.specs.Written.{kind_of}
 use Rattle.cd_model.proofs.Covered.{Covered, led_to}
 use Rattle.cd_model.proofs.Leading.{IsIn, without, shorter, Leads, leads_closed, is_undeclared, leads_on}
-use Rattle.cd_order.specs.Order.{AllOf, Ends}
+use Rattle.cd_resolve.specs.Order.{AllOf, Ends}
 use Rattle.cd_shapes.specs.declared.place.Place.{Place}
 use Rattle.cd_shapes.specs.Frames.{Frames, scope_of, given, place_of}
 use Rattle.cd_shapes.specs.Names.{node_of}

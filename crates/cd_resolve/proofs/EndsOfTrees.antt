@@ -9,7 +9,7 @@ use Rattle.cd_model.specs.Guarded.{IsOneOf, IsSigned}
 use Rattle.cd_model.specs.Scope.{Scope}
 use Rattle.cd_model.specs.Written.{kind_of}
 use Rattle.cd_model.proofs.Places.{AreClosed}
-use Rattle.cd_order.specs.Order.{AllOf, Ends}
+use Rattle.cd_resolve.specs.Order.{AllOf, Ends}
 use Rattle.cd_shapes.specs.declared.place.Place.{Place}
 use Rattle.cd_shapes.specs.declared.place.Place.TheVariants as place
 use Rattle.cd_shapes.specs.Frames.{Frames, scope_of, place_of}

@@ -4,8 +4,8 @@ use Rattle.std.specs.Prelude.{int_le, nat_le}
 use Rattle.std.proofs.Math.Bool.{or-false}
 use Rattle.std.proofs.lemmas.Bool.{cases_Bool}
 use Rattle.cd_sets.specs.declared.node_id.NodeId.{NodeId}
-use Rattle.cd_intervals.specs.Characters.{is_among}
-use Rattle.cd_intervals.specs.Interval.{is_between}
+use Rattle.cd_sets.specs.Characters.{is_among}
+use Rattle.cd_sets.specs.Interval.{is_between}
 use Rattle.cd_syntax.specs.Integer.{LEAST, GREATEST}
 use Rattle.cd_syntax.specs.Name.{Name}
 use Rattle.cd_syntax.specs.TypeTree as type

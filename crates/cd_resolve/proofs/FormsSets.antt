@@ -3,8 +3,8 @@ use Rattle.std.proofs.Common.{◌≡◌, ◌↔◌, ℕ, ℤ, Bool, false, sym, 
 use Rattle.std.specs.Prelude.{int_le, nat_le}
 use Rattle.std.proofs.lemmas.Int.{ints}
 use Rattle.std.proofs.lemmas.Bool.Decides.{nat_tests}
-use Rattle.cd_intervals.specs.Characters.{is_among}
-use Rattle.cd_intervals.specs.Interval.{is_between}
+use Rattle.cd_sets.specs.Characters.{is_among}
+use Rattle.cd_sets.specs.Interval.{is_between}
 use Rattle.cd_model.specs.Formula.{Graph, Nothing, nodes}
 use Rattle.cd_model.specs.Interfaces.{admits}
 use Rattle.cd_model.specs.Thing as thing

@@ -1,3 +1,9 @@
+pub mod Lists
+pub mod Ways
+pub mod Seen
+pub mod Sound
+pub mod Steps
+pub mod Tested
 pub mod FreeNames
 pub mod Guards
 pub mod Numbered

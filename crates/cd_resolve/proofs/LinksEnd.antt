@@ -8,8 +8,8 @@ use Rattle.cd_syntax.specs.Name.{Name}
 use Rattle.cd_model.specs.AllOf.{AllOf}
 use Rattle.cd_model.specs.Guarded.{IsGuarded}
 use Rattle.cd_model.specs.Scope.{Scope, Declared}
-use Rattle.cd_order.specs.Order as order
-use Rattle.cd_order.specs.Order.{Ends, AreRows}
+use Rattle.cd_resolve.specs.Order as order
+use Rattle.cd_resolve.specs.Order.{Ends, AreRows}
 use Rattle.cd_shapes.specs.Frames.{Frames}
 use Rattle.cd_shapes.specs.Shape.{Shape}
 use Rattle.cd_shapes.specs.Shaped.{Tables}

@@ -3,7 +3,7 @@ use Rattle.std.proofs.Common.{◌≡◌, ℕ, zero, suc, ◌+◌, ◌<◌, ◌�
 use Rattle.std.proofs.lemmas.List.{length-append, length-map}
 use Rattle.cd_model.specs.AllOf as model
 use Rattle.cd_model.proofs.Covered.{each_both}
-use Rattle.cd_order.specs.Order.{AllOf, row, AreRows}
+use Rattle.cd_resolve.specs.Order.{AllOf, row, AreRows}
 use Rattle.cd_shapes.specs.declared.place.Place.{Place}
 use Rattle.cd_shapes.specs.declared.place.Place.TheVariants as place
 use Rattle.cd_shapes.specs.Shape.{Shape, Leaf, Pair, Xml, Record, Arrow, And, Or, Sequence}

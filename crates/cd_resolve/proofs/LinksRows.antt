@@ -2,7 +2,7 @@
 use Rattle.std.proofs.Common.{◌≡◌, ℕ, zero, suc, ◌+◌, List, [], ◌∷◌, ◌++◌, map, length, Some, ap, ◌∙◌, arith}
 use Rattle.std.specs.List.{slice_get}
 use Rattle.std.specs.Option.{unwrap_or, option_map}
-use Rattle.cd_order.specs.Order.{row}
+use Rattle.cd_resolve.specs.Order.{row}
 use Rattle.cd_shapes.specs.declared.place.Place.{Place}
 use Rattle.cd_shapes.specs.Shape.{Shape}
 use Rattle.cd_shapes.specs.Shaped.{Tables}

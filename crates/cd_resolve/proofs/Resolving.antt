@@ -19,7 +19,7 @@ use Rattle.cd_shapes.specs.Names.{node_of}
 use Rattle.cd_shapes.specs.Frames.{Frames, index_in, given, declared_or, place_of}
 use Rattle.cd_shapes.specs.Shaped.{Tables, Shaped}
 use Rattle.cd_shapes.specs.Reading.{IsReading, AreSound, IsPlace, base_lists}
-use Rattle.cd_order.specs.Order.{Ends}
+use Rattle.cd_resolve.specs.Order.{Ends}
 use Rattle.cd_resolve.specs.Inner.Closing.{size_of, Closes, AgreesWith, node_at}
 use Rattle.cd_resolve.specs.Inner.Links.{links}
 use Rattle.cd_resolve.specs.Free.{free_names}

@@ -8,8 +8,8 @@ use Rattle.cd_model.specs.AllOf.{AllOf}
 use Rattle.cd_model.specs.BuiltIns.{node}
 use Rattle.cd_model.specs.Formula as formula
 use Rattle.cd_model.specs.Formula.{Graph, Formula, Nothing, formula_at, formulas_of}
-use Rattle.cd_order.specs.Order as order
-use Rattle.cd_order.specs.Order.{IsOneOf, ComeAfter, AreRows, row}
+use Rattle.cd_resolve.specs.Order as order
+use Rattle.cd_resolve.specs.Order.{IsOneOf, ComeAfter, AreRows, row}
 use Rattle.cd_shapes.specs.declared.place.Place.{Place}
 use Rattle.cd_shapes.specs.declared.place.Place.TheVariants as place
 use Rattle.cd_shapes.specs.Shape.{Shape, Leaf, Pair, Xml, Record, Arrow, And, Or, Sequence}

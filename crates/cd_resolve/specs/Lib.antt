@@ -1,3 +1,4 @@
+pub mod Order
 pub mod Free
 pub mod Named
 pub mod Inner

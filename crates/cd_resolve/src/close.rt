@@ -7,17 +7,17 @@ ghost use Rattle.cd_graph.specs.Nodes.{nodes};
 ghost use Rattle.cd_graph.specs.PlainFormula.{plain, plain_list};
 ghost use Rattle.cd_shapes.specs.PlainTables.{plain_tables};
 ghost use Rattle.cd_shapes.specs.Reading.{AreSound};
-ghost use Rattle.cd_order.specs.Order.{Ends};
+ghost use Rattle.cd_resolve.specs.Order.{Ends};
 ghost use Rattle.cd_resolve.specs.Inner.Closing.{size_of, Closes, AgreesWith};
 ghost use Rattle.cd_resolve.specs.Inner.Links.{links};
 ghost use Rattle.cd_resolve.specs.Inner.Making.{Fit, Counted, ArePlaced, AreFilled};
 
 use crate::counts::Counts;
 use crate::make::{blanks, fill};
+use crate::ordering::order;
 use crate::rows::link_rows;
 use crate::sequences::with_leaves;
 use cd_graph::{Formula, Formulas, Graph};
-use cd_order::order;
 use cd_shapes::tables::Tables;
 use std::alloc::{AllocError, Global};
 

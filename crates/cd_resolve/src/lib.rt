@@ -5,7 +5,9 @@ mod close;
 mod counts;
 pub mod laws;
 mod make;
+mod ordering;
 mod rows;
+mod search;
 mod sequences;
 mod types;
 

@@ -4,12 +4,12 @@ use Rattle.std.specs.Char.{IsScalar}
 use Rattle.std.specs.List.{list_any}
 use Rattle.std.proofs.lemmas.Slice.Eq.{bytes_eq-Decides}
 use Rattle.std.proofs.lemmas.Int.{ints}
-use Rattle.cd_intervals.specs.declared.interval.Interval.{Interval}
-use Rattle.cd_intervals.specs.Atoms as atoms
-use Rattle.cd_intervals.specs.Atoms.{Atoms as AtomSet}
-use Rattle.cd_intervals.specs.Characters.{CharInterval, holds_character}
-use Rattle.cd_intervals.specs.Interval as integers
-use Rattle.cd_intervals.proofs.Numbering.{scalar_range}
+use Rattle.cd_sets.specs.declared.interval.Interval.{Interval}
+use Rattle.cd_sets.specs.Atoms as atoms
+use Rattle.cd_sets.specs.Atoms.{Atoms as AtomSet}
+use Rattle.cd_sets.specs.Characters.{CharInterval, holds_character}
+use Rattle.cd_sets.specs.Interval as integers
+use Rattle.cd_sets.proofs.Numbering.{scalar_range}
 use Rattle.cd_syntax.specs.Integer.{IsInteger}
 use Rattle.cd_syntax.specs.Name.{Name, IsLabel}
 use Rattle.cd_model.specs.AllOf.{AllOf, AnyOf}

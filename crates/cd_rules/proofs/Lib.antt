@@ -1,3 +1,13 @@
+pub mod WorkKept
+pub mod FramesKept
+pub mod QuestionsOnce
+pub mod RunsAreRight
+pub mod ShorterLists
+pub mod WorkFalls
+pub mod RunsEnd
+pub mod WorkOfQuestion
+pub mod FirstQuestion
+pub mod EndlessRun
 pub mod Things
 pub mod Asking
 pub mod Answered

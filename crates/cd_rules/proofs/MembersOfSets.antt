@@ -1,8 +1,8 @@
 -- A clause of integers, of characters or of atoms whose needs are all met has a member.
 use Rattle.std.proofs.Common.{List, inl, inr, refl, subst}
-use Rattle.cd_intervals.specs.declared.interval.Interval.{Interval}
-use Rattle.cd_intervals.specs.Characters.{CharInterval}
-use Rattle.cd_intervals.specs.Atoms.{Atoms as AtomSet}
+use Rattle.cd_sets.specs.declared.interval.Interval.{Interval}
+use Rattle.cd_sets.specs.Characters.{CharInterval}
+use Rattle.cd_sets.specs.Atoms.{Atoms as AtomSet}
 use Rattle.cd_model.specs.Thing as thing
 use Rattle.cd_model.specs.AllOf.{AllOf}
 use Rattle.cd_model.specs.Formula.{Graph}

@@ -1,9 +1,9 @@
 -- The clauses of a choice: what it says of the things of one kind.
 use Rattle.std.specs.Prelude.{◌≡◌, Bool, true, false, List, [], ◌∷◌, Option, Some, None}
 use Rattle.cd_sets.specs.declared.node_id.NodeId.{NodeId}
-use Rattle.cd_intervals.specs.declared.interval.Interval.{Interval}
-use Rattle.cd_intervals.specs.Characters.{CharInterval}
-use Rattle.cd_intervals.specs.Atoms.{Atoms as AtomSet}
+use Rattle.cd_sets.specs.declared.interval.Interval.{Interval}
+use Rattle.cd_sets.specs.Characters.{CharInterval}
+use Rattle.cd_sets.specs.Atoms.{Atoms as AtomSet}
 use Rattle.cd_syntax.specs.Name.{Name}
 use Rattle.cd_sets.specs.declared.question.Question.{Question}
 use Rattle.cd_model.specs.AllOf.{AllOf, AnyOf}

@@ -1,3 +1,6 @@
+pub mod Machine
+pub mod Right
+pub mod Weight
 pub mod Choices
 pub mod Clauses
 pub mod Needs

@@ -1,5 +1,6 @@
-//! The rules that decide emptiness, as definitions and laws alone.
+//! The rules that decide emptiness, and the machine that goes by them, as definitions and laws alone.
 #![tactic(auto)]
 
 pub mod laws;
+pub mod machine_laws;
 pub mod task_laws;

@@ -1,3 +1,7 @@
+pub mod Rising
+pub mod Sweep
+pub mod Numbering
+pub mod ListedAtoms
 pub mod Placing
 pub mod Counting
 pub mod Members

@@ -1,3 +1,8 @@
+pub mod Interval
+pub mod Rises
+pub mod Characters
+pub mod Atoms
+pub mod Inner
 pub mod IdSet
 pub mod Comparing
 pub mod Subsets

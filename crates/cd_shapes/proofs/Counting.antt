@@ -3,8 +3,8 @@ use Rattle.std.proofs.Common.{◌≡◌, refl, ap, ◌+◌, length, List, [], �
 use Rattle.std.specs.Option.{option_map}
 use Rattle.cd_syntax.specs.Name.{Name}
 use Rattle.cd_syntax.specs.TypeTree.{Declarations, NoDeclaration, ADeclaration, Declaration, declarations_of}
-use Rattle.cd_lookup.specs.Places.{first_place}
-use Rattle.cd_lookup.specs.NamesDeclared.{names_in}
+use Rattle.cd_names.specs.Places.{first_place}
+use Rattle.cd_names.specs.NamesDeclared.{names_in}
 use Rattle.cd_shapes.specs.Frames.{index_in, number_in}
 
 -- the place of a declaration is the first of its name

@@ -4,7 +4,7 @@ use Rattle.std.specs.Prelude.{bytes_eq}
 use Rattle.std.specs.Option.{option_map, unwrap_or}
 use Rattle.cd_sets.specs.declared.node_id.NodeId.{NodeId}
 use Rattle.cd_syntax.specs.Name.{Name}
-use Rattle.cd_lookup.specs.Places.{first_place}
+use Rattle.cd_names.specs.Places.{first_place}
 use Rattle.cd_shapes.specs.Names.{node_of}
 
 abbrev pub names_of : List (Name × NodeId) → List Name

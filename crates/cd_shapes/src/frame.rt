@@ -2,9 +2,9 @@
 ghost use Rattle.std.specs.Prelude.{◌≡◌, IfOk};
 ghost use Rattle.cd_syntax.specs.PlainTree.{plain_declarations};
 ghost use Rattle.cd_syntax.specs.WellMade.{AreWellMadeDeclarations};
-ghost use Rattle.cd_lookup.specs.NamesDeclared.{names_in};
+ghost use Rattle.cd_names.specs.NamesDeclared.{names_in};
 
-use cd_lookup::{NameIndex, declared_names};
+use cd_names::{NameIndex, declared_names};
 use cd_syntax::name::Name;
 use cd_syntax::type_tree::Declarations;
 use std::alloc::{AllocError, Global};

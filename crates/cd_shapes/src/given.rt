@@ -3,7 +3,7 @@ ghost use Rattle.std.specs.Prelude.{◌≡◌, map, IfOk};
 ghost use Rattle.cd_shapes.specs.Names.{node_of};
 
 use crate::names::Names;
-use cd_lookup::NameIndex;
+use cd_names::NameIndex;
 use cd_sets::node_id::NodeId;
 use cd_syntax::name::Name;
 use std::alloc::{AllocError, Global};

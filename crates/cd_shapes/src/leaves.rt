@@ -7,9 +7,9 @@ ghost use Rattle.cd_shapes.specs.Leaves.{integers as integers_between};
 ghost use Rattle.cd_shapes.specs.Leaves.{characters as characters_between, atom as atom_named};
 
 use cd_graph::Formula;
-use cd_intervals::atom_set::AtomSet;
-use cd_intervals::char_set::CharSet;
-use cd_intervals::int_set::IntSet;
+use cd_sets::atom_set::AtomSet;
+use cd_sets::char_set::CharSet;
+use cd_sets::int_set::IntSet;
 use cd_syntax::name::Name;
 use std::alloc::{AllocError, Global};
 

@@ -1,5 +1,5 @@
 //! Sets of atoms, of which `a`, `b` and `c` are looked at.
-use cd_intervals::atom_set::AtomSet;
+use cd_sets::atom_set::AtomSet;
 use std::alloc::{AllocError, Global};
 
 // The set of one atom.

@@ -1,6 +1,6 @@
 //! Sets of characters, each as its number.
 use crate::integers::bounds;
-use cd_intervals::char_set::CharSet;
+use cd_sets::char_set::CharSet;
 use std::alloc::{AllocError, Global};
 
 // The character of a number, or the first one.

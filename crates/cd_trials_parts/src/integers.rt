@@ -1,5 +1,5 @@
 //! Sets of integers.
-use cd_intervals::int_set::IntSet;
+use cd_sets::int_set::IntSet;
 use std::alloc::{AllocError, Global};
 
 /// The bounds of a piece as `0--5`, or those of no piece.

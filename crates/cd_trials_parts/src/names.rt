@@ -1,6 +1,6 @@
 //! Names in a list.
 use cd_lex::lex;
-use cd_lookup::{NameIndex, declared_names};
+use cd_names::{NameIndex, declared_names};
 use cd_parse_types::parse_declarations;
 use cd_syntax::name::Name;
 use cd_syntax::type_tree::Declarations;

@@ -3,9 +3,9 @@ use Rattle.std.specs.Prelude.{ℕ, ℤ, Bool, true, false, not, ◌&&◌, ◌||�
 use Rattle.std.specs.Prelude.{Some, None, bytes_eq, if◌then◌else◌, map}
 use Rattle.std.specs.List.{list_all, list_any, filter}
 use Rattle.cd_sets.specs.declared.node_id.NodeId.{NodeId}
-use Rattle.cd_intervals.specs.Interval as integers
-use Rattle.cd_intervals.specs.Characters.{holds_character}
-use Rattle.cd_intervals.specs.Atoms as atoms
+use Rattle.cd_sets.specs.Interval as integers
+use Rattle.cd_sets.specs.Characters.{holds_character}
+use Rattle.cd_sets.specs.Atoms as atoms
 use Rattle.cd_syntax.specs.Name.{Name}
 use Rattle.cd_model.specs.Formula as formula
 use Rattle.cd_model.specs.Formula.{Formula, Formulas, NoFormula, AFormula, Graph, formula_at}

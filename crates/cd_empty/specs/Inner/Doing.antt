@@ -3,7 +3,7 @@ use Rattle.std.specs.Prelude.{◌≡◌, length, map}
 use Rattle.cd_sets.specs.declared.question.Question.{Question}
 use Rattle.cd_model.specs.Formula.{Graph}
 use Rattle.cd_elements.specs.Table.{Names, element_at}
-use Rattle.cd_machine.specs.Machine.{Works, IsDone, IsWitness, NotIn}
+use Rattle.cd_rules.specs.Machine.{Works, IsDone, IsWitness, NotIn}
 use Rattle.cd_rules.specs.Family.{AsksNodes}
 use Rattle.cd_empty.specs.declared.decider.Decider.{Decider}
 use Rattle.cd_empty.specs.declared.frame.Frame.{Frame}

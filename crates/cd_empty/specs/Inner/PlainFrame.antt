@@ -2,8 +2,8 @@
 use Rattle.std.specs.Prelude.{List, ◌++◌, map}
 use Rattle.std.specs.Option.{option_map}
 use Rattle.cd_sets.specs.declared.question.Question.{Question}
-use Rattle.cd_machine.specs.Machine.{Work, work, State, state}
-use Rattle.cd_machine.specs.Machine as machine
+use Rattle.cd_rules.specs.Machine.{Work, work, State, state}
+use Rattle.cd_rules.specs.Machine as machine
 use Rattle.cd_normal.specs.Partials.{partials}
 use Rattle.cd_normal.specs.PlainClause.{plain_clause}
 use Rattle.cd_tasks.specs.PlainTask.{plain_task}

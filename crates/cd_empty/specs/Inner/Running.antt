@@ -4,9 +4,9 @@ use Rattle.cd_sets.specs.declared.question.Question.{Question}
 use Rattle.cd_model.specs.AllOf.{AllOf}
 use Rattle.cd_model.specs.Formula.{Graph}
 use Rattle.cd_model.specs.Thing.{Thing}
-use Rattle.cd_machine.specs.Machine.{IsWitness, Step}
-use Rattle.cd_machine.specs.Right.{IsRight, HasFirst}
-use Rattle.cd_machine.specs.Weight.{frames_weight}
+use Rattle.cd_rules.specs.Machine.{IsWitness, Step}
+use Rattle.cd_rules.specs.Right.{IsRight, HasFirst}
+use Rattle.cd_rules.specs.Weight.{frames_weight}
 use Rattle.cd_empty.specs.declared.decider.Decider.{Decider}
 use Rattle.cd_empty.specs.declared.frame.Frame.{Frame}
 use Rattle.cd_empty.specs.declared.went.Went.{Went}

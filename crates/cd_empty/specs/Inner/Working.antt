@@ -6,8 +6,8 @@ use Rattle.cd_model.specs.Membership.{reader}
 use Rattle.cd_model.specs.Thing.{Thing, Function, IsElement}
 use Rattle.cd_elements.specs.declared.shape.ElementId.{ElementId}
 use Rattle.cd_elements.specs.Table.{Names, element_at, pairs_of}
-use Rattle.cd_machine.specs.Machine.{work}
-use Rattle.cd_machine.specs.Right.{IsWorkOf}
+use Rattle.cd_rules.specs.Machine.{work}
+use Rattle.cd_rules.specs.Right.{IsWorkOf}
 use Rattle.cd_normal.specs.Partials.{partials}
 use Rattle.cd_rules.specs.Clauses.{Clause, IsInClause}
 use Rattle.cd_rules.specs.Family.{AreAmong, AsksNodes}

@@ -3,9 +3,9 @@
 use Rattle.std.specs.Prelude.{◌≡◌, ℕ, ◌<◌, Bool, true, false, not, ◌++◌, List, [], ◌∷◌}
 use Rattle.std.specs.Prelude.{Option, Some, None, map}
 use Rattle.cd_sets.specs.declared.node_id.NodeId.{NodeId}
-use Rattle.cd_intervals.specs.Interval as integers
-use Rattle.cd_intervals.specs.Characters.{holds_character}
-use Rattle.cd_intervals.specs.Atoms as atoms
+use Rattle.cd_sets.specs.Interval as integers
+use Rattle.cd_sets.specs.Characters.{holds_character}
+use Rattle.cd_sets.specs.Atoms as atoms
 use Rattle.cd_syntax.specs.Name.{Name, IsLabel}
 use Rattle.cd_model.specs.Formula as formula
 use Rattle.cd_model.specs.Formula.{Formula, Formulas, NoFormula, AFormula, Field, field_of}

@@ -1,9 +1,9 @@
 -- Shapes of integers, characters and atoms.
 use Rattle.std.specs.Prelude.{◌≡◌, true}
 use Rattle.std.specs.Char.{IsScalar}
-use Rattle.cd_intervals.specs.Interval as integers
-use Rattle.cd_intervals.specs.Characters.{holds_character}
-use Rattle.cd_intervals.specs.Atoms as atoms
+use Rattle.cd_sets.specs.Interval as integers
+use Rattle.cd_sets.specs.Characters.{holds_character}
+use Rattle.cd_sets.specs.Atoms as atoms
 use Rattle.cd_syntax.specs.Integer.{IsInteger}
 use Rattle.cd_syntax.specs.Name.{IsLabel}
 use Rattle.cd_elements.specs.declared.shape.Shape.{Shape}

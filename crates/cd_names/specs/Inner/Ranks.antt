@@ -3,7 +3,7 @@ use Rattle.std.specs.Prelude.{ℕ, Bool, true, false, nat_lt, List, Option, Some
 use Rattle.std.specs.List.{list_all}
 use Rattle.std.specs.Option.{option_flatten}
 use Rattle.cd_syntax.specs.Name.{Name}
-use Rattle.cd_lookup.specs.Places.{first_place}
+use Rattle.cd_names.specs.Places.{first_place}
 use Rattle.cd_names.specs.Inner.Walk.{Link}
 use Rattle.cd_names.specs.declared.ranks.Ranks.{Ranks}
 

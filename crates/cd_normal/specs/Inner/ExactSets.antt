@@ -1,9 +1,9 @@
 -- Sets of integers, of characters and of atoms that hold exactly what passes.
 use Rattle.std.specs.Prelude.{◌≡◌, Bool, true, false, ℤ, ℕ}
 use Rattle.std.specs.Char.{IsScalar}
-use Rattle.cd_intervals.specs.Interval as integers
-use Rattle.cd_intervals.specs.Characters.{holds_character}
-use Rattle.cd_intervals.specs.Atoms as atoms
+use Rattle.cd_sets.specs.Interval as integers
+use Rattle.cd_sets.specs.Characters.{holds_character}
+use Rattle.cd_sets.specs.Atoms as atoms
 use Rattle.cd_syntax.specs.Integer.{IsInteger}
 use Rattle.cd_syntax.specs.Name.{Name}
 use Rattle.cd_model.specs.Formula as formula

@@ -1,5 +1,5 @@
 use Rattle.std.proofs.Common.{◌∙◌, sym, ap, subst}
-use Rattle.cd_intervals.specs.Atoms.{holds}
+use Rattle.cd_sets.specs.Atoms.{holds}
 use Rattle.cd_syntax.specs.Name.{IsLabel}
 use Rattle.cd_graph.proofs.Labels.{same_texts}
 use Rattle.cd_holds.proofs.formula.is_among.Goals as goal

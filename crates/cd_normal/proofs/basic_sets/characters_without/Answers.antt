@@ -1,5 +1,5 @@
 use Rattle.std.proofs.Common.{◌&&◌, not, refl, sym, ap, ◌∙◌}
-use Rattle.cd_intervals.specs.Characters.{holds_character}
+use Rattle.cd_sets.specs.Characters.{holds_character}
 use Rattle.cd_normal.proofs.basic_sets.characters_without.Goals as goal
 
 pub returns-then-is_empty : goal.returns-then-is_empty

@@ -1,5 +1,5 @@
 use Rattle.std.proofs.Common.{◌&&◌, not, refl, sym, ap, ◌∙◌}
-use Rattle.cd_intervals.specs.Interval.{holds}
+use Rattle.cd_sets.specs.Interval.{holds}
 use Rattle.cd_normal.proofs.basic_sets.integers_without.Goals as goal
 
 pub returns-then-is_empty : goal.returns-then-is_empty

@@ -3,7 +3,7 @@ use Rattle.cd_model.specs.Thing.{Record, NoField}
 use Rattle.cd_cells.specs.declared.cell.Part.{Part}
 use Rattle.cd_cells.specs.Table.{table, names, IsAt}
 use Rattle.cd_documents.specs.Machine.{with_fields}
-use Rattle.cd_fields.specs.Open.{names_of, values_of}
+use Rattle.cd_notation.specs.Open.{names_of, values_of}
 use Rattle.cd_notation.proofs.fields.record_of_parts.Goals as goal
 
 pub returns-clause-is : goal.returns-clause-is

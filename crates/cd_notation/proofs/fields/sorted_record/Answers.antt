@@ -1,7 +1,7 @@
 use Rattle.std.proofs.Common.{◌∙◌, IfOk, sym, ap, subst}
 use Rattle.cd_model.specs.Thing.{Fields, Record}
 use Rattle.cd_cells.specs.Table.{table, names, IsAt}
-use Rattle.cd_fields.specs.Open.{LabelsDiffer, fields_read}
+use Rattle.cd_notation.specs.Open.{LabelsDiffer, fields_read}
 use Rattle.cd_notation.proofs.Parts.{differ_reversed, read_back}
 use Rattle.cd_notation.proofs.fields.sorted_record.Goals as goal
 

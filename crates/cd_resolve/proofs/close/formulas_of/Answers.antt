@@ -1,7 +1,7 @@
 use Rattle.std.proofs.Common.{◌≡◌, ◌+◌, ◌<◌, ℕ, List, map, length, sym, subst, ap, ◌∙◌, arith, Vec, Global}
 use Rattle.std.proofs.lemmas.List.{length-map}
 use Rattle.cd_model.specs.AllOf.{AllOf}
-use Rattle.cd_order.specs.Order.{AreRows, Ends, IsOrder}
+use Rattle.cd_resolve.specs.Order.{AreRows, Ends, IsOrder}
 use Rattle.cd_shapes.specs.PlainTables.{plain_tables}
 use Rattle.cd_resolve.specs.Inner.Links.{links}
 use Rattle.cd_resolve.proofs.Closed.{are_rows, links_length, counts_are, known_follows, known_each}

@@ -1,6 +1,6 @@
 use Rattle.std.proofs.Common.{◌∙◌, sym, ap, subst, [], ◌∷◌}
 use Rattle.cd_syntax.specs.Name.{IsLabel}
-use Rattle.cd_intervals.specs.Atoms.{listing}
+use Rattle.cd_sets.specs.Atoms.{listing}
 use Rattle.cd_model.specs.Formula.{Atoms}
 use Rattle.cd_graph.proofs.Labels.{same_texts}
 use Rattle.cd_shapes.proofs.leaves.atom.Goals as goal

@@ -1,7 +1,7 @@
 use Rattle.std.proofs.Common.{◌≡◌, [], ◌∷◌, ◌++◌, None, refl, sym, ap, subst, ◌∙◌}
 use Rattle.cd_sets.specs.declared.question.Question.{Question}
 use Rattle.cd_graph.specs.Nodes.{nodes}
-use Rattle.cd_machine.specs.Machine.{NotIn, frame, work}
+use Rattle.cd_rules.specs.Machine.{NotIn, frame, work}
 use Rattle.cd_normal.specs.Partials.{partials}
 use Rattle.cd_empty.specs.declared.frame.Frame.{Frame}
 use Rattle.cd_empty.specs.Inner.Running.{IsStepped}

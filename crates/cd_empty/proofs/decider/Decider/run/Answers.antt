@@ -1,7 +1,7 @@
 use Rattle.std.proofs.Common.{sym, subst}
 use Rattle.cd_sets.specs.declared.question.Question.{Question}
 use Rattle.cd_graph.specs.Nodes.{nodes}
-use Rattle.cd_machine.specs.Right.{HasFirst}
+use Rattle.cd_rules.specs.Right.{HasFirst}
 use Rattle.cd_empty.specs.Inner.PlainFrame.{state_of}
 use Rattle.cd_empty.specs.Inner.Running.{IsRunning}
 use Rattle.cd_empty.proofs.OpenedQuestions.{has_first}

@@ -1,6 +1,6 @@
 use Rattle.std.proofs.Common.{◌≡◌}
 use Rattle.cd_graph.specs.Nodes.{nodes}
-use Rattle.cd_machine.specs.Weight.{frames_weight}
+use Rattle.cd_rules.specs.Weight.{frames_weight}
 use Rattle.cd_empty.specs.Inner.PlainFrame.{state_of}
 use Rattle.cd_empty.specs.Inner.Running.{Keeps, RunsOn}
 use Rattle.cd_empty.specs.Kept.{witnesses}

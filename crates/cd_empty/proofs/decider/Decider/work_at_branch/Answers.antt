@@ -1,7 +1,7 @@
 use Rattle.std.proofs.Common.{◌∷◌, length, map, subst}
 use Rattle.std.specs.Option.{option_map}
 use Rattle.cd_graph.specs.Nodes.{nodes}
-use Rattle.cd_machine.proofs.WorkOfQuestion.{tasks_of_nodes}
+use Rattle.cd_rules.proofs.WorkOfQuestion.{tasks_of_nodes}
 use Rattle.cd_normal.specs.PlainClause.{plain_clause}
 use Rattle.cd_rules.specs.Tasks.{IsTaskOfNodes, questions_of}
 use Rattle.cd_tasks.specs.PlainTask.{plain_task}

@@ -1,6 +1,6 @@
 use Rattle.std.proofs.Common.{◌≡◌, ◌∷◌, ◌++◌, [], List, ◌∙◌, sym, ap, subst}
 use Rattle.cd_sets.specs.declared.question.Question.{Question}
-use Rattle.cd_machine.specs.Machine.{NotIn}
+use Rattle.cd_rules.specs.Machine.{NotIn}
 use Rattle.indexmap.proofs.CallerLemmas.{insert_entry-new}
 use Rattle.cd_empty.specs.declared.verdict.Verdict.{Verdict}
 use Rattle.cd_empty.specs.declared.verdict.Verdict.TheVariants.{Empty}

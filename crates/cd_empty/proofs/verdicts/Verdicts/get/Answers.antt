@@ -1,6 +1,6 @@
 use Rattle.std.proofs.Common.{List, Option, MatchOption, ◌∙◌, sym, subst}
 use Rattle.cd_sets.specs.declared.question.Question.{Question}
-use Rattle.cd_machine.specs.Machine.{NotIn}
+use Rattle.cd_rules.specs.Machine.{NotIn}
 use Rattle.cd_empty.specs.declared.verdict.Verdict.{Verdict}
 use Rattle.cd_empty.specs.Verdicts.{IsKept}
 use Rattle.cd_empty.proofs.VerdictsFound.{asked, look_up_finds}

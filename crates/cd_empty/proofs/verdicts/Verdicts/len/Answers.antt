@@ -1,6 +1,6 @@
 use Rattle.std.proofs.Common.{List, subst}
 use Rattle.cd_sets.specs.declared.question.Question.{Question}
-use Rattle.cd_machine.specs.Right.{Differ}
+use Rattle.cd_rules.specs.Right.{Differ}
 use Rattle.cd_empty.specs.declared.verdict.Verdict.{Verdict}
 use Rattle.cd_empty.proofs.QuestionsDiffer.{distinct_differ}
 use Rattle.cd_empty.proofs.VerdictsFound.{asked, one_verdict}

@@ -2,7 +2,7 @@ use Rattle.std.proofs.Common.{Some, ap, sym, ◌∙◌}
 use Rattle.std.specs.Option.{option_map}
 use Rattle.std.proofs.lemmas.Option.{slice_get-get_or, slice_get_past}
 use Rattle.cd_syntax.specs.PlainTree.{plain_declarations}
-use Rattle.cd_lookup.specs.Places.{first_place}
+use Rattle.cd_names.specs.Places.{first_place}
 use Rattle.cd_names.proofs.Placing.{placed_nowhere, placed}
 use Rattle.cd_names.proofs.frame.Frame.place_in.Goals as goal
 

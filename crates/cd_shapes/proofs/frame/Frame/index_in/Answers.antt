@@ -1,6 +1,6 @@
 use Rattle.std.proofs.Common.{ap, ◌∙◌}
 use Rattle.cd_syntax.specs.PlainTree.{plain_declarations}
-use Rattle.cd_lookup.specs.Places.{first_place}
+use Rattle.cd_names.specs.Places.{first_place}
 use Rattle.cd_shapes.proofs.Counting.{index_is}
 use Rattle.cd_shapes.proofs.frame.Frame.index_in.Goals as goal
 

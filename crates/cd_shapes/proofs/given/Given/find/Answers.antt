@@ -1,7 +1,7 @@
 use Rattle.std.proofs.Common.{Some, sym, ap, ◌∙◌}
 use Rattle.std.specs.Option.{option_map}
 use Rattle.std.proofs.lemmas.Option.{slice_get-get_or, slice_get_past}
-use Rattle.cd_lookup.specs.Places.{first_place}
+use Rattle.cd_names.specs.Places.{first_place}
 use Rattle.cd_shapes.specs.Names.{node_of}
 use Rattle.cd_shapes.proofs.Noded.{names_of, no_node, noded}
 use Rattle.cd_shapes.proofs.given.Given.find.Goals as goal

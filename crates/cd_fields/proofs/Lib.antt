@@ -1,4 +1,0 @@
-pub mod LastPlaces
-pub mod Rising
-pub mod Different
-pub mod FieldsRead

@@ -1,4 +1,0 @@
-pub mod Rising
-pub mod Sweep
-pub mod Numbering
-pub mod ListedAtoms

@@ -1,3 +1,0 @@
-pub mod FirstPlaces
-mod SameNames
-mod Views

@@ -1,5 +1,0 @@
-use Rattle.cd_machine.proofs.FirstQuestion.{first_kept}
-use Rattle.cd_machine.proofs.laws.first_question_is_kept.Goals as goal
-
-pub returns : goal.returns
-returns c = record { kept = first_kept }

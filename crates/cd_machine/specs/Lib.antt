@@ -1,3 +1,0 @@
-pub mod Machine
-pub mod Right
-pub mod Weight
