@@ -63,7 +63,7 @@ impl Asker {
             answer) }
         ensures knows { KnowsOf (nodes graph.now) (names values.now) self.new }
     {
-        let _sound = values.len();
+        values.knows();
         self.holds(graph, values, id, node)
     }
 

@@ -32,7 +32,7 @@ pub(crate) fn members_with(
     ensures right { KnowsOf (nodes graph.now) (names values.now) asker.new }
     ensures grows { Grows asker.old asker.new }
 {
-    let _sound = values.len();
+    values.knows();
     let mut tasks = Vec::new(asker.sets.allocator());
     let mut next = ask(asker, graph, values, id, set)?;
     loop {

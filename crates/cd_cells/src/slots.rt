@@ -1,5 +1,5 @@
 //! A value for each of some numbers.
-ghost use Rattle.std.specs.Prelude.{◌≡◌, []};
+ghost use Rattle.std.specs.Prelude.{◌≡◌, ℕ, [], Some, OnOk};
 ghost use Rattle.cd_cells.specs.Slots.{slot_at, PutsOnly};
 
 use std::alloc::{AllocError, Global};
@@ -46,7 +46,10 @@ impl<T: Copy> Slots<T> {
     ///
     /// Want of memory. No value is added.
     pub fn put(&mut self, number: usize, value: T) -> Result<(), AllocError>
-        ensures { PutsOnly number value self.old self.new }
+        ensures put { OnOk result (slot_at self.new number ≡ Some value) }
+        ensures others { (other : ℕ) → (other ≡ number → ⊥)
+            → slot_at self.new other ≡ slot_at self.old other }
+        ensures only { PutsOnly number value self.old self.new }
     {
         if number < self.slots.len() {
             self.slots[number] = Some(value);

@@ -155,6 +155,15 @@ impl Values {
         self.lists.names.get(number as usize)
     }
 
+    /// What is known of every table: each cell is a value, and each name has one number.
+    pub fn knows(&self)
+        ensures sound { AllOf IsValue (table self.now) }
+        ensures once { HasEachOnce (names self.now) }
+    {
+        // The contract of this call says that each name has one number.
+        let _names = self.lists.names.len();
+    }
+
     /// How many names there are. Each has one number.
     pub fn name_count(&self) -> usize
         ensures count { result ≡ length (names self.now) }

@@ -51,6 +51,11 @@ impl Elements {
         Ok(ElementId(number))
     }
 
+    /// What is known of every table: each of its things is an element.
+    pub fn knows(&self)
+        ensures { AllOf IsElement (table self.now) }
+    {}
+
     /// The number of elements.
     pub fn len(&self) -> usize
         ensures count { result ≡ length (table self.now) }

@@ -81,6 +81,13 @@ impl Graph {
         self.formulas.len()
     }
 
+    /// What is known of every graph: its formulas are those of a graph, and it begins with the
+    /// built-in ones.
+    pub fn knows(&self)
+        ensures sound { IsGraph (nodes self.now) }
+        ensures built_in { (more : PlainGraph) × (nodes self.now ≡ built_in_formulas ++ more) }
+    {}
+
     /// A formula that holds just what is in each node of `pos` and in none of `neg`, made of copies
     /// of their formulas.
     pub fn formula_of(&self, question: &Question) -> Result<Formula, AllocError>

@@ -49,7 +49,7 @@ impl<'g> Choices<'g> {
     {
         let items = of_each_kind(formulas_of(alloc, graph, question)?)?;
         // The contract of this call says that the formulas of the graph are sound.
-        let _count = graph.len();
+        graph.knows();
         Ok(Choices { items })
     }
 

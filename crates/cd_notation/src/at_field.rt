@@ -54,7 +54,7 @@ impl Reader {
             return Ok(None);
         };
         let number = values.label(name)?;
-        let _count = values.name_count();
+        values.knows();
         if self.labels.add(first, number)? {
             return Ok(Some(Expecting::Equal));
         }

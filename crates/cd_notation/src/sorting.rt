@@ -22,7 +22,7 @@ pub fn sort_fields(values: &Values, parts: &mut [Part])
     ensures parts { AllOf (IsPart (names values.now) (length (table values.now))) parts.new }
 {
     // Each name has one number.
-    let _names = values.name_count();
+    values.knows();
     parts.sort_unstable_by(|one, other| compare(values, one, other));
 }
 

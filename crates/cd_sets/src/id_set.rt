@@ -88,6 +88,13 @@ impl IdSet {
         self.ids.len()
     }
 
+    /// What is known of every set: its numbers rise strictly.
+    pub fn knows(&self)
+        ensures { AreRising self.now }
+    {
+        let _ids = &self.ids;
+    }
+
     /// Its numbers. They rise strictly.
     pub fn ids(&self) -> &[NodeId]
         ensures value { result.now ≡ self.now }

@@ -15,7 +15,7 @@ returns-clause-fields c =
     let in_order : IsSortedBy (lower (name (names values) (table values))) c.sort_unstable_by.new.self =
     c.sort_unstable_by.ensures.sorted _ (ranks_by nat_list_cmp_total (name (names values) (table values)))
     (always_returns_same _ _ _ (λ a r q k. search rules)) in
-    sorted_fields (names values) (table values) c.name_count-names.ensures.once (length (table values)) c.args.parts.now
+    sorted_fields (names values) (table values) c.knows.ensures.once (length (table values)) c.args.parts.now
     c.sort_unstable_by.new.self c.requires.parts c.requires.differ c.sort_unstable_by.ensures.permutation in_order
 
 pub returns-clause-rise : goal.returns-clause-rise
@@ -24,7 +24,7 @@ returns-clause-rise c =
     let in_order : IsSortedBy (lower (name (names values) (table values))) c.sort_unstable_by.new.self =
     c.sort_unstable_by.ensures.sorted _ (ranks_by nat_list_cmp_total (name (names values) (table values)))
     (always_returns_same _ _ _ (λ a r q k. search rules)) in
-    sorted_labels_rise (names values) (table values) c.name_count-names.ensures.once (length (table values)) c.args.parts.now
+    sorted_labels_rise (names values) (table values) c.knows.ensures.once (length (table values)) c.args.parts.now
     c.sort_unstable_by.new.self c.requires.parts c.requires.differ c.sort_unstable_by.ensures.permutation in_order
 
 pub returns-clause-parts : goal.returns-clause-parts

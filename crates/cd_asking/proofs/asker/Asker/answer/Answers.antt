@@ -27,7 +27,7 @@ knows c =
           (record { question = record { set = c.args.set; case = c.args.case }; answer = c.in_ok-answer.answer }) known.recent
           (new_answer c.args.self.now.sets c.other_answer.new.self.sets c.other_answer.ensures.grows.0 (names c.args.values.now) c.args.self.now.rows
           c.other_answer.new.self.rows c.other_answer.ensures.grows.1 (nodes c.args.graph.now) c.args.set c.args.case c.in_ok-answer.answer
-          c.requires.within c.requires.case c.requires.parts c.in_ok-answer.ensures.found) c.put.ensures;
+          c.requires.within c.requires.case c.requires.parts c.in_ok-answer.ensures.found) c.put.ensures.only;
     }
 
 pub returns-in_err-put-clause-right : goal.returns-in_err-put-clause-right

@@ -17,5 +17,5 @@ returns-clause-answer c =
     IfOk-weaker c.holds.result _ _ (λ answer same interfaces.
     subst (λ (answer : Bool). value_in_node graph interfaces is c.args.node answer) (sym same)
     (data_in_node graph (closure_maps (formula.nodes graph) (admits interfaces)) is c.args.node
-    (at_index _ (table c.args.values.now) c.args.id.0 _ c.len-sound.ensures.sound c.requires.value) c.requires.data))
+    (at_index _ (table c.args.values.now) c.args.id.0 _ c.knows.ensures.sound c.requires.value) c.requires.data))
     c.holds.ensures.answer

@@ -16,7 +16,7 @@ knows c =
       letters = more_letters (nodes c.args.graph.now) c.answer.new.self.sets c.answer.new.self.letters c.put.new.self c.args.set c.args.c
           c.in_ok-answer.answer known.letters (still_within c.args.self.now.sets c.answer.new.self.sets c.answer.ensures.grows.0 c.args.set.0 c.requires.within)
           c.if-code-ge128.false (found_later c.args.self.now.sets c.answer.new.self.sets c.answer.ensures.grows.0 (nodes c.args.graph.now) (Character c.args.c)
-          c.args.set c.in_ok-answer.answer c.requires.within c.in_ok-answer.ensures.found) c.put.ensures;
+          c.args.set c.in_ok-answer.answer c.requires.within c.in_ok-answer.ensures.found) c.put.ensures.only;
       leads = known.leads;
       answers = known.answers;
       recent = known.recent;

@@ -25,7 +25,7 @@ knows c =
             still_within c.args.self.now.sets c.find_xml_leads.new.sets c.find_xml_leads.ensures.grows c.args.set.0 c.requires.within,
             subst (λ (set : List NodeId). LeadAll (nodes c.args.graph.now) c.find_xml_leads.new.sets set c.in_ok-leads.leads)
                 (sym (stays c.args.self.now.sets c.find_xml_leads.new.sets c.find_xml_leads.ensures.grows c.args.set c.requires.within)) c.in_ok-leads.ensures.leads,
-          ) c.put.ensures;
+          ) c.put.ensures.only;
       letters = known.letters;
       leads = known.leads;
       answers = known.answers;

@@ -6,5 +6,5 @@ pub invariant_of-self : goal.invariant_of-self
 invariant_of-self c =
     let pushed = c.push.new.self in
     let is = atom_cell _ _ _ c.in_ok-id.ensures.stored in
-    let kept = slot_kept is_atom _ _ _ _ _ c.put-shared.ensures pushed.known.1 is in
+    let kept = slot_kept is_atom _ _ _ _ _ c.put-shared.ensures.only pushed.known.1 is in
     record { sound = pushed.sound; known = (pushed.known.0, kept, pushed.known.2, pushed.known.3) }

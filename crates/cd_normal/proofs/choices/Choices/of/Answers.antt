@@ -8,4 +8,4 @@ pub returns-clause-of_nodes : goal.returns-clause-of_nodes
 returns-clause-of_nodes c =
     let graph = nodes c.args.graph.now in
     rw (c.in_ok-items.ensures, c.in_ok-formulas_of.ensures)
-    (partial_choices_are (length graph) graph c.len-count.ensures.sound c.args.question.now)
+    (partial_choices_are (length graph) graph c.knows.ensures.sound c.args.question.now)

@@ -14,12 +14,12 @@ pub returns-then-branch-clause-leads : goal.returns-then-branch-clause-leads
 returns-then-branch-clause-leads c = λ frames are.
     leads_by _ _ _ _ _ _ _ c.in-Some.ensures.1 refl refl
     (adds_label _ _ c.in-Some-first_label.first c.in_ok-number.number _ _ _ _ c.in_ok-number.ensures.grows
-    record { sound = c.requires.label; is = c.in_ok-number.ensures.named } c.name_count-count.ensures.once c.in-Some.form frames _
+    record { sound = c.requires.label; is = c.in_ok-number.ensures.named } c.knows.ensures.once c.in-Some.form frames _
     (forms_at _ _ _ _ _ _ _ (sym c.in-Some.ensures.1) are) (sym c.first_label.ensures ∙ c.in-Some-first_label.is) (c.in_ok-add.ensures.fresh c.if-branch.true))
 
 pub returns-clause-leads : goal.returns-clause-leads
 returns-clause-leads c = λ frames are.
     lead_none _ _ _
     (refuses_label _ _ c.in-Some-first_label.first c.in_ok-number.number _ _ _ _ c.in_ok-number.ensures.grows
-    record { sound = c.requires.label; is = c.in_ok-number.ensures.named } c.name_count-count.ensures.once c.in-Some.form frames
+    record { sound = c.requires.label; is = c.in_ok-number.ensures.named } c.knows.ensures.once c.in-Some.form frames
     (forms_at _ _ _ _ _ _ _ (sym c.in-Some.ensures.1) are) (sym c.first_label.ensures ∙ c.in-Some-first_label.is) (c.in_ok-add.ensures.again c.if-branch.false))
