@@ -2,3 +2,11 @@ mod Asking
 mod Commands
 mod Concluding
 mod Causing
+mod OneCommand
+mod OneFault
+mod OneDeclarations
+mod OneRefusal
+mod OneDocument
+mod OneStatus
+mod Reasoning
+mod NamedFiles

@@ -5,4 +5,5 @@ pub mod FilesRead
 pub mod Ending
 pub mod Headline
 pub mod Causes
+pub mod Reasons
 pub mod Inner

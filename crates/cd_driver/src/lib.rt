@@ -19,6 +19,7 @@ pub use cd_replies::position::place;
 use std::alloc::Global;
 
 mod answer;
+pub mod laws;
 mod request;
 
 /// Does what the words ask, which are the program's arguments without its name, and answers the

@@ -10,7 +10,7 @@ use crate::verdict::Verdict;
 use crate::verdicts::Verdicts;
 use cd_elements::Elements;
 use cd_graph::Graph;
-use cd_holds::Facts;
+use cd_members::Facts;
 use cd_sets::question::Question;
 use std::alloc::{AllocError, Global};
 

@@ -78,7 +78,7 @@ impl Decider {
         ensures keeps { KeepsKnown self.old self.new }
     {
         // The contract of this call says that the graph is sound, and how it begins.
-        let _count = graph.len();
+        graph.knows();
         match self.parts_of(&branch)? {
             Parts::Missing => Ok(Doing::Worked),
             Parts::Unknown(question) => {
@@ -222,7 +222,7 @@ impl Decider {
             (IsLook (nodes graph.now) self.now (partials choices.old) (partials choices.new)) }
     {
         // The contract of this call says that the graph begins with the built-in nodes.
-        let _count = graph.len();
+        graph.knows();
         let Some(questions) = choices.needs()? else {
             return Ok(None);
         };

@@ -81,7 +81,7 @@ impl World {
         ensures grows { Grows self.old self.new }
     {
         // The contract of this call says that the graph is sound.
-        let _nodes = self.graph.len();
+        self.graph.knows();
         self.graph.extend(batch)
     }
 
@@ -101,7 +101,7 @@ impl World {
         ensures grows { Grows self.old self.new }
     {
         // The contract of this call says that the graph begins with the built-in nodes.
-        let _nodes = self.graph.len();
+        self.graph.knows();
         self.decider.decide(&self.graph, question)
     }
 
@@ -129,7 +129,7 @@ impl World {
         ensures grows { Grows self.old self.new }
     {
         // The contract of this call says that the graph begins with the built-in nodes.
-        let _graph = self.graph();
+        self.graph();
         let question = question(self.decider.allocator(), &[first], &[second])?;
         self.decide(&question)
     }
@@ -148,7 +148,7 @@ impl World {
         ensures closed { IsClosed (graph_of self.now) (family (kept self.now)) }
     {
         // The contract of this call says that the graph begins with the built-in nodes.
-        let _nodes = self.graph.len();
+        self.graph.knows();
         self.decider.verdicts.get(question)
     }
 
@@ -176,7 +176,7 @@ impl World {
         ensures built_in { (more : PlainGraph) × (graph_of self.now ≡ built_ins ++ more) }
     {
         // The contract of this call says that the graph is sound and begins with the built-ins.
-        let _nodes = self.graph.len();
+        self.graph.knows();
         &self.graph
     }
 
@@ -186,7 +186,7 @@ impl World {
         ensures sound { AllOf IsElement (table_of self.now) }
     {
         // The contract of this call says that the table is sound.
-        let _count = self.decider.elements.len();
+        self.decider.elements.knows();
         &self.decider.elements
     }
 }

@@ -1,3 +1,4 @@
 pub mod Attempts
 pub mod Held
+pub mod Facts
 pub mod Inner

@@ -6,7 +6,7 @@ ghost use Rattle.cd_model.specs.Thing.{Thing};
 ghost use Rattle.cd_rules.specs.Within.{IsPairWithin};
 ghost use Rattle.cd_elements.specs.Elements.{table};
 ghost use Rattle.cd_elements.specs.Table.{Names, IsResult, element_at, result_at};
-ghost use Rattle.cd_holds.specs.Facts.{AreRight};
+ghost use Rattle.cd_members.specs.Facts.{AreRight};
 ghost use Rattle.cd_tasks.specs.PlainTask.{plain_task};
 ghost use Rattle.cd_tasks.specs.declared.task.Task.TheVariants.{Arrow};
 ghost use Rattle.cd_members.specs.Attempts.{IsAttempt};
@@ -14,10 +14,10 @@ ghost use Rattle.cd_members.specs.Held.{breaks};
 ghost use Rattle.cd_members.specs.Inner.Holding.{IsPlace};
 ghost use Rattle.cd_members.specs.Inner.Ready.{IsReady};
 
+use crate::Facts;
 use crate::attempt::Attempt;
 use cd_elements::{ElementId, Elements};
 use cd_graph::Graph;
-use cd_holds::Facts;
 use cd_sets::node_id::NodeId;
 use cd_tasks::ArrowTask;
 use std::alloc::AllocError;
@@ -39,7 +39,7 @@ pub(crate) fn attempt_arrow(
     ensures right { AreRight (nodes graph.now) (table elements.now) facts.new }
 {
     // The contract of this call says that each element of the table is one.
-    let _elements = elements.len();
+    elements.knows();
     let from = ids[0];
     let to = ids.get(1).copied();
     match place_of(graph, elements, facts, task.left.as_slice(), from, to)? {

@@ -3,7 +3,7 @@ ghost use Rattle.std.specs.Prelude.{◌≡◌, map, IfOk};
 ghost use Rattle.cd_rules.proofs.FreshLabels.{row_of_a, longest};
 
 use crate::compare::length;
-use cd_records::row::FieldCell;
+use cd_needs::row::FieldCell;
 use cd_syntax::name::Name;
 use std::alloc::{AllocError, Global};
 

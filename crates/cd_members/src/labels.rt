@@ -1,11 +1,11 @@
 //! The labels of the fields of a record that is made for a row.
 ghost use Rattle.std.specs.Prelude.{◌≡◌, ◌++◌, map, IfOk};
-ghost use Rattle.cd_records.specs.RecordTypes.{plain_cell, plain_row};
+ghost use Rattle.cd_needs.specs.RecordTypes.{plain_cell, plain_row};
 ghost use Rattle.cd_members.specs.Inner.RecordFields.{labels, present_fields, fresh_fields};
 ghost use Rattle.cd_members.specs.Inner.RecordFields.{record_fields};
 
 use crate::fresh::{longest, row_of_a};
-use cd_records::row::{FieldCell, Row};
+use cd_needs::row::{FieldCell, Row};
 use cd_sets::question::Question;
 use cd_syntax::name::Name;
 use std::alloc::{AllocError, Global};

@@ -4,7 +4,7 @@ ghost use Rattle.cd_graph.specs.Nodes.{nodes};
 ghost use Rattle.cd_model.specs.Thing.{Thing, IsElement};
 ghost use Rattle.cd_elements.specs.Elements.{table};
 ghost use Rattle.cd_elements.specs.Table.{Names, IsShape, element_at, element_by};
-ghost use Rattle.cd_holds.specs.Facts.{Fact, AreRight};
+ghost use Rattle.cd_members.specs.Facts.{Fact, AreRight};
 
 use cd_elements::{ElementId, Elements, Shape};
 use cd_graph::Graph;
@@ -25,8 +25,8 @@ pub(crate) fn make(
         → AreRight (nodes graph.now) (table elements.new) facts }
 {
     // The contracts of these calls say that the graph is sound, and that each element is one.
-    let _graph = graph.len();
+    graph.knows();
     let id = elements.make(shape)?;
-    let _elements = elements.len();
+    elements.knows();
     Ok(id)
 }

@@ -6,7 +6,7 @@ ghost use Rattle.cd_model.specs.Thing.{Thing};
 ghost use Rattle.cd_rules.specs.Within.{IsXmlWithin};
 ghost use Rattle.cd_elements.specs.Elements.{table};
 ghost use Rattle.cd_elements.specs.Table.{Names, element_at};
-ghost use Rattle.cd_holds.specs.Facts.{AreRight};
+ghost use Rattle.cd_members.specs.Facts.{AreRight};
 ghost use Rattle.cd_tasks.specs.PlainTask.{plain_task};
 ghost use Rattle.cd_tasks.specs.declared.task.Task.TheVariants.{Xml};
 ghost use Rattle.cd_members.specs.Attempts.{IsAttempt};
@@ -14,11 +14,11 @@ ghost use Rattle.cd_members.specs.Held.{xml_in};
 ghost use Rattle.cd_members.specs.Inner.Holding.{IsPlace};
 ghost use Rattle.cd_members.specs.Inner.Ready.{IsReady};
 
+use crate::Facts;
 use crate::attempt::Attempt;
 use crate::making::make;
 use cd_elements::{ElementId, Elements, Shape};
 use cd_graph::Graph;
-use cd_holds::Facts;
 use cd_sets::node_id::NodeId;
 use cd_tasks::XmlTask;
 use std::alloc::AllocError;
@@ -40,7 +40,7 @@ pub(crate) fn attempt_xml(
     ensures grows { (more : List Thing) × (table elements.new ≡ table elements.old ++ more) }
 {
     // The contract of this call says that the graph begins with the built-in nodes.
-    let _built_in = graph.len();
+    graph.knows();
     let (tag, attributes, content) = (ids[0], ids[1], ids[2]);
     let left = task.left.as_slice();
     match place_of(graph, elements, facts, left, tag, attributes, content)? {

@@ -1,1 +1,4 @@
 pub mod RecordType
+pub mod RecordTypes
+pub mod PlainReasons
+pub mod Inner

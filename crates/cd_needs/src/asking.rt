@@ -30,6 +30,6 @@ fn set_of(alloc: Global, ids: &[NodeId]) -> Result<IdSet, AllocError>
         set.insert(*id)?;
     }
     // The contract of this call says that the set rises.
-    let _rising = set.ids();
+    set.knows();
     Ok(set)
 }

@@ -1,97 +1,13 @@
 //! The needs of pairs, XML elements and functions.
 ghost use Rattle.std.specs.Prelude.{◌≡◌, ◌∷◌, ◌++◌, map, IfOk, OnOk};
 ghost use Rattle.cd_rules.specs.Needs.{question, pair_way, xml_way, arrow_way, result_questions};
-ghost use Rattle.cd_rules.specs.Needs.{splits, splits_in_three};
 
 use crate::sets_of::{contents, firsts, one, seconds, with_attributes, with_tags};
-use crate::split::{Split, splits};
-use crate::split_in_three::splits_in_three;
 use cd_graph::built_in::{ATOM, RECORD};
 use cd_sets::id_set::IdSet;
 use cd_sets::node_id::NodeId;
 use cd_sets::question::{Question, Questions};
 use std::alloc::{AllocError, Global};
-
-/// The ways to meet the one need of a clause of pairs, those that are wanted and those that are
-/// refused: each refused one is given to one of the two parts.
-///
-/// # Errors
-///
-/// Want of memory.
-pub fn pair_ways(
-    alloc: Global,
-    wanted: &[(NodeId, NodeId)],
-    refused: &[(NodeId, NodeId)],
-) -> Result<Vec<Questions>, AllocError>
-    ensures { IfOk result (λ need. need.items ≡ map (pair_way wanted.now) (splits refused.now)) }
-{
-    let mut ways = Vec::new(alloc);
-    for split in splits(alloc, refused)?.iter() {
-        let questions = pair_questions(alloc, wanted, split.one(), split.other())?;
-        ways.push(Questions::of(questions))?;
-    }
-    Ok(ways)
-}
-
-/// Those of a clause of XML types: each refused one is given to one of the three parts.
-///
-/// # Errors
-///
-/// Want of memory.
-pub fn xml_ways(
-    alloc: Global,
-    wanted: &[(NodeId, NodeId, NodeId)],
-    refused: &[(NodeId, NodeId, NodeId)],
-) -> Result<Vec<Questions>, AllocError>
-    ensures { IfOk result (λ need.
-        need.items ≡ map (xml_way wanted.now) (splits_in_three refused.now)) }
-{
-    let mut ways = Vec::new(alloc);
-    for split in splits_in_three(alloc, refused)?.iter() {
-        let questions = xml_questions(alloc, wanted, split.first(), split.middle(), split.last())?;
-        ways.push(Questions::of(questions))?;
-    }
-    Ok(ways)
-}
-
-/// The needs of a clause of arrows: one for each refused arrow, with a way for each part of the
-/// wanted ones.
-///
-/// # Errors
-///
-/// Want of memory.
-pub fn arrow_needs(
-    alloc: Global,
-    wanted: &[(NodeId, NodeId)],
-    refused: &[(NodeId, NodeId)],
-) -> Result<Vec<Vec<Questions>>, AllocError>
-    ensures { IfOk result (λ needs.
-        map (λ need. need.items) needs.items
-        ≡ map (λ one. map (arrow_way one) (splits wanted.now)) refused.now) }
-{
-    let splits = splits(alloc, wanted)?;
-    let mut needs = Vec::new(alloc);
-    for one in refused {
-        needs.push(arrow_ways(alloc, *one, splits.as_slice())?)?;
-    }
-    Ok(needs)
-}
-
-// The ways to meet the need of one refused arrow, one for each split of the wanted ones.
-fn arrow_ways(
-    alloc: Global,
-    refused: (NodeId, NodeId),
-    splits: &[Split],
-) -> Result<Vec<Questions>, AllocError>
-    ensures { IfOk result (λ need. need.items ≡ map (arrow_way refused) splits.now) }
-{
-    let mut ways = Vec::new(alloc);
-    for split in splits {
-        let questions = arrow_questions(alloc, refused, split.one(), split.other())?;
-        ways.push(Questions::of(questions))?;
-    }
-    Ok(ways)
-}
 
 /// The questions of the two parts of a pair: `firsts` are the refused pairs that the first part is
 /// outside, and `seconds` those that the second part is outside.

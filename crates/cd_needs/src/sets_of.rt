@@ -15,7 +15,7 @@ pub(crate) fn firsts(alloc: Global, pairs: &[(NodeId, NodeId)]) -> Result<IdSet,
         set.insert(parts.0)?;
     }
     // The contract of this call says that the set rises.
-    let _rising = set.ids();
+    set.knows();
     Ok(set)
 }
 
@@ -28,7 +28,7 @@ pub(crate) fn seconds(alloc: Global, pairs: &[(NodeId, NodeId)]) -> Result<IdSet
         set.insert(parts.1)?;
     }
     // The contract of this call says that the set rises.
-    let _rising = set.ids();
+    set.knows();
     Ok(set)
 }
 
@@ -44,7 +44,7 @@ pub(crate) fn with_tags(
         all.insert(parts.0)?;
     }
     // The contract of this call says that the set rises.
-    let _rising = all.ids();
+    all.knows();
     Ok(all)
 }
 
@@ -60,7 +60,7 @@ pub(crate) fn with_attributes(
         all.insert(parts.1)?;
     }
     // The contract of this call says that the set rises.
-    let _rising = all.ids();
+    all.knows();
     Ok(all)
 }
 
@@ -76,7 +76,7 @@ pub(crate) fn contents(
         set.insert(parts.2)?;
     }
     // The contract of this call says that the set rises.
-    let _rising = set.ids();
+    set.knows();
     Ok(set)
 }
 
@@ -84,10 +84,10 @@ pub(crate) fn contents(
 fn with(mut set: IdSet, id: NodeId) -> Result<IdSet, AllocError>
     ensures { IfOk result (λ all. all ≡ with_id id set) }
 {
-    let _before = set.ids();
+    set.knows();
     set.insert(id)?;
     // The contract of this call says that the set rises.
-    let _rising = set.ids();
+    set.knows();
     Ok(set)
 }
 

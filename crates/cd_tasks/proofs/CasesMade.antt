@@ -9,7 +9,7 @@ use Rattle.cd_rules.specs.Tasks.{Task, RecordTask, AreCases}
 use Rattle.cd_rules.proofs.Answered.{map_of_each}
 use Rattle.cd_rules.proofs.Asking.{each_of_map}
 use Rattle.cd_rules.proofs.Ones.{each_of_all}
-use Rattle.cd_records.specs.PlainReasons.{plain_labels}
+use Rattle.cd_needs.specs.PlainReasons.{plain_labels}
 
 pub two_cases : (task : Task) (cases : List Task) (first second one other : Task) → cases ≡ first ∷ second ∷ []
     → first ≡ one → second ≡ other → AreCases task (one ∷ other ∷ []) → AreCases task cases

@@ -1,2 +1,12 @@
 mod CasesMade
 mod Taken
+mod PartsOfLists
+mod NextWords
+mod Odometers
+mod Skipping
+mod ToldOnce
+mod FullWords
+mod WaysOfWords
+mod RowsOfWords
+mod WaysWithin
+mod RowsWithin

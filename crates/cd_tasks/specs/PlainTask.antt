@@ -1,6 +1,6 @@
 -- The tasks of the code as tasks of the rules.
 use Rattle.cd_needs.specs.RecordType.{record_types}
-use Rattle.cd_records.specs.PlainReasons.{plain_reasons}
+use Rattle.cd_needs.specs.PlainReasons.{plain_reasons}
 use Rattle.cd_rules.specs.Tasks as rules
 use Rattle.cd_tasks.specs.declared.task.Task.{Task}
 use Rattle.cd_tasks.specs.declared.task.Task.TheVariants.{Pair, Xml, Arrow, Record}

@@ -1,20 +1,20 @@
 //! The questions of tasks.
 ghost use Rattle.std.specs.Prelude.{◌≡◌, Some, slice_get, IfOk};
-ghost use Rattle.cd_records.specs.RecordTypes.{plain_row};
+ghost use Rattle.cd_needs.specs.RecordTypes.{plain_row};
 ghost use Rattle.cd_needs.specs.RecordType.{record_types};
-ghost use Rattle.cd_records.specs.PlainReasons.{plain_reasons};
+ghost use Rattle.cd_needs.specs.PlainReasons.{plain_reasons};
 ghost use Rattle.cd_rules.specs.Tasks.{questions_of, row_of_given};
 ghost use Rattle.cd_tasks.specs.PlainTask.{plain_task};
 
 use crate::task::{ArrowTask, PairTask, RecordTask, Task, XmlTask};
 use cd_graph::built_in::{ATOM, RECORD};
+use cd_needs::needed_questions;
 use cd_needs::parts::{
     arrow_questions, question_of_attributes, question_of_contents, question_of_firsts,
     question_of_seconds, question_of_tags,
 };
-use cd_records::needed_questions;
-use cd_records::row::Row;
-use cd_records::split::row;
+use cd_needs::record_rows::row;
+use cd_needs::row::Row;
 use cd_sets::question::Question;
 use std::alloc::{AllocError, Global};
 

@@ -3,7 +3,7 @@ ghost use Rattle.std.specs.Prelude.{◌≡◌, ◌<◌, [], ◌∷◌, length, m
 ghost use Rattle.std.specs.List.{remove};
 ghost use Rattle.cd_model.specs.AllOf.{AllOf};
 ghost use Rattle.cd_needs.specs.RecordType.{record_types};
-ghost use Rattle.cd_records.specs.PlainReasons.{plain_chosen, plain_reasons};
+ghost use Rattle.cd_needs.specs.PlainReasons.{plain_chosen, plain_reasons};
 ghost use Rattle.cd_rules.specs.Tasks as rules;
 ghost use Rattle.cd_rules.specs.Tasks.{AreCases, left_of};
 ghost use Rattle.cd_tasks.specs.LeftWithout.{left_without};
@@ -12,8 +12,8 @@ ghost use Rattle.cd_tasks.specs.PlainTask.{plain_task};
 use crate::lists::{prepended, shared_without};
 use crate::task::{RecordTask, Task};
 use cd_graph::fields::Fields;
-use cd_records::labels::labels_of;
-use cd_records::reasons::Chosen;
+use cd_needs::labels::labels_of;
+use cd_needs::reasons::Chosen;
 use std::alloc::{AllocError, Global};
 use std::rc::Rc;
 

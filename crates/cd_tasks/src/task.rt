@@ -1,11 +1,11 @@
 //! Tasks: what was given to each side, and which members of a clause are given to none.
 ghost use Rattle.std.specs.Prelude.{◌≡◌, ◌++◌};
 ghost use Rattle.cd_needs.specs.RecordType.{record_types};
-ghost use Rattle.cd_records.specs.PlainReasons.{plain_labels};
+ghost use Rattle.cd_needs.specs.PlainReasons.{plain_labels};
 ghost use Rattle.cd_rules.specs.Rows.{labels_of};
 
 use cd_graph::fields::Fields;
-use cd_records::reasons::Chosen;
+use cd_needs::reasons::Chosen;
 use cd_sets::node_id::NodeId;
 use cd_syntax::name::Name;
 use std::rc::Rc;

@@ -11,6 +11,6 @@ returns-in-Some-clause-attempt c = arrow_held c.requires.ready (record { 0 = 0 }
 
 -- the pair breaks no arrow that is left
 pub returns-in-None-clause-attempt : goal.returns-in-None-clause-attempt
-returns-in-None-clause-attempt c = arrow_attempted c.requires.ready (record { 0 = 0 }) c.len-elements.ensures.sound
+returns-in-None-clause-attempt c = arrow_attempted c.requires.ready (record { 0 = 0 }) c.knows.ensures
     (c.copied-to.ensures ∙ looked_up c.args.ids.now 1 c.get.result c.get.ensures.lookup)
     (rw (c.in-None.is, c.as_slice.ensures.value, c.deref.ensures) at c.in_ok-place.ensures.place)

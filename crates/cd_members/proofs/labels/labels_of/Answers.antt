@@ -1,9 +1,9 @@
 use Rattle.std.proofs.Common.{◌≡◌, ◌∙◌, refl, sym, ap, ap₂, ℕ, List, [], ◌∷◌, ◌++◌, map}
 use Rattle.cd_sets.specs.declared.question.Question.{Question}
 use Rattle.cd_syntax.specs.Name.{Name}
-use Rattle.cd_records.specs.RecordTypes.{plain_cell, plain_row}
-use Rattle.cd_records.specs.declared.row.FieldCell.{FieldCell}
-use Rattle.cd_records.specs.declared.row.Row.{Row}
+use Rattle.cd_needs.specs.RecordTypes.{plain_cell, plain_row}
+use Rattle.cd_needs.specs.declared.row.FieldCell.{FieldCell}
+use Rattle.cd_needs.specs.declared.row.Row.{Row}
 use Rattle.cd_rules.proofs.FreshLabels.{longest}
 use Rattle.cd_members.specs.Inner.RecordFields.{labels, present_fields, fresh_fields, record_fields}
 use Rattle.cd_members.proofs.FieldsOnce.{cell_labels, labels_join}

@@ -1,5 +1,5 @@
 use Rattle.std.proofs.Common.{◌≡◌, ◌++◌, map, drop}
-use Rattle.cd_records.specs.RecordTypes.{plain_cell}
+use Rattle.cd_needs.specs.RecordTypes.{plain_cell}
 use Rattle.cd_members.specs.Inner.RecordFields.{labels, present_fields}
 use Rattle.cd_members.proofs.labels.of_cells.Given as goal
 

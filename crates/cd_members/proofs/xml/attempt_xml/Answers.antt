@@ -18,7 +18,7 @@ place_of-requires-clause-content c = names_at c.requires.ready 2 (record { 0 = 0
 
 -- the tag is an atom, and the attributes are a record
 pub make-requires : goal.make-requires
-make-requires c = xml_shaped c.requires.ready (record { 0 = 0 }) c.len-built_in.ensures.built_in.1
+make-requires c = xml_shaped c.requires.ready (record { 0 = 0 }) c.knows.ensures.built_in.1
 
 -- an XML formula that is left holds the XML element
 pub returns-in-Some-clause-attempt : goal.returns-in-Some-clause-attempt

@@ -7,4 +7,4 @@ use Rattle.cd_needs.proofs.asking.set_of.Goals as goal
 pub returns : goal.returns
 returns c =
     let all : take c.loop-id.id-index c.args.ids.now ≡ c.args.ids.now = grind (arith, common_steps) in
-    is_set_of c.loop-id.set c.args.ids.now c.ids-rising.ensures.rising (rw all at c.loop-id.invariant)
+    is_set_of c.loop-id.set c.args.ids.now c.knows.ensures (rw all at c.loop-id.invariant)

@@ -7,5 +7,5 @@ use Rattle.cd_needs.proofs.sets_of.contents.Goals as goal
 pub returns : goal.returns
 returns c =
     let all : take c.loop-parts.parts-index c.args.triples.now ≡ c.args.triples.now = grind (arith, common_steps) in
-    is_set_of c.loop-parts.set (map (λ (parts : NodeId × NodeId × NodeId). parts.2) c.args.triples.now) c.ids-rising.ensures.rising
+    is_set_of c.loop-parts.set (map (λ (parts : NodeId × NodeId × NodeId). parts.2) c.args.triples.now) c.knows.ensures
     (rw all at c.loop-parts.invariant)

@@ -2,4 +2,4 @@ use Rattle.cd_needs.proofs.Asked.{is_with_id}
 use Rattle.cd_needs.proofs.sets_of.with.Goals as goal
 
 pub returns : goal.returns
-returns c = is_with_id c.args.id _ _ c.ids-before.ensures.rising c.ids-rising.ensures.rising c.in_ok-insert.ensures.added
+returns c = is_with_id c.args.id _ _ c.knows.ensures c.knows-2.ensures c.in_ok-insert.ensures.added

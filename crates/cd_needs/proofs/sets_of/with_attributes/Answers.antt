@@ -8,4 +8,4 @@ pub returns : goal.returns
 returns c =
     let all : take c.loop-parts.parts-index c.args.triples.now ≡ c.args.triples.now = grind (arith, common_steps) in
     is_set_of c.loop-parts.all (c.args.set ++ map (λ (parts : NodeId × NodeId × NodeId). parts.1) c.args.triples.now)
-    c.ids-rising.ensures.rising (rw all at c.loop-parts.invariant)
+    c.knows.ensures (rw all at c.loop-parts.invariant)

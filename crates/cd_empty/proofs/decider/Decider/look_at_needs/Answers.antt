@@ -24,7 +24,7 @@ returns-in-Missing c =
 
 pub returns-in-Unknown : goal.returns-in-Unknown
 returns-in-Unknown c =
-    let begins = c.len-count.ensures.built_in in
+    let begins = c.knows.ensures.built_in in
     let long = ap length begins.1 ∙ length-append built_ins begins.0 in
     let count = length (nodes c.args.graph.now) in
     let enough : 14 ≤ count = omega arith in

@@ -8,14 +8,14 @@ use Rattle.cd_tasks.specs.PlainTask.{plain_task}
 use Rattle.cd_empty.specs.Inner.Looking.{AreParts}
 use Rattle.cd_empty.proofs.BranchesTried.{dropped, wanted}
 use Rattle.cd_empty.proofs.decider.Decider.work_at_branch.Goals as goal
-use Rattle.cd_empty.proofs.decider.Decider.work_at_branch.Goals.{After-len-count, In_ok-parts_of}
+use Rattle.cd_empty.proofs.decider.Decider.work_at_branch.Goals.{After-knows, In_ok-parts_of}
 
 -- the branch is a task of nodes
-of_nodes : (c : After-len-count) → IsTaskOfNodes (length (nodes c.args.graph.now)) (plain_task c.args.branch)
+of_nodes : (c : After-knows) → IsTaskOfNodes (length (nodes c.args.graph.now)) (plain_task c.args.branch)
 of_nodes c =
     let frame = c.args.frame.now in
-    let begins = c.len-count.ensures.built_in in
-    (tasks_of_nodes (nodes c.args.graph.now) begins.0 begins.1 c.len-count.ensures.sound frame.question
+    let begins = c.knows.ensures.built_in in
+    (tasks_of_nodes (nodes c.args.graph.now) begins.0 begins.1 c.knows.ensures.sound frame.question
     (option_map plain_clause frame.clause) (plain_task c.args.branch ∷ map plain_task frame.branches) c.requires.work.branches_are).0
 
 -- what is known of its questions
@@ -23,7 +23,7 @@ looked : (c : In_ok-parts_of) → AreParts c.args.self.now (questions_of (plain_
 looked c = c.in_ok-parts_of.ensures
 
 pub try_branch-requires-clause-nodes : goal.try_branch-requires-clause-nodes
-try_branch-requires-clause-nodes c = of_nodes (goal.at.try_branch-requires-clause-nodes c).After-len-count
+try_branch-requires-clause-nodes c = of_nodes (goal.at.try_branch-requires-clause-nodes c).After-knows
 
 pub returns-in-Missing-clause-doing : goal.returns-in-Missing-clause-doing
 returns-in-Missing-clause-doing c =
@@ -36,4 +36,4 @@ returns-in_ok-push-in-Unknown-clause-doing c =
     let at = goal.at.returns-in_ok-push-in-Unknown-clause-doing c in
     let is = subst (AreParts c.args.self.now (questions_of (plain_task c.args.branch))) c.in-Unknown.is (looked at.In_ok-parts_of) in
     wanted (nodes c.args.graph.now) c.args.self.now c.args.frame.now c.args.branch c.push.new.self c.in-Unknown.question
-    c.in_ok-push-in-Unknown.ensures c.requires.fit (of_nodes at.After-len-count).asks is.0 is.1
+    c.in_ok-push-in-Unknown.ensures c.requires.fit (of_nodes at.After-knows).asks is.0 is.1

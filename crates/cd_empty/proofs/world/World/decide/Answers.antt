@@ -15,4 +15,4 @@ returns-clause-exact c =
     let question = c.args.question.now in
     subst (λ (world : Seen). IfOk c.decide.result (λ verdict. IsExact (graph_of world) (table decider) question verdict)) c.self.view_is
     (IfOk-weaker c.decide.result _ _ (λ verdict is. of_kept (IsExact graph (table decider)) (kept decider) question verdict
-    (all_exact graph c.len-nodes.ensures.built_in decider c.decide.ensures.sound) is) c.decide.ensures.settled)
+    (all_exact graph c.knows.ensures.built_in decider c.decide.ensures.sound) is) c.decide.ensures.settled)

@@ -8,5 +8,5 @@ pub invariant_of-self : goal.invariant_of-self
 invariant_of-self c =
     let graph = nodes c.self.inside.graph in
     let grown = nodes c.extend.new.self in
-    sound_extended graph grown c.self.inside.decider c.len-nodes.ensures.sound
+    sound_extended graph grown c.self.inside.decider c.knows.ensures.sound
     (graph_grows graph (plain_list c.args.batch) grown c.extend.result c.extend.ensures.added c.extend.ensures.kept) c.self.invariant

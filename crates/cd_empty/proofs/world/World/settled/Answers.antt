@@ -24,7 +24,7 @@ returns-clause-asks c = subst (λ (world : Seen). AllOf (λ one. AsksNodes (leng
 pub returns-clause-exact : goal.returns-clause-exact
 returns-clause-exact c =
     subst (λ (world : Seen). AllOf (λ one. IsExact (graph_of world) (table_of world) one.0 one.1) (kept world)) c.self.view_is
-    (all_exact (nodes c.self.inside.graph) c.len-nodes.ensures.built_in c.self.inside.decider c.self.invariant)
+    (all_exact (nodes c.self.inside.graph) c.knows.ensures.built_in c.self.inside.decider c.self.invariant)
 
 pub returns-clause-once : goal.returns-clause-once
 returns-clause-once c =

@@ -18,7 +18,7 @@ returns-clause-values c =
     let graph = graph_of c.args.self.now in
     IfOk-weaker c.decide.result _ _
     (λ verdict exact empty. each_value_within graph c.args.first c.args.second _ _ c.in_ok-question.ensures verdict exact empty
-    c.graph-graph.ensures.built_in) c.decide.ensures.exact
+    c.graph.ensures.built_in) c.decide.ensures.exact
 
 -- the question is that of the two nodes
 pub returns-clause-exact : goal.returns-clause-exact

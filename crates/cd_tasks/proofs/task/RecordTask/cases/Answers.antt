@@ -1,7 +1,7 @@
 use Rattle.std.proofs.Common.{◌≡◌, ◌++◌, ◌≤◌, get_or, [], ◌∷◌, ◌∙◌, None, Some, sym, ap, subst, map, length, arith}
 use Rattle.std.specs.List.{remove}
 use Rattle.cd_needs.specs.RecordType.{record_type, record_types}
-use Rattle.cd_records.specs.PlainReasons.{plain_labels, plain_reasons}
+use Rattle.cd_needs.specs.PlainReasons.{plain_labels, plain_reasons}
 use Rattle.cd_rules.specs.Clauses.{Records}
 use Rattle.cd_rules.specs.Rows.{labels_of}
 use Rattle.cd_rules.specs.Tasks.{AreCases, Takes, left_of, record_cases}

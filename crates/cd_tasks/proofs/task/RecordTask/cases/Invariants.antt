@@ -1,6 +1,6 @@
 use Rattle.std.proofs.Common.{◌≡◌, ◌++◌, ◌∷◌, map, drop, None, Some}
 use Rattle.cd_needs.specs.RecordType.{record_type, record_types}
-use Rattle.cd_records.specs.PlainReasons.{plain_labels, plain_reasons}
+use Rattle.cd_needs.specs.PlainReasons.{plain_labels, plain_reasons}
 use Rattle.cd_tasks.specs.PlainTask.{plain_task}
 use Rattle.cd_tasks.proofs.CasesMade.{record_case}
 use Rattle.cd_tasks.proofs.task.RecordTask.cases.Given as goal

@@ -1,0 +1,224 @@
+-- The words and the files decide the status of an answer.
+use Rattle.std.proofs.Common.{◌≡◌, ◌<◌, ◌≤◌, List, Some, length, refl, sym, ap, subst, ◌∙◌, inl, inr, arith}
+use Rattle.std.specs.Prelude.{codes}
+use Rattle.std.specs.Str.{IsUtf8, chars}
+use Rattle.cd_syntax.specs.TypeTree.{Declarations, NoDeclaration}
+use Rattle.cd_model.specs.AllOf.{AllOf}
+use Rattle.cd_model.specs.Thing.{Thing, IsElement}
+use Rattle.cd_model.specs.Written.{Written}
+use Rattle.cd_model.proofs.ApartAtWritten.{not_both}
+use Rattle.cd_replies.specs.Bytes.{Bytes}
+use Rattle.cd_driver.specs.Command.{Command, Sub, SubTypes, Member, files_of}
+use Rattle.cd_replies.specs.Texts.{Against, ReadsAs, Declares, RefusesType, RefusesDeclarations}
+use Rattle.cd_replies.specs.Within.{IsIn, IsOutside, IsWithin}
+use Rattle.cd_replies.specs.Reply.{Reply, refusal}
+use Rattle.cd_replies.specs.Disk.{Disk, Has, HasText, LARGEST, FileRefusal, unread, large, encoding, refused}
+use Rattle.cd_sub.specs.SubAnswer.{SubAnswer, yes, no, first_refused, second_refused}
+use Rattle.cd_sub.specs.SubAnswer.{SubTypesAnswer, file_refused, on_texts}
+use Rattle.cd_driver.specs.Answer.{Answer, AnswerOf, IsKnown, FileIsKnown}
+use Rattle.cd_documents.specs.Reading.{WritesValue}
+use Rattle.cd_member.specs.DocumentTexts.{RefusesDocument, FileWrites, IsValueIn, IsValueOutside}
+use Rattle.cd_member.specs.MemberAnswer as member
+use Rattle.cd_member.specs.MemberAnswer.{FileDeclares, DocumentAnswer, MemberAnswer}
+use Rattle.cd_driver.proofs.OneCommand.{one_command}
+use Rattle.cd_driver.proofs.OneRefusal.{one_type_refusal, one_declarations_refusal, reads_unrefused, declares_unrefused, reads_one, declares_one}
+use Rattle.cd_driver.proofs.OneDocument.{one_document_refusal, writes_unrefused, writes_one, value_not_both}
+
+-- no types are within each other and separated by an element
+not_within : (first second : Written) → IsWithin first second → (element : Thing) → IsElement element → IsIn element first → IsOutside element second → ⊥
+not_within first second within element is inside outside = not_both second element (within element is inside) outside
+
+-- the texts of `sub`, and the declarations that they see, decide the status
+module _ (declared : Declarations) (text1 text2 : Bytes) where
+  apart : {A : Type 0} (a b c d : Written) → ReadsAs declared text1 a → ReadsAs declared text2 b → ReadsAs declared text1 c → ReadsAs declared text2 d
+      → IsWithin a b → (element : Thing) → IsElement element → IsIn element c → IsOutside element d → A
+  apart a b c d a_is b_is c_is d_is within element is inside outside =
+      let first = reads_one declared text1 c a c_is a_is in
+      let second = reads_one declared text2 d b d_is b_is in
+      absurd (not_within a b within element is (subst (IsIn element) first inside) (subst (IsOutside element) second outside))
+
+  sub_one : (r s : Reply) → SubAnswer declared text1 text2 r → SubAnswer declared text1 text2 s → r.status ≡ s.status
+  sub_one _ _ (yes a b a_is b_is within) (yes c d c_is d_is within') = refl
+  sub_one _ _ (yes a b a_is b_is within) (no c d c_is d_is element is inside outside) =
+      apart a b c d a_is b_is c_is d_is within element is inside outside
+  sub_one _ _ (yes a b a_is b_is within) (first_refused against stands) = absurd (reads_unrefused declared text1 a a_is against stands)
+  sub_one _ _ (yes a b a_is b_is within) (second_refused c c_is against stands) = absurd (reads_unrefused declared text2 b b_is against stands)
+  sub_one _ _ (no c d c_is d_is element is inside outside) (yes a b a_is b_is within) =
+      apart a b c d a_is b_is c_is d_is within element is inside outside
+  sub_one _ _ (no a b a_is b_is element is inside outside) (no c d c_is d_is element' is' inside' outside') = refl
+  sub_one _ _ (no a b a_is b_is element is inside outside) (first_refused against stands) = absurd (reads_unrefused declared text1 a a_is against stands)
+  sub_one _ _ (no a b a_is b_is element is inside outside) (second_refused c c_is against stands) = absurd (reads_unrefused declared text2 b b_is against stands)
+  sub_one _ _ (first_refused against stands) (yes a b a_is b_is within) = absurd (reads_unrefused declared text1 a a_is against stands)
+  sub_one _ _ (first_refused against stands) (no a b a_is b_is element is inside outside) = absurd (reads_unrefused declared text1 a a_is against stands)
+  sub_one _ _ (first_refused against stands) (first_refused other stands') = one_type_refusal declared (codes "T1") text1 against other stands stands'
+  sub_one _ _ (first_refused against stands) (second_refused a a_is other stands') = absurd (reads_unrefused declared text1 a a_is against stands)
+  sub_one _ _ (second_refused c c_is against stands) (yes a b a_is b_is within) = absurd (reads_unrefused declared text2 b b_is against stands)
+  sub_one _ _ (second_refused c c_is against stands) (no a b a_is b_is element is inside outside) = absurd (reads_unrefused declared text2 b b_is against stands)
+  sub_one _ _ (second_refused c c_is against stands) (first_refused other stands') = absurd (reads_unrefused declared text1 c c_is other stands')
+  sub_one _ _ (second_refused c c_is against stands) (second_refused a a_is other stands') = one_type_refusal declared (codes "T2") text2 against other stands stands'
+
+-- a file that is known has one content at most
+one_content : (disk : Disk) (file : Bytes) → IsKnown disk file → (a b : Bytes) → Has disk file a → Has disk file b → a ≡ b
+one_content disk file (inl marked) a b first second = absurd (first.read marked)
+one_content disk file (inr told) a b first second =
+    let same = λ (bytes : Bytes) (has : Has disk file bytes). told_bytes told.0 bytes told.1 has in
+    sym (same a first) ∙ same b second
+  where
+    told_bytes : (all bytes : Bytes) → disk.told file ≡ Some all → Has disk file bytes → all ≡ bytes
+    told_bytes all bytes told has = rw told at has.told
+
+-- a known file decides the status of what is said of it, whatever may stand against its text
+module _ (disk : Disk) (file : Bytes) (known : IsKnown disk file) where
+  same_two : (a b : Bytes) → Has disk file a → Has disk file b → a ≡ b
+  same_two = one_content disk file known
+
+  -- a file that has a text, one that is too large, and one that is no UTF-8, are not alike
+  text_or_large : (text bytes : Bytes) → HasText disk file text → Has disk file bytes → LARGEST < length bytes → ⊥
+  text_or_large text bytes has other is =
+      let same = same_two bytes text other has.has in
+      let large : LARGEST < length text = subst (λ bs. LARGEST < length bs) same is in
+      let small = has.size in
+      omega arith
+
+  text_or_not : (text bytes : Bytes) → HasText disk file text → Has disk file bytes → (IsUtf8 bytes → ⊥) → ⊥
+  text_or_not text bytes has other is = is (subst IsUtf8 (same_two text bytes has.has other) has.encoded)
+
+  large_or_not : (a b : Bytes) → Has disk file a → LARGEST < length a → Has disk file b → length b ≤ LARGEST → ⊥
+  large_or_not a b first is second size =
+      let large : LARGEST < length b = subst (λ bs. LARGEST < length bs) (same_two a b first second) is in
+      omega arith
+
+  module _ (refuses : Bytes → Against → Type 0) where
+    file_one : ((text : Bytes) (a b : Against) → refuses text a → refuses text b → (refusal file text a).status ≡ (refusal file text b).status)
+        → (r s : Reply) → FileRefusal refuses disk file r → FileRefusal refuses disk file s → r.status ≡ s.status
+    file_one one _ _ (unread marked) (unread marked') = refl
+    file_one one _ _ (unread marked) (large bytes has is) = absurd (has.read marked)
+    file_one one _ _ (unread marked) (encoding bytes has size is) = absurd (has.read marked)
+    file_one one _ _ (unread marked) (refused text has against stands) = absurd (has.has.read marked)
+    file_one one _ _ (large bytes has is) (unread marked) = absurd (has.read marked)
+    file_one one _ _ (large bytes has is) (large bytes' has' is') = refl
+    file_one one _ _ (large bytes has is) (encoding bytes' has' size is') = absurd (large_or_not bytes bytes' has is has' size)
+    file_one one _ _ (large bytes has is) (refused text has' against stands) = absurd (text_or_large text bytes has' has is)
+    file_one one _ _ (encoding bytes has size is) (unread marked) = absurd (has.read marked)
+    file_one one _ _ (encoding bytes has size is) (large bytes' has' is') = absurd (large_or_not bytes' bytes has' is' has size)
+    file_one one _ _ (encoding bytes has size is) (encoding bytes' has' size' is') = refl
+    file_one one _ _ (encoding bytes has size is) (refused text has' against stands) = absurd (text_or_not text bytes has' has is)
+    file_one one _ _ (refused text has against stands) (unread marked) = absurd (has.has.read marked)
+    file_one one _ _ (refused text has against stands) (large bytes has' is) = absurd (text_or_large text bytes has has' is)
+    file_one one _ _ (refused text has against stands) (encoding bytes has' size is) = absurd (text_or_not text bytes has has' is)
+    file_one one _ _ (refused text has against stands) (refused text' has' against' stands') =
+        let same = same_two text' text has'.has has.has in
+        one text against against' stands (subst (λ t. refuses t against') same stands')
+        ∙ ap (λ t. (refusal file t against').status) (sym same)
+
+    -- a file that is refused has no text against which nothing stands
+    refused_or_not : (reply : Reply) (text : Bytes) → FileRefusal refuses disk file reply → HasText disk file text
+        → ((against : Against) → refuses text against → ⊥) → ⊥
+    refused_or_not _ text (unread marked) has none = has.has.read marked
+    refused_or_not _ text (large bytes other is) has none = text_or_large text bytes has other is
+    refused_or_not _ text (encoding bytes other size is) has none = text_or_not text bytes has other is
+    refused_or_not _ text (refused text' other against stands) has none =
+        none against (subst (λ t. refuses t against) (same_two text' text other.has has.has) stands)
+
+  -- it declares one list
+  one_list : (text text' : Bytes) (declared declared' : Declarations) → HasText disk file text → HasText disk file text'
+      → Declares text declared → Declares text' declared' → declared' ≡ declared
+  one_list text text' declared declared' has has' declares declares' =
+      declares_one text declared' declared (subst (λ t. Declares t declared') (same_two text' text has'.has has.has) declares') declares
+
+  declarations_one : (r s : Reply) → FileRefusal RefusesDeclarations disk file r → FileRefusal RefusesDeclarations disk file s → r.status ≡ s.status
+  declarations_one = file_one RefusesDeclarations (λ text a b first second. one_declarations_refusal file text a b first second)
+
+  undeclared : {A : Type 0} (reply : Reply) (text : Bytes) (declared : Declarations) → FileRefusal RefusesDeclarations disk file reply
+      → HasText disk file text → Declares text declared → A
+  undeclared reply text declared refusal has declares =
+      absurd (refused_or_not RefusesDeclarations reply text refusal has (declares_unrefused text declared declares))
+
+  sub_types_one : (text1 text2 : Bytes) (r s : Reply) → SubTypesAnswer disk file text1 text2 r → SubTypesAnswer disk file text1 text2 s → r.status ≡ s.status
+  sub_types_one text1 text2 _ _ (file_refused r refusal) (file_refused s refusal') = declarations_one r s refusal refusal'
+  sub_types_one text1 text2 _ _ (file_refused r refusal) (on_texts text has declared declares s answers) =
+      undeclared r text declared refusal has declares
+  sub_types_one text1 text2 _ _ (on_texts text has declared declares r answers) (file_refused s refusal) =
+      undeclared s text declared refusal has declares
+  sub_types_one text1 text2 _ _ (on_texts text has declared declares r answers) (on_texts text' has' declared' declares' s answers') =
+      sub_one declared text1 text2 r s answers
+      (subst (λ list. SubAnswer list text1 text2 s) (one_list text text' declared declared' has has' declares declares') answers')
+
+  -- a document stands for one value
+  one_value : (first second : Thing) → FileWrites disk file first → FileWrites disk file second → first ≡ second
+  one_value first second one other =
+      let same = same_two other.text one.text other.has.has one.has.has in
+      writes_one one.text first second one.writes (subst (λ t. WritesValue (chars t) second) same other.writes)
+
+  -- which is in a type or outside, and not both
+  one_answer : {A : Type 0} (type : Written) (first second : Thing) → FileWrites disk file first → FileWrites disk file second
+      → IsValueIn first type → IsValueOutside second type → A
+  one_answer type first second one other inside outside =
+      absurd (value_not_both type first inside
+      (subst (λ v. IsValueOutside v type) (sym (one_value first second one other)) outside))
+
+  unwritten : {A : Type 0} (reply : Reply) (v : Thing) → FileRefusal RefusesDocument disk file reply → FileWrites disk file v → A
+  unwritten reply v refusal writes =
+      absurd (refused_or_not RefusesDocument reply writes.text refusal writes.has (writes_unrefused writes.text v writes.writes))
+
+  document_one : (type : Written) (r s : Reply) → DocumentAnswer disk file type r → DocumentAnswer disk file type s → r.status ≡ s.status
+  document_one type _ _ (member.document_refused r refusal) (member.document_refused s refusal') =
+      file_one RefusesDocument (λ text a b first second. one_document_refusal text file a b first second) r s refusal refusal'
+  document_one type _ _ (member.document_refused r refusal) (member.yes v writes inside) = unwritten r v refusal writes
+  document_one type _ _ (member.document_refused r refusal) (member.no v writes outside) = unwritten r v refusal writes
+  document_one type _ _ (member.yes v writes inside) (member.document_refused s refusal) = unwritten s v refusal writes
+  document_one type _ _ (member.yes v writes inside) (member.yes v' writes' inside') = refl
+  document_one type _ _ (member.yes v writes inside) (member.no v' writes' outside) = one_answer type v v' writes writes' inside outside
+  document_one type _ _ (member.no v writes outside) (member.document_refused s refusal) = unwritten s v refusal writes
+  document_one type _ _ (member.no v writes outside) (member.yes v' writes' inside) = one_answer type v' v writes' writes inside outside
+  document_one type _ _ (member.no v writes outside) (member.no v' writes' outside') = refl
+
+-- the file, the type text and the document decide the status of what `member` answers
+module _ (disk : Disk) (file document text : Bytes) (known : IsKnown disk file) (document_known : IsKnown disk document) where
+  declared_one : (first second : Declarations) → FileDeclares disk file first → FileDeclares disk file second → second ≡ first
+  declared_one first second one other = one_list disk file known one.text other.text first second one.has other.has one.declares other.declares
+
+  unread_type : {A : Type 0} (first second : Declarations) → FileDeclares disk file first → FileDeclares disk file second
+      → (against : Against) → RefusesType first text against → (type : Written) → ReadsAs second text type → A
+  unread_type first second one other against stands type reads =
+      absurd (reads_unrefused first text type (subst (λ list. ReadsAs list text type) (declared_one first second one other) reads) against stands)
+
+  member_one : (r s : Reply) → MemberAnswer disk file document text r → MemberAnswer disk file document text s → r.status ≡ s.status
+  member_one _ _ (member.file_refused r refusal) (member.file_refused s refusal') = declarations_one disk file known r s refusal refusal'
+  member_one _ _ (member.file_refused r refusal) (member.type_refused declared declares against stands) =
+      undeclared disk file known r declares.text declared refusal declares.has declares.declares
+  member_one _ _ (member.file_refused r refusal) (member.on_document declared declares type reads s answers) =
+      undeclared disk file known r declares.text declared refusal declares.has declares.declares
+  member_one _ _ (member.type_refused declared declares against stands) (member.file_refused s refusal) =
+      undeclared disk file known s declares.text declared refusal declares.has declares.declares
+  member_one _ _ (member.type_refused declared declares against stands) (member.type_refused declared' declares' against' stands') =
+      one_type_refusal declared (codes "T") text against against' stands
+      (subst (λ list. RefusesType list text against') (declared_one declared declared' declares declares') stands')
+  member_one _ _ (member.type_refused declared declares against stands) (member.on_document declared' declares' type reads s answers) =
+      unread_type declared declared' declares declares' against stands type reads
+  member_one _ _ (member.on_document declared declares type reads r answers) (member.file_refused s refusal) =
+      undeclared disk file known s declares.text declared refusal declares.has declares.declares
+  member_one _ _ (member.on_document declared declares type reads r answers) (member.type_refused declared' declares' against stands) =
+      unread_type declared' declared declares' declares against stands type reads
+  member_one _ _ (member.on_document declared declares type reads r answers) (member.on_document declared' declares' type' reads' s answers') =
+      let same = reads_one declared text type' type
+      (subst (λ list. ReadsAs list text type') (declared_one declared declared' declares declares') reads') reads in
+      document_one disk document document_known type r s answers
+      (subst (λ type. DocumentAnswer disk document type s) same answers')
+
+-- a command and its files decide it
+command_decides : (disk : Disk) (command : Command) → AllOf (IsKnown disk) (files_of command)
+    → (r s : Reply) → AnswerOf command disk r → AnswerOf command disk s → r.status ≡ s.status
+command_decides disk (Sub text1 text2) known r s answers answers' = sub_one NoDeclaration text1 text2 r s answers answers'
+command_decides disk (SubTypes file text1 text2) known r s answers answers' = sub_types_one disk file known.0 text1 text2 r s answers answers'
+command_decides disk (Member file document text) known r s answers answers' = member_one disk file document text known.0 known.1.0 r s answers answers'
+command_decides disk command known r s is is' = ap (λ reply. reply.status) (is ∙ sym is')
+
+pub one_status : (words : List Bytes) (disk : Disk) → FileIsKnown words disk
+    → (r s : Reply) → Answer words disk r → Answer words disk s → r.status ≡ s.status
+one_status words disk known r s (inl none) (inl none') = ap (λ reply. reply.status) (none.1 ∙ sym none'.1)
+one_status words disk known r s (inl none) (inr given) = absurd (none.0 given.0 given.1)
+one_status words disk known r s (inr given) (inl none) = absurd (none.0 given.0 given.1)
+one_status words disk known r s (inr given) (inr given') =
+    command_decides disk given.0 (known given.0 given.1) r s given.2
+    (subst (λ command. AnswerOf command disk s) (one_command words given.0 given'.0 given.1 given'.1) given'.2)

@@ -1,0 +1,128 @@
+-- The cause of each status is its reason.
+use Rattle.std.proofs.Common.{◌≡◌, List, Some, inl, inr, refl, sym, subst}
+use Rattle.std.specs.Prelude.{codes}
+use Rattle.cd_base.specs.declared.status.Status.{Status}
+use Rattle.cd_base.specs.declared.status.Status.TheVariants.{WriteFault, NoMemory}
+use Rattle.cd_base.specs.Faults.{Rose}
+use Rattle.cd_base.specs.FilesState.{FilesState}
+use Rattle.cd_syntax.specs.declared.tokens.LexError.TheVariants.{Memory}
+use Rattle.cd_syntax.specs.TypeTree.{Declarations, NoDeclaration}
+use Rattle.cd_model.specs.Written.{Written}
+use Rattle.cd_replies.specs.Bytes.{Bytes}
+use Rattle.cd_driver.specs.Command.{Command, Sub, SubTypes, Member, Give, name_of}
+use Rattle.cd_replies.specs.Texts.{Against, Lexical, ReadsAs, RefusesDeclarations}
+use Rattle.cd_replies.specs.Reply.{Reply, refusal, not_built}
+use Rattle.cd_driver.specs.World.{World}
+use Rattle.cd_replies.specs.Disk.{Disk, Met, HasText, unmarked, marked, FileRefusal, unread, large, encoding, refused}
+use Rattle.cd_sub.specs.SubAnswer.{SubAnswer, yes, no, first_refused, second_refused}
+use Rattle.cd_sub.specs.SubAnswer.{SubTypesAnswer, file_refused, on_texts}
+use Rattle.cd_member.specs.DocumentTexts.{RefusesDocument}
+use Rattle.cd_member.specs.MemberAnswer as member
+use Rattle.cd_member.specs.MemberAnswer.{FileDeclares, DocumentAnswer, MemberAnswer}
+use Rattle.cd_driver.specs.Answer.{Answer, AnswerOf}
+use Rattle.cd_driver.specs.Causes.{IsCause, Cause}
+use Rattle.cd_driver.specs.Reasons.{GiveTexts, alone, with_file, StandsAgainst, in_file, in_first, in_second, CommandIsNotBuilt, Reason}
+use Rattle.cd_driver.specs.Reasons.{NamesFile, in_declarations, in_type, in_document}
+
+-- a file that is marked is the latest whose read failed
+read_failed : (before after : FilesState) (disk : Disk) (name : Bytes) → Met before after disk → disk.marked ≡ Some name
+    → Rose before.faults after.faults × (after.last ≡ Some name)
+read_failed before after _ name (unmarked same) is = absurd cc
+read_failed before after _ name (marked other rose last) is = (rose, subst (λ marked. after.last ≡ marked) is last)
+
+module _ (words : List Bytes) (disk : Disk) (before after : World) (met : Met before.files after.files disk) where
+  -- what stands against a text is the reason for what is said of it
+  refused_reason : (origin text : Bytes) (against : Against) → StandsAgainst words disk against → Reason words before after (refusal origin text against).status
+  refused_reason origin text (Lexical Memory) stands = record { disk = disk; met = met; against = _; kind = (_, refl); stands = stands }
+  refused_reason origin text against stands = record { disk = disk; met = met; against = _; kind = (_, refl); stands = stands }
+
+  file_reason : (refuses : Bytes → Against → Type 0) (file : Bytes) → NamesFile words file
+      → ((text : Bytes) → HasText disk file text → (against : Against) → refuses text against → StandsAgainst words disk against)
+      → (reply : Reply) → FileRefusal refuses disk file reply → Reason words before after reply.status
+  file_reason refuses file named stand _ (unread is) =
+      let failed = read_failed before.files after.files disk file met is in
+      record { file = file; named = named; rose = failed.0; last = failed.1 }
+  file_reason refuses file named stand _ (large bytes has is) =
+      record { disk = disk; met = met; file = file; named = named; bytes = bytes; has = has; is = is }
+  file_reason refuses file named stand _ (encoding bytes has size is) =
+      record { disk = disk; met = met; file = file; named = named; bytes = bytes; has = has; is = (size, is) }
+  file_reason refuses file named stand _ (refused text has against stands) = refused_reason file text against (stand text has against stands)
+
+  sub_reason : (declared : Declarations) (text1 text2 : Bytes) → GiveTexts words disk declared text1 text2
+      → (reply : Reply) → SubAnswer declared text1 text2 reply → Reason words before after reply.status
+  sub_reason declared text1 text2 give _ (first_refused against stands) =
+      refused_reason (codes "T1") text1 against (in_first declared text1 text2 give stands)
+  sub_reason declared text1 text2 give _ (second_refused first is1 against stands) =
+      refused_reason (codes "T2") text2 against (in_second declared text1 text2 give first is1 stands)
+  sub_reason declared text1 text2 give _ (yes first second is1 is2 within) = inl (record {
+    first = first;
+    second = second;
+    ask = record { disk = disk; met = met; declared = declared; text1 = text1; text2 = text2; give = give; first_is = is1; second_is = is2 };
+    within = within;
+  })
+  sub_reason declared text1 text2 give _ (no first second is1 is2 element is inside outside) = inl (record {
+    first = first;
+    second = second;
+    ask = record { disk = disk; met = met; declared = declared; text1 = text1; text2 = text2; give = give; first_is = is1; second_is = is2 };
+    element = element;
+    exists = is;
+    inside = inside;
+    outside = outside;
+  })
+
+  sub_types_reason : (file text1 text2 : Bytes) → Give words (SubTypes file text1 text2) → (reply : Reply) → SubTypesAnswer disk file text1 text2 reply → Reason words before after reply.status
+  sub_types_reason file text1 text2 give _ (file_refused reply refusal) =
+      file_reason RefusesDeclarations file (record { command = SubTypes file text1 text2; give = give; is = inl refl })
+      (λ text has against stands. in_file file text1 text2 give text has stands) reply refusal
+  sub_types_reason file text1 text2 give _ (on_texts text has declared declares reply answers) =
+      sub_reason declared text1 text2 (with_file file text1 text2 give text has declared declares) reply answers
+
+  document_reason : (file document text : Bytes) → Give words (Member file document text) → (declared : Declarations) → FileDeclares disk file declared
+      → (type : Written) → ReadsAs declared text type → (reply : Reply) → DocumentAnswer disk document type reply → Reason words before after reply.status
+  document_reason file document text give declared declares type reads _ (member.document_refused reply refusal) =
+      file_reason RefusesDocument document (record { command = Member file document text; give = give; is = inr (inl refl) })
+      (λ notation has against stands. in_document file document text give declared declares type reads notation has stands) reply refusal
+  document_reason file document text give declared declares type reads _ (member.yes v writes inside) = inr (record {
+    v = v;
+    type = type;
+    ask = record { disk = disk; met = met; file = file; document = document; text = text; give = give; declared = declared; declares = declares; type_is = reads; writes = writes };
+    inside = inside;
+  })
+  document_reason file document text give declared declares type reads _ (member.no v writes outside) = inr (record {
+    v = v;
+    type = type;
+    ask = record { disk = disk; met = met; file = file; document = document; text = text; give = give; declared = declared; declares = declares; type_is = reads; writes = writes };
+    outside = outside;
+  })
+
+  member_reason : (file document text : Bytes) → Give words (Member file document text) → (reply : Reply) → MemberAnswer disk file document text reply
+      → Reason words before after reply.status
+  member_reason file document text give _ (member.file_refused reply refusal) =
+      file_reason RefusesDeclarations file (record { command = Member file document text; give = give; is = inl refl })
+      (λ declarations has against stands. in_declarations file document text give declarations has stands) reply refusal
+  member_reason file document text give _ (member.type_refused declared declares against stands) =
+      refused_reason (codes "T") text against (in_type file document text give declared declares stands)
+  member_reason file document text give _ (member.on_document declared declares type reads reply answers) =
+      document_reason file document text give declared declares type reads reply answers
+
+  unbuilt_reason : (command : Command) → Give words command → CommandIsNotBuilt command → (reply : Reply) → reply ≡ not_built (name_of command)
+      → Reason words before after reply.status
+  unbuilt_reason command give unbuilt reply is = subst (λ reply. Reason words before after reply.status) (sym is) (record { command = command; give = give; unbuilt = unbuilt })
+
+  command_reason : (command : Command) → Give words command → (reply : Reply) → AnswerOf command disk reply → Reason words before after reply.status
+  command_reason (Sub text1 text2) give reply answers = sub_reason NoDeclaration text1 text2 (alone text1 text2 give) reply answers
+  command_reason (SubTypes file text1 text2) give reply answers = sub_types_reason file text1 text2 give reply answers
+  command_reason (Member file document text) give reply answers = member_reason file document text give reply answers
+  command_reason command give reply is = unbuilt_reason command give tt reply is
+
+  answer_reason : (reply : Reply) → Answer words disk reply → Reason words before after reply.status
+  answer_reason reply (inl none) = subst (λ reply. Reason words before after reply.status) (sym none.1) none.0
+  answer_reason reply (inr given) = command_reason given.0 given.1 reply given.2
+
+by_answer : (words : List Bytes) (before after : World) (is : Status) → IsCause words before after is → Reason words before after is
+by_answer words before after is cause = subst (Reason words before after) cause.4 (answer_reason words cause.0 before after cause.1 cause.2 cause.3)
+
+pub causes : (words : List Bytes) (before after : World) (is : Status) → Cause words before after is → Reason words before after is
+causes words before after WriteFault cause = cause
+causes words before after NoMemory cause = cause
+causes words before after status cause = by_answer words before after status cause

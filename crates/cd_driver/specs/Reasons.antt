@@ -1,0 +1,191 @@
+-- What each status says of the words, the files and the sinks.
+use Rattle.std.specs.Prelude.{◌≡◌, ◌⊎◌, ◌<◌, ◌≤◌, List, Some, length}
+use Rattle.std.specs.Str.{IsUtf8}
+use Rattle.cd_base.specs.declared.status.Status.{Status}
+use Rattle.cd_base.specs.declared.status.Status.TheVariants as status
+use Rattle.cd_base.specs.Faults.{Rose}
+use Rattle.cd_syntax.specs.declared.tokens.LexError.{LexError}
+use Rattle.cd_model.specs.Thing.{Thing, IsElement}
+use Rattle.cd_syntax.specs.TypeTree.{Declarations, NoDeclaration}
+use Rattle.cd_model.specs.Written.{Written}
+use Rattle.cd_resolve.specs.Faults.{Fault}
+use Rattle.cd_replies.specs.Bytes.{Bytes}
+use Rattle.cd_model.specs.AllOf.{AnyOf}
+use Rattle.cd_driver.specs.Command.{Command, Sub, SubTypes, Member, Give, HaveNoForm, files_of}
+use Rattle.cd_replies.specs.Texts.{Against, Lexical, Syntax, TooDeep, Naming, ReadsAs, Declares}
+use Rattle.cd_replies.specs.Texts.{RefusesType, RefusesDeclarations}
+use Rattle.cd_replies.specs.Within.{IsIn, IsOutside, IsWithin}
+use Rattle.cd_driver.specs.World.{World}
+use Rattle.cd_replies.specs.Disk.{Disk, Met, Has, HasText, LARGEST}
+use Rattle.cd_driver.specs.Causes.{SinkFailed}
+use Rattle.cd_member.specs.DocumentTexts.{RefusesDocument, FileWrites, IsValueIn, IsValueOutside}
+use Rattle.cd_member.specs.MemberAnswer.{FileDeclares}
+
+-- the words ask about two type texts, which see these declarations: none, or those of a file
+pub data GiveTexts (words : List Bytes) (disk : Disk) : Declarations → (text1 text2 : Bytes)
+    → Type 0 where
+  alone : (text1 text2 : Bytes) → Give words (Sub text1 text2)
+      → GiveTexts words disk NoDeclaration text1 text2
+  with_file : (file text1 text2 : Bytes) → Give words (SubTypes file text1 text2) → (text : Bytes)
+      → HasText disk file text
+      → (declared : Declarations) → Declares text declared
+      → GiveTexts words disk declared text1 text2
+
+-- the words ask whether the first type is within the second, for the files that were met
+pub record Ask (words : List Bytes) (before after : World) (first second : Written) : Type 0 where
+  pub disk : Disk
+  pub met : Met before.files after.files disk
+  pub declared : Declarations
+  pub text1 : Bytes
+  pub text2 : Bytes
+  pub give : GiveTexts words disk declared text1 text2
+  pub first_is : ReadsAs declared text1 first
+  pub second_is : ReadsAs declared text2 second
+
+-- each element of the first type is in the second
+pub record IsYes (words : List Bytes) (before after : World) : Type 0 where
+  pub first : Written
+  pub second : Written
+  pub ask : Ask words before after first second
+  pub within : IsWithin first second
+
+-- an element of the first type is outside the second
+pub record IsNo (words : List Bytes) (before after : World) : Type 0 where
+  pub first : Written
+  pub second : Written
+  pub ask : Ask words before after first second
+  pub element : Thing
+  pub exists : IsElement element
+  pub inside : IsIn element first
+  pub outside : IsOutside element second
+
+-- the words ask whether the value is in the type, for the files that were met
+pub record AskMember (words : List Bytes) (before after : World) (v : Thing)
+    (type : Written) : Type 0 where
+  pub disk : Disk
+  pub met : Met before.files after.files disk
+  pub file : Bytes
+  pub document : Bytes
+  pub text : Bytes
+  pub give : Give words (Member file document text)
+  pub declared : Declarations
+  pub declares : FileDeclares disk file declared
+  pub type_is : ReadsAs declared text type
+  pub writes : FileWrites disk document v
+
+-- the value of the document is in the type
+pub record IsMember (words : List Bytes) (before after : World) : Type 0 where
+  pub v : Thing
+  pub type : Written
+  pub ask : AskMember words before after v type
+  pub inside : IsValueIn v type
+
+-- the value of the document is outside the type
+pub record IsNoMember (words : List Bytes) (before after : World) : Type 0 where
+  pub v : Thing
+  pub type : Written
+  pub ask : AskMember words before after v type
+  pub outside : IsValueOutside v type
+
+-- this stands against a text that the words give
+pub data StandsAgainst (words : List Bytes) (disk : Disk) (against : Against) : Type 0 where
+  in_file : (file text1 text2 : Bytes) → Give words (SubTypes file text1 text2) → (text : Bytes)
+      → HasText disk file text
+      → RefusesDeclarations text against → StandsAgainst words disk against
+  in_first : (declared : Declarations) (text1 text2 : Bytes)
+      → GiveTexts words disk declared text1 text2
+      → RefusesType declared text1 against → StandsAgainst words disk against
+  in_second : (declared : Declarations) (text1 text2 : Bytes)
+      → GiveTexts words disk declared text1 text2
+      → (first : Written) → ReadsAs declared text1 first → RefusesType declared text2 against
+      → StandsAgainst words disk against
+  in_declarations : (file document text : Bytes) → Give words (Member file document text)
+      → (declarations : Bytes) → HasText disk file declarations
+      → RefusesDeclarations declarations against → StandsAgainst words disk against
+  in_type : (file document text : Bytes) → Give words (Member file document text)
+      → (declared : Declarations) → FileDeclares disk file declared
+      → RefusesType declared text against → StandsAgainst words disk against
+  in_document : (file document text : Bytes) → Give words (Member file document text)
+      → (declared : Declarations) → FileDeclares disk file declared → (type : Written)
+      → ReadsAs declared text type → (notation : Bytes) → HasText disk document notation
+      → RefusesDocument notation against → StandsAgainst words disk against
+
+-- and it is of this kind
+pub record IsRefused (words : List Bytes) (before after : World)
+    (is : Against → Type 0) : Type 0 where
+  pub disk : Disk
+  pub met : Met before.files after.files disk
+  pub against : Against
+  pub kind : is against
+  pub stands : StandsAgainst words disk against
+
+abbrev pub IsLexical : Against → Type 0
+IsLexical against = (fault : LexError) × (against ≡ Lexical fault)
+
+abbrev pub IsSyntax : Against → Type 0
+IsSyntax against = (place : _) × (against ≡ Syntax place)
+
+abbrev pub IsTooDeep : Against → Type 0
+IsTooDeep against = (place : _) × (against ≡ TooDeep place)
+
+abbrev pub IsNaming : Against → Type 0
+IsNaming against = (fault : Fault) × (against ≡ Naming fault)
+
+-- the words' command reads a file of this name
+pub record NamesFile (words : List Bytes) (file : Bytes) : Type 0 where
+  pub command : Command
+  pub give : Give words command
+  pub is : AnyOf (λ name. name ≡ file) (files_of command)
+
+-- a read of a file that the words name failed
+pub record IsUnread (words : List Bytes) (before after : World) : Type 0 where
+  pub file : Bytes
+  pub named : NamesFile words file
+  pub rose : Rose before.files.faults after.files.faults
+  pub last : after.files.last ≡ Some file
+
+-- the bytes of a file that the words name are of this kind
+pub record FileIs (words : List Bytes) (before after : World) (kind : Bytes → Type 0) : Type 0 where
+  pub disk : Disk
+  pub met : Met before.files after.files disk
+  pub file : Bytes
+  pub named : NamesFile words file
+  pub bytes : Bytes
+  pub has : Has disk file bytes
+  pub is : kind bytes
+
+abbrev pub IsLarge : Bytes → Type 0
+IsLarge bytes = LARGEST < length bytes
+
+abbrev pub IsNotText : Bytes → Type 0
+IsNotText bytes = (length bytes ≤ LARGEST) × (IsUtf8 bytes → ⊥)
+
+-- the commands that aren't built
+abbrev pub CommandIsNotBuilt : Command → Type 0
+CommandIsNotBuilt (Sub text1 text2) = ⊥
+CommandIsNotBuilt (SubTypes file text1 text2) = ⊥
+CommandIsNotBuilt (Member file document type) = ⊥
+CommandIsNotBuilt command = Unit {0}
+
+-- the words give a command that isn't built
+pub record IsNotBuilt (words : List Bytes) : Type 0 where
+  pub command : Command
+  pub give : Give words command
+  pub unbuilt : CommandIsNotBuilt command
+
+-- the reason for each status; want of memory is free, and the others don't come
+abbrev pub Reason : List Bytes → World → World → Status → Type 0
+Reason words before after status.Done = IsYes words before after ⊎ IsMember words before after
+Reason words before after status.No = IsNo words before after ⊎ IsNoMember words before after
+Reason words before after status.Usage = HaveNoForm words
+Reason words before after status.ReadFault = IsUnread words before after
+Reason words before after status.WriteFault = SinkFailed words before after
+Reason words before after status.NoMemory = Unit {0}
+Reason words before after status.TooLarge = FileIs words before after IsLarge
+Reason words before after status.NotUtf8 = FileIs words before after IsNotText
+Reason words before after status.Lexical = IsRefused words before after IsLexical
+Reason words before after status.Syntax = IsRefused words before after IsSyntax
+Reason words before after status.TooDeep = IsRefused words before after IsTooDeep
+Reason words before after status.Naming = IsRefused words before after IsNaming
+Reason words before after status.NotBuilt = IsNotBuilt words
+Reason words before after other = ⊥

@@ -1,0 +1,40 @@
+//! Laws of the top call's definitions. Each is the contract of a function that does nothing.
+ghost use Rattle.std.specs.Prelude.{◌≡◌, List};
+ghost use Rattle.cd_base.specs.FilesState.{FilesState};
+ghost use Rattle.cd_base.specs.declared.status.Status.{Status};
+ghost use Rattle.cd_replies.specs.Bytes.{Bytes};
+ghost use Rattle.cd_replies.specs.Disk.{Disk};
+ghost use Rattle.cd_replies.specs.File.{ReadsThere, ReadsAmong};
+ghost use Rattle.cd_replies.specs.Reply.{Reply};
+ghost use Rattle.cd_driver.specs.Answer.{Answer, FileIsKnown};
+ghost use Rattle.cd_driver.specs.Command.{Command, SubTypes, Give, files_of};
+ghost use Rattle.cd_driver.specs.World.{World};
+ghost use Rattle.cd_driver.specs.FilesRead.{ReadsFilesOf, NamesNoFile};
+ghost use Rattle.cd_driver.specs.Causes.{Cause};
+ghost use Rattle.cd_driver.specs.Reasons.{Reason};
+
+/// Of what is built so far: the words and the files decide the status of an answer, where each file
+/// that the words' command reads can't be read, or is told. So each status comes exactly where its rule
+/// holds, want of memory and faults of writing aside.
+pub fn status_is_decided()
+    ensures { (words : List Bytes) (disk : Disk) → FileIsKnown words disk → (first second : Reply)
+        → Answer words disk first → Answer words disk second → first.status ≡ second.status }
+{}
+
+/// What each status says of the words, the files and the sinks.
+pub fn causes()
+    ensures { (words : List Bytes) (before after : World) (status : Status)
+        → Cause words before after status → Reason words before after status }
+{}
+
+/// Where the words' command reads files, what is known of files stays as it was, or the count of
+/// faults rose and the last fault came at one of these; where it reads none, it stays as it was.
+pub fn files_are_named()
+    ensures read { (words : List Bytes) (old new : FilesState) → ReadsFilesOf words old new
+        → (file text1 text2 : Bytes) → Give words (SubTypes file text1 text2)
+        → ReadsThere old new file }
+    ensures among { (words : List Bytes) (old new : FilesState) → ReadsFilesOf words old new
+        → (command : Command) → Give words command → ReadsAmong old new (files_of command) }
+    ensures unread { (words : List Bytes) (old new : FilesState) → ReadsFilesOf words old new
+        → NamesNoFile words → new ≡ old }
+{}

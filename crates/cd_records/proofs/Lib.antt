@@ -1,3 +1,0 @@
-pub mod LabelsOfTypes
-pub mod LeftOfLists
-pub mod LettersOfTests

@@ -1,3 +1,0 @@
-pub mod RecordTypes
-pub mod PlainReasons
-pub mod Inner

@@ -1,0 +1,25 @@
+-- What an odometer has told, and what it has not.
+use Rattle.std.specs.Prelude.{ℕ, suc, List, Option, Some, None}
+use Rattle.cd_tasks.specs.Assignments.{Word, all_words}
+use Rattle.cd_tasks.specs.Inner.AfterWords.{after, later}
+use Rattle.cd_tasks.specs.declared.odometer.Next.{Next}
+use Rattle.cd_tasks.specs.declared.odometer.Next.TheVariants.{First, Below, Later}
+use Rattle.cd_tasks.specs.declared.odometer.Odometer.{Odometer}
+
+abbrev pub words_left : Next → (last members : ℕ) → Word → List Word
+words_left First last members word = all_words (suc last) members
+words_left Below last members word = after last members word
+words_left Later last members word = later last members word
+
+abbrev pub word_told : Next → Word → Option Word
+word_told First word = None
+word_told Below word = Some word
+word_told Later word = Some word
+
+-- the words that are still to be told
+abbrev pub rest_of : Odometer → List Word
+rest_of words = words_left words.next words.last words.members words.word.items
+
+-- the word that was told last
+abbrev pub told_of : Odometer → Option Word
+told_of words = word_told words.next words.word.items

@@ -1,5 +1,0 @@
-use Rattle.cd_walks.proofs.WaysOfWords.{ways_are}
-use Rattle.cd_walks.proofs.laws.full_words_are_ways.Goals as goal
-
-pub returns : goal.returns
-returns c = ways_are

@@ -1,5 +1,0 @@
-use Rattle.cd_walks.proofs.WaysWithin.{way_within}
-use Rattle.cd_walks.proofs.laws.partial_is_within.Goals as goal
-
-pub returns : goal.returns
-returns c = way_within

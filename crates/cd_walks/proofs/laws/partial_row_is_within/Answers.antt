@@ -1,5 +1,0 @@
-use Rattle.cd_walks.proofs.RowsWithin.{row_within}
-use Rattle.cd_walks.proofs.laws.partial_row_is_within.Goals as goal
-
-pub returns : goal.returns
-returns c = row_within

@@ -1,5 +1,0 @@
-pub mod Assignments
-pub mod Inner
-pub mod RowWalks
-pub mod Walks
-pub mod Within
