@@ -19,6 +19,7 @@ use Rattle.cd_model.specs.Written.{WrittenType, Written, Names, kind_of, type_of
 use Rattle.cd_model.specs.Written as written
 use Rattle.cd_model.proofs.BothWays.{itself, turned, through, both_agree, one_agrees}
 use Rattle.cd_model.proofs.FormulasAlike.{FormulasStand, formulas_alike, of_its_head}
+use Rattle.cd_model.proofs.Simplified.{IsUnion, IsMeet, union_holds, meet_holds}
 use Rattle.cd_model.proofs.Sorts.{elements, values}
 use Rattle.cd_model.proofs.ValuesAlike.{elements_by, values_by}
 
@@ -39,7 +40,8 @@ abbrev pub Knowing : Type 1
 Knowing = ℕ → Formula → Scope → Name → Type 0
 
 -- A formula is that of a form, where formulas mean heads and are known for names, and these nodes are those of the form's
--- parts. It leads through so many names, one after another, at most
+-- parts. That of a union or a meet has each of its members once, but for those that change nothing. It leads through so
+-- many names, one after another, at most
 mutual
   pub data IsFormOf (Means : Meaning) (Known : Knowing) (Stands : Standing NodeId WrittenType)
       : ℕ → Formula → Scope → Kind → Type 0 where
@@ -50,11 +52,12 @@ mutual
         → IsFormOf Means Known Stands most formula.Nothing scope kind
     by_name : (most : ℕ) (is : Formula) (scope : Scope) (name : BuiltinName)
         → FormulasStand Stands is (built_in type_named name) → IsFormOf Means Known Stands most is scope (type.Builtin name)
-    union : (most : ℕ) (all : Formulas) (scope : Scope) (trees : Trees) → AreFormsOf Means Known Stands most all scope trees
-        → IsFormOf Means Known Stands most (formula.Or all) scope (type.Union trees)
-    meet : (most : ℕ) (is : Formula) (all : Formulas) (scope : Scope) (first : Tree) (signs : Signs)
-        → IsFormOf Means Known Stands most is scope (kind_of first) → AreSigned Means Known Stands most all scope signs
-        → IsFormOf Means Known Stands most (formula.And (AFormula is all)) scope (type.Meet first signs)
+    union : (most : ℕ) (is : Formula) (all : Formulas) (scope : Scope) (trees : Trees)
+        → AreFormsOf Means Known Stands most all scope trees
+        → IsUnion is all → IsFormOf Means Known Stands most is scope (type.Union trees)
+    meet : (most : ℕ) (is one : Formula) (all : Formulas) (scope : Scope) (first : Tree) (signs : Signs)
+        → IsFormOf Means Known Stands most one scope (kind_of first) → AreSigned Means Known Stands most all scope signs
+        → IsMeet is (AFormula one all) → IsFormOf Means Known Stands most is scope (type.Meet first signs)
     under_where : (most : ℕ) (is : Formula) (scope : Scope) (one : Tree) (declarations : Declarations)
         → IsFormOf Means Known Stands most is (declarations ∷ scope) (kind_of one)
         → IsFormOf Means Known Stands most is scope (type.Where one declarations)
@@ -121,14 +124,22 @@ module _ (Means : Meaning) (Known : Knowing) (Stands : Standing NodeId WrittenTy
         (turned (at_form second (name_holds second count) scope kind form answer))
     forms_alike _ _ _ _ (by_name most is scope name stand) count fits answer =
         formulas_alike Stands first second alike is (built_in type_named name) stand answer
-    forms_alike _ _ _ _ (union most all scope trees are) count fits true = some_alike most all scope trees are count fits true
-    forms_alike _ _ _ _ (union most all scope trees are) count fits false = each_alike most all scope trees are count fits false
-    forms_alike _ _ _ _ (meet most is all scope one signs form are) count fits true = both_agree
-        (through (forms_alike most is scope (kind_of one) form count fits true) (at_tree second (name_holds second count) scope one true))
-        (all_signed most all scope signs are count fits)
-    forms_alike _ _ _ _ (meet most is all scope one signs form are) count fits false = one_agrees
-        (through (forms_alike most is scope (kind_of one) form count fits false) (at_tree second (name_holds second count) scope one false))
-        (one_signed most all scope signs are count fits)
+    forms_alike _ _ _ _ (union most is all scope trees are simplified) count fits true =
+        through (union_holds (at_formula first) is all simplified true)
+        (some_alike most all scope trees are count fits true)
+    forms_alike _ _ _ _ (union most is all scope trees are simplified) count fits false =
+        through (union_holds (at_formula first) is all simplified false)
+        (each_alike most all scope trees are count fits false)
+    forms_alike _ _ _ _ (meet most is one all scope first_tree signs form are simplified) count fits true =
+        through (meet_holds (at_formula first) is (AFormula one all) simplified true) (both_agree
+        (through (forms_alike most one scope (kind_of first_tree) form count fits true)
+        (at_tree second (name_holds second count) scope first_tree true))
+        (all_signed most all scope signs are count fits))
+    forms_alike _ _ _ _ (meet most is one all scope first_tree signs form are simplified) count fits false =
+        through (meet_holds (at_formula first) is (AFormula one all) simplified false) (one_agrees
+        (through (forms_alike most one scope (kind_of first_tree) form count fits false)
+        (at_tree second (name_holds second count) scope first_tree false))
+        (one_signed most all scope signs are count fits))
     forms_alike _ _ _ _ (under_where most is scope one declarations form) count fits answer =
         through (forms_alike most is (declarations ∷ scope) (kind_of one) form count fits answer)
         (at_tree second (name_holds second count) (declarations ∷ scope) one answer)
