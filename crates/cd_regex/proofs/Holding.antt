@@ -1,17 +1,17 @@
 -- The states of an expression hold the sequences that fit it.
-use Rattle.std.proofs.Common.{◌≡◌, ℕ, ◌+◌, ◌-◌, ◌<◌, ◌≤◌, List, [], ◌∷◌, ◌++◌, length, map, sym, ap, subst, ◌∙◌, ◌↔◌, Bool, arith}
+use Rattle.std.proofs.Common.{◌≡◌, ℕ, ◌+◌, ◌-◌, ◌<◌, ◌≤◌, List, [], ◌∷◌, ◌++◌, length, sym, ap, subst, ◌∙◌, ◌↔◌, Bool, arith}
 use Rattle.std.proofs.lemmas.List.{length-map}
 use Rattle.cd_sets.specs.declared.node_id.NodeId.{NodeId}
 use Rattle.cd_model.specs.Interfaces.{admits}
 use Rattle.cd_model.specs.Types.{no_closure, closure_maps}
 use Rattle.cd_model.specs.Formula.{nodes}
 use Rattle.cd_model.specs.AllOf.{AllOf}
-use Rattle.cd_model.specs.Formula.{Graph, Formula, IsFormula}
+use Rattle.cd_model.specs.Formula.{Graph, IsFormula}
 use Rattle.cd_model.specs.BuiltIns.{node}
 use Rattle.cd_model.specs.Types.{Items, NoSequence, Listed, are_in}
 use Rattle.cd_model.specs.Membership.{Answers}
 use Rattle.cd_regex.specs.Regular.{Regular, AsksBelow, fits}
-use Rattle.cd_regex.specs.Automaton.{Next, finish, start, states, all_states, state_formula}
+use Rattle.cd_regex.specs.Automaton.{Next, finish, start, states, all_states, state_formula, sequence_formulas}
 use Rattle.cd_regex.specs.Sequences.{HoldsSequences, items_of, value_items_of}
 use Rattle.cd_regex.proofs.Ways.{same, through}
 use Rattle.cd_regex.proofs.Accepting.{accepts, ArePlaced, length-states}
@@ -21,10 +21,6 @@ use Rattle.cd_regex.proofs.StatesInGraph.{HasStates, thing_accepted}
 use Rattle.cd_regex.proofs.SoundStates.{IsEdge, IsState, sound_all_states, sound_formulas}
 use Rattle.cd_regex.proofs.StatesInRow.{nth, state_at, row_is_placed, nth_also, formula_of_state}
 use Rattle.cd_regex.specs.declared.next.Edge.{Edge}
-
--- the formulas of the states
-abbrev pub batch_of : Regular → ℕ → List Formula
-batch_of is first = map state_formula (all_states is first)
 
 -- the number of a state
 abbrev IsNumber : ℕ → ℕ → NodeId → Type 0
@@ -46,7 +42,7 @@ module _ (is : Regular) (first : ℕ) (asks : AsksBelow first is) where
 
   -- a graph with their formulas
   abbrev within : Graph → Graph → Graph
-  within before after = before ++ batch_of is first ++ after
+  within before after = before ++ sequence_formulas first is ++ after
 
   all_are_sound : AllOf (IsState first past) all
   all_are_sound = sound_all_states first past is asks (omega (arith, length-states is first finish))
@@ -75,13 +71,13 @@ module _ (is : Regular) (first : ℕ) (asks : AsksBelow first is) where
   first_is : IsNumber first past (node first)
   first_is = (omega arith, omega arith)
 
-  formulas_are_sound : AllOf (IsFormula (first + length (batch_of is first))) (batch_of is first)
+  formulas_are_sound : AllOf (IsFormula (first + length (sequence_formulas first is))) (sequence_formulas first is)
   formulas_are_sound =
-      let many : past ≡ first + length (batch_of is first) = ap (λ (count : ℕ). first + count) (sym (length-map all state_formula)) in
-      subst (λ (nodes : ℕ). AllOf (IsFormula nodes) (batch_of is first)) many
+      let many : past ≡ first + length (sequence_formulas first is) = ap (λ (count : ℕ). first + count) (sym (length-map all state_formula)) in
+      subst (λ (nodes : ℕ). AllOf (IsFormula nodes) (sequence_formulas first is)) many
       (sound_formulas first past all (omega arith) all_are_sound)
 
-  pub batch_holds : HoldsSequences first is (batch_of is first)
+  pub batch_holds : HoldsSequences first is (sequence_formulas first is)
   batch_holds = record {
     sound = formulas_are_sound;
     some = omega arith;

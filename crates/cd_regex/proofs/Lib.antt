@@ -1,6 +1,4 @@
 mod SoFar
-mod RenamedLists
-pub mod Renaming
 pub mod Ways
 pub mod Languages
 mod Accepting
@@ -9,4 +7,4 @@ mod StateForms
 mod StatesInGraph
 mod SoundStates
 mod StatesInRow
-mod Holding
+pub mod Holding

@@ -112,3 +112,7 @@ end_formulas false = []
 
 abbrev pub state_formula : Next → Formula
 state_formula next = Or (formulas_of (map edge_formula next.edges ++ end_formulas next.ends))
+
+-- the formulas of all states, from the node of this number on
+abbrev pub sequence_formulas : ℕ → Regular → List Formula
+sequence_formulas first is = map state_formula (all_states is first)

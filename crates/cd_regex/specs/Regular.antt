@@ -1,7 +1,5 @@
 -- Regular expressions over nodes as plain data, and which sequences fit them.
 use Rattle.std.specs.Prelude.{ℕ, ◌+◌, ◌<◌, List, [], ◌∷◌}
-use Rattle.std.specs.List.{slice_get}
-use Rattle.std.specs.Option.{unwrap_or}
 use Rattle.cd_sets.specs.declared.node_id.NodeId.{NodeId}
 use Rattle.cd_model.specs.Language.{Language, none, nothing, item, either, followed, star, plus}
 use Rattle.cd_model.specs.Language.{optional}
@@ -77,22 +75,3 @@ abbrev mutual
   pub items_in_all : Regulars → ℕ
   items_in_all NoRegular = 0
   items_in_all (ARegular first rest) = items_in first + items_in_all rest
-
--- with another node for each item's node
-abbrev mutual
-  pub renamed : (NodeId → NodeId) → Regular → Regular
-  renamed name Nothing = Nothing
-  renamed name (Item id) = Item (name id)
-  renamed name (Seq all) = Seq (all_renamed name all)
-  renamed name (Alt all) = Alt (all_renamed name all)
-  renamed name (Star is) = Star (renamed name is)
-  renamed name (Plus is) = Plus (renamed name is)
-  renamed name (Opt is) = Opt (renamed name is)
-
-  pub all_renamed : (NodeId → NodeId) → Regulars → Regulars
-  all_renamed name NoRegular = NoRegular
-  all_renamed name (ARegular first rest) = ARegular (renamed name first) (all_renamed name rest)
-
--- the node at the place that a number names; a number that names none stays
-abbrev pub node_at : List NodeId → NodeId → NodeId
-node_at nodes place = unwrap_or (slice_get nodes place.0) place

@@ -1,28 +1,32 @@
 //! The nodes that hold the sequences of an expression.
 ghost use Rattle.std.specs.Prelude.{◌≡◌, ◌+◌, ◌<◌, ◌^◌, map, IfOk};
-ghost use Rattle.cd_graph.specs.PlainFormula.{plain_list};
-ghost use Rattle.cd_regex.specs.Regular.{items_in, AsksBelow};
+ghost use Rattle.cd_graph.specs.PlainFormula.{plain as plain_formula};
+ghost use Rattle.cd_regex.specs.Regular.{items_in};
 ghost use Rattle.cd_regex.specs.PlainRegular.{plain};
-ghost use Rattle.cd_regex.specs.Sequences.{HoldsSequences};
-ghost use Rattle.cd_regex.specs.Automaton.{start, all_states, state_formula};
+ghost use Rattle.cd_regex.specs.Automaton.{start, sequence_formulas};
 
 use crate::count::fits;
 use crate::heads::{add_heads, is_nullable};
 use crate::next::Next;
 use crate::regular::Reg;
 use crate::states::add_states;
-use cd_graph::Formulas;
+use cd_graph::Formula;
 use std::alloc::{AllocError, Global};
 
-/// The formulas of nodes that are to stand in a graph from this number on. The first of them holds
-/// just the sequences whose items fit the expression.
+/// The formulas of the states of an expression, which are to stand in a graph from this number on:
+/// where the expression asks for nodes before that alone, the first of them holds exactly the
+/// sequences whose items fit it (`states_hold_sequences`).
 ///
 /// # Errors
 ///
 /// Want of memory, also where the number of the last node would be no word.
-pub fn sequence_nodes(alloc: Global, first: usize, regular: &Reg) -> Result<Formulas, AllocError>
-    requires asks { AsksBelow first (plain regular.now) }
-    ensures { IfOk result (λ batch. HoldsSequences first (plain regular.now) (plain_list batch)) }
+pub fn sequence_nodes(
+    alloc: Global,
+    first: usize,
+    regular: &Reg,
+) -> Result<Vec<Formula>, AllocError>
+    ensures { IfOk result (λ batch.
+        map plain_formula batch.items ≡ sequence_formulas first (plain regular.now)) }
 {
     // No graph is so long.
     if !fits(first, regular) {
@@ -32,15 +36,19 @@ pub fn sequence_nodes(alloc: Global, first: usize, regular: &Reg) -> Result<Form
 }
 
 // The formulas of all states.
-fn formulas_of_states(alloc: Global, first: usize, regular: &Reg) -> Result<Formulas, AllocError>
+fn formulas_of_states(
+    alloc: Global,
+    first: usize,
+    regular: &Reg,
+) -> Result<Vec<Formula>, AllocError>
     requires { first + items_in (plain regular.now) < 2 ^ 64 }
     ensures { IfOk result (λ batch.
-        plain_list batch ≡ map state_formula (all_states (plain regular.now) first)) }
+        map plain_formula batch.items ≡ sequence_formulas first (plain regular.now)) }
 {
     let mut batch = Vec::new(alloc);
     batch.push(start_of(alloc, first, regular)?.formula(alloc)?)?;
     add_states(alloc, regular, first, &Next::finish(alloc), &mut batch)?;
-    Ok(Formulas::of(batch)?)
+    Ok(batch)
 }
 
 // What may come next in the state to start in.

@@ -6,25 +6,17 @@ ghost use Rattle.cd_regex.specs.PlainRegular.{plain, plain_all};
 
 use crate::regular::Reg;
 
-impl Reg {
-    /// How many items stand in the expression, where the number is a word.
-    pub fn items_in(&self) -> Option<usize>
-        ensures { SomeIff result (items_in (plain self.now) < 2 ^ 64) (items_in (plain self.now)) }
-    {
-        count(self)
-    }
-}
-
 /// Whether the numbers of all states are words, where they are numbered after this number.
 pub(crate) fn fits(first: usize, regular: &Reg) -> bool
     ensures { OnTrue result (first + items_in (plain regular.now) < 2 ^ 64) }
 {
-    let Some(count) = regular.items_in() else {
+    let Some(count) = count(regular) else {
         return false;
     };
     first.checked_add(count).is_some()
 }
 
+// How many items stand in an expression.
 #[cycle(count)]
 fn count(is: &Reg) -> Option<usize>
     ensures { SomeIff result (items_in (plain is.now) < 2 ^ 64) (items_in (plain is.now)) }

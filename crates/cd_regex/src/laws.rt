@@ -1,21 +1,19 @@
 //! Laws of regular expressions. Each is the contract of a function that does nothing.
-ghost use Rattle.std.specs.Prelude.{◌≡◌, ℕ, ◌<◌, true, false, List, length};
-ghost use Rattle.cd_sets.specs.declared.node_id.NodeId.{NodeId as AnId};
-ghost use Rattle.cd_model.specs.AllOf.{AllOf};
+ghost use Rattle.std.specs.Prelude.{ℕ, true, false};
 ghost use Rattle.cd_model.specs.BuiltIns.{built_ins};
 ghost use Rattle.cd_model.specs.Examples.{nil};
 ghost use Rattle.cd_model.specs.Types.{are_in};
 ghost use Rattle.cd_regex.specs.Regular.{Regular, Nothing, Seq, Alt, Star, Opt, NoRegular, fits};
-ghost use Rattle.cd_regex.specs.Regular.{items_in, AsksBelow, node_at, renamed};
-ghost use Rattle.cd_regex.specs.Sequences.{items_of};
+ghost use Rattle.cd_regex.specs.Regular.{AsksBelow};
+ghost use Rattle.cd_regex.specs.Automaton.{sequence_formulas};
+ghost use Rattle.cd_regex.specs.Sequences.{items_of, HoldsSequences};
 ghost use Rattle.cd_regex.specs.Examples as example;
 
-/// An expression with other nodes has as many items, and asks for nodes below a bound where each of
-/// these is.
-pub fn renaming_keeps()
-    ensures items { (name : AnId → AnId) (is : Regular) → items_in (renamed name is) ≡ items_in is }
-    ensures asks { (bound : ℕ) (nodes : List AnId) (is : Regular) → AllOf (λ id. id.0 < bound) nodes
-        → AsksBelow (length nodes) is → AsksBelow bound (renamed (node_at nodes) is) }
+/// Where an expression asks for nodes below a number alone, the formulas of its states hold its
+/// sequences from that number on.
+pub fn states_hold_sequences()
+    ensures { (first : ℕ) (is : Regular) → AsksBelow first is
+        → HoldsSequences first is (sequence_formulas first is) }
 {}
 
 /// Whether some sequences fit some expressions: each answer has a short reason.

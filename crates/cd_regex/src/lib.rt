@@ -8,7 +8,6 @@ pub mod laws;
 mod make;
 mod next;
 pub mod regular;
-mod rename;
 mod states;
 
 pub use automaton::sequence_nodes;
