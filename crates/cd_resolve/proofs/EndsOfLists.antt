@@ -1,12 +1,7 @@
 -- All ways from a number end where they end from each number that it leads to.
 use Rattle.std.proofs.Common.{ℕ, zero, suc, ◌+◌, ◌≤◌, List, [], ◌∷◌, ◌++◌, arith}
-use Rattle.cd_resolve.specs.Order.{AllOf, row, IsShort, Ends}
-
--- what follows from a fact of a number holds of each, if the fact does
-pub each_so : (Fact Other : ℕ → Type 0) (numbers : List ℕ) → ((number : ℕ) → Fact number → Other number) → AllOf Fact numbers
-    → AllOf Other numbers
-each_so Fact Other [] so each = tt
-each_so Fact Other (number ∷ rest) so each = (so number each.0, each_so Fact Other rest so each.1)
+use Rattle.cd_resolve.specs.Inner.Order.{AllOf, row, IsShort, Ends}
+use Rattle.cd_resolve.proofs.Lists.{each_weaker}
 
 -- what holds of each of two lists holds of one after the other
 pub each_of_both : (Fact : ℕ → Type 0) (first second : List ℕ) → AllOf Fact first → AllOf Fact second
@@ -20,7 +15,7 @@ module _ (links : List (List ℕ)) where
   short_for_more : (most more number : ℕ) → most ≤ more → IsShort links most number → IsShort links more number
   short_for_more zero more number fits short = elim short [ ]
   short_for_more (suc most) zero number fits short = absurd (omega arith)
-  short_for_more (suc most) (suc more) number fits short = each_so (IsShort links most) (IsShort links more)
+  short_for_more (suc most) (suc more) number fits short = each_weaker (IsShort links most) (IsShort links more)
       (row links number) (λ next. short_for_more most more next (omega arith)) short
 
   -- where the ways from each of some numbers end, none is longer than some number
@@ -34,7 +29,7 @@ module _ (links : List (List ℕ)) where
         one.0 + all.0,
         (
           short_for_more one.0 (one.0 + all.0) number (omega arith) one.1,
-          each_so (IsShort links all.0) (IsShort links (one.0 + all.0)) rest
+          each_weaker (IsShort links all.0) (IsShort links (one.0 + all.0)) rest
               (λ next. short_for_more all.0 (one.0 + all.0) next (omega arith)) all.1,
         ),
       )

@@ -1,133 +1,195 @@
--- All ways end from a place of a tree, if they end from the names that it leads to.
-use Rattle.std.proofs.Common.{◌≡◌, ℕ, ◌+◌, Bool, true, List, [], ◌∷◌, map, length, Option, Some, None, sym, subst}
+-- All ways end from a node of a tree, if they end from the names that it leads to.
+use Rattle.std.proofs.Common.{◌≡◌, ℕ, ◌+◌, ◌<◌, ◌≤◌, true, false, List, [], ◌∷◌, map, Option, Some, None, sym, subst, arith}
+use Rattle.std.specs.List.{slice_get}
 use Rattle.cd_sets.specs.declared.node_id.NodeId.{NodeId}
 use Rattle.cd_syntax.specs.Name.{Name}
+use Rattle.cd_syntax.specs.declared.builtin.BuiltinName.{BuiltinName}
+use Rattle.cd_syntax.specs.declared.builtin.BuiltinName.TheVariants as builtin
 use Rattle.cd_syntax.specs.TypeTree as type
 use Rattle.cd_syntax.specs.TypeTree.{Tree, tree, Kind, Trees, NoTree, ATree, Signs, NoSign, ASign}
-use Rattle.cd_model.specs.Formula.{Formula}
+use Rattle.cd_model.specs.AllOf as model
+use Rattle.cd_model.specs.BuiltIns.{EMPTY, ANY, NIL, node, node_named}
+use Rattle.cd_model.specs.Formula.{Formula, Pair, Xml, Arrow}
 use Rattle.cd_model.specs.Guarded.{IsOneOf, IsSigned}
 use Rattle.cd_model.specs.Scope.{Scope}
 use Rattle.cd_model.specs.Written.{kind_of}
 use Rattle.cd_model.proofs.Places.{AreClosed}
-use Rattle.cd_resolve.specs.Order.{AllOf, Ends}
-use Rattle.cd_shapes.specs.declared.place.Place.{Place}
-use Rattle.cd_shapes.specs.declared.place.Place.TheVariants as place
-use Rattle.cd_shapes.specs.Frames.{Frames, scope_of, place_of}
-use Rattle.cd_shapes.specs.Leaves.{integers, characters}
-use Rattle.cd_shapes.specs.Shape.{Shape, Leaf, Pair, Xml, Arrow, And, Or, Sequence}
-use Rattle.cd_shapes.specs.Shaped.{Tables, IsAt, HasLeaf, ShapedText, Shaped, ShapedKind, ShapedEach, ShapedSigns}
-use Rattle.cd_shapes.specs.Reading.{AreMet}
-use Rattle.cd_resolve.specs.Inner.Links.{numbers_at, numbers_of, numbers_under, links}
+use Rattle.cd_resolve.specs.Inner.Equation.{Equation, Equations, Is, And, Or}
+use Rattle.cd_resolve.specs.Inner.Equates.{IsAt, HasLeaf, EquatesText, HasUnion, HasMeet, Equates, EquatesKind, EquatesEach, EquatesSigns, AllEquated}
+use Rattle.cd_resolve.specs.Inner.Frames.{Frames, scope_of, node_under}
+use Rattle.cd_resolve.specs.Inner.Leaves.{integers, characters}
+use Rattle.cd_resolve.specs.Inner.Links.{number_at, numbers_of, numbers_under, links}
+use Rattle.cd_resolve.specs.Inner.Members.{Sign, union_of, meet_of}
+use Rattle.cd_resolve.specs.Inner.Order.{AllOf, Ends}
 use Rattle.cd_resolve.proofs.EndsOfLists.{each_of_both, ends_by_row}
-use Rattle.cd_resolve.proofs.LinksRows.{row_of_shape}
+use Rattle.cd_resolve.proofs.LinksRows.{number_is, row_of_equation}
+use Rattle.cd_resolve.proofs.MembersKept.{union_keeps, meet_keeps}
 
-module _ (tables : Tables) where
-  -- all ways from a place end
-  abbrev pub EndsAt : Place → Type 0
-  EndsAt at = AllOf (Ends (links tables)) (numbers_at (length tables.roots) at)
+-- the built-in nodes are the first ones
+named_below : (name : BuiltinName) → (node_named name).0 < 14
+named_below builtin.Empty = omega arith
+named_below builtin.Any = omega arith
+named_below builtin.Int = omega arith
+named_below builtin.Char = omega arith
+named_below builtin.Byte = omega arith
+named_below builtin.Atom = omega arith
+named_below builtin.Bool = omega arith
+named_below builtin.String = omega arith
+named_below builtin.Arrow = omega arith
+named_below builtin.Pair = omega arith
+named_below builtin.Record = omega arith
+named_below builtin.AnyXml = omega arith
+named_below builtin.Data = omega arith
 
-  -- and from each of some
-  abbrev pub EndAtAll : List Place → Type 0
-  EndAtAll places = AllOf (Ends (links tables)) (numbers_of (length tables.roots) places)
+module _ (first : ℕ) (equations : Equations) where
+  -- all ways from a node end
+  abbrev pub EndsAt : NodeId → Type 0
+  EndsAt id = AllOf (Ends (links first equations)) (number_at first id)
 
-  -- none leads on from a node
-  at_node : (at : Place) (id : NodeId) → at ≡ place.Node id → EndsAt at
-  at_node at id is = subst EndsAt (sym is) tt
+  -- none leads on from an older node
+  pub older_ends : (id : NodeId) → id.0 < first → EndsAt id
+  older_ends id older = number_is first (Ends (links first equations)) id (λ number same. absurd (omega arith))
 
-  -- they end from a shape, if they end from what it stands over
-  at_shape : (at : Place) (shape : Shape) → IsAt tables.shapes at shape
-      → AllOf (Ends (links tables)) (numbers_under (length tables.roots) shape) → EndsAt at
-  at_shape at shape is each = subst EndsAt (sym is.there) (
-    ends_by_row (links tables) (length tables.roots + is.number)
-        (subst (AllOf (Ends (links tables))) (sym (row_of_shape tables is.number shape is.is)) each),
-    tt,
-  )
+  -- and so from the node of a number, if they end from the number
+  pub node_of_number : (number : ℕ) → Ends (links first equations) number → EndsAt (node (first + number))
+  node_of_number number ends = number_is first (Ends (links first equations)) (node (first + number))
+      (λ other same. let is : number ≡ other = omega arith in subst (Ends (links first equations)) is ends)
 
-  -- a leaf, if there is one
-  at_leaf : (formula : Option Formula) (at : Place) → HasLeaf tables.shapes formula at → EndsAt at
-  at_leaf None at is = at_node at _ is
-  at_leaf (Some formula) at is = at_shape at (Leaf formula) is tt
+  -- they end from a number, if they end from what its equation stands over
+  pub number_ends : (number : ℕ) (equation : Equation) → slice_get equations number ≡ Some (Some equation)
+      → AllOf (Ends (links first equations)) (numbers_under first (Some equation)) → Ends (links first equations) number
+  number_ends number equation at each = ends_by_row (links first equations) number
+      (subst (AllOf (Ends (links first equations))) (sym (row_of_equation first equations number equation at)) each)
 
-  -- a text
-  at_text : (text : List ℕ) (at : Place) → ShapedText tables.shapes text at → EndsAt at
-  at_text [] at is = at_node at _ is
-  at_text (c ∷ text) at is = at_shape at (Pair is.0 is.1) is.2 tt
+  pub at_equation : (id : NodeId) (equation : Equation) → IsAt first equations id equation
+      → AllOf (Ends (links first equations)) (numbers_under first (Some equation)) → EndsAt id
+  at_equation id equation is each = subst EndsAt (sym is.there)
+      (node_of_number is.number (number_ends is.number equation is.is each))
 
-module _ (names : List (Name × NodeId)) (base : Scope) (lists : List Frames) (tables : Tables) where
-  -- all ways end from the names that stand in such places
-  abbrev pub EndsAtNames : (Scope → Kind → Type 0) → Type 0
-  EndsAtNames Stands = (frames : Frames) (name : Name) → AreMet lists frames
-      → Stands (scope_of base frames) (type.Named name)
-      → EndsAt tables (place_of names frames name)
+  -- the numbers of nodes
+  nodes_end : (ids : List NodeId) → model.AllOf EndsAt ids → AllOf (Ends (links first equations)) (numbers_of first ids)
+  nodes_end [] each = tt
+  nodes_end (id ∷ ids) each = each_of_both (Ends (links first equations)) (number_at first id) (numbers_of first ids)
+      each.0 (nodes_end ids each.1)
 
-  module _ (Stands : Scope → Kind → Type 0) (closed : AreClosed Stands) (named : EndsAtNames Stands) where
-    mutual
-      -- and so from each tree that stands in them
-      pub tree_ends : (frames : Frames) (is : Tree) (at : Place) → AreMet lists frames
-          → Shaped names lists tables.shapes frames is at
-          → Stands (scope_of base frames) (kind_of is) → EndsAt tables at
-      tree_ends frames (tree span kind) at met shaped stands = kind_ends frames kind at met shaped stands
+  signed_end : (signs : List Sign) → model.AllOf (λ sign. EndsAt sign.1) signs
+      → AllOf (Ends (links first equations)) (numbers_of first (map (λ sign. sign.1) signs))
+  signed_end [] each = tt
+  signed_end (sign ∷ signs) each = each_of_both (Ends (links first equations)) (number_at first sign.1)
+      (numbers_of first (map (λ sign. sign.1) signs)) each.0 (signed_end signs each.1)
 
-      kind_ends : (frames : Frames) (kind : Kind) (at : Place) → AreMet lists frames
-          → ShapedKind names lists tables.shapes frames kind at → Stands (scope_of base frames) kind → EndsAt tables at
-      kind_ends frames (type.Builtin name) at met shaped stands = at_node tables at _ shaped
-      kind_ends frames (type.Ints low high) at met shaped stands = at_leaf tables (integers low high) at shaped
-      kind_ends frames (type.Chars low high) at met shaped stands = at_leaf tables (characters low high) at shaped
-      kind_ends frames (type.Atom name) at met shaped stands = at_shape tables at _ shaped tt
-      kind_ends frames (type.Text text) at met shaped stands = at_text tables text at shaped
-      kind_ends frames (type.Tuple NoTree) at met shaped stands = at_node tables at _ shaped
-      kind_ends frames (type.Tuple (ATree first NoTree)) at met shaped stands = at_node tables at _ shaped
-      kind_ends frames (type.Tuple (ATree first (ATree next rest))) at met shaped stands =
-          at_shape tables at (Pair shaped.0 shaped.1) shaped.2 tt
-      kind_ends frames (type.Arrows NoTree) at met shaped stands = at_node tables at _ shaped
-      kind_ends frames (type.Arrows (ATree first NoTree)) at met shaped stands = at_node tables at _ shaped
-      kind_ends frames (type.Arrows (ATree first (ATree next rest))) at met shaped stands =
-          at_shape tables at (Arrow shaped.0 shaped.1) shaped.2 tt
-      kind_ends frames (type.Union trees) at met shaped stands = at_shape tables at (Or shaped.0) shaped.1
-          (trees_end frames trees shaped.0 met shaped.2
-          (λ is among. closed.in_union (scope_of base frames) trees is among stands))
-      kind_ends frames (type.Meet first signs) at met shaped stands =
-          at_shape tables at (And ((true, shaped.0) ∷ shaped.1)) shaped.2
-          (each_of_both (Ends (links tables)) (numbers_at (length tables.roots) shaped.0)
-          (numbers_of (length tables.roots) (map (λ sign. sign.1) shaped.1))
-          (tree_ends frames first shaped.0 met shaped.3 (closed.in_first (scope_of base frames) first signs stands))
-          (signs_end frames signs shaped.1 met shaped.4
-          (λ is among. closed.in_signed (scope_of base frames) first is signs among stands)))
-      kind_ends frames (type.Sequence is) at met shaped stands =
-          at_shape tables at (Sequence shaped.0 shaped.1) shaped.2 tt
-      kind_ends frames (type.Record fields more) at met shaped stands = at_shape tables at _ shaped.1 tt
-      kind_ends frames (type.Xml tag attributes content) at met shaped stands =
-          at_shape tables at (Xml shaped.0 shaped.1 shaped.2) shaped.3 tt
-      kind_ends frames (type.Named name) at met shaped stands =
-          subst (EndsAt tables) (sym shaped) (named frames name met stands)
-      kind_ends frames (type.Where is declarations) at met shaped stands =
-          tree_ends (record { declarations = declarations; first = shaped.0 } ∷ frames) is at (shaped.1, met) shaped.2
-          (closed.under_where (scope_of base frames) is declarations stands)
-      kind_ends frames (type.Variable name) at met shaped stands = at_node tables at _ shaped
-      kind_ends frames (type.Default name constant) at met shaped stands = at_node tables at _ shaped
+  module _ (built_in : 14 ≤ first) where
+    at_older : (id other : NodeId) → id ≡ other → other.0 < 14 → EndsAt id
+    at_older id other is older = subst EndsAt (sym is) (older_ends other (omega arith))
 
-      -- each of some trees
-      trees_end : (frames : Frames) (trees : Trees) (places : List Place) → AreMet lists frames
-          → ShapedEach names lists tables.shapes frames trees places
-          → ((is : Tree) → IsOneOf is trees → Stands (scope_of base frames) (kind_of is)) → EndAtAll tables places
-      trees_end frames NoTree [] met shaped stand = tt
-      trees_end frames NoTree (at ∷ places) met shaped stand = elim shaped [ ]
-      trees_end frames (ATree first rest) [] met shaped stand = elim shaped [ ]
-      trees_end frames (ATree first rest) (at ∷ places) met shaped stand =
-          each_of_both (Ends (links tables)) (numbers_at (length tables.roots) at) (numbers_of (length tables.roots) places)
-          (tree_ends frames first at met shaped.0 (stand first (IsOneOf.first first rest)))
-          (trees_end frames rest places met shaped.1 (λ is among. stand is (IsOneOf.later is first rest among)))
+    -- a leaf, if there is one
+    at_leaf : (formula : Option Formula) (id : NodeId) → HasLeaf first equations formula id → EndsAt id
+    at_leaf None id is = at_older id EMPTY is (omega arith)
+    at_leaf (Some formula) id is = at_equation id (Is formula) is tt
 
-      -- each tree after a sign
-      signs_end : (frames : Frames) (signs : Signs) (signed : List (Bool × Place)) → AreMet lists frames
-          → ShapedSigns names lists tables.shapes frames signs signed
-          → ((is : Tree) → IsSigned is signs → Stands (scope_of base frames) (kind_of is))
-          → EndAtAll tables (map (λ sign. sign.1) signed)
-      signs_end frames NoSign [] met shaped stand = tt
-      signs_end frames NoSign (sign ∷ signed) met shaped stand = elim shaped [ ]
-      signs_end frames (ASign kept first rest) [] met shaped stand = elim shaped [ ]
-      signs_end frames (ASign kept first rest) (sign ∷ signed) met shaped stand =
-          each_of_both (Ends (links tables)) (numbers_at (length tables.roots) sign.1)
-          (numbers_of (length tables.roots) (map (λ sign. sign.1) signed))
-          (tree_ends frames first sign.1 met shaped.1 (stand first (IsSigned.first kept first rest)))
-          (signs_end frames rest signed met shaped.2 (λ is among. stand is (IsSigned.later kept is first rest among)))
+    -- a text
+    at_text : (text : List ℕ) (id : NodeId) → EquatesText first equations text id → EndsAt id
+    at_text [] id is = at_older id NIL is (omega arith)
+    at_text (c ∷ text) id is = at_equation id (Is (Pair is.0 is.1)) is.2 tt
+
+    -- a union and a meet, whatever members are left
+    at_union : (id : NodeId) (ids : List NodeId) → HasUnion first equations id ids → model.AllOf EndsAt ids → EndsAt id
+    at_union id [] is each = at_older id EMPTY is (omega arith)
+    at_union id (one ∷ []) is each = subst EndsAt (sym is) each.0
+    at_union id (one ∷ other ∷ rest) is each =
+        at_equation id (Or (one ∷ other ∷ rest)) is (nodes_end (one ∷ other ∷ rest) each)
+
+    at_meet : (id : NodeId) (signs : List Sign) → HasMeet first equations id signs
+        → model.AllOf (λ sign. EndsAt sign.1) signs → EndsAt id
+    at_meet id [] is each = at_older id ANY is (omega arith)
+    at_meet id ((true, one) ∷ []) is each = subst EndsAt (sym is) each.0
+    at_meet id ((false, one) ∷ []) is each = at_equation id (And ((false, one) ∷ [])) is
+        (signed_end ((false, one) ∷ []) each)
+    at_meet id ((true, one) ∷ other ∷ rest) is each = at_equation id (And ((true, one) ∷ other ∷ rest)) is
+        (signed_end ((true, one) ∷ other ∷ rest) each)
+    at_meet id ((false, one) ∷ other ∷ rest) is each = at_equation id (And ((false, one) ∷ other ∷ rest)) is
+        (signed_end ((false, one) ∷ other ∷ rest) each)
+
+    module _ (names : List (Name × NodeId)) (base : Scope) where
+      -- all ways end from the names that stand in such places
+      abbrev pub EndsAtNames : (Scope → Kind → Type 0) → Type 0
+      EndsAtNames Stands = (frames : Frames) (name : Name) → AllEquated first equations names frames
+          → Stands (scope_of base frames) (type.Named name)
+          → EndsAt (node_under names frames name)
+
+      module _ (Stands : Scope → Kind → Type 0) (closed : AreClosed Stands) (named : EndsAtNames Stands) where
+        mutual
+          -- and so from each tree that stands in them
+          pub tree_ends : (frames : Frames) (is : Tree) (id : NodeId) → AllEquated first equations names frames
+              → Equates first equations names frames is id
+              → Stands (scope_of base frames) (kind_of is) → EndsAt id
+          tree_ends frames (tree span kind) id lists equated stands = kind_ends frames kind id lists equated stands
+
+          pub kind_ends : (frames : Frames) (kind : Kind) (id : NodeId) → AllEquated first equations names frames
+              → EquatesKind first equations names frames kind id → Stands (scope_of base frames) kind → EndsAt id
+          kind_ends frames (type.Builtin name) id lists equated stands =
+              at_older id (node_named name) equated (named_below name)
+          kind_ends frames (type.Ints low high) id lists equated stands = at_leaf (integers low high) id equated
+          kind_ends frames (type.Chars low high) id lists equated stands = at_leaf (characters low high) id equated
+          kind_ends frames (type.Atom name) id lists equated stands = at_equation id _ equated tt
+          kind_ends frames (type.Text text) id lists equated stands = at_text text id equated
+          kind_ends frames (type.Tuple NoTree) id lists equated stands = at_older id EMPTY equated (omega arith)
+          kind_ends frames (type.Tuple (ATree one NoTree)) id lists equated stands =
+              at_older id EMPTY equated (omega arith)
+          kind_ends frames (type.Tuple (ATree one (ATree next rest))) id lists equated stands =
+              at_equation id (Is (Pair equated.0 equated.1)) equated.2 tt
+          kind_ends frames (type.Arrows NoTree) id lists equated stands = at_older id EMPTY equated (omega arith)
+          kind_ends frames (type.Arrows (ATree one NoTree)) id lists equated stands =
+              at_older id EMPTY equated (omega arith)
+          kind_ends frames (type.Arrows (ATree one (ATree next rest))) id lists equated stands =
+              at_equation id (Is (Arrow equated.0 equated.1)) equated.2 tt
+          kind_ends frames (type.Union trees) id lists equated stands =
+              at_union id (union_of equated.0) equated.1
+              (union_keeps EndsAt equated.0 (trees_end frames trees equated.0 lists equated.2
+              (λ is among. closed.in_union (scope_of base frames) trees is among stands)))
+          kind_ends frames (type.Meet one signs) id lists equated stands =
+              at_meet id (meet_of ((true, equated.0) ∷ equated.1)) equated.2
+              (meet_keeps (λ sign. EndsAt sign.1) ((true, equated.0) ∷ equated.1) (
+                tree_ends frames one equated.0 lists equated.3
+                    (closed.in_first (scope_of base frames) one signs stands),
+                signs_end frames signs equated.1 lists equated.4
+                    (λ is among. closed.in_signed (scope_of base frames) one is signs among stands),
+              ))
+          -- a sequence begins in the first state of its automaton
+          kind_ends frames (type.Sequence is) id lists equated stands = at_equation id _ equated.1.0 tt
+          kind_ends frames (type.Record fields more) id lists equated stands = at_equation id _ equated.1 tt
+          kind_ends frames (type.Xml tag attributes content) id lists equated stands =
+              at_equation id (Is (Xml equated.0 equated.1 equated.2)) equated.3 tt
+          kind_ends frames (type.Named name) id lists equated stands =
+              subst EndsAt (sym equated) (named frames name lists stands)
+          kind_ends frames (type.Where is declarations) id lists equated stands =
+              tree_ends (record { declarations = declarations; first = equated.0 } ∷ frames) is id (equated.1, lists)
+              equated.2 (closed.under_where (scope_of base frames) is declarations stands)
+          kind_ends frames (type.Variable name) id lists equated stands = at_older id EMPTY equated (omega arith)
+          kind_ends frames (type.Default name constant) id lists equated stands =
+              at_older id EMPTY equated (omega arith)
+
+          -- each of some trees
+          trees_end : (frames : Frames) (trees : Trees) (ids : List NodeId) → AllEquated first equations names frames
+              → EquatesEach first equations names frames trees ids
+              → ((is : Tree) → IsOneOf is trees → Stands (scope_of base frames) (kind_of is)) → model.AllOf EndsAt ids
+          trees_end frames NoTree [] lists equated stand = tt
+          trees_end frames NoTree (id ∷ ids) lists equated stand = elim equated [ ]
+          trees_end frames (ATree one rest) [] lists equated stand = elim equated [ ]
+          trees_end frames (ATree one rest) (id ∷ ids) lists equated stand = (
+            tree_ends frames one id lists equated.0 (stand one (IsOneOf.first one rest)),
+            trees_end frames rest ids lists equated.1 (λ is among. stand is (IsOneOf.later is one rest among)),
+          )
+
+          -- each tree after a sign
+          signs_end : (frames : Frames) (signs : Signs) (signed : List Sign) → AllEquated first equations names frames
+              → EquatesSigns first equations names frames signs signed
+              → ((is : Tree) → IsSigned is signs → Stands (scope_of base frames) (kind_of is))
+              → model.AllOf (λ sign. EndsAt sign.1) signed
+          signs_end frames NoSign [] lists equated stand = tt
+          signs_end frames NoSign (sign ∷ signed) lists equated stand = elim equated [ ]
+          signs_end frames (ASign kept one rest) [] lists equated stand = elim equated [ ]
+          signs_end frames (ASign kept one rest) (sign ∷ signed) lists equated stand = (
+            tree_ends frames one sign.1 lists equated.1 (stand one (IsSigned.first kept one rest)),
+            signs_end frames rest signed lists equated.2 (λ is among. stand is (IsSigned.later kept is one rest among)),
+          )

@@ -1,5 +1,5 @@
--- Fields in the order of their labels have at each label what the first of them has in the order in which they are written.
-use Rattle.std.proofs.Common.{◌≡◌, Bool, true, false, List, [], ◌∷◌, ◌⊎◌, inl, inr, Option, Some, None, map}
+-- Fields in the order of their labels say of each label what they do in the order in which they are written.
+use Rattle.std.proofs.Common.{◌≡◌, Bool, true, false, List, [], ◌∷◌, ◌⊎◌, inl, inr, Option, Some, None}
 use Rattle.std.proofs.Common.{refl, sym, ◌∙◌, ap, bytes_eq, if◌then◌else◌, nat_cmp, is_eq}
 use Rattle.std.proofs.lemmas.Bool.{cases_Bool}
 use Rattle.std.proofs.lemmas.Cmp.{nat_list_cmp_total}
@@ -10,39 +10,35 @@ use Rattle.std.specs.Ordering.{ordering_reverse}
 use Rattle.std.specs.declared.cmp.Ordering.{Ordering}
 use Rattle.std.specs.declared.cmp.Ordering.TheVariants.{Less, Equal, Greater}
 use Rattle.cd_sets.specs.declared.node_id.NodeId.{NodeId}
-use Rattle.cd_syntax.specs.Name.{Name}
-use Rattle.cd_syntax.specs.Name.{IsAbove}
+use Rattle.cd_syntax.specs.Name.{Name, IsAbove}
 use Rattle.cd_model.specs.Formula.{Field, field_of}
-use Rattle.cd_shapes.specs.declared.place.Place.{Place}
-use Rattle.cd_shapes.specs.declared.place.FieldPlace.{FieldPlace}
-use Rattle.cd_shapes.specs.Leaves.{by_order, inserted, sorted_after, sorted}
-use Rattle.cd_resolve.specs.Inner.Closing.{field_at}
+use Rattle.cd_resolve.specs.Inner.Leaves.{by_order, inserted, sorted_after, sorted}
 
 abbrev pub Named : Type 0
-Named = List (Name × FieldPlace)
+Named = List (Name × Field)
 
 -- what the first field with a label has
-abbrev pub found : Named → Name → Option FieldPlace
+abbrev found : Named → Name → Option Field
 found [] label = None
 found (field ∷ rest) label = if bytes_eq field.0 label then Some field.1 else found rest label
 
 -- the one, if there is one, else the other
-abbrev or_other : Option FieldPlace → Option FieldPlace → Option FieldPlace
+abbrev or_other : Option Field → Option Field → Option Field
 or_other (Some first) other = Some first
 or_other None other = other
 
 -- what is found first does not depend on how three are put together, and nothing more changes nothing
-or_other_twice : (first second third : Option FieldPlace)
+or_other_twice : (first second third : Option Field)
     → or_other (or_other first second) third ≡ or_other first (or_other second third)
 or_other_twice (Some first) second third = refl
 or_other_twice None second third = refl
 
-none_more : (first : Option FieldPlace) → first ≡ or_other first None
+none_more : (first : Option Field) → first ≡ or_other first None
 none_more (Some first) = refl
 none_more None = refl
 
 -- a field and others behind it
-found_first : (field : Name × FieldPlace) (rest : Named) (label : Name)
+found_first : (field : Name × Field) (rest : Named) (label : Name)
     → found (field ∷ rest) label ≡ or_other (found (field ∷ []) label) (found rest label)
 found_first field rest label = by_name (bytes_eq field.0 label)
   where
@@ -68,10 +64,12 @@ greater_below : (one other : Name) → slice_cmp nat_cmp one other ≡ Greater �
 greater_below one other greater = nat_list_cmp_total.antisymm other one ∙ ap ordering_reverse greater
 
 -- labels that rise from one that is above another rise from that one too
-rises_sooner : (before label : Name) (fields : Named) → slice_cmp nat_cmp before label ≡ Less → Rises (Some label) fields
+rises_sooner : (before label : Name) (fields : Named) → slice_cmp nat_cmp before label ≡ Less
+    → Rises (Some label) fields
     → Rises (Some before) fields
 rises_sooner before label [] above rise = tt
-rises_sooner before label (field ∷ rest) above rise = (nat_list_cmp_total.trans before label field.0 above rise.0, rise.1)
+rises_sooner before label (field ∷ rest) above rise =
+    (nat_list_cmp_total.trans before label field.0 above rise.0, rise.1)
 
 -- no label above this one is this one
 nothing_found : (label : Name) (fields : Named) → Rises (Some label) fields → found fields label ≡ None
@@ -80,11 +78,11 @@ nothing_found label (field ∷ rest) rise = rw (above_differs label field.0 rise
     (nothing_found label rest (rises_sooner label field.0 rest rise.0 rise.1))
 
 -- how the labels of two fields compare
-abbrev order : Name × FieldPlace → Name × FieldPlace → Ordering
+abbrev order : Name × Field → Name × Field → Ordering
 order field other = slice_cmp nat_cmp field.0 other.0
 
 -- a field among others whose labels rise
-rises_on : (before : Option Name) (field other : Name × FieldPlace) (rest later : Named) (o : Ordering)
+rises_on : (before : Option Name) (field other : Name × Field) (rest later : Named) (o : Ordering)
     → order field other ≡ o → IsAbove before field.0 → Rises before (other ∷ rest)
     → (order field other ≡ Greater → Rises (Some other.0) later)
     → Rises before (by_order o field other rest later)
@@ -93,7 +91,7 @@ rises_on before field other rest later Equal is above rise on = rise
 rises_on before field other rest later Greater is above rise on = (rise.0, on is)
 
 -- a field that is put among others where labels rise
-inserted_rises : (before : Option Name) (field : Name × FieldPlace) (fields : Named) → IsAbove before field.0
+inserted_rises : (before : Option Name) (field : Name × Field) (fields : Named) → IsAbove before field.0
     → Rises before fields → Rises before (inserted field fields)
 inserted_rises before field [] above rise = (above, tt)
 inserted_rises before field (other ∷ rest) above rise =
@@ -101,7 +99,7 @@ inserted_rises before field (other ∷ rest) above rise =
     (λ greater. inserted_rises (Some other.0) field rest (greater_below field.0 other.0 greater) rise.1)
 
 -- it is found where nothing else has its label
-found_on : (field other : Name × FieldPlace) (rest later : Named) (label : Name) (o : Ordering) → order field other ≡ o
+found_on : (field other : Name × Field) (rest later : Named) (label : Name) (o : Ordering) → order field other ≡ o
     → Rises (Some other.0) rest
     → found later label ≡ or_other (found rest label) (found (field ∷ []) label)
     → found (by_order o field other rest later) label ≡ or_other (found (other ∷ rest) label) (found (field ∷ []) label)
@@ -127,7 +125,7 @@ found_on field other rest later label Greater is rise on =
     ∙ sym (or_other_twice (found (other ∷ []) label) (found rest label) (found (field ∷ []) label))
     ∙ ap (λ first. or_other first (found (field ∷ []) label)) (sym (found_first other rest label))
 
-inserted_found : (before : Option Name) (field : Name × FieldPlace) (fields : Named) (label : Name) → Rises before fields
+inserted_found : (before : Option Name) (field : Name × Field) (fields : Named) (label : Name) → Rises before fields
     → found (inserted field fields) label ≡ or_other (found fields label) (found (field ∷ []) label)
 inserted_found before field [] label rise = refl
 inserted_found before field (other ∷ rest) label rise =
@@ -145,27 +143,25 @@ after_found sorted (field ∷ rest) label rise =
     ∙ ap (λ more. or_other (found sorted label) more) (sym (found_first field rest label))
 
 -- in the order of labels the same is found as in the order in which fields are written
-pub sorted_found : (named : Named) (label : Name) → found (sorted named) label ≡ found named label
+sorted_found : (named : Named) (label : Name) → found (sorted named) label ≡ found named label
 sorted_found named label = after_found [] named label tt
 
 -- what a record type says of a label, where this was found
-abbrev pub field_found : (Place → NodeId) → NodeId → Option FieldPlace → Field
-field_found node_of rest None = record { optional = true; type = rest }
-field_found node_of rest (Some field) = field_at node_of field
+abbrev field_found : NodeId → Option Field → Field
+field_found rest None = record { optional = true; type = rest }
+field_found rest (Some field) = field
 
--- what the made fields say of a label
-made_found : (node_of : Place → NodeId) (rest : NodeId) (named : Named) (label : Name)
-    → field_of (map (λ field. (field.0, field_at node_of field.1)) named) rest label
-    ≡ field_found node_of rest (found named label)
-made_found node_of rest [] label = refl
-made_found node_of rest (field ∷ named) label = elim (cases_Bool (bytes_eq field.0 label)) [
+-- what the fields say of a label
+field_is_found : (rest : NodeId) (named : Named) (label : Name)
+    → field_of named rest label ≡ field_found rest (found named label)
+field_is_found rest [] label = refl
+field_is_found rest (field ∷ named) label = elim (cases_Bool (bytes_eq field.0 label)) [
   | inl same ↦ rw same refl
-  | inr differs ↦ rw differs (made_found node_of rest named label)
+  | inr differs ↦ rw differs (field_is_found rest named label)
 ]
 
--- what is made of fields in order says of a label what the first written one does
-pub field_is_found : (node_of : Place → NodeId) (rest : NodeId) (named : Named) (label : Name)
-    → field_of (map (λ field. (field.0, field_at node_of field.1)) (sorted named)) rest label
-    ≡ field_found node_of rest (found named label)
-field_is_found node_of rest named label =
-    made_found node_of rest (sorted named) label ∙ ap (field_found node_of rest) (sorted_found named label)
+-- fields in the order of their labels say of each label what they do in the order in which they are written
+pub sorted_fields : (rest : NodeId) (named : Named) (label : Name)
+    → field_of (sorted named) rest label ≡ field_of named rest label
+sorted_fields rest named label = field_is_found rest (sorted named) label
+    ∙ ap (field_found rest) (sorted_found named label) ∙ sym (field_is_found rest named label)

@@ -24,7 +24,8 @@ module _ {X : Type 0} (at : Presentation X) (closed : ℕ → Mapping X) where
   of_no_integer (thing.Integer n) answer = (sym, sym)
   of_no_integer _ answer = itself
 
-  of_no_character : (is : Thing) (answer : Bool) → (answer ≡ false) ↔ reader at closed is (Characters (λ c. false)) answer
+  of_no_character : (is : Thing) (answer : Bool)
+      → (answer ≡ false) ↔ reader at closed is (Characters (λ c. false)) answer
   of_no_character (thing.Character c) answer = (sym, sym)
   of_no_character _ answer = itself
 

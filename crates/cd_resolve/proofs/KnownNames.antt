@@ -1,25 +1,19 @@
 -- Nodes that are known to answer as names of the outermost scope do so wherever these names are seen.
-use Rattle.std.proofs.Common.{◌≡◌, ◌↔◌, ℕ, zero, suc, ◌≤◌, Bool, List, [], ◌∷◌, ◌++◌, Option, Some, None, length, subst, sym, arith}
+use Rattle.std.proofs.Common.{◌≡◌, ◌↔◌, ℕ, zero, suc, ◌≤◌, Bool, List, Option, Some, None, length, subst, arith}
 use Rattle.cd_sets.specs.declared.node_id.NodeId.{NodeId}
 use Rattle.cd_syntax.specs.Name.{Name}
 use Rattle.cd_syntax.specs.TypeTree as type
-use Rattle.cd_syntax.specs.TypeTree.{Declarations}
 use Rattle.cd_model.specs.Alike.{ReadAlike}
-use Rattle.cd_model.specs.Formula.{Graph, IsGraph, formula_at}
-use Rattle.cd_model.specs.AllOf.{AllOf}
+use Rattle.cd_model.specs.Formula.{Graph, formula_at}
 use Rattle.cd_model.specs.Guarded.{IsGuarded}
 use Rattle.cd_model.specs.Interfaces.{admits}
-use Rattle.cd_model.specs.Scope.{Scope, Declared, declared_as, names_over}
-use Rattle.cd_model.specs.StandsFor.{StandsFor}
+use Rattle.cd_model.specs.Scope.{Scope, Declared, declared_as}
 use Rattle.cd_model.specs.Types.{Reader, reader, no_closure, closure_maps}
 use Rattle.cd_model.specs.Written.{WrittenType, declared_holds, name_holds, written}
 use Rattle.cd_model.proofs.BothWays.{itself, through}
 use Rattle.cd_model.proofs.Leading.{IsIn, Leads}
 use Rattle.cd_model.proofs.Seen.{IsSeen}
-use Rattle.cd_model.proofs.StandsKept.{stands_kept}
-use Rattle.cd_shapes.specs.Names.{node_of}
-use Rattle.cd_resolve.specs.Named.{type_named}
-use Rattle.cd_model.proofs.NamesAlike.{names_alike, written_alike, enough_for_elements, enough_for_values}
+use Rattle.cd_model.proofs.NamesAlike.{names_alike, written_alike}
 use Rattle.cd_model.proofs.Resolved.{KnownIn, AnswersAs}
 use Rattle.cd_model.proofs.ValuesAlike.{AlwaysAlike, element_reads_alike, value_reads_alike}
 
@@ -29,7 +23,8 @@ declared_alike : (read : Reader WrittenType) (left : ℕ) (one other : Scope) (n
     → name_holds read left one name answer ↔ name_holds read left other name answer
 declared_alike read zero one other name answer same = itself
 declared_alike read (suc left) one other name answer same =
-    subst (λ found. name_holds read (suc left) one name answer ↔ declared_holds read (name_holds read left) found answer) same itself
+    subst (λ found. name_holds read (suc left) one name answer
+    ↔ declared_holds read (name_holds read left) found answer) same itself
 
 -- what a node has to be that a name is given, in this scope; a name that is given none is not declared there
 abbrev pub IsGiven : Graph → ℕ → Scope → Name → Option NodeId → Type 0
@@ -51,7 +46,8 @@ module _ (Fact : Declared → Type 0) (guards : (is : Declared) → Fact is → 
       through (declared_alike read count base scope name answer same)
       (names_alike Fact guards read read alike count left some fits_count (omega arith) scope name leads answer)
 
-  pub known_here : (graph : Graph) (id : NodeId) (most : ℕ) (some : List Declared) → length some ≤ most → length some ≤ count
+  pub known_here : (graph : Graph) (id : NodeId) (most : ℕ) (some : List Declared) → length some ≤ most
+      → length some ≤ count
       → (base scope : Scope) (name : Name) → declared_as base name ≡ declared_as scope name
       → Leads Fact some scope (type.Named name) → IsGiven graph count base name (Some id)
       → KnownIn graph count most (formula_at graph id) scope name
@@ -62,30 +58,8 @@ module _ (Fact : Declared → Type 0) (guards : (is : Declared) → Fact is → 
         most some fits_most fits_count base scope name same leads left enough answer);
     values = λ interfaces v value left enough answer. through (is.values interfaces v value answer)
         (as_name (reader (written count) (closure_maps (written count) (admits interfaces)) v)
-        (value_reads_alike (IsSeen Fact) (written count) (written count) same_written (admits interfaces) (admits interfaces)
+        (value_reads_alike (IsSeen Fact) (written count) (written count) same_written (admits interfaces)
+        (admits interfaces)
         (λ function pairs sound. itself) v)
         most some fits_most fits_count base scope name same leads left enough answer);
   }
-
--- nodes that stand for names of a list of declarations, in each longer graph
-module _ (old : Graph) (sound : IsGraph old) (declarations : Declarations)
-    (guarded : AllOf IsGuarded (names_over (declarations ∷ []))) (names : List (Name × NodeId)) (Used : Name → Type 0)
-    (known : (name : Name) → Used name
-    → (id : NodeId) × (node_of names name ≡ Some id) × StandsFor old id (type_named declarations name))
-    (count : ℕ) (fits : length (names_over (declarations ∷ [])) ≤ count) (more : Graph) where
-  answers_as : (id : NodeId) (name : Name) → StandsFor (old ++ more) id (type_named declarations name)
-      → IsGiven (old ++ more) count (declarations ∷ []) name (Some id)
-  answers_as id name stands = record {
-    elements = λ e element answer. through (stands.elements e answer element)
-        (enough_for_elements (type_named declarations name) guarded count e answer fits);
-    values = λ interfaces v value answer. through (stands.values interfaces v answer value)
-        (enough_for_values (type_named declarations name) guarded (admits interfaces) count v answer fits);
-  }
-
-  pub given_names : (name : Name) → Used name → IsGiven (old ++ more) count (declarations ∷ []) name (node_of names name)
-  given_names name used = by_node (known name used)
-    where
-      by_node : (id : NodeId) × (node_of names name ≡ Some id) × StandsFor old id (type_named declarations name)
-          → IsGiven (old ++ more) count (declarations ∷ []) name (node_of names name)
-      by_node (id, there, stands) = subst (IsGiven (old ++ more) count (declarations ∷ []) name) (sym there)
-          (answers_as id name (stands_kept old more id (type_named declarations name) sound stands))

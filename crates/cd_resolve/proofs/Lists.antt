@@ -2,7 +2,7 @@
 use Rattle.std.proofs.Common.{◌≡◌, ℕ, zero, suc, ◌<◌, ◌⊎◌, inl, inr, List, [], ◌∷◌, ◌++◌, length, Some, None, sym, subst, take, append_assoc, arith}
 use Rattle.std.proofs.lemmas.List.{append-nil}
 use Rattle.std.specs.List.{slice_get}
-use Rattle.cd_resolve.specs.Order.{AllOf, IsOneOf, row, ComeAfter}
+use Rattle.cd_resolve.specs.Inner.Order.{AllOf, IsOneOf, row, ComeAfter}
 
 -- what holds of each of a list holds of one of it
 pub each_at : (Fact : ℕ → Type 0) (list : List ℕ) (number : ℕ) → AllOf Fact list → IsOneOf number list → Fact number

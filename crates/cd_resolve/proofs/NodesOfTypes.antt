@@ -1,5 +1,5 @@
--- Which nodes stand for which written types: those of the places that have the shapes of the types.
-use Rattle.std.proofs.Common.{ℕ, List, [], length}
+-- Which nodes stand for which written types: those that have the equations of the types.
+use Rattle.std.proofs.Common.{ℕ, List, []}
 use Rattle.cd_sets.specs.declared.node_id.NodeId.{NodeId}
 use Rattle.cd_syntax.specs.Name.{Name}
 use Rattle.cd_syntax.specs.TypeTree as type
@@ -8,12 +8,9 @@ use Rattle.cd_model.specs.Scope.{Scope, Declared}
 use Rattle.cd_model.specs.Written as written
 use Rattle.cd_model.specs.Written.{WrittenType, kind_of, within}
 use Rattle.cd_model.proofs.Covered.{Covered}
-use Rattle.cd_shapes.specs.declared.place.Place.{Place}
-use Rattle.cd_shapes.specs.Frames.{Frames, scope_of}
-use Rattle.cd_shapes.specs.Shaped.{Tables, Shaped, ShapedKind}
-use Rattle.cd_shapes.specs.Reading.{AreMet}
-use Rattle.cd_resolve.specs.Inner.Closing.{node_at}
-use Rattle.cd_resolve.proofs.FreeNames.{Uses}
+use Rattle.cd_resolve.specs.Inner.Equation.{Equations}
+use Rattle.cd_resolve.specs.Inner.Equates.{Equates, EquatesKind, AllEquated}
+use Rattle.cd_resolve.specs.Inner.Frames.{Frames, scope_of}
 
 -- a form in which no name can stand, which is the same in each scope
 abbrev pub IsAlone : Kind → Type 0
@@ -22,34 +19,32 @@ IsAlone (type.Chars low high) = Unit {0}
 IsAlone (type.Text text) = Unit {0}
 IsAlone kind = ⊥
 
--- the shapes of a tree are those of its form
-pub of_tree : (names : List (Name × NodeId)) (lists : List Frames) (tables : Tables) (frames : Frames) (is : Tree) (at : Place)
-    → Shaped names lists tables.shapes frames is at → ShapedKind names lists tables.shapes frames (kind_of is) at
-of_tree names lists tables frames (tree span kind) at shaped = shaped
+-- the equations of a tree are those of its form
+pub of_tree : (first : ℕ) (equations : Equations) (names : List (Name × NodeId)) (frames : Frames) (is : Tree)
+    (id : NodeId)
+    → Equates first equations names frames is id → EquatesKind first equations names frames (kind_of is) id
+of_tree first equations names frames (tree span kind) id equates = equates
 
-module _ (first : ℕ) (names : List (Name × NodeId)) (lists : List Frames) (tables : Tables) (base : Scope)
-    (Fact : Declared → Type 0) (Used : Name → Type 0) where
-  -- a place that has the shapes of a form, under lists that were met, where each declared name has the fact and each free
-  -- one is used
-  pub record IsOf (frames : Frames) (kind : Kind) (at : Place) : Type 0 where
-    pub met : AreMet lists frames
-    pub shaped : ShapedKind names lists tables.shapes frames kind at
+module _ (first : ℕ) (equations : Equations) (names : List (Name × NodeId)) (base : Scope)
+    (Fact : Declared → Type 0) where
+  -- a node that has the equations of a form, under lists whose names have theirs, where each declared name has the fact
+  pub record IsOf (frames : Frames) (kind : Kind) (id : NodeId) : Type 0 where
+    pub around : AllEquated first equations names frames
+    pub equates : EquatesKind first equations names frames kind id
     pub covered : Covered Fact (scope_of base frames) kind
-    pub uses : Uses Used (scope_of [] frames) kind
 
   pub data Stands : NodeId → WrittenType → Type 0 where
-    placed : (frames : Frames) (kind : Kind) (at : Place) → IsOf frames kind at
-        → Stands (node_at first (length tables.roots) at) (record { scope = scope_of base frames; kind = kind })
-    alone : (kind : Kind) (at : Place) → IsAlone kind → ShapedKind names lists tables.shapes [] kind at
-        → Stands (node_at first (length tables.roots) at) (written.alone kind)
+    placed : (frames : Frames) (kind : Kind) (id : NodeId) → IsOf frames kind id
+        → Stands id (record { scope = scope_of base frames; kind = kind })
+    alone : (kind : Kind) (id : NodeId) → IsAlone kind → EquatesKind first equations names [] kind id
+        → Stands id (written.alone kind)
 
-  -- the place of a part
-  pub part_stands : (frames : Frames) (is : Tree) (at : Place) → AreMet lists frames → Shaped names lists tables.shapes frames is at
-      → Covered Fact (scope_of base frames) (kind_of is) → Uses Used (scope_of [] frames) (kind_of is)
-      → Stands (node_at first (length tables.roots) at) (within (scope_of base frames) is)
-  part_stands frames is at met shaped covered uses = placed frames (kind_of is) at (record {
-    met = met;
-    shaped = of_tree names lists tables frames is at shaped;
+  -- the node of a part
+  pub part_stands : (frames : Frames) (is : Tree) (id : NodeId) → AllEquated first equations names frames
+      → Equates first equations names frames is id
+      → Covered Fact (scope_of base frames) (kind_of is) → Stands id (within (scope_of base frames) is)
+  part_stands frames is id around equates covered = placed frames (kind_of is) id (record {
+    around = around;
+    equates = of_tree first equations names frames is id equates;
     covered = covered;
-    uses = uses;
   })

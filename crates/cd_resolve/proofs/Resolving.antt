@@ -1,58 +1,49 @@
--- What is read of declarations, and of a type that sees them, stands for them in a graph that holds what the tables say.
-use Rattle.std.proofs.Common.{◌≡◌, ℕ, zero, suc, ◌+◌, ◌<◌, ◌≤◌, [], ◌∷◌, ◌++◌, List, Some, None, ◌⊎◌, inl, inr, length, refl, sym, ap, subst, ◌∙◌, arith}
+-- What is read of declarations, and of a type that sees them, stands for them in a graph that solves its equations.
+use Rattle.std.proofs.Common.{◌≡◌, ℕ, zero, suc, ◌+◌, ◌<◌, ◌≤◌, inl, inr, [], ◌∷◌, ◌++◌, Some, length}
+use Rattle.std.proofs.Common.{refl, sym, ap, subst, ◌∙◌, arith}
 use Rattle.std.proofs.lemmas.List.{append_assoc, length-append}
-use Rattle.std.proofs.lemmas.Option.{slice_get_within}
 use Rattle.cd_sets.specs.declared.node_id.NodeId.{NodeId}
 use Rattle.cd_syntax.specs.Name.{Name}
-use Rattle.cd_syntax.specs.TypeTree.{Tree, tree, Kind, Named, Declarations}
+use Rattle.cd_syntax.specs.TypeTree.{Tree, tree, Named, Declarations}
+use Rattle.cd_syntax.specs.WellMade.{IsWellMade, AreWellMadeDeclarations}
+use Rattle.cd_model.specs.AllOf.{AllOf}
 use Rattle.cd_model.specs.BuiltIns.{built_ins, node}
-use Rattle.cd_model.specs.AllOf.{AnyOf}
 use Rattle.cd_model.specs.Formula.{Graph, IsGraph, formula_at}
-use Rattle.cd_model.specs.Scope.{names_in, names_over, names_seen}
+use Rattle.cd_model.specs.Guarded.{IsGuarded}
+use Rattle.cd_model.specs.Scope.{Declared, names_in, names_over, names_declared, names_seen}
 use Rattle.cd_model.specs.StandsFor.{StandsFor}
-use Rattle.cd_model.specs.Written.{kind_of}
-use Rattle.cd_names.specs.Faults.{Fault, IsFault, IsFaultOfList}
-use Rattle.cd_names.proofs.GuardedNames.{names_are_guarded}
-use Rattle.cd_shapes.specs.declared.place.Place.{Place}
-use Rattle.cd_shapes.specs.declared.place.Place.TheVariants as place
-use Rattle.cd_shapes.specs.Names.{node_of}
-use Rattle.cd_shapes.specs.Frames.{Frames, index_in, given, declared_or, place_of}
-use Rattle.cd_shapes.specs.Shaped.{Tables, Shaped}
-use Rattle.cd_shapes.specs.Reading.{IsReading, AreSound, IsPlace, base_lists}
-use Rattle.cd_resolve.specs.Order.{Ends}
-use Rattle.cd_resolve.specs.Inner.Closing.{size_of, Closes, AgreesWith, node_at}
+use Rattle.cd_model.specs.Written.{Written, number_of_names}
+use Rattle.cd_model.proofs.Covered.{each_parts}
+use Rattle.cd_model.proofs.Leading.{IsIn, at_name, of_each}
+use Rattle.cd_model.proofs.NamesAlike.{IsOfType, all_seen}
+use Rattle.cd_resolve.specs.Faults.{Fault}
+use Rattle.cd_resolve.proofs.GuardedNames.{names_are_guarded}
+use Rattle.cd_resolve.specs.Faults.{IsFaultOfType, IsFaultOfDeclarations}
+use Rattle.cd_resolve.specs.Named.{Names, AreNamed, type_named, index_in}
+use Rattle.cd_resolve.specs.Inner.Names.{AreBelow, node_of}
+use Rattle.cd_resolve.specs.Inner.Equation.{Equations}
+use Rattle.cd_resolve.specs.Inner.Equates.{AllEquated}
+use Rattle.cd_resolve.specs.Inner.Frames.{Frames, node_under, declared_or, number_in}
 use Rattle.cd_resolve.specs.Inner.Links.{links}
-use Rattle.cd_resolve.specs.Free.{free_names}
-use Rattle.cd_resolve.specs.Named.{numbered, type_named, AreNamed, AreKnown}
-use Rattle.cd_resolve.proofs.FreeNames.{Uses, every_name, one_name, each_name, uses_tree}
+use Rattle.cd_resolve.specs.Inner.Order.{Ends}
+use Rattle.cd_resolve.specs.Inner.Solves.{Solves, AgreesWith, AreEquations, IsNode}
+use Rattle.cd_resolve.specs.Inner.Walk.{walked, walked_list, frame_after}
+use Rattle.cd_resolve.proofs.BuiltInNodes.{Begins}
+use Rattle.cd_resolve.proofs.Bounds.{tree_bounds, list_bounds}
+use Rattle.cd_resolve.proofs.EndsOfEquations.{all_end}
+use Rattle.cd_resolve.proofs.Growing.{same, list_longer}
 use Rattle.cd_resolve.proofs.Guards.{list_is_guarded}
-use Rattle.cd_resolve.proofs.KnownNames.{IsGiven, given_names}
-use Rattle.cd_resolve.proofs.LinksEnd.{ends}
-use Rattle.cd_resolve.proofs.NamesFound.{IsInside, IsOutside, found}
+use Rattle.cd_resolve.proofs.KnownNames.{IsGiven}
+use Rattle.cd_resolve.proofs.NodesNamed.{list_of, of_list, all_given, nodes_below}
+use Rattle.cd_resolve.proofs.NodesOfWalks.{IsBelow, index_below}
 use Rattle.cd_resolve.proofs.Numbered.{all_named}
 use Rattle.cd_resolve.proofs.Standing.{stands}
-
--- a place is within counts that are the same
-pub place_counted : (nodes names shapes nodes' names' shapes' : ℕ) (at : Place) → nodes ≡ nodes' → names ≡ names' → shapes ≡ shapes'
-    → IsPlace nodes' names' shapes' at → IsPlace nodes names shapes at
-place_counted nodes names shapes nodes' names' shapes' (place.Node id) same_nodes same_names same_shapes is = omega arith
-place_counted nodes names shapes nodes' names' shapes' (place.Declared list index) same_nodes same_names same_shapes is = omega arith
-place_counted nodes names shapes nodes' names' shapes' (place.Shape number) same_nodes same_names same_shapes is = omega arith
-
--- the node of a place is one of the graph that has the tables' nodes after the first ones
-node_is_there : (nodes first : ℕ) (tables : Tables) (at : Place) → nodes ≤ first
-    → IsPlace nodes (length tables.roots) (length tables.shapes) at
-    → (node_at first (length tables.roots) at).0 < first + size_of tables
-node_is_there nodes first tables (place.Node id) fits is = omega arith
-node_is_there nodes first tables (place.Declared list index) fits is = omega arith
-node_is_there nodes first tables (place.Shape number) fits is = omega arith
-
--- what is below a number is below more
-among_more : {one few more : ℕ} → one < few → few ≤ more → one < more
-among_more below within = omega arith
+use Rattle.cd_resolve.proofs.WalkedEquations.{walked_equates, list_equates}
+use Rattle.cd_resolve.proofs.WalkedOrigins.{tree_origins, list_origins}
 
 -- a graph that begins with another agrees with it
-kept : (graph more : Graph) (id : ℕ) → id < length graph → formula_at graph (node id) ≡ formula_at (graph ++ more) (node id)
+kept : (graph more : Graph) (id : ℕ) → id < length graph
+    → formula_at graph (node id) ≡ formula_at (graph ++ more) (node id)
 kept [] more id below = absurd (omega arith)
 kept (is ∷ graph) more zero below = refl
 kept (is ∷ graph) more (suc id) below = kept graph more id (omega arith)
@@ -61,124 +52,146 @@ pub begins_agree : (old graph rest : Graph) → graph ≡ old ++ rest → Agrees
 begins_agree old graph rest begins id below = rw begins (kept old rest id.0 below)
 
 -- and has as many nodes at least
-pub begins_with : (graph : Graph) → (rest : Graph) × (graph ≡ built_ins ++ rest) → 14 ≤ length graph
+pub begins_with : (graph : Graph) → Begins graph → 14 ≤ length graph
 begins_with graph begins = rw begins.1 (omega arith)
 
+-- a longer graph begins with the built-in nodes too
+begins_longer : (graph more : Graph) → Begins graph → Begins (graph ++ more)
+begins_longer graph more begins =
+    (begins.0 ++ more, ap (λ graph. graph ++ more) begins.1 ∙ append_assoc built_ins begins.0 more)
+
+-- a place in a list is below the number of its names
+index_within : (declarations : Declarations) (name : Name) (index : ℕ) → index_in declarations name ≡ Some index
+    → index < number_in declarations
+index_within declarations name index at = subst (IsBelow (number_in declarations)) at (index_below declarations name)
+
+no_names : (nodes : ℕ) → AreBelow nodes []
+no_names nodes name id there = absurd cc
+
 -- declarations that see no others
-module _ (declarations : Declarations) (none : (fault : Fault) → IsFaultOfList [] (declarations ∷ []) declarations fault → ⊥)
-    (more : List Frames) (tables : Tables)
-    (read : IsReading [] [] (names_over (declarations ∷ [])) (base_lists declarations more) tables)
-    (first : ℕ) where
-  -- all ways between their names and shapes end
-  pub declarations_end : AreSound 14 tables → (number : ℕ) → number < size_of tables → Ends (links tables) number
-  declarations_end sound = ends [] [] (names_over (declarations ∷ [])) (base_lists declarations more) tables 14 read sound
-      (list_is_guarded declarations none)
+module _ (declarations : Declarations) (none : (fault : Fault) → IsFaultOfDeclarations declarations fault → ⊥)
+    (first : ℕ) (enough : 14 ≤ first) where
+  abbrev equations : Equations
+  equations = walked_list first [] [] declarations []
 
-  abbrev alone : Frames
-  alone = record { declarations = declarations; first = 0 } ∷ []
+  abbrev sees : Frames
+  sees = frame_after first declarations [] ∷ []
 
-  -- a name with a place in the list has a root
-  has_root : (name : Name) (index : ℕ) → index_in declarations name ≡ Some index
-      → IsPlace 14 (length tables.roots) (length tables.shapes) (place.Declared 0 index)
-  has_root name index at = by_place (found [] (base_lists declarations more) tables [] read.roots alone name (inl refl, tt))
+  abbrev guarded : AllOf IsGuarded (names_over (declarations ∷ []))
+  guarded = list_is_guarded declarations none
+
+  -- a name that they declare
+  abbrev IsOurs : Declared → Type 0
+  IsOurs is = IsGuarded is × IsIn is (names_over (declarations ∷ []))
+
+  are_ours : AllOf IsOurs (names_over (declarations ∷ []))
+  are_ours = of_each IsOurs (names_over (declarations ∷ []))
+      (λ is place. (at_name IsGuarded (names_over (declarations ∷ [])) is guarded place, place))
+
+  around : AllEquated first equations [] sees
+  around = (list_equates first [] enough (no_names first) [] declarations [] equations tt (same equations), tt)
+
+  pub declarations_bounds : AreWellMadeDeclarations declarations → AreEquations 14 first equations
+  declarations_bounds made = list_bounds 14 first [] (omega arith) enough (no_names 14) declarations made
+
+  -- all ways between their equations end
+  pub declarations_end : (number : ℕ) → number < length equations → Ends (links first equations) number
+  declarations_end = all_end first equations [] [] 14 (omega arith) enough (no_names 14) IsOurs (λ is ours. ours.0)
+      (names_over (declarations ∷ [])) (λ is ours. ours.1)
+      (list_origins first [] enough (no_names first) [] IsOurs [] declarations [] equations tt (same equations) tt
+      (each_parts IsOurs (names_declared (declarations ∷ []) declarations) [] are_ours).0 tt
+      (λ number none. absurd (omega arith)))
+
+  pub declarations_stand : (graph batch : Graph) → length graph ≡ first → Begins graph → length batch ≡ length equations
+      → Solves (graph ++ batch) first equations
+      → AreNamed (graph ++ batch) (record { declarations = declarations; first = first })
+  declarations_stand graph batch long begins size solves =
+      of_list (graph ++ batch) declarations first (all_named (graph ++ batch) declarations first each)
     where
-      place_is : place_of [] alone name ≡ place.Declared 0 index
-      place_is = ap (λ index. declared_or 0 index (given None)) at
-
-      by_place : IsInside [] (base_lists declarations more) tables [] alone name
-          ⊎ IsOutside [] (base_lists declarations more) tables [] alone name
-          → IsPlace 14 (length tables.roots) (length tables.shapes) (place.Declared 0 index)
-      by_place (inl inside) = subst (IsPlace 14 (length tables.roots) (length tables.shapes)) (sym inside.at ∙ place_is)
-          (slice_get_within tables.roots (inside.list + inside.index) inside.root.root inside.root.is_root)
-      by_place (inr outside) = absurd cc (sym place_is ∙ outside.at)
-
-  pub declarations_stand : (graph batch : Graph) → length graph ≡ first → (rest : Graph) × (graph ≡ built_ins ++ rest)
-      → 14 ≤ first → size_of tables ≤ length batch → Closes (graph ++ batch) first tables
-      → AreNamed (graph ++ batch) declarations (numbered first declarations)
-  declarations_stand graph batch long begins enough size closes =
-      all_named (graph ++ batch) declarations first each
-    where
-      begun : (rest : Graph) × (graph ++ batch ≡ built_ins ++ rest)
-      begun = (begins.0 ++ batch, ap (λ graph. graph ++ batch) begins.1 ∙ append_assoc built_ins begins.0 batch)
-
-      total : first + size_of tables ≤ length (graph ++ batch)
+      total : first + length equations ≡ length (graph ++ batch)
       total = omega (arith, length-append graph batch)
-
-      -- nothing is asked of free names
-      all_used : {kind : Kind} → Uses (λ name. Unit {0}) (declarations ∷ []) kind
-      all_used = record { within = every_name _ _ (λ name. tt); over = every_name _ _ (λ name. tt) }
-
-      at_place : (name : Name) (index : ℕ) → index_in declarations name ≡ Some index
-          → StandsFor (graph ++ batch) (node_at first (length tables.roots) (place.Declared 0 index)) (type_named declarations name)
-      at_place name index at = stands first [] (base_lists declarations more) tables [] alone
-          (tree (record { from = 0; to = 0 }) (Named name)) (place.Declared 0 index) read.roots (inl refl, tt)
-          (sym (ap (λ index. declared_or 0 index (given None)) at)) (list_is_guarded declarations none)
-          (λ name. Unit {0}) all_used (graph ++ batch) begun
-          (among_more (node_is_there 14 first tables (place.Declared 0 index) enough (has_root name index at)) total)
-          closes (λ name used. refl)
 
       each : (name : Name) (index : ℕ) → index_in declarations name ≡ Some index
           → StandsFor (graph ++ batch) (node (first + index)) (type_named declarations name)
-      each name index at =
-          let same : first + (0 + index) ≡ first + index = omega arith in
-          subst (λ number. StandsFor (graph ++ batch) (node number) (type_named declarations name)) same
-          (at_place name index at)
+      each name index at = subst (λ id. StandsFor (graph ++ batch) id (type_named declarations name)) is_at
+          (stands first [] equations [] sees (tree (record { from = 0; to = 0 }) (Named name)) (node_under [] sees name)
+          around refl guarded (graph ++ batch) (begins_longer graph batch begins)
+          (subst (λ id. id.0 < length (graph ++ batch)) (sym is_at) there) solves (λ name. refl))
+        where
+          is_at : node_under [] sees name ≡ node (first + index)
+          is_at = ap (λ index. declared_or (first + 0) index (node_under [] [] name)) at ∙ ap node (omega arith)
 
--- a type that sees them
-module _ (declarations : Declarations) (none : (fault : Fault) → IsFaultOfList [] (declarations ∷ []) declarations fault → ⊥)
-    (is : Tree) (none_inside : (fault : Fault) → IsFault (declarations ∷ []) (declarations ∷ []) is fault → ⊥)
-    (old : Graph) (sound : IsGraph old) (begins : (rest : Graph) × (old ≡ built_ins ++ rest))
-    (names : List (Name × NodeId)) (known : AreKnown old declarations names (free_names [] is))
-    (lists : List Frames) (tables : Tables) (root : Place)
-    (read : IsReading names (declarations ∷ []) (names_seen (declarations ∷ []) is) lists tables)
-    (shaped : Shaped names lists tables.shapes [] is root)
-    (there : IsPlace (length old) (length tables.roots) (length tables.shapes) root) where
-  abbrev count : ℕ
-  count = length (names_seen (declarations ∷ []) is)
+          there : first + index < length (graph ++ batch)
+          there = omega (
+            arith,
+            total,
+            index_within declarations name index at,
+            list_longer first [] [] declarations [],
+          )
 
-  -- the names that are free in it
-  abbrev IsUsed : Name → Type 0
-  IsUsed name = AnyOf (λ other. other ≡ name) (free_names [] is)
+-- a type that sees declared names
+module _ (names : Names) (none : (fault : Fault) → IsFaultOfDeclarations names.declarations fault → ⊥)
+    (is : Tree) (none_inside : (fault : Fault) → IsFaultOfType names.declarations is fault → ⊥)
+    (old : Graph) (sound : IsGraph old) (begins : Begins old) (named : AreNamed old names)
+    (first : ℕ) (fits : length old ≤ first) where
+  abbrev declarations : Declarations
+  declarations = names.declarations
 
-  uses : Uses IsUsed [] (kind_of is)
-  uses = uses_tree IsUsed [] is (each_name IsUsed (free_names [] is) (λ name used. used)) tt
+  abbrev read : NodeId × Equations
+  read = walked first (list_of names) [] is []
 
-  is_known : (name : Name) → IsUsed name
-      → (id : NodeId) × (node_of names name ≡ Some id) × StandsFor old id (type_named declarations name)
-  is_known name used = one_name
-      (λ name. (id : NodeId) × (node_of names name ≡ Some id) × StandsFor old id (type_named declarations name))
-      (free_names [] is) name known used
+  abbrev type : Written
+  type = record { scope = declarations ∷ []; tree = is }
 
-  fits : length (names_over (declarations ∷ [])) ≤ count
-  fits = let both : _ = length-append (names_in (declarations ∷ []) is) (names_over (declarations ∷ [])) in omega arith
+  below : AreBelow (length old) (list_of names)
+  below = nodes_below old names named
 
-  -- all ways between its names and shapes end
-  pub type_ends : AreSound (length old) tables → (number : ℕ) → number < size_of tables → Ends (links tables) number
-  type_ends sound = ends names (declarations ∷ []) (names_seen (declarations ∷ []) is) lists tables (length old) read sound
-      (names_are_guarded declarations none is none_inside)
+  further : AreBelow first (list_of names)
+  further name id there = omega (arith, below name id there)
 
-  pub type_stands : (more batch : Graph) (first : ℕ) → length (old ++ more) ≡ first → size_of tables ≤ length batch
-      → Closes (old ++ more ++ batch) first tables → (id : NodeId) → id ≡ node_at first (length tables.roots) root
-      → StandsFor (old ++ more ++ batch) id (record { scope = declarations ∷ []; tree = is })
-  type_stands more batch first long size closes id at =
-      subst (λ id. StandsFor (old ++ more ++ batch) id (record { scope = declarations ∷ []; tree = is })) (sym at)
-      (stands first names lists tables (declarations ∷ []) [] is root read.roots tt shaped
-      (names_are_guarded declarations none is none_inside) IsUsed uses (old ++ more ++ batch) begun
-      (among_more (node_is_there (length old) first tables root within there) total) closes given)
+  pub type_bounds : IsWellMade is
+      → AreEquations (length old) first read.1 × IsNode (length old) first (length read.1) read.0
+  type_bounds made = tree_bounds (length old) first (list_of names) (begins_with old begins) fits below is made
+
+  enough : 14 ≤ first
+  enough = omega (arith, begins_with old begins)
+
+  -- all ways between its equations end
+  pub type_ends : (number : ℕ) → number < length read.1 → Ends (links first read.1) number
+  type_ends = all_end first read.1 (list_of names) (declarations ∷ []) (length old) (begins_with old begins) fits below
+      (IsOfType type) (λ is ours. ours.0) (names_seen (declarations ∷ []) is) (λ is ours. ours.1)
+      (tree_origins first (list_of names) enough further (declarations ∷ []) (IsOfType type) [] is [] read.1 tt
+      (same read.1) tt (all_seen type (names_are_guarded declarations none is none_inside)).covered
+      (λ number none. absurd (omega arith)))
+
+  pub type_stands : (more batch : Graph) → length (old ++ more) ≡ first → length batch ≡ length read.1
+      → Solves (old ++ more ++ batch) first read.1 → IsNode (length old) first (length read.1) read.0
+      → StandsFor (old ++ more ++ batch) read.0 type
+  type_stands more batch long size solves is_node =
+      stands first (list_of names) read.1 (declarations ∷ []) [] is read.0 tt
+      (walked_equates first (list_of names) enough further [] is [] read.1 tt (same read.1))
+      (names_are_guarded declarations none is none_inside) (old ++ more ++ batch) begun (there is_node) solves given
     where
-      within : length old ≤ first
-      within = omega (arith, length-append old more)
+      begun : Begins (old ++ more ++ batch)
+      begun = begins_longer (old ++ more) batch (begins_longer old more begins)
 
-      total : first + size_of tables ≤ length (old ++ more ++ batch)
+      total : first + length read.1 ≡ length (old ++ more ++ batch)
       total = omega (arith, length-append (old ++ more) batch)
 
-      begun : (rest : Graph) × (old ++ more ++ batch ≡ built_ins ++ rest)
-      begun = (
-        begins.0 ++ more ++ batch,
-        ap (λ graph. graph ++ more ++ batch) begins.1 ∙ simp append_assoc refl,
-      )
+      there : IsNode (length old) first (length read.1) read.0 → read.0.0 < length (old ++ more ++ batch)
+      there (inl older) = omega (arith, total, older, fits)
+      there (inr own) = omega (arith, total, own.1)
 
-      given : (name : Name) → IsUsed name → IsGiven (old ++ more ++ batch) count (declarations ∷ []) name (node_of names name)
-      given = subst (λ graph. (name : Name) → IsUsed name → IsGiven graph count (declarations ∷ []) name (node_of names name))
-          (sym (append_assoc old more batch))
-          (given_names old sound declarations (list_is_guarded declarations none) names IsUsed is_known count fits (more ++ batch))
+      count : ℕ
+      count = number_of_names type
+
+      within : length (names_over (declarations ∷ [])) ≤ count
+      within =
+          let both : _ = length-append (names_in (declarations ∷ []) is) (names_over (declarations ∷ [])) in omega arith
+
+      Given : Graph → Type 0
+      Given graph = (name : Name) → IsGiven graph count (declarations ∷ []) name (node_of (list_of names) name)
+
+      given : Given (old ++ more ++ batch)
+      given = subst Given (sym (append_assoc old more batch))
+          (all_given old sound names (list_is_guarded declarations none) named count within (more ++ batch))

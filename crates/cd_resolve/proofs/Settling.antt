@@ -1,104 +1,54 @@
 -- Where formulas are made in an order in which each comes after those that it is made of, each is right at the end.
-use Rattle.std.proofs.Common.{◌≡◌, ℕ, zero, suc, ◌+◌, ◌<◌, Bool, List, [], ◌∷◌, ◌++◌, map, length, set, refl, sym, ap, ap₂, subst, ◌∙◌, arith, append_assoc, ◌⊎◌, inl, inr}
+use Rattle.std.proofs.Common.{◌≡◌, ℕ, zero, suc, ◌-◌, ◌<◌, Bool, true, false, List, [], ◌∷◌, ◌++◌, map, length, set, Option, Some, None, refl, sym, ap, ap₂, subst, ◌∙◌, arith, append_assoc, ◌⊎◌, inl, inr, if◌then◌else◌}
+use Rattle.std.specs.Prelude.{nat_le}
 use Rattle.std.specs.List.{slice_get}
 use Rattle.std.specs.Option.{unwrap_or}
+use Rattle.std.proofs.lemmas.Bool.{cases_eq}
 use Rattle.std.proofs.lemmas.List.{append-nil, length-set}
 use Rattle.cd_sets.specs.declared.node_id.NodeId.{NodeId}
 use Rattle.cd_model.specs.AllOf.{AllOf}
 use Rattle.cd_model.specs.BuiltIns.{node}
 use Rattle.cd_model.specs.Formula as formula
 use Rattle.cd_model.specs.Formula.{Graph, Formula, Nothing, formula_at, formulas_of}
-use Rattle.cd_resolve.specs.Order as order
-use Rattle.cd_resolve.specs.Order.{IsOneOf, ComeAfter, AreRows, row}
-use Rattle.cd_shapes.specs.declared.place.Place.{Place}
-use Rattle.cd_shapes.specs.declared.place.Place.TheVariants as place
-use Rattle.cd_shapes.specs.Shape.{Shape, Leaf, Pair, Xml, Record, Arrow, And, Or, Sequence}
-use Rattle.cd_shapes.specs.Shaped.{Tables}
-use Rattle.cd_resolve.specs.Inner.Closing.{node_at, signed, made}
-use Rattle.cd_resolve.specs.Inner.Links.{numbers_at, numbers_of, numbers_under, links}
-use Rattle.cd_resolve.specs.Inner.Making.{Item, Root, Made, items, so_far, of_number, filled}
+use Rattle.cd_resolve.specs.Inner.Order as order
+use Rattle.cd_resolve.specs.Inner.Order.{IsOneOf, ComeAfter, row}
+use Rattle.cd_resolve.specs.Inner.Equation.{Equation, Equations, Is, Same, And, Or}
+use Rattle.cd_resolve.specs.Inner.Solves.{signed, made}
+use Rattle.cd_resolve.specs.Inner.Links.{number_at, numbers_of, numbers_under, links}
+use Rattle.cd_resolve.specs.Inner.Filling.{so_far, with_made, filled}
+use Rattle.cd_resolve.proofs.EachOne.{one_of_first, one_of_later}
+use Rattle.cd_resolve.proofs.Lists.{each_at, one_of_more}
+use Rattle.cd_resolve.proofs.LinksRows.{found, row_of_found}
 
--- the numbers that the formula of what has a number is made of
-abbrev pub numbers_in : (names : ℕ) → Item → List ℕ
-numbers_in names (Root at) = numbers_at names at
-numbers_in names (Made shape) = numbers_under names shape
-
--- these are the rows
-shape_rows : (names : ℕ) (shapes : List Shape) → map (numbers_in names) (map Made shapes) ≡ map (numbers_under names) shapes
-shape_rows names [] = refl
-shape_rows names (shape ∷ shapes) =
-    ap (λ (rows : List (List ℕ)). numbers_under names shape ∷ rows) (shape_rows names shapes)
-
-rows_of : (names : ℕ) (roots : List Place) (shapes : List Shape)
-    → map (numbers_in names) (map Root roots ++ map Made shapes)
-    ≡ map (numbers_at names) roots ++ map (numbers_under names) shapes
-rows_of names [] shapes = shape_rows names shapes
-rows_of names (root ∷ roots) shapes =
-    ap (λ (rows : List (List ℕ)). numbers_at names root ∷ rows) (rows_of names roots shapes)
-
-pub rows_are_links : (tables : Tables) → map (numbers_in (length tables.roots)) (items tables) ≡ links tables
-rows_are_links tables = rows_of (length tables.roots) tables.roots tables.shapes
-
--- what a shape that is a connective stands over has this fact
-abbrev pub Under : (Place → Type 0) → Shape → Type 0
+-- what a name or a connective stands over has this fact
+abbrev pub Under : (NodeId → Type 0) → Equation → Type 0
+Under fact (Is is) = Unit {0}
+Under fact (Same id) = fact id
 Under fact (And signs) = AllOf (λ sign. fact sign.1) signs
-Under fact (Or places) = AllOf fact places
-Under fact shape = Unit {0}
+Under fact (Or ids) = AllOf fact ids
 
-signs_same : (one other : Place → Formula) (signs : List (Bool × Place)) → AllOf (λ sign. one sign.1 ≡ other sign.1) signs
+signs_same : (one other : NodeId → Formula) (signs : List (Bool × NodeId))
+    → AllOf (λ sign. one sign.1 ≡ other sign.1) signs
     → map (λ sign. signed sign.0 (one sign.1)) signs ≡ map (λ sign. signed sign.0 (other sign.1)) signs
 signs_same one other [] same = refl
 signs_same one other (sign ∷ signs) same = ap₂ (λ (first : Formula) (rest : List Formula). first ∷ rest)
     (ap (signed sign.0) same.0) (signs_same one other signs same.1)
 
-places_same : (one other : Place → Formula) (places : List Place) → AllOf (λ at. one at ≡ other at) places
-    → map one places ≡ map other places
-places_same one other [] same = refl
-places_same one other (at ∷ places) same =
-    ap₂ (λ (first : Formula) (rest : List Formula). first ∷ rest) same.0 (places_same one other places same.1)
+nodes_same : (one other : NodeId → Formula) (ids : List NodeId) → AllOf (λ id. one id ≡ other id) ids
+    → map one ids ≡ map other ids
+nodes_same one other [] same = refl
+nodes_same one other (id ∷ ids) same =
+    ap₂ (λ (first : Formula) (rest : List Formula). first ∷ rest) same.0 (nodes_same one other ids same.1)
 
--- a shape has the same formula where what it stands over has
-pub made_same : (nodes : Place → NodeId) (one other : Place → Formula) (shape : Shape)
-    → Under (λ at. one at ≡ other at) shape
-    → made nodes one shape ≡ made nodes other shape
-made_same nodes one other (Leaf is) same = refl
-made_same nodes one other (Pair first second) same = refl
-made_same nodes one other (Xml tag attributes content) same = refl
-made_same nodes one other (Record named rest) same = refl
-made_same nodes one other (Arrow argument result) same = refl
-made_same nodes one other (And signs) same =
+-- an equation gives the same formula where what it stands over has the same
+pub made_same : (one other : NodeId → Formula) (equation : Equation) → Under (λ id. one id ≡ other id) equation
+    → made one equation ≡ made other equation
+made_same one other (Is is) same = refl
+made_same one other (Same id) same = same
+made_same one other (And signs) same =
     ap (λ (all : List Formula). formula.And (formulas_of all)) (signs_same one other signs same)
-made_same nodes one other (Or places) same =
-    ap (λ (all : List Formula). formula.Or (formulas_of all)) (places_same one other places same)
-made_same nodes one other (Sequence regular places) same = refl
-
--- one of the first is one of both, and so is one of the others
-pub one_of_first : (number : ℕ) (first later : List ℕ) → IsOneOf number first → IsOneOf number (first ++ later)
-one_of_first number [] later one = absurd one
-one_of_first number (other ∷ first) later (inl here) = inl here
-one_of_first number (other ∷ first) later (inr one) = inr (one_of_first number first later one)
-
-pub one_of_later : (number : ℕ) (first later : List ℕ) → IsOneOf number later → IsOneOf number (first ++ later)
-one_of_later number [] later one = one
-one_of_later number (other ∷ first) later one = inr (one_of_later number first later one)
-
--- which it is, where one more stands at the end
-one_of_both : (number last : ℕ) (first : List ℕ) → IsOneOf number (first ++ last ∷ [])
-    → IsOneOf number first ⊎ (last ≡ number)
-one_of_both number last [] (inl here) = inr here
-one_of_both number last [] (inr one) = absurd one
-one_of_both number last (other ∷ first) (inl here) = inl (inl here)
-one_of_both number last (other ∷ first) (inr one) = further (one_of_both number last first one)
-  where
-    further : IsOneOf number first ⊎ (last ≡ number) → IsOneOf number (other ∷ first) ⊎ (last ≡ number)
-    further (inl later) = inl (inr later)
-    further (inr is) = inr is
-
--- a fact of each is one of each that is one of them
-each_one : (fact : ℕ → Type 0) (list : List ℕ) (number : ℕ) → order.AllOf fact list → IsOneOf number list → fact number
-each_one fact [] number each one = absurd one
-each_one fact (other ∷ rest) number each (inl here) = subst fact here each.0
-each_one fact (other ∷ rest) number each (inr one) = each_one fact rest number each.1 one
+made_same one other (Or ids) same =
+    ap (λ (all : List Formula). formula.Or (formulas_of all)) (nodes_same one other ids same)
 
 -- the formula that was put at a number, and one at another number
 there : (formulas : List Formula) (number : ℕ) (is : Formula) → number < length formulas
@@ -116,126 +66,160 @@ elsewhere (one ∷ rest) (suc number) zero is apart = refl
 elsewhere (one ∷ rest) (suc number) (suc other) is apart = elsewhere rest number other is (λ same. apart (ap suc same))
 
 -- two lists have the same formulas at these numbers
-abbrev Same : (one other : List Formula) → List ℕ → Type 0
-Same one other numbers = (number : ℕ) → IsOneOf number numbers
+abbrev Alike : (one other : List Formula) → List ℕ → Type 0
+Alike one other numbers = (number : ℕ) → IsOneOf number numbers
     → formula_at one (node number) ≡ formula_at other (node number)
 
-module _ (old : Graph) (first names : ℕ) where
-  place_same : (one other : List Formula) (at : Place) → Same one other (numbers_at names at)
-      → so_far old first names one at ≡ so_far old first names other at
-  place_same one other (place.Node id) same = refl
-  place_same one other (place.Declared list index) same = same (list + index) (inl refl)
-  place_same one other (place.Shape number) same = same (names + number) (inl refl)
+module _ (old : Graph) (first : ℕ) where
+  node_same : (one other : List Formula) (id : NodeId) → Alike one other (number_at first id)
+      → so_far old first one id ≡ so_far old first other id
+  node_same one other id same = by_test (nat_le first id.0) same
+    where
+      by_test : (test : Bool) → Alike one other (if test then (id.0 - first) ∷ [] else [])
+          → (if test then formula_at one (node (id.0 - first)) else formula_at old id)
+          ≡ (if test then formula_at other (node (id.0 - first)) else formula_at old id)
+      by_test true same = same (id.0 - first) (inl refl)
+      by_test false same = refl
 
-  all_same : (one other : List Formula) (places : List Place) → Same one other (numbers_of names places)
-      → AllOf (λ at. so_far old first names one at ≡ so_far old first names other at) places
+  all_same : (one other : List Formula) (ids : List NodeId) → Alike one other (numbers_of first ids)
+      → AllOf (λ id. so_far old first one id ≡ so_far old first other id) ids
   all_same one other [] same = tt
-  all_same one other (at ∷ places) same = (
-    place_same one other at (λ number is. same number (one_of_first number (numbers_at names at) _ is)),
-    all_same one other places (λ number is. same number (one_of_later number (numbers_at names at) _ is)),
+  all_same one other (id ∷ ids) same = (
+    node_same one other id (λ number is. same number (one_of_first number (number_at first id) _ is)),
+    all_same one other ids (λ number is. same number (one_of_later number (number_at first id) _ is)),
   )
 
-  all_signs_same : (one other : List Formula) (signs : List (Bool × Place))
-      → Same one other (numbers_of names (map (λ sign. sign.1) signs))
-      → AllOf (λ sign. so_far old first names one sign.1 ≡ so_far old first names other sign.1) signs
+  all_signs_same : (one other : List Formula) (signs : List (Bool × NodeId))
+      → Alike one other (numbers_of first (map (λ sign. sign.1) signs))
+      → AllOf (λ sign. so_far old first one sign.1 ≡ so_far old first other sign.1) signs
   all_signs_same one other [] same = tt
   all_signs_same one other (sign ∷ signs) same = (
-    place_same one other sign.1 (λ number is. same number (one_of_first number (numbers_at names sign.1) _ is)),
-    all_signs_same one other signs (λ number is. same number (one_of_later number (numbers_at names sign.1) _ is)),
+    node_same one other sign.1 (λ number is. same number (one_of_first number (number_at first sign.1) _ is)),
+    all_signs_same one other signs (λ number is. same number (one_of_later number (number_at first sign.1) _ is)),
   )
 
-  under_same : (one other : List Formula) (shape : Shape) → Same one other (numbers_under names shape)
-      → Under (λ at. so_far old first names one at ≡ so_far old first names other at) shape
-  under_same one other (Leaf is) same = tt
-  under_same one other (Pair left right) same = tt
-  under_same one other (Xml tag attributes content) same = tt
-  under_same one other (Record named rest) same = tt
-  under_same one other (Arrow argument result) same = tt
+  under_same : (one other : List Formula) (equation : Equation) → Alike one other (numbers_under first (Some equation))
+      → Under (λ id. so_far old first one id ≡ so_far old first other id) equation
+  under_same one other (Is is) same = tt
+  under_same one other (Same id) same = node_same one other id same
   under_same one other (And signs) same = all_signs_same one other signs same
-  under_same one other (Or places) same = all_same one other places same
-  under_same one other (Sequence regular places) same = tt
+  under_same one other (Or ids) same = all_same one other ids same
 
-  -- what has a number has the same formula where those of its row are the same
-  number_same : (one other : List Formula) (all : List Item) (number : ℕ)
-      → Same one other (row (map (numbers_in names) all) number)
-      → of_number old first names all one number ≡ of_number old first names all other number
-  number_same one other [] number same = refl
-  number_same one other (Root at ∷ all) zero same = place_same one other at same
-  number_same one other (Made shape ∷ all) zero same =
-      made_same (node_at first names) (so_far old first names one) (so_far old first names other) shape
-      (under_same one other shape same)
-  number_same one other (item ∷ all) (suc number) same = number_same one other all number same
+  -- the formula of another number stays, and that of a number without an equation
+  kept_by : (formulas : List Formula) (number other : ℕ) (equation : Option Equation) → (number ≡ other → ⊥)
+      → formula_at formulas (node other) ≡ formula_at (with_made old first formulas number equation) (node other)
+  kept_by formulas number other None apart = refl
+  kept_by formulas number other (Some equation) apart = sym (elsewhere formulas number other _ apart)
 
-  module _ (all : List Item) where
+  made_length : (formulas : List Formula) (number : ℕ) (equation : Option Equation)
+      → length (with_made old first formulas number equation) ≡ length formulas
+  made_length formulas number None = refl
+  made_length formulas number (Some equation) = length-set formulas number _
+
+  module _ (all : Equations) where
     -- each of these numbers has its formula, which is made of formulas of these numbers
     record Settled (done : List ℕ) (formulas : List Formula) : Type 0 where
-      is : (number : ℕ) → IsOneOf number done
-          → formula_at formulas (node number) ≡ of_number old first names all formulas number
-      closed : (number : ℕ) → IsOneOf number done → (next : ℕ) → IsOneOf next (row (map (numbers_in names) all) number)
+      is : (number : ℕ) → IsOneOf number done → (equation : Equation) → found all number ≡ Some equation
+          → formula_at formulas (node number) ≡ made (so_far old first formulas) equation
+      closed : (number : ℕ) → IsOneOf number done → (next : ℕ) → IsOneOf next (row (links first all) number)
           → IsOneOf next done
 
     -- one more number is settled
     module _ (done : List ℕ) (number : ℕ) (formulas : List Formula) (settled : Settled done formulas)
         (new : IsOneOf number done → ⊥)
-        (known : order.AllOf (λ next. IsOneOf next done) (row (map (numbers_in names) all) number))
+        (known : order.AllOf (λ next. IsOneOf next done) (row (links first all) number))
         (below : number < length formulas) where
-      kept : (other : ℕ) → IsOneOf other done
-          → formula_at formulas (node other)
-          ≡ formula_at (set formulas number (of_number old first names all formulas number)) (node other)
-      kept other one = sym (elsewhere formulas number other _
-          (λ same. new (subst (λ (n : ℕ). IsOneOf n done) (sym same) one)))
+      abbrev after : List Formula
+      after = with_made old first formulas number (found all number)
 
-      of_kept : (other : ℕ)
-          → ((next : ℕ) → IsOneOf next (row (map (numbers_in names) all) other) → IsOneOf next done)
-          → of_number old first names all formulas other
-          ≡ of_number old first names all (set formulas number (of_number old first names all formulas number)) other
-      of_kept other inside = number_same formulas _ all other (λ next one. kept next (inside next one))
+      kept : (other : ℕ) → IsOneOf other done → formula_at formulas (node other) ≡ formula_at after (node other)
+      kept other one = kept_by formulas number other (found all number)
+          (λ same. new (subst (λ (n : ℕ). IsOneOf n done) (sym same) one))
 
-      is_now : (other : ℕ) → IsOneOf other done ⊎ (number ≡ other)
-          → formula_at (set formulas number (of_number old first names all formulas number)) (node other)
-          ≡ of_number old first names all (set formulas number (of_number old first names all formulas number)) other
-      is_now other (inl one) = sym (kept other one) ∙ settled.is other one ∙ of_kept other (settled.closed other one)
-      is_now other (inr same) = subst (λ (other : ℕ).
-          formula_at (set formulas number (of_number old first names all formulas number)) (node other)
-          ≡ of_number old first names all (set formulas number (of_number old first names all formulas number)) other) same
-          (there formulas number _ below
-          ∙ of_kept number (λ next one. each_one (λ next. IsOneOf next done) _ next known one))
+      of_kept : (other : ℕ) (equation : Equation) → found all other ≡ Some equation
+          → ((next : ℕ) → IsOneOf next (row (links first all) other) → IsOneOf next done)
+          → made (so_far old first formulas) equation ≡ made (so_far old first after) equation
+      of_kept other equation at inside =
+          made_same (so_far old first formulas) (so_far old first after) equation
+          (under_same formulas after equation (λ next one. kept next (inside next
+          (subst (IsOneOf next) (sym (row_of_found first all other ∙ ap (numbers_under first) at)) one))))
+
+      put_now : (equation : Equation) → found all number ≡ Some equation
+          → formula_at after (node number) ≡ made (so_far old first formulas) equation
+      put_now equation at =
+          ap (λ (found : Option Equation). formula_at (with_made old first formulas number found) (node number)) at
+          ∙ there formulas number _ below
+
+      is_now : (other : ℕ) → IsOneOf other done ⊎ (number ≡ other) → (equation : Equation)
+          → found all other ≡ Some equation
+          → formula_at after (node other) ≡ made (so_far old first after) equation
+      is_now other (inl one) equation at =
+          sym (kept other one) ∙ settled.is other one equation at ∙ of_kept other equation at (settled.closed other one)
+      is_now other (inr same) equation at = subst (λ (other : ℕ).
+          formula_at after (node other) ≡ made (so_far old first after) equation) same
+          (put_now equation here
+          ∙ of_kept number equation here (λ next one. each_at (λ next. IsOneOf next done) _ next known one))
+        where
+          here : found all number ≡ Some equation
+          here = ap (found all) same ∙ at
 
       closed_now : (other : ℕ) → IsOneOf other done ⊎ (number ≡ other) → (next : ℕ)
-          → IsOneOf next (row (map (numbers_in names) all) other) → IsOneOf next done
+          → IsOneOf next (row (links first all) other) → IsOneOf next done
       closed_now other (inl one) next is = settled.closed other one next is
-      closed_now other (inr same) next is = each_one (λ next. IsOneOf next done)
-          (row (map (numbers_in names) all) number) next known
-          (subst (λ (other : ℕ). IsOneOf next (row (map (numbers_in names) all) other)) (sym same) is)
+      closed_now other (inr same) next is = each_at (λ next. IsOneOf next done)
+          (row (links first all) number) next known
+          (subst (λ (other : ℕ). IsOneOf next (row (links first all) other)) (sym same) is)
 
-      one_more : Settled (done ++ number ∷ []) (set formulas number (of_number old first names all formulas number))
+      one_more : Settled (done ++ number ∷ []) after
       one_more = record {
-        is = λ other one. is_now other (one_of_both other number done one);
+        is = λ other one equation at. is_now other (one_of_more done number other one) equation at;
         closed = λ other one next is. one_of_first next done (number ∷ [])
-            (closed_now other (one_of_both other number done one) next is);
+            (closed_now other (one_of_more done number other one) next is);
       }
 
-    settles : (done left : List ℕ) (formulas : List Formula) → ComeAfter (map (numbers_in names) all) done left
+    settles : (done left : List ℕ) (formulas : List Formula) → ComeAfter (links first all) done left
         → order.AllOf (λ number. number < length formulas) left → Settled done formulas
-        → Settled (done ++ left) (filled old first names all left formulas)
-    settles done [] formulas after known settled = rw append-nil settled
-    settles done (number ∷ left) formulas after known settled =
-        subst (λ (all_done : List ℕ). Settled all_done (filled old first names all (number ∷ left) formulas))
+        → Settled (done ++ left) (filled old first all left formulas)
+    settles done [] formulas later known settled = rw append-nil settled
+    settles done (number ∷ left) formulas later known settled =
+        subst (λ (all_done : List ℕ). Settled all_done (filled old first all (number ∷ left) formulas))
         (append_assoc done (number ∷ []) left)
-        (settles (done ++ number ∷ []) left _ after.2
-        (rw length-set known.1)
-        (one_more done number formulas settled after.0 after.1 known.0))
+        (settles (done ++ number ∷ []) left _ later.2
+        (subst (λ (count : ℕ). order.AllOf (λ number. number < count) left)
+        (sym (made_length formulas number (found all number))) known.1)
+        (one_more done number formulas settled later.0 later.1 known.0))
 
-    -- after all numbers of an order each has its formula
-    pub all_settled : (left : List ℕ) (formulas : List Formula) → ComeAfter (map (numbers_in names) all) [] left
+    -- after all numbers of an order each that has an equation has its formula
+    pub all_settled : (left : List ℕ) (formulas : List Formula) → ComeAfter (links first all) [] left
         → order.AllOf (λ number. number < length formulas) left → (number : ℕ) → IsOneOf number left
-        → formula_at (filled old first names all left formulas) (node number)
-        ≡ of_number old first names all (filled old first names all left formulas) number
-    all_settled left formulas after known number one =
-        let start : Settled [] formulas = record { is = λ number one. absurd one; closed = λ number one. absurd one } in
-        (settles [] left formulas after known start).is number one
+        → (equation : Equation) → found all number ≡ Some equation
+        → formula_at (filled old first all left formulas) (node number)
+        ≡ made (so_far old first (filled old first all left formulas)) equation
+    all_settled left formulas later known number one equation at =
+        let start : Settled [] formulas = record {
+          is = λ number one equation at. absurd one;
+          closed = λ number one. absurd one;
+        } in
+        (settles [] left formulas later known start).is number one equation at
+
+    -- and each that has none has what it had
+    pub all_kept : (left : List ℕ) (formulas : List Formula) (number : ℕ) → found all number ≡ None
+        → formula_at (filled old first all left formulas) (node number) ≡ formula_at formulas (node number)
+    all_kept [] formulas number none = refl
+    all_kept (other ∷ left) formulas number none =
+        all_kept left (with_made old first formulas other (found all other)) number none
+        ∙ sym (by_number (cases_eq other number))
+      where
+        by_number : (other ≡ number) ⊎ (other ≡ number → ⊥)
+            → formula_at formulas (node number)
+            ≡ formula_at (with_made old first formulas other (found all other)) (node number)
+        by_number (inl same) =
+            ap (λ (found : Option Equation). formula_at (with_made old first formulas other found) (node number)) (sym (ap (found all) same ∙ none))
+        by_number (inr apart) = kept_by formulas other number (found all other) apart
 
     pub filled_length : (left : List ℕ) (formulas : List Formula)
-        → length (filled old first names all left formulas) ≡ length formulas
+        → length (filled old first all left formulas) ≡ length formulas
     filled_length [] formulas = refl
-    filled_length (number ∷ left) formulas = filled_length left _ ∙ length-set formulas number _
+    filled_length (number ∷ left) formulas =
+        filled_length left (with_made old first formulas number (found all number))
+        ∙ made_length formulas number (found all number)

@@ -3,7 +3,7 @@ use Rattle.std.proofs.Common.{◌≡◌, ℕ, ◌+◌, ◌<◌, ◌⊎◌, inl, 
 use Rattle.std.proofs.lemmas.List.{length-set}
 use Rattle.std.specs.List.{slice_get}
 use Rattle.cd_resolve.specs.declared.search.Frame.{Frame}
-use Rattle.cd_resolve.specs.Order.{IsOneOf, row, AreRows, Ends, IsOrder}
+use Rattle.cd_resolve.specs.Inner.Order.{IsOneOf, row, AreRows, Ends, IsOrder}
 use Rattle.cd_resolve.specs.Inner.Search.{IsSeen, IsOpen, AreKept, AllSeen, Leads, AllLead, AreOpen, IsSound}
 use Rattle.cd_resolve.proofs.Lists.{each_at, each_weaker, each_more, each_taken, each_to_end, one_at, one_in_front, one_at_last, one_of_more, come_after_more}
 use Rattle.cd_resolve.proofs.Ways.{leads_to, no_way_back, all_lead_on, open_leads}

@@ -1,7 +1,7 @@
 -- Ways from number to number, of which none leads back where all ways end.
 use Rattle.std.proofs.Common.{ℕ, zero, suc, ◌<◌, inl, inr, List, [], ◌∷◌, subst, arith}
 use Rattle.cd_resolve.specs.declared.search.Frame.{Frame}
-use Rattle.cd_resolve.specs.Order.{IsOneOf, row, IsShort, Ends}
+use Rattle.cd_resolve.specs.Inner.Order.{IsOneOf, row, IsShort, Ends}
 use Rattle.cd_resolve.specs.Inner.Search.{IsOpen, Leads, AllLead}
 use Rattle.cd_resolve.proofs.Lists.{each_at}
 

@@ -1,4 +1,4 @@
-pub mod Order
-pub mod Free
+pub mod Faults
+pub mod Errors
 pub mod Named
 pub mod Inner

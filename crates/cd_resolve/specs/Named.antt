@@ -1,15 +1,43 @@
 -- Names whose nodes stand for what a list of declarations says of them.
-use Rattle.std.specs.Prelude.{◌≡◌, ℕ, ◌+◌, [], ◌∷◌, List, Option, Some, None}
+use Rattle.std.specs.Prelude.{ℕ, ◌+◌, [], ◌∷◌, Option, Some, None, bytes_eq}
+use Rattle.std.specs.Prelude.{if◌then◌else◌}
+use Rattle.std.specs.Option.{option_map}
 use Rattle.cd_sets.specs.declared.node_id.NodeId.{NodeId}
 use Rattle.cd_syntax.specs.Name.{Name}
 use Rattle.cd_syntax.specs.TypeTree.{Tree, tree, Named, Declarations, NoDeclaration, ADeclaration}
+use Rattle.cd_syntax.specs.PlainTree.{plain_declarations}
 use Rattle.cd_model.specs.BuiltIns.{node}
-use Rattle.cd_model.specs.AllOf.{AllOf}
 use Rattle.cd_model.specs.Formula.{Graph}
 use Rattle.cd_model.specs.Scope.{tree_in}
 use Rattle.cd_model.specs.StandsFor.{StandsFor}
 use Rattle.cd_model.specs.Written.{Written}
-use Rattle.cd_shapes.specs.Names.{node_of}
+use Rattle.cd_resolve.specs.declared.names.Names.{Names as CodeNames}
+
+-- the names of a list of declarations, whose nodes follow one another from this number on
+pub record Names : Type 0 where
+  pub declarations : Declarations
+  pub first : ℕ
+
+-- those of the code
+abbrev pub plain_names : CodeNames → Names
+plain_names names = record {
+  declarations = plain_declarations names.frame.declarations.now;
+  first = names.frame.first;
+}
+
+-- what they declare
+abbrev pub declared_by : CodeNames → Declarations
+declared_by names = plain_declarations names.frame.declarations.now
+
+-- the place of a name in a list, of the first that is this one
+abbrev pub index_in : Declarations → Name → Option ℕ
+index_in NoDeclaration name = None
+index_in (ADeclaration other at is rest) name =
+    if bytes_eq other name then Some 0 else option_map (λ index. index + 1) (index_in rest name)
+
+abbrev pub node_of : Names → Name → Option NodeId
+node_of names name =
+    option_map (λ index. node (names.first + index)) (index_in names.declarations name)
 
 -- the type that a name writes under a list of declarations
 abbrev pub type_named : Declarations → Name → Written
@@ -25,17 +53,6 @@ IsNamed graph declarations name (Some is) (Some id) =
     StandsFor graph id (type_named declarations name)
 IsNamed graph declarations name _ _ = ⊥
 
-abbrev pub AreNamed : Graph → Declarations → List (Name × NodeId) → Type 0
-AreNamed graph declarations names = (name : Name)
-    → IsNamed graph declarations name (tree_in declarations name) (node_of names name)
-
--- each of these names has a node, which stands for what the list says of it
-abbrev pub AreKnown : Graph → Declarations → List (Name × NodeId) → List Name → Type 0
-AreKnown graph declarations names used =
-    AllOf (λ name. (id : NodeId) × (node_of names name ≡ Some id)
-    × StandsFor graph id (type_named declarations name)) used
-
--- the declared names with nodes that follow one another
-abbrev pub numbered : ℕ → Declarations → List (Name × NodeId)
-numbered first NoDeclaration = []
-numbered first (ADeclaration name at is rest) = (name, node first) ∷ numbered (first + 1) rest
+pub record AreNamed (graph : Graph) (names : Names) : Type 0 where
+  pub each : (name : Name)
+      → IsNamed graph names.declarations name (tree_in names.declarations name) (node_of names name)

@@ -1,15 +1,39 @@
-//! Nodes that stand for written types.
+//! Nodes that stand for written types, or the naming fault of a type.
 #![tactic(auto)]
 
-mod close;
-mod counts;
+mod base;
+mod compare;
+mod cycle;
+mod declarations;
+mod declare;
+mod equation;
+pub mod error;
+pub mod fault;
+mod found;
+mod frame;
+mod key;
 pub mod laws;
-mod make;
+mod least;
+mod leaves;
+mod links;
+mod lookup;
+mod members;
+mod name_index;
+mod names;
+mod order;
 mod ordering;
-mod rows;
+mod ranks;
+mod read;
+mod record;
+mod scope;
 mod search;
-mod sequences;
+mod sequence;
+mod solve;
+mod sort;
+mod state;
+mod taken;
 mod types;
+mod walk;
 
-pub use cd_shapes::names::Names;
+pub use names::Names;
 pub use types::{Batch, TypeBatch, resolve, resolve_type, resolve_type_from};

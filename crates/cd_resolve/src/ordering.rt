@@ -1,6 +1,6 @@
 //! Numbers in an order in which each comes after those that it leads to.
 ghost use Rattle.std.specs.Prelude.{ℕ, ◌<◌, map, length, IfOk};
-ghost use Rattle.cd_resolve.specs.Order.{AreRows, Ends, IsOrder};
+ghost use Rattle.cd_resolve.specs.Inner.Order.{AreRows, Ends, IsOrder};
 
 use crate::search::Search;
 use std::alloc::{AllocError, Global};

@@ -2,7 +2,7 @@
 ghost use Rattle.std.specs.Prelude.{◌≡◌, ℕ, ◌+◌, ◌^◌, ◌<◌, [], ◌∷◌, map, length, reverse};
 ghost use Rattle.std.specs.Prelude.{replicate, slice_set, true, false, Some, None, IfOk, IfSome};
 ghost use Rattle.std.specs.List.{slice_get};
-ghost use Rattle.cd_resolve.specs.Order.{AreRows, Ends, row};
+ghost use Rattle.cd_resolve.specs.Inner.Order.{AreRows, Ends, row};
 ghost use Rattle.cd_resolve.specs.Inner.Search.{IsSeen, AreKept, IsSound, steps};
 
 use std::alloc::{AllocError, Global};

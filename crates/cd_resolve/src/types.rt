@@ -1,7 +1,7 @@
 //! Nodes of written types.
-ghost use Rattle.std.specs.Prelude.{◌≡◌, ℕ, ◌+◌, ◌≤◌, ◌++◌, [], ◌∷◌, length, IfOk};
+ghost use Rattle.std.specs.Prelude.{◌≡◌, ◌+◌, ◌≤◌, ◌++◌, [], ◌∷◌, length, IfOk, OnOk};
+ghost use Rattle.std.specs.Prelude.{IfErr};
 ghost use Rattle.cd_syntax.specs.PlainTree.{plain, plain_declarations};
-ghost use Rattle.cd_syntax.specs.TypeTree.{Declarations as PlainDeclarations};
 ghost use Rattle.cd_syntax.specs.WellMade.{IsWellMade, AreWellMadeDeclarations};
 ghost use Rattle.cd_model.specs.AllOf.{AllOf};
 ghost use Rattle.cd_model.specs.BuiltIns.{built_ins};
@@ -9,28 +9,26 @@ ghost use Rattle.cd_model.specs.Formula.{Graph as PlainGraph, IsFormula};
 ghost use Rattle.cd_model.specs.StandsFor.{StandsFor};
 ghost use Rattle.cd_graph.specs.Nodes.{nodes};
 ghost use Rattle.cd_graph.specs.PlainFormula.{plain_list};
-ghost use Rattle.cd_names.specs.Faults.{Fault, IsFault, IsFaultOfList};
-ghost use Rattle.cd_shapes.specs.Reading.{AreBelow};
-ghost use Rattle.cd_resolve.specs.Free.{free_names};
-ghost use Rattle.cd_resolve.specs.Named.{AreKnown, AreNamed, numbered};
+ghost use Rattle.cd_resolve.specs.Faults.{Fault, IsFaultOfType, IsFaultOfDeclarations};
+ghost use Rattle.cd_resolve.specs.Errors.{IsToldError};
+ghost use Rattle.cd_resolve.specs.Named.{AreNamed, plain_names, declared_by};
 
-use crate::close::close;
-use crate::counts::Counts;
-use crate::make::node_of;
+use crate::error::NameError;
+use crate::names::Names;
+use crate::read::{read_declarations, read_type};
+use crate::solve::solve;
 use cd_graph::{Formulas, Graph};
 use cd_sets::node_id::NodeId;
-use cd_shapes::names::Names;
-use cd_shapes::read::{read_declarations, read_tree};
 use cd_syntax::type_tree::{Declarations, Tree};
-use std::alloc::{AllocError, Global};
+use std::alloc::Global;
 
-/// Formulas to be put after those of a graph, and the node of each declared name.
+/// Formulas to be put after those of a graph, and the nodes of the declared names.
 #[derive(Drop)]
-pub struct Batch {
+pub struct Batch<'t> {
     /// The formulas.
     pub formulas: Formulas,
-    /// The names, in the order of their declarations.
-    pub names: Names,
+    /// The names.
+    pub names: Names<'t>,
 }
 
 /// Formulas to be put after those of a graph, and the node of a type.
@@ -44,80 +42,69 @@ pub struct TypeBatch {
 
 /// Nodes for type declarations, which see one another and no others.
 ///
-/// The declarations are well made and no naming fault stands in them. Where the formulas are put
-/// after those of a graph of `first` nodes that begins with the built-in ones, the node of each
-/// name stands for its type.
+/// The declarations are well made. Where the formulas are put after those of a graph of `first`
+/// nodes that begins with the built-in ones, the node of each name stands for its type.
 ///
 /// # Errors
 ///
-/// Want of memory.
-pub fn resolve(alloc: Global, first: usize, declared: &Declarations) -> Result<Batch, AllocError>
+/// Of all naming faults of the declarations the one with the least place, at one place in the order
+/// of `NameFault`; or want of memory.
+pub fn resolve<'t>(
+    alloc: Global,
+    first: usize,
+    declared: &'t Declarations,
+) -> Result<Batch<'t>, NameError>
     requires well_made { AreWellMadeDeclarations (plain_declarations declared.now) }
-    requires sound { (fault : Fault)
-        → IsFaultOfList [] (plain_declarations declared.now ∷ [])
-        (plain_declarations declared.now) fault → ⊥ }
     requires built_ins { 14 ≤ first }
+    ensures sound { OnOk result ((fault : Fault)
+        → IsFaultOfDeclarations (plain_declarations declared.now) fault → ⊥) }
+    ensures fault { IfErr result
+        (λ error. IsToldError (IsFaultOfDeclarations (plain_declarations declared.now)) error) }
     ensures formulas { IfOk result
         (λ batch. AllOf (IsFormula (first + length (plain_list batch.formulas)))
         (plain_list batch.formulas)) }
-    ensures names { IfOk result
-        (λ batch. batch.names ≡ numbered first (plain_declarations declared.now)) }
+    ensures names { IfOk result (λ batch. plain_names batch.names
+        ≡ record { declarations = plain_declarations declared.now; first = first }) }
     ensures stand { IfOk result
         (λ batch. (graph : PlainGraph) → length graph ≡ first
         → ((more : PlainGraph) × (graph ≡ built_ins ++ more))
-        → AreNamed (graph ++ plain_list batch.formulas)
-        (plain_declarations declared.now) batch.names) }
+        → AreNamed (graph ++ plain_list batch.formulas) (plain_names batch.names)) }
 {
-    let tables = read_declarations(alloc, declared)?;
-    let formulas = close(alloc, &Graph::new(alloc)?, first, tables)?;
-    let names = numbered_from(alloc, first, declared)?;
+    let (equations, names) = read_declarations(alloc, first, declared)?;
+    let formulas = solve(alloc, &Graph::new(alloc)?, first, equations)?;
     Ok(Batch { formulas, names })
 }
 
-// The names of declarations, with nodes that follow one another.
-fn numbered_from(alloc: Global, first: usize, declared: &Declarations) -> Result<Names, AllocError>
-    ensures { IfOk result (λ names. names ≡ numbered first (plain_declarations declared.now)) }
-{
-    let mut items = Vec::new(alloc);
-    let mut number = first;
-    for declaration in declared.items() {
-        items.push((declaration.name.copy()?, NodeId(number)))?;
-        // No graph is so long.
-        number = number.checked_add(1).ok_or(AllocError)?;
-    }
-    Ok(Names::of(items))
-}
-
-/// A node, for this graph, of a type that sees the declarations whose names have these nodes.
+/// A node, for this graph, of a type that sees declared names.
 ///
-/// The type is well made, and no naming fault stands in it nor in the declarations. Each name that
-/// occurs in it and that no `where` declares there has a node in `names`, which stands for what
-/// `declared` says of it; all nodes in `names` are nodes of the graph. Where the formulas are put
-/// after those of the graph, the root stands for the type.
+/// The type is well made, no naming fault stands in the declarations, and the nodes of their names
+/// stand for what they declare. Where the formulas are put after those of the graph, the root
+/// stands for the type.
 ///
 /// # Errors
 ///
-/// Want of memory.
+/// Of all naming faults of the type the one with the least place, at one place in the order of
+/// `NameFault`; or want of memory. Faults of the declarations are not told here.
 pub fn resolve_type(
     alloc: Global,
     graph: &Graph,
-    names: &Names,
+    names: &Names<'_>,
     tree: &Tree,
-) -> Result<TypeBatch, AllocError>
-    ghost declared: { PlainDeclarations }
+) -> Result<TypeBatch, NameError>
     requires well_made { IsWellMade (plain tree.now) }
-    requires sound_names { (fault : Fault) → IsFaultOfList [] (declared ∷ []) declared fault → ⊥ }
-    requires sound { (fault : Fault)
-        → IsFault (declared ∷ []) (declared ∷ []) (plain tree.now) fault → ⊥ }
-    requires known { AreKnown (nodes graph.now) declared names.now
-        (free_names [] (plain tree.now)) }
-    requires below { AreBelow (length (nodes graph.now)) names.now }
+    requires names_sound { (fault : Fault) → IsFaultOfDeclarations (declared_by names.now) fault
+        → ⊥ }
+    requires named { AreNamed (nodes graph.now) (plain_names names.now) }
+    ensures sound { OnOk result ((fault : Fault)
+        → IsFaultOfType (declared_by names.now) (plain tree.now) fault → ⊥) }
+    ensures fault { IfErr result
+        (λ error. IsToldError (IsFaultOfType (declared_by names.now) (plain tree.now)) error) }
     ensures formulas { IfOk result (λ batch.
         AllOf (IsFormula (length (nodes graph.now) + length (plain_list batch.formulas)))
         (plain_list batch.formulas)) }
     ensures stands { IfOk result (λ batch.
         StandsFor (nodes graph.now ++ plain_list batch.formulas) batch.root
-        (record { scope = declared ∷ []; tree = plain tree.now })) }
+        (record { scope = declared_by names.now ∷ []; tree = plain tree.now })) }
 {
     let first = graph.len();
     resolve_type_from(alloc, graph, first, names, tree)
@@ -131,40 +118,33 @@ pub fn resolve_type(
 ///
 /// # Errors
 ///
-/// Want of memory.
+/// As of [`resolve_type`].
 pub fn resolve_type_from(
     alloc: Global,
     graph: &Graph,
     first: usize,
-    names: &Names,
+    names: &Names<'_>,
     tree: &Tree,
-) -> Result<TypeBatch, AllocError>
-    ghost declared: { PlainDeclarations }
+) -> Result<TypeBatch, NameError>
     requires well_made { IsWellMade (plain tree.now) }
-    requires sound_names { (fault : Fault) → IsFaultOfList [] (declared ∷ []) declared fault → ⊥ }
-    requires sound { (fault : Fault)
-        → IsFault (declared ∷ []) (declared ∷ []) (plain tree.now) fault → ⊥ }
-    requires known { AreKnown (nodes graph.now) declared names.now
-        (free_names [] (plain tree.now)) }
-    requires below { AreBelow (length (nodes graph.now)) names.now }
+    requires names_sound { (fault : Fault) → IsFaultOfDeclarations (declared_by names.now) fault
+        → ⊥ }
+    requires named { AreNamed (nodes graph.now) (plain_names names.now) }
     requires first { length (nodes graph.now) ≤ first }
+    ensures sound { OnOk result ((fault : Fault)
+        → IsFaultOfType (declared_by names.now) (plain tree.now) fault → ⊥) }
+    ensures fault { IfErr result
+        (λ error. IsToldError (IsFaultOfType (declared_by names.now) (plain tree.now)) error) }
     ensures formulas { IfOk result (λ batch.
         AllOf (IsFormula (first + length (plain_list batch.formulas)))
         (plain_list batch.formulas)) }
     ensures stands { IfOk result (λ batch.
         (more : PlainGraph) → length (nodes graph.now ++ more) ≡ first
         → StandsFor (nodes graph.now ++ more ++ plain_list batch.formulas) batch.root
-        (record { scope = declared ∷ []; tree = plain tree.now })) }
+        (record { scope = declared_by names.now ∷ []; tree = plain tree.now })) }
 {
-    let (tables, place) = read_tree(alloc, names, tree)?;
-    let nodes = graph.len();
-    let counts = Counts {
-        nodes,
-        before: first,
-        names: tables.roots.len(),
-        shapes: tables.shapes.len(),
-    };
-    let formulas = close(alloc, graph, first, tables)?;
-    let root = node_of(counts, place);
+    graph.knows();
+    let (equations, root) = read_type(alloc, first, names, tree)?;
+    let formulas = solve(alloc, graph, first, equations)?;
     Ok(TypeBatch { formulas, root })
 }

@@ -1,26 +1,25 @@
--- Which formulas are copied into which, by the numbers of names and shapes.
-use Rattle.std.specs.Prelude.{ℕ, ◌+◌, List, [], ◌∷◌, ◌++◌, map, length}
-use Rattle.cd_shapes.specs.declared.place.Place.{Place}
-use Rattle.cd_shapes.specs.declared.place.Place.TheVariants as place
-use Rattle.cd_shapes.specs.Shape.{Shape, And, Or}
-use Rattle.cd_shapes.specs.Shaped.{Tables}
+-- Which formulas are copied into which, by the numbers of equations.
+use Rattle.std.specs.Prelude.{ℕ, ◌-◌, List, [], ◌∷◌, ◌++◌, map, Option, Some, nat_le}
+use Rattle.std.specs.Prelude.{if◌then◌else◌}
+use Rattle.cd_sets.specs.declared.node_id.NodeId.{NodeId}
+use Rattle.cd_resolve.specs.Inner.Equation.{Equation, Equations, Same, And, Or}
 
--- the number of a place, if it is no node; names come first, and then shapes
-abbrev pub numbers_at : (names : ℕ) → Place → List ℕ
-numbers_at names (place.Node id) = []
-numbers_at names (place.Declared list index) = (list + index) ∷ []
-numbers_at names (place.Shape number) = (names + number) ∷ []
+-- The first equation is that of the node of this number
+module _ (first : ℕ) where
+  -- the number of a node's equation, if it has one
+  abbrev pub number_at : NodeId → List ℕ
+  number_at id = if nat_le first id.0 then (id.0 - first) ∷ [] else []
 
-abbrev pub numbers_of : (names : ℕ) → List Place → List ℕ
-numbers_of names [] = []
-numbers_of names (at ∷ places) = numbers_at names at ++ numbers_of names places
+  abbrev pub numbers_of : List NodeId → List ℕ
+  numbers_of [] = []
+  numbers_of (id ∷ ids) = number_at id ++ numbers_of ids
 
--- those that a connective stands over; a constructor names nodes alone
-abbrev pub numbers_under : (names : ℕ) → Shape → List ℕ
-numbers_under names (And signs) = numbers_of names (map (λ sign. sign.1) signs)
-numbers_under names (Or places) = numbers_of names places
-numbers_under names shape = []
+  -- those that a connective or a name stands over; a formula names nodes alone
+  abbrev pub numbers_under : Option Equation → List ℕ
+  numbers_under (Some (Same id)) = number_at id
+  numbers_under (Some (And signs)) = numbers_of (map (λ sign. sign.1) signs)
+  numbers_under (Some (Or ids)) = numbers_of ids
+  numbers_under equation = []
 
-abbrev pub links : Tables → List (List ℕ)
-links tables = map (numbers_at (length tables.roots)) tables.roots
-    ++ map (numbers_under (length tables.roots)) tables.shapes
+  abbrev pub links : Equations → List (List ℕ)
+  links equations = map numbers_under equations

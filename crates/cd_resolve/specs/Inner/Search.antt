@@ -2,7 +2,7 @@
 use Rattle.std.specs.Prelude.{◌≡◌, ℕ, ◌+◌, ◌-◌, ◌<◌, Bool, true, false, List, [], ◌∷◌, length, ◌⊎◌}
 use Rattle.std.specs.Prelude.{take, slice_index_or}
 use Rattle.cd_resolve.specs.declared.search.Frame.{Frame}
-use Rattle.cd_resolve.specs.Order.{AllOf, IsOneOf, row, IsShort, ComeAfter}
+use Rattle.cd_resolve.specs.Inner.Order.{AllOf, IsOneOf, row, IsShort, ComeAfter}
 
 -- the number is seen
 abbrev pub IsSeen : List Bool → ℕ → Type 0

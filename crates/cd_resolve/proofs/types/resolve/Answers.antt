@@ -1,24 +1,50 @@
-use Rattle.std.proofs.Common.{sym, subst, ◌++◌}
+use Rattle.std.proofs.Common.{◌++◌, length, sym, subst, ap, arith}
+use Rattle.std.proofs.lemmas.List.{length-map}
+use Rattle.std.specs.Option.{option_map}
 use Rattle.cd_syntax.specs.PlainTree.{plain_declarations}
 use Rattle.cd_graph.specs.PlainFormula.{plain_list}
 use Rattle.cd_model.specs.BuiltIns.{built_ins}
-use Rattle.cd_shapes.specs.PlainTables.{plain_tables}
-use Rattle.cd_resolve.specs.Inner.Closing.{AgreesWith}
-use Rattle.cd_resolve.specs.Named.{AreNamed}
-use Rattle.cd_resolve.proofs.Resolving.{declarations_end, declarations_stand, begins_agree}
+use Rattle.cd_model.specs.Formula.{Graph}
+use Rattle.cd_resolve.specs.Named.{Names, AreNamed}
+use Rattle.cd_resolve.specs.Inner.Equation.{Equations, plain_equation, plain_equations}
+use Rattle.cd_resolve.specs.Inner.Links.{links}
+use Rattle.cd_resolve.specs.Inner.Order.{Ends}
+use Rattle.cd_resolve.specs.Inner.Solves.{AreEquations, AgreesWith, Solves}
+use Rattle.cd_resolve.proofs.Resolving.{declarations_bounds, declarations_end, declarations_stand, begins_agree}
 use Rattle.cd_resolve.proofs.types.resolve.Goals as goal
 
-pub close-requires-clause-ends : goal.close-requires-clause-ends
-close-requires-clause-ends c = declarations_end (plain_declarations c.args.declared.now) c.requires.sound
-    c.in_ok-tables.ensures.read.0 (plain_tables c.in_ok-tables.tables) c.in_ok-tables.ensures.read.1 c.args.first
-    c.in_ok-tables.ensures.sound
+pub solve-requires-clause-sound : goal.solve-requires-clause-sound
+solve-requires-clause-sound c =
+    subst (λ (old : Graph). AreEquations (length old) c.args.first (plain_equations c.in_ok-equations.equations.items))
+    (sym c.in_ok-new.ensures)
+    (subst (λ (equations : Equations). AreEquations 14 c.args.first equations) (sym c.in_ok-equations.ensures.equations)
+    (declarations_bounds (plain_declarations c.args.declared.now) c.in_ok-equations.ensures.sound c.args.first
+    c.requires.built_ins c.requires.well_made))
+
+pub solve-requires-clause-ends : goal.solve-requires-clause-ends
+solve-requires-clause-ends c = λ number less.
+    subst (λ (equations : Equations). Ends (links c.args.first equations) number) (sym c.in_ok-equations.ensures.equations)
+    (declarations_end (plain_declarations c.args.declared.now) c.in_ok-equations.ensures.sound c.args.first
+    c.requires.built_ins number
+    (omega (
+      arith,
+      less,
+      length-map c.in_ok-equations.equations.items (option_map plain_equation),
+      ap length c.in_ok-equations.ensures.equations,
+    )))
 
 pub returns-clause-stand : goal.returns-clause-stand
-returns-clause-stand c = λ graph long begins. subst
-    (AreNamed (graph ++ plain_list c.in_ok-formulas.formulas) (plain_declarations c.args.declared.now))
-    (sym c.in_ok-names.ensures)
-    (declarations_stand (plain_declarations c.args.declared.now) c.requires.sound c.in_ok-tables.ensures.read.0
-    (plain_tables c.in_ok-tables.tables) c.in_ok-tables.ensures.read.1 c.args.first
-    graph (plain_list c.in_ok-formulas.formulas) long begins c.requires.built_ins c.in_ok-formulas.ensures.number
-    (c.in_ok-formulas.ensures.closes graph long
-    (subst (λ old. AgreesWith old graph) (sym c.in_ok-new.ensures) (begins_agree built_ins graph begins.0 begins.1))))
+returns-clause-stand c = λ graph long begins.
+    let batch = plain_list c.in_ok-formulas.formulas in
+    subst (λ (names : Names). AreNamed (graph ++ batch) names) (sym c.in_ok-equations.ensures.names)
+    (declarations_stand (plain_declarations c.args.declared.now) c.in_ok-equations.ensures.sound c.args.first
+    c.requires.built_ins graph batch long begins
+    (omega (
+      arith,
+      c.in_ok-formulas.ensures.number,
+      length-map c.in_ok-equations.equations.items (option_map plain_equation),
+      ap length c.in_ok-equations.ensures.equations,
+    ))
+    (subst (λ (equations : Equations). Solves (graph ++ batch) c.args.first equations) c.in_ok-equations.ensures.equations
+    (c.in_ok-formulas.ensures.solves graph long
+    (subst (λ (old : Graph). AgreesWith old graph) (sym c.in_ok-new.ensures) (begins_agree built_ins graph begins.0 begins.1)))))

@@ -5,12 +5,13 @@ use Rattle.cd_syntax.specs.PlainTree.{plain}
 use Rattle.cd_graph.specs.PlainFormula.{plain_list}
 use Rattle.cd_graph.specs.Nodes.{nodes}
 use Rattle.cd_model.specs.StandsFor.{StandsFor}
+use Rattle.cd_resolve.specs.Named.{declared_by}
 use Rattle.cd_resolve.proofs.types.resolve_type.Goals as goal
 
 -- the graph itself, with nothing put after it first
 pub returns-clause-stands : goal.returns-clause-stands
-returns-clause-stands g c = IfOk-weaker c.resolve_type_from.result _ _
+returns-clause-stands c = IfOk-weaker c.resolve_type_from.result _ _
     (λ batch stands. subst (λ graph. StandsFor (graph ++ plain_list batch.formulas) batch.root
-    (record { scope = g.declared ∷ []; tree = plain c.args.tree.now })) (append-nil (nodes c.args.graph.now))
+    (record { scope = declared_by c.args.names.now ∷ []; tree = plain c.args.tree.now })) (append-nil (nodes c.args.graph.now))
     (stands [] (ap length (append-nil (nodes c.args.graph.now)) ∙ sym c.len-first.ensures.count)))
     c.resolve_type_from.ensures.stands

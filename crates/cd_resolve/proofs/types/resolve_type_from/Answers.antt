@@ -1,49 +1,66 @@
-use Rattle.std.proofs.Common.{◌≡◌, ◌++◌, [], ◌∷◌, length, refl, rules, arith}
+use Rattle.std.proofs.Common.{◌++◌, [], ◌∷◌, length, refl, sym, subst, ap, arith}
 use Rattle.std.proofs.lemmas.List.{length-map}
+use Rattle.std.specs.Option.{option_map}
 use Rattle.cd_syntax.specs.PlainTree.{plain}
 use Rattle.cd_graph.specs.PlainFormula.{plain_list}
 use Rattle.cd_graph.specs.Nodes.{nodes}
-use Rattle.cd_shapes.specs.Shape.{plain_shape}
-use Rattle.cd_shapes.specs.PlainTables.{plain_tables}
-use Rattle.cd_resolve.specs.Inner.Closing.{node_at}
-use Rattle.cd_resolve.proofs.Resolving.{place_counted, type_ends, type_stands, begins_agree, begins_with}
+use Rattle.cd_model.specs.StandsFor.{StandsFor}
+use Rattle.cd_resolve.specs.Named.{plain_names, declared_by}
+use Rattle.cd_resolve.specs.Inner.Equation.{plain_equation}
+use Rattle.cd_resolve.specs.Inner.Links.{links}
+use Rattle.cd_resolve.specs.Inner.Order.{Ends}
+use Rattle.cd_resolve.specs.Inner.Solves.{AreEquations, Solves, IsNode}
+use Rattle.cd_resolve.specs.Inner.Walk.{Read, walked}
+use Rattle.cd_resolve.proofs.NodesNamed.{list_of}
+use Rattle.cd_resolve.proofs.Resolving.{type_bounds, type_ends, type_stands, begins_agree}
 use Rattle.cd_resolve.proofs.types.resolve_type_from.Goals as goal
+use Rattle.cd_resolve.proofs.types.resolve_type_from.Goals.{In_ok-equations}
 
-pub close-requires-clause-sound : goal.close-requires-clause-sound
-close-requires-clause-sound g c = (c.in_ok-tables.ensures.sound (length (nodes c.args.graph.now))
-    (begins_with (nodes c.args.graph.now) c.len-nodes.ensures.built_in)
-    c.requires.1.1.1.1.0).0
+abbrev read : In_ok-equations → Read
+read c = walked c.args.first (list_of (plain_names c.args.names.now)) [] (plain c.args.tree.now) []
 
-pub close-requires-clause-ends : goal.close-requires-clause-ends
-close-requires-clause-ends g c =
-    let bounds = c.in_ok-tables.ensures.sound (length (nodes c.args.graph.now))
-    (begins_with (nodes c.args.graph.now) c.len-nodes.ensures.built_in)
-    c.requires.1.1.1.1.0 in
-    type_ends g.declared c.requires.1.0 (plain c.args.tree.now) c.requires.1.1.0 (nodes c.args.graph.now)
-    c.len-nodes.ensures.sound c.len-nodes.ensures.built_in c.args.names.now c.requires.1.1.1.0
-    c.in_ok-tables.ensures.read.0 (plain_tables c.in_ok-tables.tables) c.in_ok-tables.place
-    (c.in_ok-tables.ensures.read.1 (g.declared ∷ [])) c.in_ok-tables.ensures.read.2 bounds.1 bounds.0
+-- the equations are bounded, and the type's node is one of them
+bounds : (c : In_ok-equations) → AreEquations (length (nodes c.args.graph.now)) c.args.first (read c).1
+    × IsNode (length (nodes c.args.graph.now)) c.args.first (length (read c).1) (read c).0
+bounds c = type_bounds (plain_names c.args.names.now) c.requires.names_sound (plain c.args.tree.now)
+    c.in_ok-equations.ensures.sound (nodes c.args.graph.now) c.knows.ensures.sound c.knows.ensures.built_in c.requires.named
+    c.args.first c.requires.first c.requires.well_made
 
-pub node_of-root-requires-clause-place : goal.node_of-root-requires-clause-place
-node_of-root-requires-clause-place g c =
-    let bounds = c.in_ok-tables.ensures.sound (length (nodes c.args.graph.now))
-    (begins_with (nodes c.args.graph.now) c.len-nodes.ensures.built_in)
-    c.requires.1.1.1.1.0 in
-    place_counted _ _ _ _ _ _ c.in_ok-tables.place c.len-nodes.ensures.count (search rules)
-    (omega (arith, length-map c.in_ok-tables.tables.shapes.items plain_shape)) bounds.1
+pub solve-requires-clause-sound : goal.solve-requires-clause-sound
+solve-requires-clause-sound c =
+    subst (λ (read : Read). AreEquations (length (nodes c.args.graph.now)) c.args.first read.1)
+    (sym c.in_ok-equations.ensures.equations)
+    (bounds (goal.at.solve-requires-clause-sound c).In_ok-equations).0
+
+pub solve-requires-clause-ends : goal.solve-requires-clause-ends
+solve-requires-clause-ends c = λ number less.
+    subst (λ (read : Read). Ends (links c.args.first read.1) number) (sym c.in_ok-equations.ensures.equations)
+    (type_ends (plain_names c.args.names.now) c.requires.names_sound (plain c.args.tree.now)
+    c.in_ok-equations.ensures.sound (nodes c.args.graph.now) c.knows.ensures.sound c.knows.ensures.built_in c.requires.named
+    c.args.first c.requires.first number
+    (omega (
+      arith,
+      less,
+      length-map c.in_ok-equations.equations.items (option_map plain_equation),
+      ap (λ (read : Read). length read.1) c.in_ok-equations.ensures.equations,
+    )))
 
 pub returns-clause-stands : goal.returns-clause-stands
-returns-clause-stands g c = λ more long.
-    let bounds = c.in_ok-tables.ensures.sound (length (nodes c.args.graph.now))
-    (begins_with (nodes c.args.graph.now) c.len-nodes.ensures.built_in)
-    c.requires.1.1.1.1.0 in
-    let at : c.node_of-root.result ≡ node_at c.args.first (length c.in_ok-tables.tables.roots.items) c.in_ok-tables.place
-    = search rules in
-    type_stands g.declared c.requires.1.0 (plain c.args.tree.now) c.requires.1.1.0 (nodes c.args.graph.now)
-    c.len-nodes.ensures.sound c.len-nodes.ensures.built_in c.args.names.now c.requires.1.1.1.0
-    c.in_ok-tables.ensures.read.0 (plain_tables c.in_ok-tables.tables) c.in_ok-tables.place
-    (c.in_ok-tables.ensures.read.1 (g.declared ∷ [])) c.in_ok-tables.ensures.read.2 bounds.1
-    more (plain_list c.in_ok-formulas.formulas) c.args.first long c.in_ok-formulas.ensures.number
-    (c.in_ok-formulas.ensures.closes (nodes c.args.graph.now ++ more) long
-    (begins_agree (nodes c.args.graph.now) (nodes c.args.graph.now ++ more) more refl))
-    c.node_of-root.result at
+returns-clause-stands c = λ more long.
+    let batch = plain_list c.in_ok-formulas.formulas in
+    let all = nodes c.args.graph.now ++ more ++ batch in
+    subst (λ (read : Read). StandsFor all read.0 (record { scope = declared_by c.args.names.now ∷ []; tree = plain c.args.tree.now }))
+    (sym c.in_ok-equations.ensures.equations)
+    (type_stands (plain_names c.args.names.now) c.requires.names_sound (plain c.args.tree.now)
+    c.in_ok-equations.ensures.sound (nodes c.args.graph.now) c.knows.ensures.sound c.knows.ensures.built_in c.requires.named
+    c.args.first c.requires.first more batch long
+    (omega (
+      arith,
+      c.in_ok-formulas.ensures.number,
+      length-map c.in_ok-equations.equations.items (option_map plain_equation),
+      ap (λ (read : Read). length read.1) c.in_ok-equations.ensures.equations,
+    ))
+    (subst (λ (read : Read). Solves all c.args.first read.1) c.in_ok-equations.ensures.equations
+    (c.in_ok-formulas.ensures.solves (nodes c.args.graph.now ++ more) long
+    (begins_agree (nodes c.args.graph.now) (nodes c.args.graph.now ++ more) more refl)))
+    (bounds (goal.at.returns-clause-stands c).In_ok-equations).1)

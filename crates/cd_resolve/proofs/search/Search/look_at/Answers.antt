@@ -3,7 +3,7 @@ use Rattle.std.proofs.lemmas.List.{length-map, get_or_read}
 use Rattle.std.proofs.lemmas.Result.{IfOk-weaker}
 use Rattle.cd_resolve.specs.Inner.Search.{IsSeen}
 use Rattle.cd_resolve.proofs.Sound.{sound_when_added, sound_when_passed, all_lead_next, next_has_row}
-use Rattle.cd_resolve.proofs.Steps.{fewer_when_passed, fewer_when_added}
+use Rattle.cd_resolve.proofs.FewerSteps.{fewer_when_passed, fewer_when_added}
 use Rattle.cd_resolve.proofs.search.Search.look_at.Goals as goal
 
 -- the next number was seen, so it is put, and it is passed

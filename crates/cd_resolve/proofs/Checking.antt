@@ -1,0 +1,217 @@
+-- What is told of a type, and of type declarations, is the least of their faults.
+use Rattle.std.proofs.Common.{◌≡◌, ℕ, zero, suc, ◌<◌, ◌≤◌, ◌⊎◌, inl, inr, List, [], ◌∷◌, length, Some, None, refl, sym, ap, ◌∙◌, arith}
+use Rattle.std.specs.List.{slice_get as nth}
+use Rattle.std.specs.Prelude.{Result, Ok, Err, OnOk, IfErr}
+use Rattle.cd_syntax.specs.TypeTree.{Tree, Declarations}
+use Rattle.cd_resolve.specs.Faults.{Fault, IsFault, IsFaultOfList}
+use Rattle.cd_resolve.specs.Errors.{IsToldError}
+use Rattle.cd_resolve.specs.Inner.Finding.{Frames, State, entered, found_in}
+use Rattle.cd_resolve.specs.Inner.Cycles.{least_from}
+use Rattle.cd_resolve.specs.Inner.Check.{found_in_type, found_in_declarations, all_faults, IsLeast}
+use Rattle.cd_resolve.specs.declared.error.NameError.{NameError}
+use Rattle.cd_resolve.specs.declared.error.NameError.TheVariants as error
+use Rattle.cd_resolve.proofs.Rich.{whole, lean, lean_walked, lean_list}
+use Rattle.cd_resolve.proofs.FoundGrows.{same, walked_grows, declared_grows}
+use Rattle.cd_resolve.proofs.WhatNamesMean.{scope_of}
+use Rattle.cd_resolve.proofs.Visits.{Visited, ListVisited, in_list, visits_list}
+use Rattle.cd_resolve.proofs.Complete.{complete, complete_list}
+use Rattle.cd_resolve.proofs.Paths.{New, new_then, new_entered, new_walked, new_declared}
+use Rattle.cd_resolve.proofs.FoundAreFaults.{IsSound, sound_entered, sound_walked, sound_declared, all_declared}
+use Rattle.cd_resolve.proofs.Exact.{IsWalk, all_sound, all_complete}
+use Rattle.cd_resolve.proofs.LeastFault.{nothing_told, least_told}
+
+some_of : {A : Type 0} → (a b : A) → Some a ≡ Some b → a ≡ b
+some_of a b same = cc
+
+-- what a type sees, and the walk over it
+abbrev seen : Declarations → Frames
+seen declared = record { declarations = declared; list = zero } ∷ []
+
+abbrev begun : Declarations → State Frames
+begun declared = record { faults = []; lists = seen declared ∷ []; links = [] }
+
+abbrev over_type : Declarations → Tree → State Frames
+over_type declared is = found_in whole (seen declared) None is (begun declared)
+
+abbrev IsOfType : Declarations → Tree → Fault → Type 0
+IsOfType declared is one = IsFault (declared ∷ []) (declared ∷ []) is one
+
+only_seen : (declared : Declarations) (n : ℕ) (frames : Frames) → nth (seen declared ∷ []) n ≡ Some frames
+    → (n ≡ zero) × (seen declared ≡ frames)
+only_seen declared zero frames at = (refl, some_of _ _ at)
+only_seen declared (suc n) frames at = absurd cc
+
+begun_sound : (declared : Declarations) (is : Tree)
+    → IsSound (declared ∷ []) (suc zero) (IsOfType declared is) (begun declared)
+begun_sound declared is = record {
+  faults = λ one nothing. elim nothing [ ];
+  lists = λ n frames late at. let only = only_seen declared n frames at in let none = only.0 in absurd (omega arith);
+  links = λ link nothing. elim nothing [ ];
+}
+
+not_inside : (declared : Declarations) (frames : Frames) → seen declared ≡ frames
+    → length (let one : List Declarations = declared ∷ [] in one) < length (scope_of frames) → ⊥
+not_inside declared frames equal inside = let less : suc zero < suc zero = rw (sym equal) at inside in omega arith
+
+type_walk : (declared : Declarations) (is : Tree)
+    → IsWalk (declared ∷ []) (suc zero) (IsOfType declared is) (over_type declared is)
+type_walk declared is = record {
+  sound = sound_walked (declared ∷ []) (suc zero) (IsOfType declared is) (seen declared) None is (begun declared)
+      (begun_sound declared is) (refl, tt) (omega arith) tt (λ one is_fault. is_fault);
+  complete = λ one is_fault. complete (declared ∷ []) (suc zero) None (seen declared) (declared ∷ []) is one
+      (over_type declared is) refl is_fault visited;
+  visited = λ n frames at known. by n frames known (new.each n frames at);
+  late = λ n frames at inside. late n frames at inside;
+}
+  where
+    visited : Visited (suc zero) None (seen declared) is (over_type declared is)
+    visited = record {
+      before = begun declared;
+      fits = (refl, tt);
+      late = omega arith;
+      grows = same
+          (over_type declared is);
+    }
+
+    new : New zero (begun declared) (over_type declared is) (over_type declared is)
+    new = new_walked zero (seen declared) None is (begun declared) (over_type declared is) (refl, tt) (omega arith)
+        (same (over_type declared is))
+
+    late : (n : ℕ) (frames : Frames) → nth (over_type declared is).lists n ≡ Some frames
+        → length (let one : List Declarations = declared ∷ [] in one) < length (scope_of frames) → suc zero ≤ n
+    late zero frames at inside =
+        let first = (walked_grows (seen declared) None is (begun declared)).lists zero (seen declared) refl in
+        absurd (not_inside declared frames (some_of _ _ (sym first ∙ at)) inside)
+    late (suc n) frames at inside = omega arith
+
+    old : (n : ℕ) (frames : Frames) → (suc zero ≤ n) ⊎
+        (length (let one : List Declarations = declared ∷ [] in one) < length (scope_of frames))
+        → (n ≡ zero) × (seen declared ≡ frames)
+        → ListVisited zero n frames (over_type declared is)
+    old n frames (inl later) only = let none = only.0 in absurd (omega arith)
+    old n frames (inr inside) only = absurd (not_inside declared frames only.1 inside)
+
+    by : (n : ℕ) (frames : Frames) → (suc zero ≤ n) ⊎
+        (length (let one : List Declarations = declared ∷ [] in one) < length (scope_of frames))
+        → (nth (begun declared).lists n ≡ Some frames) ⊎ ListVisited zero n frames (over_type declared is)
+        → ListVisited zero n frames (over_type declared is)
+    by n frames known (inl at) = old n frames known (only_seen declared n frames at)
+    by n frames known (inr is_visited) = is_visited
+
+-- the walk over type declarations
+abbrev nothing : State Frames
+nothing = record { faults = []; lists = []; links = [] }
+
+abbrev over_declared : Declarations → State Frames
+over_declared declared = in_list declared [] nothing
+
+abbrev IsOfDeclared : Declarations → Fault → Type 0
+IsOfDeclared declared one = IsFaultOfList [] (declared ∷ []) declared one
+
+nothing_sound : (declared : Declarations) → IsSound [] zero (IsOfDeclared declared) nothing
+nothing_sound declared = record {
+  faults = λ one none. elim none [ ];
+  lists = λ n frames late at. absurd cc;
+  links = λ link none. elim none [ ];
+}
+
+declared_walk : (declared : Declarations) → IsWalk [] zero (IsOfDeclared declared) (over_declared declared)
+declared_walk declared = record {
+  sound = sound_declared [] zero (IsOfDeclared declared) (seen declared) zero [] declared
+      (entered (seen declared) nothing)
+      (sound_entered [] zero (IsOfDeclared declared) (seen declared) nothing (nothing_sound declared)
+      (λ one is_fault. is_fault))
+      (refl, tt) refl (omega arith) (all_declared declared) (λ one is_fault. is_fault);
+  complete = λ one is_fault. complete_list [] zero zero (seen declared) (declared ∷ []) declared one
+      (over_declared declared) refl refl (omega arith)
+      ((declared_grows (seen declared) zero [] declared (entered (seen declared) nothing)).lists zero (seen declared)
+      refl) is_fault
+      (visits_list zero [] declared nothing (over_declared declared) tt (omega arith) (same (over_declared declared)));
+  visited = λ n frames at known. by n frames (new.each n frames at);
+  late = λ n frames at inside. omega arith;
+}
+  where
+    new : New zero nothing (over_declared declared) (over_declared declared)
+    new = new_then zero nothing (entered (seen declared) nothing) (over_declared declared) (over_declared declared)
+        (new_entered zero declared [] nothing (over_declared declared) tt (omega arith) (same (over_declared declared)))
+        (new_declared zero (seen declared) zero [] declared (entered (seen declared) nothing) (over_declared declared)
+        (refl, tt) (omega arith) (same (over_declared declared)))
+
+    by : (n : ℕ) (frames : Frames) → (nth nothing.lists n ≡ Some frames) ⊎ ListVisited zero n frames
+        (over_declared declared) → ListVisited zero n frames (over_declared declared)
+    by n frames (inl at) = absurd cc
+    by n frames (inr is_visited) = is_visited
+
+-- the same of the walk that keeps no lists
+type_faults : (declared : Declarations) (is : Tree)
+    → all_faults (found_in_type declared is) ≡ all_faults (lean (over_type declared is))
+type_faults declared is = ap all_faults (lean_walked (seen declared) None is (begun declared))
+
+declared_faults : (declared : Declarations) → all_faults (found_in_declarations declared) ≡ all_faults
+    (lean (over_declared declared))
+declared_faults declared = ap all_faults (lean_list [] declared nothing)
+
+pub type_sound : (declared : Declarations) (is : Tree) → least_from None (all_faults (found_in_type declared is)) ≡ None
+    → (one : Fault) → IsFault (declared ∷ []) (declared ∷ []) is one → ⊥
+type_sound declared is none = nothing_told (all_faults (lean (over_type declared is))) (IsOfType declared is)
+    (all_complete (declared ∷ []) (suc zero) (IsOfType declared is) (over_type declared is) (type_walk declared is))
+    (rw (type_faults declared is) at none)
+
+pub declared_sound : (declared : Declarations) → least_from None (all_faults (found_in_declarations declared)) ≡ None
+    → (one : Fault) → IsFaultOfList [] (declared ∷ []) declared one → ⊥
+declared_sound declared none = nothing_told (all_faults (lean (over_declared declared))) (IsOfDeclared declared)
+    (all_complete [] zero (IsOfDeclared declared) (over_declared declared) (declared_walk declared))
+    (rw (declared_faults declared) at none)
+
+pub type_told : (declared : Declarations) (is : Tree) (e : NameError)
+    → IsLeast (least_from None (all_faults (found_in_type declared is))) e
+    → IsToldError (IsFault (declared ∷ []) (declared ∷ []) is) e
+type_told declared is (error.Fault fault name at) least = least_told (all_faults (lean (over_type declared is)))
+    (IsOfType declared is)
+    (all_sound (declared ∷ []) (suc zero) (IsOfType declared is) (over_type declared is) (type_walk declared is))
+    (all_complete (declared ∷ []) (suc zero) (IsOfType declared is) (over_type declared is) (type_walk declared is))
+    (record { fault = fault; name = name; at = at }) (rw (type_faults declared is) at least)
+type_told declared is error.Memory least = tt
+
+pub declared_told : (declared : Declarations) (e : NameError)
+    → IsLeast (least_from None (all_faults (found_in_declarations declared))) e
+    → IsToldError (IsFaultOfList [] (declared ∷ []) declared) e
+declared_told declared (error.Fault fault name at) least = least_told (all_faults (lean (over_declared declared)))
+    (IsOfDeclared declared)
+    (all_sound [] zero (IsOfDeclared declared) (over_declared declared) (declared_walk declared))
+    (all_complete [] zero (IsOfDeclared declared) (over_declared declared) (declared_walk declared))
+    (record { fault = fault; name = name; at = at }) (rw (declared_faults declared) at least)
+declared_told declared error.Memory least = tt
+
+-- and so of what the code gives
+on_ok : {A E : Type 0} → (P Q : Type 0) (r : Result A E) → (P → Q) → OnOk r P → OnOk r Q
+on_ok P Q (Ok x) then h = then h
+on_ok P Q (Err e) then h = tt
+
+if_err : {A E : Type 0} → (P Q : E → Type 0) (r : Result A E) → ((e : E) → P e → Q e) → IfErr r P → IfErr r Q
+if_err P Q (Ok x) then h = tt
+if_err P Q (Err e) then h = then e h
+
+pub type_ok : {A : Type 0} → (r : Result A NameError) (declared : Declarations) (is : Tree) (s : State Declarations)
+    → s ≡ found_in_type declared is
+    → OnOk r (least_from None (all_faults s) ≡ None)
+    → OnOk r ((one : Fault) → IsFault (declared ∷ []) (declared ∷ []) is one → ⊥)
+type_ok r declared is s equal = on_ok _ _ r (λ none. type_sound declared is (rw equal at none))
+
+pub declared_ok : {A : Type 0} → (r : Result A NameError) (declared : Declarations) (s : State Declarations)
+    → s ≡ found_in_declarations declared
+    → OnOk r (least_from None (all_faults s) ≡ None)
+    → OnOk r ((one : Fault) → IsFaultOfList [] (declared ∷ []) declared one → ⊥)
+declared_ok r declared s equal = on_ok _ _ r (λ none. declared_sound declared (rw equal at none))
+
+pub type_err : {A : Type 0} → (r : Result A NameError) (declared : Declarations) (is : Tree) (s : State Declarations)
+    → s ≡ found_in_type declared is
+    → IfErr r (IsLeast (least_from None (all_faults s)))
+    → IfErr r (IsToldError (IsFault (declared ∷ []) (declared ∷ []) is))
+type_err r declared is s equal = if_err _ _ r (λ e least. type_told declared is e (rw equal at least))
+
+pub declared_err : {A : Type 0} → (r : Result A NameError) (declared : Declarations) (s : State Declarations)
+    → s ≡ found_in_declarations declared
+    → IfErr r (IsLeast (least_from None (all_faults s)))
+    → IfErr r (IsToldError (IsFaultOfList [] (declared ∷ []) declared))
+declared_err r declared s equal = if_err _ _ r (λ e least. declared_told declared e (rw equal at least))

@@ -1,0 +1,345 @@
+-- The faults that are found, with those of names that lead back to themselves by links, are all faults.
+use Rattle.std.proofs.Common.{◌≡◌, ℕ, zero, ◌<◌, ◌≤◌, ◌⊎◌, inl, inr, List, [], ◌∷◌, length, Bool, true, false, Some, refl, sym, ap, ◌∙◌}
+use Rattle.std.specs.List.{slice_get as nth}
+use Rattle.cd_syntax.specs.Name.{Name}
+use Rattle.cd_syntax.specs.TypeTree.{Tree, Kind, Declarations, NoDeclaration}
+use Rattle.cd_model.specs.Scope.{Scope, Declared}
+use Rattle.cd_model.specs.Guarded.{LeadsTo}
+use Rattle.cd_model.specs.Guarded as guarded
+use Rattle.cd_model.specs.Written.{kind_of}
+use Rattle.cd_resolve.specs.declared.fault.NameFault.TheVariants.{Unguarded}
+use Rattle.cd_resolve.specs.Faults.{Fault, IsFirst, IsFaultOfList}
+use Rattle.cd_resolve.specs.Faults as fault
+use Rattle.cd_resolve.specs.Inner.Finding.{Frames, innermost, Id, Link, State}
+use Rattle.cd_resolve.specs.Inner.Cycles.{is_cyclic, unguarded, told_cycle, cycles_told}
+use Rattle.cd_resolve.proofs.InLists.{IsIn, in_front, in_last, in_more}
+use Rattle.cd_resolve.proofs.WhatNamesMean.{scope_of, IsNode, declared_at, first_place, first_tree}
+use Rattle.cd_resolve.proofs.Visits.{VisitedKind, ListVisited, kind_visited}
+use Rattle.cd_resolve.proofs.Complete.{Loop, Outcome, visits_first}
+use Rattle.cd_resolve.proofs.Paths.{Stands, AllVisited, leads_path}
+use Rattle.cd_resolve.proofs.FoundAreFaults.{IsTrueLink, IsSound}
+use Rattle.cd_resolve.proofs.Reaching.{Leads, by_link, and_on, cyclic_leads, leads_cyclic, last_link, returns}
+
+-- what a declared name stands for is one
+pub record IsOneNode (at other_at : ℕ) (is other_is : Tree) (frames other_frames : Frames) : Type 0 where
+  pub at_is : at ≡ other_at
+  pub tree_is : is ≡ other_is
+  pub frames_are : frames ≡ other_frames
+
+some_of : {A : Type 0} → (a b : A) → Some a ≡ Some b → a ≡ b
+some_of a b same = cc
+
+one_place : (at other_at : ℕ) (is other_is : Tree) (name : Name) (frames other_frames : Frames) → frames ≡ other_frames
+    → IsFirst name at is (innermost frames) → IsFirst name other_at other_is (innermost other_frames)
+    → IsOneNode at other_at is other_is frames other_frames
+one_place at other_at is other_is name frames other_frames equal first other_first =
+    let one = first_place name at is (innermost frames) first in
+    let other = first_place name other_at other_is (innermost other_frames) other_first in
+    let one_tree = first_tree name at is (innermost frames) first in
+    let other_tree = first_tree name other_at other_is (innermost other_frames) other_first in
+    record { at_is = cc; tree_is = cc; frames_are = equal }
+
+one_node : (lists : List Frames) (id : Id) (at other_at : ℕ) (is other_is : Tree) (frames other_frames : Frames)
+    → IsNode lists id at is frames
+    → IsNode lists id other_at other_is other_frames → IsOneNode at other_at is other_is frames other_frames
+one_node lists id at other_at is other_is frames other_frames node other =
+    one_place at other_at is other_is id.name frames other_frames
+    (some_of frames other_frames (sym node.listed ∙ other.listed)) node.first other.first
+
+-- to lead on through a declared name
+leads_through : (outer scope : Scope) (kind : Kind) (middle last : Declared) → LeadsTo outer scope kind middle
+    → length outer < length middle.scope
+    → LeadsTo outer middle.scope (kind_of middle.tree) last → LeadsTo outer scope kind last
+leads_through _ _ _ _ last (guarded.in_union outer scope trees is middle one leads) long on =
+    guarded.in_union outer scope trees is last one (leads_through outer scope (kind_of is) middle last leads long on)
+leads_through _ _ _ _ last (guarded.in_first outer scope is signs middle leads) long on =
+    guarded.in_first outer scope is signs last (leads_through outer scope (kind_of is) middle last leads long on)
+leads_through _ _ _ _ last (guarded.in_signed outer scope first is signs middle one leads) long on =
+    guarded.in_signed outer scope first is signs last one
+    (leads_through outer scope (kind_of is) middle last leads long on)
+leads_through _ _ _ _ last (guarded.under_where outer scope is declarations middle leads) long on =
+    guarded.under_where outer scope is declarations last
+    (leads_through outer (declarations ∷ scope) (kind_of is) middle last leads long on)
+leads_through _ _ _ _ last (guarded.named outer scope name middle declared) long on = guarded.through_name outer scope
+    name middle last declared long on
+leads_through _ _ _ _ last (guarded.through_name outer scope name is middle declared long_too leads) long on =
+    guarded.through_name outer scope name is last declared long_too
+    (leads_through outer is.scope (kind_of is.tree) middle last leads long on)
+
+-- links lead as declared names do
+pub record IsTruePath (outer : Scope) (lists : List Frames) (start to : Id) : Type 0 where
+  pub start_at : ℕ
+  pub start_is : Tree
+  pub start_frames : Frames
+  pub start_node : IsNode lists start start_at start_is start_frames
+  pub inside : length outer < length (scope_of start_frames)
+  pub to_at : ℕ
+  pub to_is : Tree
+  pub to_frames : Frames
+  pub to_node : IsNode lists to to_at to_is to_frames
+  pub leads : LeadsTo outer (scope_of start_frames) (kind_of start_is) (declared_at to.name to_frames to_is)
+
+path_of_link : (outer : Scope) (lists : List Frames) (link : Link) → IsTrueLink outer lists link
+    → IsTruePath outer lists link.start link.to
+path_of_link outer lists link is = record {
+  start_at = is.start_at;
+  start_is = is.start_is;
+  start_frames = is.start_frames;
+  start_node = is.start_node;
+  inside = is.inside;
+  to_at = link.at;
+  to_is = is.to_is;
+  to_frames = is.to_frames;
+  to_node = is.to_node;
+  leads = is.leads;
+}
+
+middle_equal : (outer : Scope) (name : Name) (is other_is last_is : Tree) (frames other_frames last_frames : Frames)
+    (last : Declared) → is ≡ other_is → frames ≡ other_frames
+    → length outer < length (scope_of other_frames) → LeadsTo outer (scope_of other_frames) (kind_of other_is) last
+    → (length outer < length (declared_at name frames is).scope) × LeadsTo outer (scope_of frames) (kind_of is) last
+middle_equal outer name is other_is last_is frames other_frames last_frames last same_is same_frames long leads =
+    (rw same_frames long, rw (same_is, same_frames) leads)
+
+path_on : (outer : Scope) (lists : List Frames) (start middle to : Id) → IsTruePath outer lists start middle
+    → IsTruePath outer lists middle to → IsTruePath outer lists start to
+path_on outer lists start middle to first second =
+    let same_node = one_node lists middle first.to_at second.start_at first.to_is second.start_is first.to_frames
+    second.start_frames first.to_node second.start_node in
+    let last = declared_at to.name second.to_frames second.to_is in
+    let on = middle_equal outer middle.name first.to_is second.start_is second.to_is first.to_frames second.start_frames
+    second.to_frames last same_node.tree_is same_node.frames_are second.inside second.leads in
+    record {
+      start_at = first.start_at;
+      start_is = first.start_is;
+      start_frames = first.start_frames;
+      start_node = first.start_node;
+      inside = first.inside;
+      to_at = second.to_at;
+      to_is = second.to_is;
+      to_frames = second.to_frames;
+      to_node = second.to_node;
+      leads = leads_through outer (scope_of first.start_frames) (kind_of first.start_is)
+          (declared_at middle.name first.to_frames first.to_is) last first.leads on.0 on.1;
+    }
+
+path_equal : (outer : Scope) (lists : List Frames) (start other_start to other_to : Id) → start ≡ other_start
+    → to ≡ other_to → IsTruePath outer lists start to → IsTruePath outer lists other_start other_to
+path_equal outer lists start other_start to other_to starts ends path = rw (sym starts, sym ends) path
+
+pub true_path : (outer : Scope) (lists : List Frames) (links : List Link) (start to : Id)
+    → ((link : Link) → IsIn link links → IsTrueLink outer lists link)
+    → Leads links start to → IsTruePath outer lists start to
+true_path outer lists links _ _ are (by_link start to link is starts ends) = path_equal outer lists link.start start
+    link.to to starts ends (path_of_link outer lists link (are link is))
+true_path outer lists links _ _ are (and_on start middle to link before is starts ends) =
+    path_on outer lists start middle to (true_path outer lists links start middle are before)
+    (path_equal outer lists link.start middle link.to to starts ends (path_of_link outer lists link (are link is)))
+
+-- the faults with those of names that lead back to themselves
+cycle_keeps : (b : Bool) (link : Link) (one : Fault) (faults : List Fault) → IsIn one faults
+    → IsIn one (told_cycle b link faults)
+cycle_keeps true link one faults is = in_front one faults (unguarded link ∷ []) is
+cycle_keeps false link one faults is = is
+
+cycles_keep : (links rest : List Link) (one : Fault) (faults : List Fault) → IsIn one faults
+    → IsIn one (cycles_told links rest faults)
+cycles_keep links [] one faults is = is
+cycles_keep links (link ∷ rest) one faults is = cycles_keep links rest one
+    (told_cycle (is_cyclic links link.to) link faults) (cycle_keeps (is_cyclic links link.to) link one faults is)
+
+cycle_has : (b : Bool) (link : Link) (faults : List Fault) → b ≡ true → IsIn (unguarded link) (told_cycle b link faults)
+cycle_has true link faults is = in_last (unguarded link) faults
+cycle_has false link faults is = absurd cc
+
+cycles_have : (links rest : List Link) (link : Link) (faults : List Fault) → IsIn link rest
+    → is_cyclic links link.to ≡ true → IsIn (unguarded link) (cycles_told links rest faults)
+cycles_have links [] link faults is cyclic = elim is [ ]
+cycles_have links (first ∷ rest) link faults (inl equal) cyclic =
+    rw equal (cycles_keep links rest (unguarded first) (told_cycle (is_cyclic links first.to) first faults)
+    (cycle_has (is_cyclic links first.to) first faults (rw equal at cyclic)))
+cycles_have links (first ∷ rest) link faults (inr on) cyclic = cycles_have links rest link
+    (told_cycle (is_cyclic links first.to) first faults) on cyclic
+
+pub record IsCycle (links rest : List Link) (one : Fault) : Type 0 where
+  pub link : Link
+  pub is_in : IsIn link rest
+  pub cyclic : is_cyclic links link.to ≡ true
+  pub equal : one ≡ unguarded link
+
+in_cycle : (b : Bool) (link : Link) (one : Fault) (faults : List Fault) → IsIn one (told_cycle b link faults)
+    → IsIn one faults ⊎ ((b ≡ true) × (one ≡ unguarded link))
+in_cycle true link one faults is = by (in_more one (unguarded link) faults is)
+  where
+    by : IsIn one faults ⊎ (one ≡ unguarded link) → IsIn one faults ⊎ ((true ≡ true) × (one ≡ unguarded link))
+    by (inl old) = inl old
+    by (inr new) = inr (refl, new)
+in_cycle false link one faults is = inl is
+
+in_cycles : (links rest : List Link) (one : Fault) (faults : List Fault) → IsIn one (cycles_told links rest faults)
+    → IsIn one faults ⊎ IsCycle links rest one
+in_cycles links [] one faults is = inl is
+in_cycles links (link ∷ rest) one faults is = by
+    (in_cycles links rest one (told_cycle (is_cyclic links link.to) link faults) is)
+  where
+    at : IsIn one faults ⊎ ((is_cyclic links link.to ≡ true) × (one ≡ unguarded link))
+        → IsIn one faults ⊎ IsCycle links (link ∷ rest) one
+    at (inl old) = inl old
+    at (inr new) = inr (record { link = link; is_in = inl refl; cyclic = new.0; equal = new.1 })
+
+    by : IsIn one (told_cycle (is_cyclic links link.to) link faults) ⊎ IsCycle links rest one
+        → IsIn one faults ⊎ IsCycle links (link ∷ rest) one
+    by (inl old) = at (in_cycle (is_cyclic links link.to) link one faults old)
+    by (inr new) = inr (record { link = new.link; is_in = inr new.is_in; cyclic = new.cyclic; equal = new.equal })
+
+-- a walk over a whole, and what is known of it
+pub record IsWalk (outer : Scope) (least : ℕ) (IsWhole : Fault → Type 0) (t : State Frames) : Type 0 where
+  pub sound : IsSound outer least IsWhole t
+  pub complete : (one : Fault) → IsWhole one → Outcome outer least t one
+  pub visited : (n : ℕ) (frames : Frames) → nth t.lists n ≡ Some frames
+      → (least ≤ n) ⊎ (length outer < length (scope_of frames)) → ListVisited zero n frames t
+  pub late : (n : ℕ) (frames : Frames) → nth t.lists n ≡ Some frames → length outer < length (scope_of frames) → least ≤ n
+
+-- a name that leads back to itself by links is a fault
+loop_equal : (outer : Scope) (name : Name) (is other_is : Tree) (frames other_frames : Frames) → is ≡ other_is
+    → frames ≡ other_frames
+    → LeadsTo outer (scope_of frames) (kind_of is) (declared_at name other_frames other_is)
+    → LeadsTo outer (scope_of frames) (kind_of is) (declared_at name frames is)
+loop_equal outer name is other_is frames other_frames same_is same_frames leads = rw (sym same_is, sym same_frames) at
+    leads
+
+cycle_sound : (outer : Scope) (least : ℕ) (IsWhole : Fault → Type 0) (t : State Frames) → IsWalk outer least IsWhole t
+    → (one : Fault) → IsCycle t.links t.links one → IsWhole one
+cycle_sound outer least IsWhole t walk one cycle =
+    let link = cycle.link in
+    let true_link = walk.sound.links link cycle.is_in in
+    let path = true_path outer t.lists t.links link.to link.to walk.sound.links
+    (cyclic_leads t.links link.to cycle.cyclic) in
+    let ends = one_node t.lists link.to path.start_at path.to_at path.start_is path.to_is path.start_frames path.to_frames
+    path.start_node path.to_node in
+    let here = one_node t.lists link.to path.start_at link.at path.start_is true_link.to_is path.start_frames
+    true_link.to_frames path.start_node true_link.to_node in
+    let leads = loop_equal outer link.to.name path.start_is path.to_is path.start_frames path.to_frames ends.tree_is
+    ends.frames_are path.leads in
+    let first : IsFirst link.to.name link.at path.start_is (innermost path.start_frames) = rw here.at_is at
+    path.start_node.first in
+    let late = walk.late link.to.list path.start_frames path.start_node.listed path.inside in
+    rw cycle.equal (walk.sound.lists link.to.list path.start_frames late path.start_node.listed (unguarded link)
+    (fault.unguarded outer (scope_of path.start_frames) (innermost path.start_frames) link.to.name link.at path.start_is
+    first leads))
+
+-- what a loop stands for is reached again from each that stands for it
+stands_scope : (lists : List Frames) (id : Id) (name : Declared) (stands : Stands lists id name)
+    → name.scope ≡ scope_of stands.frames
+stands_scope lists id name stands = ap (λ one. one.scope) stands.declared
+
+kind_equal : (t : State Frames) (id : Id) (frames : Frames) (one other : Declared) → one ≡ other
+    → VisitedKind zero (Some id) frames (kind_of other.tree) t → VisitedKind zero (Some id) frames (kind_of one.tree) t
+kind_equal t id frames one other equal visited = rw equal visited
+
+go_on : (outer : Scope) (least : ℕ) (IsWhole : Fault → Type 0) (t : State Frames) → IsWalk outer least IsWhole t
+    → (name : Declared) → LeadsTo outer name.scope (kind_of name.tree) name
+    → (id : Id) (stands : Stands t.lists id name) → (least ≤ id.list) ⊎ (length outer < length (scope_of stands.frames))
+    → (next : Id) × Stands t.lists next name × Leads t.links id next
+go_on outer least IsWhole t walk name leads id stands known =
+    let all : AllVisited outer t = λ n frames listed inside. walk.visited n frames listed (inr inside) in
+    let list = walk.visited id.list stands.frames stands.node.listed known in
+    let visited = kind_visited zero (Some id) stands.frames stands.is t
+    (visits_first zero stands.frames id.list id.name stands.at stands.is (innermost stands.frames) [] list.before t
+    stands.node.first (λ nothing. elim nothing [ ]) list.fits list.late list.grows) in
+    leads_path outer name.scope (kind_of name.tree) name stands.frames id t leads (stands_scope t.lists id name stands)
+    all
+    (kind_equal t id stands.frames name (declared_at id.name stands.frames stands.is) stands.declared visited)
+
+-- the places of what stands for one declared name are one
+abbrev scope_head : Scope → Declarations
+scope_head [] = NoDeclaration
+scope_head (first ∷ rest) = first
+
+head_is : (frames : Frames) → scope_head (scope_of frames) ≡ innermost frames
+head_is [] = refl
+head_is (frame ∷ outer) = refl
+
+same_at : (name other : Name) (at other_at : ℕ) (is other_is : Tree) (frames other_frames : Frames)
+    → declared_at name frames is ≡ declared_at other other_frames other_is
+    → IsFirst name at is (innermost frames) → IsFirst other other_at other_is (innermost other_frames) → at ≡ other_at
+same_at name other at other_at is other_is frames other_frames equal first other_first =
+    let names : name ≡ other = ap (λ one. one.name) equal in
+    let scopes : scope_of frames ≡ scope_of other_frames = ap (λ one. one.scope) equal in
+    let lists : innermost frames ≡ innermost other_frames = sym (head_is frames) ∙ ap scope_head scopes ∙ head_is
+    other_frames in
+    let one_place = first_place name at is (innermost frames) first in
+    let other_place = first_place other other_at other_is (innermost other_frames) other_first in
+    cc
+
+fault_equal : (one : Fault) (link : Link) → one.fault ≡ Unguarded → one.name ≡ link.to.name → one.at ≡ link.at
+    → unguarded link ≡ one
+fault_equal one link kind name at = by one.fault one.name one.at kind name at
+  where
+    by : (kind : _) (name : Name) (at : ℕ) → kind ≡ Unguarded → name ≡ link.to.name → at ≡ link.at
+        → unguarded link ≡ record { fault = kind; name = name; at = at }
+    by kind name at is_kind is_name is_at = rw (is_kind, is_name, is_at) refl
+
+inside_equal : (outer : Scope) (name : Declared) (frames other : Frames) → name.scope ≡ scope_of frames
+    → name.scope ≡ scope_of other → length outer < length (scope_of frames) → length outer < length (scope_of other)
+inside_equal outer name frames other equal equal_too inside = rw (sym equal_too, equal) inside
+
+loop_told : (outer : Scope) (least : ℕ) (IsWhole : Fault → Type 0) (t : State Frames) → IsWalk outer least IsWhole t
+    → (one : Fault) → Loop outer least t.lists one
+    → IsIn one (cycles_told t.links t.links t.faults)
+loop_told outer least IsWhole t walk one loop =
+    let name = declared_at one.name loop.frames loop.is in
+    let id : Id = record { list = loop.list; name = one.name } in
+    let stands : Stands t.lists id name = record {
+      at = one.at;
+      is = loop.is;
+      frames = loop.frames;
+      node = loop.node;
+      declared = refl;
+    } in
+    let once = go_on outer least IsWhole t walk name loop.leads id stands (inl loop.late) in
+    let path = true_path outer t.lists t.links id once.0 walk.sound.links once.2 in
+    let same_node = one_node t.lists id path.start_at one.at path.start_is loop.is path.start_frames loop.frames
+    path.start_node loop.node in
+    let inside : length outer < length (scope_of loop.frames) = rw same_node.frames_are at path.inside in
+    let back = returns t.links (λ other. Stands t.lists other name)
+    (λ other other_stands. go_on outer least IsWhole t walk name loop.leads other other_stands
+    (inr (inside_equal outer name loop.frames other_stands.frames refl (stands_scope t.lists other name other_stands)
+    inside))) id stands in
+    let last = last_link t.links back.id back.id back.returns in
+    let true_link = walk.sound.links last.0 last.1 in
+    loop_is one t loop.frames loop.is loop.node.first loop.unguarded back.id back.is_such back.returns last.0 last.1
+    last.2 true_link.to_is true_link.to_frames true_link.to_node
+  where
+    loop_is : (one : Fault) (t : State Frames) (frames : Frames) (is : Tree)
+        → IsFirst one.name one.at is (innermost frames) → one.fault ≡ Unguarded → (id : Id)
+        → Stands t.lists id (declared_at one.name frames is)
+        → Leads t.links id id → (link : Link) → IsIn link t.links → link.to ≡ id → (to_is : Tree) (to_frames : Frames)
+        → IsNode t.lists link.to link.at to_is to_frames
+        → IsIn one (cycles_told t.links t.links t.faults)
+    loop_is one t frames is first kind id stands leads link is_in to to_is to_frames to_node =
+        let node : IsNode t.lists id link.at to_is to_frames = rw to at to_node in
+        let same_node = one_node t.lists id link.at stands.at to_is stands.is to_frames stands.frames node stands.node in
+        let at_is : one.at ≡ stands.at = same_at one.name id.name one.at stands.at is stands.is frames stands.frames
+        stands.declared first stands.node.first in
+        let name_is : one.name ≡ id.name = ap (λ each. each.name) stands.declared in
+        let to_name : link.to.name ≡ id.name = ap (λ each. each.name) to in
+        rw (fault_equal one link kind (name_is ∙ sym to_name) (at_is ∙ sym same_node.at_is)) at
+        (cycles_have t.links t.links link t.faults is_in (rw to (leads_cyclic t.links id leads)))
+
+-- the faults that are told are those of the whole
+pub all_sound : (outer : Scope) (least : ℕ) (IsWhole : Fault → Type 0) (t : State Frames) → IsWalk outer least IsWhole t
+    → (one : Fault) → IsIn one (cycles_told t.links t.links t.faults) → IsWhole one
+all_sound outer least IsWhole t walk one is = by (in_cycles t.links t.links one t.faults is)
+  where
+    by : IsIn one t.faults ⊎ IsCycle t.links t.links one → IsWhole one
+    by (inl told) = walk.sound.faults one told
+    by (inr cycle) = cycle_sound outer least IsWhole t walk one cycle
+
+pub all_complete : (outer : Scope) (least : ℕ) (IsWhole : Fault → Type 0) (t : State Frames)
+    → IsWalk outer least IsWhole t → (one : Fault) → IsWhole one → IsIn one (cycles_told t.links t.links t.faults)
+all_complete outer least IsWhole t walk one is = by (walk.complete one is)
+  where
+    by : Outcome outer least t one → IsIn one (cycles_told t.links t.links t.faults)
+    by (inl told) = cycles_keep t.links t.links one t.faults told
+    by (inr loop) = loop_told outer least IsWhole t walk one loop

@@ -1,0 +1,27 @@
+-- The fields of a well made list of fields have labels.
+use Rattle.std.proofs.Common.{ℕ, List, [], ◌∷◌, ◌++◌}
+use Rattle.cd_sets.specs.declared.node_id.NodeId.{NodeId}
+use Rattle.cd_syntax.specs.Name.{Name, IsLabel}
+use Rattle.cd_syntax.specs.TypeTree.{Fields, NoField, AField}
+use Rattle.cd_syntax.specs.WellMade.{AreWellMadeFields}
+use Rattle.cd_model.specs.Formula.{Field}
+use Rattle.cd_resolve.specs.Inner.Equation.{Equations}
+use Rattle.cd_resolve.specs.Inner.Frames.{Frames}
+use Rattle.cd_resolve.specs.Inner.PlainState.{HaveLabels}
+use Rattle.cd_resolve.specs.Inner.Walk.{walked, walked_fields, one_more}
+
+-- one more
+more_labels : (made : List (Name × Field)) (one : Name × Field) → HaveLabels made → IsLabel one.0
+    → HaveLabels (made ++ one ∷ [])
+more_labels [] one are is = (is, tt)
+more_labels (first ∷ rest) one are is = (are.0, more_labels rest one are.1 is)
+
+pub walked_labels : (first : ℕ) (names : List (Name × NodeId)) (frames : Frames) (fields : Fields)
+    (made : List (Name × Field)) (s : Equations) → AreWellMadeFields fields → HaveLabels made
+    → HaveLabels (walked_fields first names frames fields made s).0
+walked_labels first names frames NoField made s well labels = labels
+walked_labels first names frames (AField label at optional is rest) made s well labels =
+    walked_labels first names frames rest
+    (one_more made (label, record { optional = optional; type = (walked first names frames is s).0 }))
+    (walked first names frames is s).1 well.2
+    (more_labels made (label, record { optional = optional; type = (walked first names frames is s).0 }) labels well.0)

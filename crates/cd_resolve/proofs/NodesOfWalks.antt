@@ -1,0 +1,287 @@
+-- What built-in nodes, nodes of given names and nodes with equations have in common, the node that a walk gives has.
+use Rattle.std.proofs.Common.{◌≡◌, ℕ, ◌+◌, ◌<◌, ◌≤◌, Bool, true, false, List, [], ◌∷◌, map, length, Option, Some, None, refl, subst, bytes_eq, if◌then◌else◌, arith}
+use Rattle.std.specs.Option.{option_map, unwrap_or}
+use Rattle.std.proofs.lemmas.List.{length-append}
+use Rattle.cd_sets.specs.declared.node_id.NodeId.{NodeId}
+use Rattle.cd_syntax.specs.Name.{Name}
+use Rattle.cd_syntax.specs.TypeTree as type
+use Rattle.cd_syntax.specs.TypeTree.{Tree, tree, Kind, Trees, NoTree, ATree, Signs, NoSign, ASign, Fields, NoField, AField, Declarations, NoDeclaration, ADeclaration}
+use Rattle.cd_syntax.specs.declared.builtin.BuiltinName.{BuiltinName}
+use Rattle.cd_syntax.specs.declared.builtin.BuiltinName.TheVariants as name
+use Rattle.cd_model.specs.AllOf.{AllOf}
+use Rattle.cd_model.specs.BuiltIns.{EMPTY, ANY, NIL, node, node_named}
+use Rattle.cd_model.specs.Formula.{Formula, Field}
+use Rattle.cd_regex.specs.Regular.{Regular, AsksBelow}
+use Rattle.cd_regex.specs.Automaton.{sequence_formulas}
+use Rattle.cd_resolve.specs.Inner.Names.{node_of}
+use Rattle.cd_resolve.specs.Inner.Equation.{Equation, Equations, Is}
+use Rattle.cd_resolve.specs.Named.{index_in}
+use Rattle.cd_resolve.specs.Inner.Frames.{Frame, Frames, declared_or, node_under, number_in}
+use Rattle.cd_resolve.specs.Inner.Leaves.{characters, Joint, Pairs, Arrows}
+use Rattle.cd_resolve.specs.Inner.Members.{Sign, union_of, meet_of}
+use Rattle.cd_resolve.specs.Inner.Walk.{pushed, leaf, walked_text, chained, united, met, one_more, sequenced, frame_after, ReadRegular, walked, walked_kind, walked_trees, walked_signs, walked_fields, walked_regular, walked_regular_kind, walked_regulars, walked_list}
+use Rattle.cd_resolve.proofs.Growing.{appends_longer, walked_appends, regular_appends, list_longer}
+use Rattle.cd_resolve.proofs.MembersKept.{each_weaker, each_more, union_keeps, meet_keeps}
+use Rattle.cd_resolve.proofs.AsksMore.{asks_more, asks_repeated, ask_all}
+
+-- a built-in name has one of the first nodes
+pub built_in_below : (is : BuiltinName) → (node_named is).0 < 14
+built_in_below name.Empty = omega arith
+built_in_below name.Any = omega arith
+built_in_below name.Int = omega arith
+built_in_below name.Char = omega arith
+built_in_below name.Byte = omega arith
+built_in_below name.Atom = omega arith
+built_in_below name.Bool = omega arith
+built_in_below name.String = omega arith
+built_in_below name.Arrow = omega arith
+built_in_below name.Pair = omega arith
+built_in_below name.Record = omega arith
+built_in_below name.AnyXml = omega arith
+built_in_below name.Data = omega arith
+
+-- an index, if there is one, is below this number
+abbrev pub IsBelow : ℕ → Option ℕ → Type 0
+IsBelow limit None = Unit {0}
+IsBelow limit (Some index) = index < limit
+
+-- one more name before others
+index_later : (limit : ℕ) (here : Bool) (later : Option ℕ) → IsBelow limit later
+    → IsBelow (limit + 1) (if here then Some 0 else option_map (λ index. index + 1) later)
+index_later limit true later below = omega arith
+index_later limit false None below = tt
+index_later limit false (Some index) below = omega arith
+
+-- the index of a name is below the number of names
+pub index_below : (declarations : Declarations) (name : Name)
+    → IsBelow (number_in declarations) (index_in declarations name)
+index_below NoDeclaration name = tt
+index_below (ADeclaration other at is rest) name =
+    index_later (number_in rest) (bytes_eq other name) (index_in rest name) (index_below rest name)
+
+-- a fact of nodes among so many equations, which the built-in ones have, those of the given names and those of the
+-- equations, of which the first is that of the node of this number
+pub record IsOfNodes (first : ℕ) (names : List (Name × NodeId)) (Fact : ℕ → NodeId → Type 0) : Type 0 where
+  pub grows : (count more : ℕ) (id : NodeId) → count ≤ more → Fact count id → Fact more id
+  pub built_in : (count : ℕ) (id : NodeId) → id.0 < 14 → Fact count id
+  pub named : (count : ℕ) (name : Name) (id : NodeId) → node_of names name ≡ Some id → Fact count id
+  pub numbered : (count number : ℕ) → number < count → Fact count (node (first + number))
+  pub below : (count : ℕ) (id : NodeId) → Fact count id → id.0 < first + count
+
+module _ (first : ℕ) (names : List (Name × NodeId)) (Fact : ℕ → NodeId → Type 0)
+    (nodes : IsOfNodes first names Fact) where
+  -- the names of a list have the fact, and so those of each list
+  abbrev pub HasNodes : ℕ → Frame → Type 0
+  HasNodes count frame = (index : ℕ) → index < number_in frame.declarations → Fact count (node (frame.first + index))
+
+  abbrev pub HaveNodes : ℕ → Frames → Type 0
+  HaveNodes count frames = AllOf (HasNodes count) frames
+
+  pub frames_later : (count more : ℕ) (frames : Frames) → count ≤ more → HaveNodes count frames → HaveNodes more frames
+  frames_later count more frames longer have =
+      each_weaker (HasNodes count) (HasNodes more)
+      (λ frame has index within. nodes.grows count more (node (frame.first + index)) longer
+      (has index within)) frames have
+
+  -- a list that was met has the nodes of the next equations
+  pub frame_has : (count : ℕ) (declarations : Declarations) (s : Equations) → length s + number_in declarations ≤ count
+      → HasNodes count (frame_after first declarations s)
+  frame_has count declarations s longer index within =
+      subst (λ (number : ℕ). Fact count (node number)) (omega arith)
+      (nodes.numbered count (length s + index) (omega arith))
+
+  -- a name under lists
+  given_has : (count : ℕ) (name : Name) → Fact count (unwrap_or (node_of names name) EMPTY)
+  given_has count name = by_node (node_of names name) refl
+    where
+      by_node : (id : Option NodeId) → node_of names name ≡ id → Fact count (unwrap_or id EMPTY)
+      by_node None is = nodes.built_in count EMPTY (omega arith)
+      by_node (Some id) is = nodes.named count name id is
+
+  declared_has : (count : ℕ) (frame : Frame) (index : Option ℕ) (outer : NodeId) → HasNodes count frame
+      → IsBelow (number_in frame.declarations) index → Fact count outer
+      → Fact count (declared_or frame.first index outer)
+  declared_has count frame None outer has below is = is
+  declared_has count frame (Some index) outer has below is = has index below
+
+  name_has : (count : ℕ) (frames : Frames) (name : Name) → HaveNodes count frames
+      → Fact count (node_under names frames name)
+  name_has count [] name have = given_has count name
+  name_has count (frame ∷ outer) name have =
+      declared_has count frame (index_in frame.declarations name) (node_under names outer name) have.0
+      (index_below frame.declarations name) (name_has count outer name have.1)
+
+  -- an equation that is made
+  pub pushed_has : (equation : Equation) (s : Equations)
+      → Fact (length (pushed first equation s).1) (pushed first equation s).0
+  pushed_has equation s =
+      let long = length-append s (Some equation ∷ []) in nodes.numbered _ (length s) (omega arith)
+
+  pub leaf_has : (formula : Option Formula) (s : Equations)
+      → Fact (length (leaf first formula s).1) (leaf first formula s).0
+  leaf_has (Some formula) s = pushed_has _ s
+  leaf_has None s = nodes.built_in _ EMPTY (omega arith)
+
+  pub text_has : (text : List ℕ) (s : Equations)
+      → Fact (length (walked_text first text s).1) (walked_text first text s).0
+  text_has [] s = nodes.built_in _ NIL (omega arith)
+  text_has (c ∷ text) s = pushed_has _ (leaf first (characters c c) (walked_text first text s).1).1
+
+  pub chained_has : (joint : Joint) (ids : List NodeId) (s : Equations) → AllOf (Fact (length s)) ids
+      → Fact (length (chained first joint ids s).1) (chained first joint ids s).0
+  chained_has joint [] s each = nodes.built_in _ EMPTY (omega arith)
+  chained_has joint (one ∷ []) s each = each.0
+  chained_has joint (one ∷ next ∷ rest) s each = pushed_has _ (chained first joint (next ∷ rest) s).1
+
+  united_has : (ids : List NodeId) (s : Equations) → AllOf (Fact (length s)) ids
+      → Fact (length (united first ids s).1) (united first ids s).0
+  united_has [] s each = nodes.built_in _ EMPTY (omega arith)
+  united_has (one ∷ []) s each = each.0
+  united_has (one ∷ other ∷ rest) s each = pushed_has _ s
+
+  met_has : (signs : List Sign) (s : Equations) → AllOf (λ sign. Fact (length s) sign.1) signs
+      → Fact (length (met first signs s).1) (met first signs s).0
+  met_has [] s each = nodes.built_in _ ANY (omega arith)
+  met_has ((true, one) ∷ []) s each = each.0
+  met_has ((false, one) ∷ []) s each = pushed_has _ s
+  met_has ((true, one) ∷ other ∷ rest) s each = pushed_has _ s
+  met_has ((false, one) ∷ other ∷ rest) s each = pushed_has _ s
+
+  sequenced_has : (one : ReadRegular) → Fact (length (sequenced first one).1) (sequenced first one).0
+  sequenced_has one =
+      let long = length-append one.1
+      (map (λ (formula : Formula). Some (Is formula)) (sequence_formulas (first + length one.1) one.0)) in
+      nodes.numbered _ (length one.1) (omega arith)
+
+  -- things in which nodes stand, and one more whose node was made later
+  one_more_has : {X : Type 0} (at : X → NodeId) (s t : Equations) (made : List X) (next : X) → length s ≤ length t
+      → AllOf (λ one. Fact (length s) (at one)) made → Fact (length t) (at next)
+      → AllOf (λ one. Fact (length t) (at one)) (one_more made next)
+  one_more_has at s t made next longer each is =
+      each_more (λ one. Fact (length t) (at one)) made next
+      (each_weaker (λ one. Fact (length s) (at one)) (λ one. Fact (length t) (at one))
+      (λ one. nodes.grows (length s) (length t) (at one) longer) made each) is
+
+  mutual
+    -- a tree, and what trees are made of
+    pub tree_has : (frames : Frames) (is : Tree) (s : Equations) → HaveNodes (length s) frames
+        → Fact (length (walked first names frames is s).1) (walked first names frames is s).0
+    tree_has frames (tree span kind) s have = kind_has frames kind s have
+
+    pub kind_has : (frames : Frames) (kind : Kind) (s : Equations) → HaveNodes (length s) frames
+        → Fact (length (walked_kind first names frames kind s).1) (walked_kind first names frames kind s).0
+    kind_has frames (type.Builtin name) s have =
+        let below = built_in_below name in nodes.built_in (length s) (node_named name) below
+    kind_has frames (type.Ints low high) s have = leaf_has _ s
+    kind_has frames (type.Chars low high) s have = leaf_has _ s
+    kind_has frames (type.Atom name) s have = pushed_has _ s
+    kind_has frames (type.Text text) s have = text_has text s
+    kind_has frames (type.Tuple NoTree) s have = nodes.built_in _ EMPTY (omega arith)
+    kind_has frames (type.Tuple (ATree one NoTree)) s have = nodes.built_in _ EMPTY (omega arith)
+    kind_has frames (type.Tuple (ATree one (ATree next rest))) s have =
+        let all = walked_trees first names frames (ATree one (ATree next rest)) [] s in
+        chained_has Pairs all.0 all.1 (trees_have frames (ATree one (ATree next rest)) [] s have tt)
+    kind_has frames (type.Arrows NoTree) s have = nodes.built_in _ EMPTY (omega arith)
+    kind_has frames (type.Arrows (ATree one NoTree)) s have = nodes.built_in _ EMPTY (omega arith)
+    kind_has frames (type.Arrows (ATree one (ATree next rest))) s have =
+        let all = walked_trees first names frames (ATree one (ATree next rest)) [] s in
+        chained_has Arrows all.0 all.1 (trees_have frames (ATree one (ATree next rest)) [] s have tt)
+    kind_has frames (type.Union trees) s have =
+        let all = walked_trees first names frames trees [] s in
+        united_has (union_of all.0) all.1
+        (union_keeps (Fact (length all.1)) all.0 (trees_have frames trees [] s have tt))
+    kind_has frames (type.Meet one signs) s have =
+        let kept = walked first names frames one s in
+        let all = walked_signs first names frames signs ((true, kept.0) ∷ []) kept.1 in
+        let later = frames_later (length s) (length kept.1) frames
+        (appends_longer s kept.1 (walked_appends first names frames one s)) have in
+        met_has (meet_of all.0) all.1
+        (meet_keeps (λ sign. Fact (length all.1) sign.1) all.0
+        (signs_have frames signs ((true, kept.0) ∷ []) kept.1 later (tree_has frames one s have, tt)))
+    kind_has frames (type.Sequence is) s have = sequenced_has (walked_regular first names frames is s)
+    kind_has frames (type.Record fields more) s have = pushed_has _ (walked_fields first names frames fields [] s).1
+    kind_has frames (type.Xml tag attributes content) s have =
+        pushed_has _
+        (walked first names frames content
+        (walked first names frames attributes (walked first names frames tag s).1).1).1
+    kind_has frames (type.Named name) s have = name_has (length s) frames name have
+    kind_has frames (type.Where is declarations) s have =
+        let under : Frames = frame_after first declarations s ∷ frames in
+        let all = walked_list first names frames declarations s in
+        let longer = list_longer first names frames declarations s in
+        tree_has under is all
+        (frame_has (length all) declarations s longer, frames_later (length s) (length all) frames (omega arith) have)
+    kind_has frames (type.Variable name) s have = nodes.built_in _ EMPTY (omega arith)
+    kind_has frames (type.Default name constant) s have = nodes.built_in _ EMPTY (omega arith)
+
+    pub trees_have : (frames : Frames) (trees : Trees) (made : List NodeId) (s : Equations)
+        → HaveNodes (length s) frames
+        → AllOf (Fact (length s)) made
+        → AllOf (Fact (length (walked_trees first names frames trees made s).1))
+        (walked_trees first names frames trees made s).0
+    trees_have frames NoTree made s have each = each
+    trees_have frames (ATree is rest) made s have each =
+        let one = walked first names frames is s in
+        let longer = appends_longer s one.1 (walked_appends first names frames is s) in
+        trees_have frames rest (one_more made one.0) one.1 (frames_later (length s) (length one.1) frames longer have)
+        (one_more_has (λ id. id) s one.1 made one.0 longer each (tree_has frames is s have))
+
+    pub signs_have : (frames : Frames) (signs : Signs) (made : List Sign) (s : Equations) → HaveNodes (length s) frames
+        → AllOf (λ sign. Fact (length s) sign.1) made
+        → AllOf (λ sign. Fact (length (walked_signs first names frames signs made s).1) sign.1)
+        (walked_signs first names frames signs made s).0
+    signs_have frames NoSign made s have each = each
+    signs_have frames (ASign kept is rest) made s have each =
+        let one = walked first names frames is s in
+        let longer = appends_longer s one.1 (walked_appends first names frames is s) in
+        signs_have frames rest (one_more made (kept, one.0)) one.1
+        (frames_later (length s) (length one.1) frames longer have)
+        (one_more_has (λ (sign : Sign). sign.1) s one.1 made (kept, one.0) longer each (tree_has frames is s have))
+
+    pub fields_have : (frames : Frames) (fields : Fields) (made : List (Name × Field)) (s : Equations)
+        → HaveNodes (length s) frames → AllOf (λ field. Fact (length s) field.1.type) made
+        → AllOf (λ field. Fact (length (walked_fields first names frames fields made s).1) field.1.type)
+        (walked_fields first names frames fields made s).0
+    fields_have frames NoField made s have each = each
+    fields_have frames (AField label at optional is rest) made s have each =
+        let one = walked first names frames is s in
+        let next : Name × Field = (label, record { optional = optional; type = one.0 }) in
+        let longer = appends_longer s one.1 (walked_appends first names frames is s) in
+        fields_have frames rest (one_more made next) one.1 (frames_later (length s) (length one.1) frames longer have)
+        (one_more_has (λ (field : Name × Field). field.1.type) s one.1 made next longer each
+        (tree_has frames is s have))
+
+    -- an expression asks for nodes below all that come after its items
+    pub regular_asks : (frames : Frames) (is : type.Regular) (s : Equations) → HaveNodes (length s) frames
+        → AsksBelow (first + length (walked_regular first names frames is s).1)
+        (walked_regular first names frames is s).0
+    regular_asks frames (type.regular span kind) s have = regular_kind_asks frames kind s have
+
+    pub regular_kind_asks : (frames : Frames) (kind : type.RegularKind) (s : Equations) → HaveNodes (length s) frames
+        → AsksBelow (first + length (walked_regular_kind first names frames kind s).1)
+        (walked_regular_kind first names frames kind s).0
+    regular_kind_asks frames type.Nothing s have = tt
+    regular_kind_asks frames (type.Item is) s have = nodes.below _ _ (tree_has frames is s have)
+    regular_kind_asks frames (type.Seq all) s have =
+        let read = walked_regulars first names frames all [] s in
+        ask_all (first + length read.1) read.0 (regulars_ask frames all [] s have tt)
+    regular_kind_asks frames (type.Alt all) s have =
+        let read = walked_regulars first names frames all [] s in
+        ask_all (first + length read.1) read.0 (regulars_ask frames all [] s have tt)
+    regular_kind_asks frames (type.Repeat is post) s have =
+        asks_repeated _ post (walked_regular first names frames is s).0 (regular_asks frames is s have)
+    regular_kind_asks frames (type.Capture name is) s have = tt
+
+    pub regulars_ask : (frames : Frames) (all : type.Regulars) (made : List Regular) (s : Equations)
+        → HaveNodes (length s) frames → AllOf (AsksBelow (first + length s)) made
+        → AllOf (AsksBelow (first + length (walked_regulars first names frames all made s).1))
+        (walked_regulars first names frames all made s).0
+    regulars_ask frames type.NoRegular made s have each = each
+    regulars_ask frames (type.ARegular is rest) made s have each =
+        let one = walked_regular first names frames is s in
+        let longer = appends_longer s one.1 (regular_appends first names frames is s) in
+        regulars_ask frames rest (one_more made one.0) one.1 (frames_later (length s) (length one.1) frames longer have)
+        (each_more (AsksBelow (first + length one.1)) made one.0
+        (each_weaker (AsksBelow (first + length s)) (AsksBelow (first + length one.1))
+        (λ part. asks_more (first + length s) (first + length one.1) part (omega arith)) made each)
+        (regular_asks frames is s have))

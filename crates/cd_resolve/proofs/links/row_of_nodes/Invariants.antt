@@ -1,0 +1,7 @@
+use Rattle.std.proofs.Common.{◌≡◌, ◌++◌, drop}
+use Rattle.cd_resolve.specs.Inner.Links.{numbers_of}
+use Rattle.cd_resolve.proofs.links.row_of_nodes.Given as goal
+
+-- the numbers so far and those of the nodes that are left are all
+abbrev pub invariant-loop-id : goal.invariant-loop-id
+invariant-loop-id l = (l.row.items ++ numbers_of l.first (drop l.id-index l.ids)) ≡ numbers_of l.first l.ids

@@ -1,0 +1,159 @@
+-- What it is for a node to have the equations of a tree.
+use Rattle.std.specs.Prelude.{◌≡◌, ℕ, ◌+◌, true, List, [], ◌∷◌, Option, Some, None}
+use Rattle.std.specs.List.{slice_get}
+use Rattle.cd_sets.specs.declared.node_id.NodeId.{NodeId}
+use Rattle.cd_syntax.specs.Name.{Name}
+use Rattle.cd_syntax.specs.TypeTree as type
+use Rattle.cd_syntax.specs.TypeTree.{Tree, tree, Kind, Trees, NoTree, ATree, Signs, NoSign, ASign}
+use Rattle.cd_syntax.specs.TypeTree.{Fields, NoField, AField, Declarations, NoDeclaration}
+use Rattle.cd_syntax.specs.TypeTree.{ADeclaration}
+use Rattle.cd_model.specs.BuiltIns.{EMPTY, ANY, NIL, node, node_named}
+use Rattle.cd_model.specs.Formula.{Formula, Field, Pair, Xml, Record}
+use Rattle.cd_model.specs.Written.{any_or_none}
+use Rattle.cd_regex.specs.Regular.{Regular, Regulars, Nothing, Item, Seq, Alt, NoRegular, ARegular}
+use Rattle.cd_regex.specs.Regular.{AsksBelow}
+use Rattle.cd_regex.specs.Automaton.{sequence_formulas}
+use Rattle.cd_resolve.specs.Inner.Equation.{Equation, Equations, Is, Same, And, Or}
+use Rattle.cd_resolve.specs.Inner.Frames.{Frames, node_under}
+use Rattle.cd_resolve.specs.Inner.Leaves.{integers, characters, atom, Joint, Pairs, Arrows, joined}
+use Rattle.cd_resolve.specs.Inner.Leaves.{sorted}
+use Rattle.cd_resolve.specs.Inner.Members.{Sign, union_of, meet_of}
+use Rattle.cd_resolve.specs.Inner.Repeated.{repeated}
+
+-- The first of the equations is that of the node of this number, and names that no list declares
+-- have these nodes
+module _ (first : ℕ) (equations : Equations) where
+  -- the node has this equation
+  pub record IsAt (id : NodeId) (equation : Equation) : Type 0 where
+    pub number : ℕ
+    pub there : id ≡ node (first + number)
+    pub is : slice_get equations number ≡ Some (Some equation)
+
+  -- the node of a formula, if there is one, else of what holds nothing
+  abbrev pub HasLeaf : Option Formula → NodeId → Type 0
+  HasLeaf (Some formula) id = IsAt id (Is formula)
+  HasLeaf None id = id ≡ EMPTY
+
+  -- a text is pairs of its characters
+  abbrev pub EquatesText : List ℕ → NodeId → Type 0
+  EquatesText [] id = id ≡ NIL
+  EquatesText (c ∷ text) id = (one other : NodeId) × IsAt id (Is (Pair one other))
+      × HasLeaf (characters c c) one × EquatesText text other
+
+  -- a union of no members holds nothing, and of one what this holds; a meet of none everything
+  abbrev pub HasUnion : NodeId → List NodeId → Type 0
+  HasUnion id [] = id ≡ EMPTY
+  HasUnion id (one ∷ []) = id ≡ one
+  HasUnion id (one ∷ other ∷ rest) = IsAt id (Or (one ∷ other ∷ rest))
+
+  abbrev pub HasMeet : NodeId → List Sign → Type 0
+  HasMeet id [] = id ≡ ANY
+  HasMeet id ((true, one) ∷ []) = id ≡ one
+  HasMeet id signs = IsAt id (And signs)
+
+  -- nodes that follow one another have these formulas
+  abbrev pub HaveFormulas : ℕ → List Formula → Type 0
+  HaveFormulas number [] = Unit {0}
+  HaveFormulas number (formula ∷ rest) = IsAt (node number) (Is formula)
+      × HaveFormulas (number + 1) rest
+
+  module _ (names : List (Name × NodeId)) where
+    abbrev mutual
+      pub Equates : Frames → Tree → NodeId → Type 0
+      Equates frames (tree span kind) id = EquatesKind frames kind id
+
+      pub EquatesKind : Frames → Kind → NodeId → Type 0
+      EquatesKind frames (type.Builtin name) id = id ≡ node_named name
+      EquatesKind frames (type.Ints low high) id = HasLeaf (integers low high) id
+      EquatesKind frames (type.Chars low high) id = HasLeaf (characters low high) id
+      EquatesKind frames (type.Atom name) id = IsAt id (Is (atom name))
+      EquatesKind frames (type.Text text) id = EquatesText text id
+      EquatesKind frames (type.Tuple (ATree one (ATree next rest))) id =
+          EquatesChain frames Pairs (ATree one (ATree next rest)) id
+      EquatesKind frames (type.Arrows (ATree one (ATree next rest))) id =
+          EquatesChain frames Arrows (ATree one (ATree next rest)) id
+      EquatesKind frames (type.Union trees) id = (ids : List NodeId) × HasUnion id (union_of ids)
+          × EquatesEach frames trees ids
+      EquatesKind frames (type.Meet one signs) id = (kept : NodeId) × (signed : List Sign)
+          × HasMeet id (meet_of ((true, kept) ∷ signed)) × Equates frames one kept
+          × EquatesSigns frames signs signed
+      EquatesKind frames (type.Sequence is) id = (regular : Regular)
+          × HaveFormulas id.0 (sequence_formulas id.0 regular)
+          × EquatesRegular frames is regular × AsksBelow id.0 regular
+      EquatesKind frames (type.Record fields more) id = (named : List (Name × Field))
+          × IsAt id (Is (Record (sorted named) (node_named (any_or_none more))))
+          × EquatesFields frames fields named
+      EquatesKind frames (type.Xml tag attributes content) id = (one other last : NodeId)
+          × IsAt id (Is (Xml one other last))
+          × Equates frames tag one × Equates frames attributes other
+          × Equates frames content last
+      EquatesKind frames (type.Named name) id = id ≡ node_under names frames name
+      EquatesKind frames (type.Where is declarations) id = (number : ℕ)
+          × AreEquated (record { declarations = declarations; first = number } ∷ frames) number
+          declarations
+          × Equates (record { declarations = declarations; first = number } ∷ frames) is id
+      EquatesKind frames kind id = id ≡ EMPTY
+
+      -- a chain of one tree is that tree
+      pub EquatesChain : Frames → Joint → Trees → NodeId → Type 0
+      EquatesChain frames joint NoTree id = id ≡ EMPTY
+      EquatesChain frames joint (ATree is NoTree) id = Equates frames is id
+      EquatesChain frames joint (ATree is (ATree next rest)) id = (one other : NodeId)
+          × IsAt id (Is (joined joint one other))
+          × Equates frames is one × EquatesChain frames joint (ATree next rest) other
+
+      pub EquatesEach : Frames → Trees → List NodeId → Type 0
+      EquatesEach frames NoTree [] = Unit {0}
+      EquatesEach frames (ATree one rest) (id ∷ ids) = Equates frames one id
+          × EquatesEach frames rest ids
+      EquatesEach frames trees ids = ⊥
+
+      pub EquatesSigns : Frames → Signs → List Sign → Type 0
+      EquatesSigns frames NoSign [] = Unit {0}
+      EquatesSigns frames (ASign kept is rest) (sign ∷ signs) = (sign.0 ≡ kept)
+          × Equates frames is sign.1 × EquatesSigns frames rest signs
+      EquatesSigns frames trees signs = ⊥
+
+      pub EquatesFields : Frames → Fields → List (Name × Field) → Type 0
+      EquatesFields frames NoField [] = Unit {0}
+      EquatesFields frames (AField label at optional is rest) (field ∷ named) = (field.0 ≡ label)
+          × (field.1.optional ≡ optional)
+          × Equates frames is field.1.type × EquatesFields frames rest named
+      EquatesFields frames fields named = ⊥
+
+      -- an expression over the nodes of its items
+      pub EquatesRegular : Frames → type.Regular → Regular → Type 0
+      EquatesRegular frames (type.regular span kind) is = EquatesRegularKind frames kind is
+
+      pub EquatesRegularKind : Frames → type.RegularKind → Regular → Type 0
+      EquatesRegularKind frames type.Nothing is = is ≡ Nothing
+      EquatesRegularKind frames (type.Item part) is = (id : NodeId) × (is ≡ Item id)
+          × Equates frames part id
+      EquatesRegularKind frames (type.Seq all) is = (parts : Regulars) × (is ≡ Seq parts)
+          × EquatesRegulars frames all parts
+      EquatesRegularKind frames (type.Alt all) is = (parts : Regulars) × (is ≡ Alt parts)
+          × EquatesRegulars frames all parts
+      EquatesRegularKind frames (type.Repeat inner post) is = (part : Regular)
+          × (is ≡ repeated post part) × EquatesRegular frames inner part
+      -- a form of patterns, which stands in no type
+      EquatesRegularKind frames (type.Capture name inner) is = is ≡ Alt NoRegular
+
+      pub EquatesRegulars : Frames → type.Regulars → Regulars → Type 0
+      EquatesRegulars frames type.NoRegular NoRegular = Unit {0}
+      EquatesRegulars frames (type.ARegular one rest) (ARegular is others) =
+          EquatesRegular frames one is × EquatesRegulars frames rest others
+      EquatesRegulars frames all parts = ⊥
+
+      -- the declared names whose nodes follow one another from this number on hold what their trees
+      -- do
+      pub AreEquated : Frames → ℕ → Declarations → Type 0
+      AreEquated frames number NoDeclaration = Unit {0}
+      AreEquated frames number (ADeclaration name at is rest) =
+          ((root : NodeId) × IsAt (node number) (Same root) × Equates frames is root)
+          × AreEquated frames (number + 1) rest
+
+    -- so do the names of each of these lists
+    abbrev pub AllEquated : Frames → Type 0
+    AllEquated [] = Unit {0}
+    AllEquated (frame ∷ outer) = AreEquated (frame ∷ outer) frame.first frame.declarations
+        × AllEquated outer

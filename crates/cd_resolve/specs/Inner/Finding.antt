@@ -1,0 +1,180 @@
+-- What a walk over a tree finds: the names that nothing declares, the names and labels that stand
+-- twice, and the links from declared names to others through no constructor.
+use Rattle.std.specs.Prelude.{ℕ, Bool, true, false, ◌||◌, List, [], ◌∷◌, ◌++◌, length, Option, Some}
+use Rattle.std.specs.Prelude.{None, bytes_eq, if◌then◌else◌}
+use Rattle.cd_syntax.specs.Name.{Name}
+use Rattle.cd_syntax.specs.TypeTree.{Tree, tree, Kind, Tuple, Arrows, Union, Meet, Sequence, Record}
+use Rattle.cd_syntax.specs.TypeTree.{Xml, Named, Where, Trees, NoTree, ATree, Signs, NoSign, ASign}
+use Rattle.cd_syntax.specs.TypeTree.{Fields, NoField, AField, Declarations, NoDeclaration}
+use Rattle.cd_syntax.specs.TypeTree.{ADeclaration, Regular, regular, RegularKind, Nothing, Item}
+use Rattle.cd_syntax.specs.TypeTree.{Seq, Alt, Repeat, Capture, Regulars, NoRegular, ARegular}
+use Rattle.cd_resolve.specs.declared.fault.NameFault.{NameFault}
+use Rattle.cd_resolve.specs.declared.fault.NameFault.TheVariants.{Unknown, Twice}
+use Rattle.cd_resolve.specs.Faults.{Fault}
+use Rattle.cd_resolve.specs.Inner.BuiltinNames.{is_among, is_builtin}
+
+-- a list of declarations that a tree stands under, and its number
+pub record Frame : Type 0 where
+  pub declarations : Declarations
+  pub list : ℕ
+
+abbrev pub Frames : Type 0
+Frames = List Frame
+
+abbrev pub innermost : Frames → Declarations
+innermost [] = NoDeclaration
+innermost (frame ∷ outer) = frame.declarations
+
+-- a declared name: the first of its name in the list of this number
+pub record Id : Type 0 where
+  pub list : ℕ
+  pub name : Name
+
+-- one declared name leads to another, which is declared at this place
+pub record Link : Type 0 where
+  pub start : Id
+  pub to : Id
+  pub at : ℕ
+
+-- what is found, and something of each list of declarations, which has its place there as its
+-- number
+pub record State (N : Type 0) : Type 0 where
+  pub faults : List Fault
+  pub lists : List N
+  pub links : List Link
+
+abbrev pub told : {N : Type 0} → NameFault → Name → ℕ → State N → State N
+told fault name at s = record {
+  faults = s.faults ++ record { fault = fault; name = name; at = at } ∷ [];
+  lists = s.lists;
+  links = s.links;
+}
+
+abbrev pub entered : {N : Type 0} → N → State N → State N
+entered list s = record { faults = s.faults; lists = s.lists ++ list ∷ []; links = s.links }
+
+abbrev pub linked : {N : Type 0} → Id → Id → ℕ → State N → State N
+linked start to at s = record {
+  faults = s.faults;
+  lists = s.lists;
+  links = s.links ++ record
+      { start = start; to = to; at = at } ∷ [];
+}
+
+-- where a name is first declared in a list, and in the innermost list that declares it
+abbrev pub place_in : Declarations → Name → Option ℕ
+place_in NoDeclaration name = None
+place_in (ADeclaration other at is rest) name =
+    if bytes_eq other name then Some at else place_in rest name
+
+pub record Place : Type 0 where
+  pub list : ℕ
+  pub at : ℕ
+
+abbrev pub place_or : ℕ → Option ℕ → Option Place → Option Place
+place_or list (Some at) outer = Some (record { list = list; at = at })
+place_or list None outer = outer
+
+abbrev pub place_of : Frames → Name → Option Place
+place_of [] name = None
+place_of (frame ∷ outer) name =
+    place_or frame.list (place_in frame.declarations name) (place_of outer name)
+
+-- a name is met at this place, in the tree of this declared name and under no constructor
+abbrev pub met : {N : Type 0} → Option Id → Name → ℕ → Option Place → State N → State N
+met start name at None s = told Unknown name at s
+met None name at (Some place) s = s
+met (Some start) name at (Some place) s = linked start
+    (record { list = place.list; name = name }) place.at s
+
+abbrev pub told_if : {N : Type 0} → Bool → Name → ℕ → State N → State N
+told_if true name at s = told Twice name at s
+told_if false name at s = s
+
+-- a name that is declared again leads nowhere, since uses mean the first
+abbrev pub start_of : Bool → ℕ → Name → Option Id
+start_of true list name = None
+start_of false list name = Some (record { list = list; name = name })
+
+-- the labels of a record, after these
+abbrev pub labelled : {N : Type 0} → List Name → Fields → State N → State N
+labelled seen NoField s = s
+labelled seen (AField label at optional is rest) s = labelled (seen ++ label ∷ []) rest
+    (told_if (is_among seen label) label at s)
+
+-- the walk over a tree under these lists. `start` is the declared name that leads to the tree
+-- through no constructor, and `keep` is what is kept of a list
+abbrev mutual
+  pub found_in : {N : Type 0} → (Frames → N) → Frames → Option Id → Tree → State N → State N
+  found_in keep frames start (tree span kind) s = found_in_kind keep frames start span.from kind s
+
+  pub found_in_kind : {N : Type 0} → (Frames → N) → Frames → Option Id → ℕ → Kind → State N
+      → State N
+  found_in_kind keep frames start at (Tuple trees) s = found_in_trees keep frames None trees s
+  found_in_kind keep frames start at (Arrows trees) s = found_in_trees keep frames None trees s
+  found_in_kind keep frames start at (Union trees) s = found_in_trees keep frames start trees s
+  found_in_kind keep frames start at (Meet first signs) s = found_in_signs keep frames start signs
+      (found_in keep frames start first s)
+  found_in_kind keep frames start at (Sequence is) s = found_in_regular keep frames is s
+  found_in_kind keep frames start at (Record fields more) s =
+      found_in_fields keep frames fields (labelled [] fields s)
+  found_in_kind keep frames start at (Xml tag attributes content) s =
+      found_in keep frames None content
+      (found_in keep frames None attributes (found_in keep frames None tag s))
+  found_in_kind keep frames start at (Named name) s = met start name at (place_of frames name) s
+  found_in_kind keep frames start at (Where is declarations) s =
+      found_in keep (record { declarations = declarations; list = length s.lists } ∷ frames)
+      start is
+      (found_in_declared keep
+      (record { declarations = declarations; list = length s.lists } ∷ frames)
+      (length s.lists) [] declarations
+      (entered (keep (record { declarations = declarations; list = length s.lists } ∷ frames)) s))
+  found_in_kind keep frames start at kind s = s
+
+  pub found_in_trees : {N : Type 0} → (Frames → N) → Frames → Option Id → Trees → State N → State N
+  found_in_trees keep frames start NoTree s = s
+  found_in_trees keep frames start (ATree first rest) s = found_in_trees keep frames start rest
+      (found_in keep frames start first s)
+
+  pub found_in_signs : {N : Type 0} → (Frames → N) → Frames → Option Id → Signs → State N → State N
+  found_in_signs keep frames start NoSign s = s
+  found_in_signs keep frames start (ASign kept is rest) s = found_in_signs keep frames start rest
+      (found_in keep frames start is s)
+
+  pub found_in_fields : {N : Type 0} → (Frames → N) → Frames → Fields → State N → State N
+  found_in_fields keep frames NoField s = s
+  found_in_fields keep frames (AField label at optional is rest) s =
+      found_in_fields keep frames rest (found_in keep frames None is s)
+
+  -- the declarations of the innermost list after those of these names
+  pub found_in_declared : {N : Type 0} → (Frames → N) → Frames → ℕ → List Name → Declarations
+      → State N → State N
+  found_in_declared keep frames list seen NoDeclaration s = s
+  found_in_declared keep frames list seen (ADeclaration name at is rest) s =
+      found_in_declared keep frames list (seen ++ name ∷ []) rest
+      (found_in keep frames (start_of (is_among seen name) list name) is
+      (told_if (is_among seen name || is_builtin name) name at s))
+
+  pub found_in_regular : {N : Type 0} → (Frames → N) → Frames → Regular → State N → State N
+  found_in_regular keep frames (regular span kind) s = found_in_regular_kind keep frames kind s
+
+  pub found_in_regular_kind : {N : Type 0} → (Frames → N) → Frames → RegularKind → State N → State N
+  found_in_regular_kind keep frames Nothing s = s
+  found_in_regular_kind keep frames (Item is) s = found_in keep frames None is s
+  found_in_regular_kind keep frames (Seq all) s = found_in_regulars keep frames all s
+  found_in_regular_kind keep frames (Alt all) s = found_in_regulars keep frames all s
+  found_in_regular_kind keep frames (Repeat is post) s = found_in_regular keep frames is s
+  found_in_regular_kind keep frames (Capture name is) s = found_in_regular keep frames is s
+
+  pub found_in_regulars : {N : Type 0} → (Frames → N) → Frames → Regulars → State N → State N
+  found_in_regulars keep frames NoRegular s = s
+  found_in_regulars keep frames (ARegular first rest) s = found_in_regulars keep frames rest
+      (found_in_regular keep frames first s)
+
+-- the walk over a list of declarations that stands first in the scope, and over the trees in it
+abbrev pub found_in_list : {N : Type 0} → (Frames → N) → Frames → Declarations → State N → State N
+found_in_list keep outer declarations s =
+    found_in_declared keep (record { declarations = declarations; list = length s.lists } ∷ outer)
+    (length s.lists) []
+    declarations
+    (entered (keep (record { declarations = declarations; list = length s.lists } ∷ outer)) s)

@@ -1,0 +1,49 @@
+-- What the code finds, as plain data.
+use Rattle.std.specs.Prelude.{List, Option, map, length}
+use Rattle.std.specs.Option.{option_map}
+use Rattle.cd_syntax.specs.TypeTree.{Declarations}
+use Rattle.cd_syntax.specs.PlainTree.{plain_declarations}
+use Rattle.cd_resolve.specs.Faults.{Fault}
+use Rattle.cd_resolve.specs.Inner.Finding as walk
+use Rattle.cd_resolve.specs.Inner.Finding.{State}
+use Rattle.cd_resolve.specs.declared.found.Told.{Told}
+use Rattle.cd_resolve.specs.declared.frame.Frame.{Frame}
+use Rattle.cd_resolve.specs.declared.found.Id.{Id}
+use Rattle.cd_resolve.specs.declared.found.Link.{Link}
+use Rattle.cd_resolve.specs.declared.found.Place.{Place}
+use Rattle.cd_resolve.specs.declared.found.Found.{Found}
+
+abbrev pub plain_told : Told → Fault
+plain_told one = record { fault = one.fault; name = one.name.now; at = one.at }
+
+abbrev pub list_frame : Frame → walk.Frame
+list_frame frame = record {
+  declarations = plain_declarations frame.declarations.now;
+  list = frame.list;
+}
+
+abbrev pub list_frames : List Frame → walk.Frames
+list_frames frames = map list_frame frames
+
+abbrev pub plain_id : Id → walk.Id
+plain_id id = record { list = id.list; name = id.name.now }
+
+abbrev pub plain_start : Option Id → Option walk.Id
+plain_start start = option_map plain_id start
+
+abbrev pub plain_link : Link → walk.Link
+plain_link link = record { start = plain_id link.start; to = plain_id link.to; at = link.at }
+
+abbrev pub plain_place : Option Place → Option walk.Place
+plain_place place = option_map (λ one. record { list = one.list; at = one.at }) place
+
+abbrev pub plain_found : Found → State Declarations
+plain_found found = record {
+  faults = map plain_told found.faults.items;
+  lists = map (λ one. plain_declarations one.now) found.lists.items;
+  links = map plain_link found.links.items;
+}
+
+-- a list that is met when so many others were
+abbrev pub list_after : Declarations → State Declarations → walk.Frame
+list_after declarations s = record { declarations = declarations; list = length s.lists }

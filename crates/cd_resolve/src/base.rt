@@ -1,0 +1,12 @@
+//! What a walk goes by.
+use crate::frame::Frame;
+use std::alloc::Global;
+
+/// What a walk goes by and never changes: the number of the node of the first equation, and the
+/// list of declarations that is seen from outside, if there is one.
+#[derive(Drop)]
+pub(crate) struct Base<'t, 'n> {
+    pub(crate) alloc: Global,
+    pub(crate) first: usize,
+    pub(crate) outer: Option<&'n Frame<'t>>,
+}

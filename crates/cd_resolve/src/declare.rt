@@ -1,0 +1,189 @@
+//! The walk over lists of declarations, whose names have nodes that follow one another.
+ghost use Rattle.std.specs.Prelude.{◌≡◌, ◌∷◌, [], IfOk, OnOk};
+ghost use Rattle.cd_syntax.specs.TypeTree.{Where};
+ghost use Rattle.cd_syntax.specs.PlainTree.{plain, plain_declarations};
+ghost use Rattle.cd_syntax.specs.WellMade.{IsWellMade, AreWellMadeDeclarations};
+ghost use Rattle.cd_resolve.specs.Inner.Equation.{plain_equations};
+ghost use Rattle.cd_resolve.specs.Inner.Finding.{innermost, found_in_kind, found_in_declared};
+ghost use Rattle.cd_resolve.specs.Inner.Finding.{found_in_list, entered as entered_list};
+ghost use Rattle.cd_resolve.specs.Inner.PlainBase.{names_outside, lists_seen, lists_outside};
+ghost use Rattle.cd_resolve.specs.Inner.PlainFound.{list_frame, list_frames, list_after};
+ghost use Rattle.cd_resolve.specs.Inner.PlainFound.{plain_found, plain_start};
+ghost use Rattle.cd_resolve.specs.Inner.PlainState.{plain_frame, plain_frames};
+ghost use Rattle.cd_resolve.specs.Inner.Walk.{walked_kind, walked_declared, walked_list};
+ghost use Rattle.cd_resolve.specs.Inner.Walk.{entered, frame_after};
+
+use crate::base::Base;
+use crate::found::{Found, Id, start_of};
+use crate::frame::Frame;
+use crate::name_index::NameIndex;
+use crate::scope::under;
+use crate::state::State;
+use crate::taken::is_taken;
+use crate::walk::walk;
+use cd_sets::node_id::NodeId;
+use cd_syntax::type_tree::{Declarations, Tree};
+use std::alloc::AllocError;
+
+/// Walks over a list of declarations that stands under no other, and gives it: the nodes of its
+/// names follow those that are there, and each holds what the name's tree does.
+pub(crate) fn walk_list<'t>(
+    base: &Base<'_, '_>,
+    declarations: &'t Declarations,
+    state: &mut State,
+    found: &mut Found<'t>,
+) -> Result<Frame<'t>, AllocError>
+    requires { AreWellMadeDeclarations (plain_declarations declarations.now) }
+    ensures nodes { IfOk result (λ frame. plain_frame frame
+        ≡ frame_after base.now.first (plain_declarations declarations.now)
+        (plain_equations state.old.equations.items)) }
+    ensures list { IfOk result (λ frame. list_frame frame
+        ≡ list_after (plain_declarations declarations.now) (plain_found found.old)) }
+    ensures found { IfOk result (λ _. plain_found found.new
+        ≡ found_in_list innermost (lists_outside base.now)
+        (plain_declarations declarations.now) (plain_found found.old)) }
+    ensures equations { IfOk result (λ _. plain_equations state.new.equations.items
+        ≡ walked_list base.now.first (names_outside base.now) []
+        (plain_declarations declarations.now) (plain_equations state.old.equations.items)) }
+{
+    let number = state.equations.len();
+    let frame = enter(base, declarations, state, found)?;
+    let list = frame.list;
+    let frames = under(base.alloc, frame.copy()?, &[])?;
+    walk_declared(
+        base,
+        number,
+        list,
+        declarations,
+        frames.as_slice(),
+        state,
+        found,
+    )?;
+    Ok(frame)
+}
+
+/// A tree under its own declarations, whose trees are walked over before it.
+#[cycle(walk)]
+pub(crate) fn walk_where<'t>(
+    base: &Base<'_, '_>,
+    body: &'t Tree,
+    declarations: &'t Declarations,
+    outer: &[Frame<'t>],
+    start: Option<Id<'t>>,
+    state: &mut State,
+    found: &mut Found<'t>,
+) -> Result<NodeId, AllocError>
+    requires body { IsWellMade (plain body.now) }
+    requires declarations { AreWellMadeDeclarations (plain_declarations declarations.now) }
+    ensures found { IfOk result (λ _. plain_found found.new
+        ≡ found_in_kind innermost (lists_seen base.now outer.now) (plain_start start.entry) 0
+        (Where (plain body.now) (plain_declarations declarations.now)) (plain_found found.old)) }
+    ensures equations { IfOk result (λ id. (id, plain_equations state.new.equations.items)
+        ≡ walked_kind base.now.first (names_outside base.now) (plain_frames outer.now)
+        (Where (plain body.now) (plain_declarations declarations.now))
+        (plain_equations state.old.equations.items)) }
+{
+    let frames = walk_under(base, declarations, outer, state, found)?;
+    walk(base, body, frames.as_slice(), start, state, found)
+}
+
+// Walks over a list of declarations, and gives it with the lists round it.
+#[cycle(walk)]
+fn walk_under<'t>(
+    base: &Base<'_, '_>,
+    declarations: &'t Declarations,
+    outer: &[Frame<'t>],
+    state: &mut State,
+    found: &mut Found<'t>,
+) -> Result<Vec<Frame<'t>>, AllocError>
+    requires { AreWellMadeDeclarations (plain_declarations declarations.now) }
+    ensures nodes { IfOk result (λ frames. plain_frames frames.items
+        ≡ frame_after base.now.first (plain_declarations declarations.now)
+        (plain_equations state.old.equations.items) ∷ plain_frames outer.now) }
+    ensures lists { IfOk result (λ frames. list_frames frames.items
+        ≡ list_after (plain_declarations declarations.now) (plain_found found.old)
+        ∷ list_frames outer.now) }
+    ensures found { IfOk result (λ _. plain_found found.new
+        ≡ found_in_list innermost (lists_seen base.now outer.now)
+        (plain_declarations declarations.now) (plain_found found.old)) }
+    ensures equations { IfOk result (λ _. plain_equations state.new.equations.items
+        ≡ walked_list base.now.first (names_outside base.now) (plain_frames outer.now)
+        (plain_declarations declarations.now) (plain_equations state.old.equations.items)) }
+{
+    let number = state.equations.len();
+    let frame = enter(base, declarations, state, found)?;
+    let list = frame.list;
+    let frames = under(base.alloc, frame, outer)?;
+    walk_declared(
+        base,
+        number,
+        list,
+        declarations,
+        frames.as_slice(),
+        state,
+        found,
+    )?;
+    Ok(frames)
+}
+
+// Enters a list of declarations, whose trees are not read yet.
+fn enter<'t>(
+    base: &Base<'_, '_>,
+    declarations: &'t Declarations,
+    state: &mut State,
+    found: &mut Found<'t>,
+) -> Result<Frame<'t>, AllocError>
+    ensures nodes { IfOk result (λ frame. plain_frame frame
+        ≡ frame_after base.now.first (plain_declarations declarations.now)
+        (plain_equations state.old.equations.items)) }
+    ensures list { IfOk result (λ frame. list_frame frame
+        ≡ list_after (plain_declarations declarations.now) (plain_found found.old)) }
+    ensures found { IfOk result (λ _. plain_found found.new
+        ≡ entered_list (plain_declarations declarations.now) (plain_found found.old)) }
+    ensures equations { IfOk result (λ _. plain_equations state.new.equations.items
+        ≡ entered (plain_declarations declarations.now)
+        (plain_equations state.old.equations.items)) }
+{
+    let first = state.next(base)?;
+    let list = found.enter(declarations)?;
+    state.enter(declarations)?;
+    Frame::of(base.alloc, declarations, first, list)
+}
+
+// Walks over the trees of the innermost list of declarations, which has this number among the
+// lists, and whose names have the equations from this number on.
+#[cycle(walk)]
+fn walk_declared<'t>(
+    base: &Base<'_, '_>,
+    from: usize,
+    list: usize,
+    declarations: &'t Declarations,
+    frames: &[Frame<'t>],
+    state: &mut State,
+    found: &mut Found<'t>,
+) -> Result<(), AllocError>
+    requires { AreWellMadeDeclarations (plain_declarations declarations.now) }
+    ensures found { IfOk result (λ _. plain_found found.new
+        ≡ found_in_declared innermost (lists_seen base.now frames.now) list []
+        (plain_declarations declarations.now) (plain_found found.old)) }
+    ensures equations { OnOk result (plain_equations state.new.equations.items
+        ≡ walked_declared base.now.first (names_outside base.now) (plain_frames frames.now) from
+        (plain_declarations declarations.now) (plain_equations state.old.equations.items)) }
+{
+    let mut seen = NameIndex::new(base.alloc);
+    let mut number = from;
+    for declaration in declarations.items() {
+        let name = &declaration.name;
+        let again = seen.add(name)?;
+        found.tell_twice(is_taken(again, name), name, declaration.at)?;
+        let start = start_of(again, list, name);
+        let root = walk(base, &declaration.tree, frames, start, state, found)?;
+        state.settle(number, root);
+        // No graph is so long.
+        let Some(next) = number.checked_add(1) else {
+            return Err(AllocError);
+        };
+        number = next;
+    }
+    Ok(())
+}

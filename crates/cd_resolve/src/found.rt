@@ -1,0 +1,154 @@
+//! What a walk over a tree finds.
+ghost use Rattle.std.specs.Prelude.{◌≡◌, IfOk, length, []};
+ghost use Rattle.cd_syntax.specs.PlainTree.{plain_declarations};
+ghost use Rattle.cd_resolve.specs.Inner.Finding.{told, told_if, entered, linked, met};
+ghost use Rattle.cd_resolve.specs.Inner.Finding.{start_of as start_of_declared};
+ghost use Rattle.cd_resolve.specs.Inner.PlainFound.{plain_id, plain_start, plain_place};
+ghost use Rattle.cd_resolve.specs.Inner.PlainFound.{plain_found};
+
+use crate::fault::NameFault;
+use cd_syntax::name::Name;
+use cd_syntax::type_tree::Declarations;
+use std::alloc::{AllocError, Global};
+
+/// A fault, the name that it is told of, and its place.
+#[derive(Clone, Copy)]
+pub(crate) struct Told<'t> {
+    pub(crate) fault: NameFault,
+    pub(crate) name: &'t Name,
+    pub(crate) at: usize,
+}
+
+/// A declared name: the first of its name in the list of this number.
+#[derive(Clone, Copy)]
+pub(crate) struct Id<'t> {
+    pub(crate) list: usize,
+    pub(crate) name: &'t Name,
+}
+
+/// One declared name leads to another, which is declared at this place.
+#[derive(Clone, Copy)]
+pub(crate) struct Link<'t> {
+    pub(crate) start: Id<'t>,
+    pub(crate) to: Id<'t>,
+    pub(crate) at: usize,
+}
+
+/// Where a name is declared: the number of the list, and the place.
+#[derive(Clone, Copy)]
+pub(crate) struct Place {
+    pub(crate) list: usize,
+    pub(crate) at: usize,
+}
+
+/// The faults so far, the lists of declarations, and the links between declared names.
+#[derive(Drop)]
+pub(crate) struct Found<'t> {
+    pub(crate) faults: Vec<Told<'t>>,
+    pub(crate) lists: Vec<&'t Declarations>,
+    pub(crate) links: Vec<Link<'t>>,
+}
+
+impl<'t> Found<'t> {
+    /// Nothing.
+    pub(crate) fn new(alloc: Global) -> Found<'t>
+        ensures { plain_found result ≡ record { faults = []; lists = []; links = [] } }
+    {
+        Found {
+            faults: Vec::new(alloc),
+            lists: Vec::new(alloc),
+            links: Vec::new(alloc),
+        }
+    }
+
+    /// Tells a fault.
+    pub(crate) fn tell(
+        &mut self,
+        fault: NameFault,
+        name: &'t Name,
+        at: usize,
+    ) -> Result<(), AllocError>
+        ensures { IfOk result (λ _.
+            plain_found self.new ≡ told fault name.now at (plain_found self.old)) }
+    {
+        self.faults.push(Told { fault, name, at })?;
+        Ok(())
+    }
+
+    /// Tells of a name that stands twice, if it does.
+    pub(crate) fn tell_twice(
+        &mut self,
+        twice: bool,
+        name: &'t Name,
+        at: usize,
+    ) -> Result<(), AllocError>
+        ensures { IfOk result (λ _.
+            plain_found self.new ≡ told_if twice name.now at (plain_found self.old)) }
+    {
+        if twice {
+            return self.tell(NameFault::Twice, name, at);
+        }
+        Ok(())
+    }
+
+    /// Enters a list of declarations, and gives its number.
+    pub(crate) fn enter(&mut self, declarations: &'t Declarations) -> Result<usize, AllocError>
+        ensures { IfOk result (λ list. (list ≡ length (plain_found self.old).lists)
+            × (plain_found self.new ≡ entered (plain_declarations declarations.now)
+            (plain_found self.old))) }
+    {
+        let list = self.lists.len();
+        self.lists.push(declarations)?;
+        Ok(list)
+    }
+
+    /// A name is met at a place, in the tree of a declared name and under no constructor, if that
+    /// is given.
+    pub(crate) fn meet(
+        &mut self,
+        start: Option<Id<'t>>,
+        name: &'t Name,
+        at: usize,
+        place: Option<Place>,
+    ) -> Result<(), AllocError>
+        ensures { IfOk result (λ _.
+            plain_found self.new ≡ met (plain_start start.entry) name.now at (plain_place place)
+            (plain_found self.old)) }
+    {
+        let Some(place) = place else {
+            return self.tell(NameFault::Unknown, name, at);
+        };
+        let Some(start) = start else {
+            return Ok(());
+        };
+        self.link(start, place, name)
+    }
+
+    fn link(&mut self, start: Id<'t>, place: Place, name: &'t Name) -> Result<(), AllocError>
+        ensures { IfOk result (λ _.
+            plain_found self.new ≡ linked (plain_id start.entry)
+            (record { list = place.list; name = name.now }) place.at (plain_found self.old)) }
+    {
+        let to = Id {
+            list: place.list,
+            name,
+        };
+        self.links.push(Link {
+            start,
+            to,
+            at: place.at,
+        })?;
+        Ok(())
+    }
+}
+
+/// The declared name whose tree is walked over. A name that is declared again leads nowhere, since
+/// uses mean the first.
+pub(crate) fn start_of<'t>(again: bool, list: usize, name: &'t Name) -> Option<Id<'t>>
+    ensures { plain_start result ≡ start_of_declared again list name.now }
+{
+    if again {
+        return None;
+    }
+    Some(Id { list, name })
+}

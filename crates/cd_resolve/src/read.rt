@@ -1,0 +1,158 @@
+//! What is written, read by one walk: its equations, or the least of its faults.
+ghost use Rattle.std.specs.Prelude.{◌≡◌, IfOk, OnOk, IfErr, map, None, Some, [], ◌∷◌};
+ghost use Rattle.cd_syntax.specs.PlainTree.{plain, plain_declarations};
+ghost use Rattle.cd_syntax.specs.WellMade.{IsWellMade, AreWellMadeDeclarations};
+ghost use Rattle.cd_resolve.specs.Errors.{IsToldError};
+ghost use Rattle.cd_resolve.specs.Faults.{Fault, IsFaultOfType, IsFaultOfDeclarations};
+ghost use Rattle.cd_resolve.specs.Named.{plain_names, declared_by};
+ghost use Rattle.cd_resolve.specs.Inner.Check.{found_in_type, all_faults, IsLeast};
+ghost use Rattle.cd_resolve.specs.Inner.Cycles.{least_from};
+ghost use Rattle.cd_resolve.specs.Inner.Equation.{plain_equations};
+ghost use Rattle.cd_resolve.specs.Inner.Names.{numbered};
+ghost use Rattle.cd_resolve.specs.Inner.PlainBase.{names_outside, lists_outside};
+ghost use Rattle.cd_resolve.specs.Inner.PlainFound.{plain_told, plain_found};
+ghost use Rattle.cd_resolve.specs.Inner.Walk.{walked, walked_list};
+
+use crate::base::Base;
+use crate::cycle::tell_cycles;
+use crate::declare::walk_list;
+use crate::equation::Equation;
+use crate::error::NameError;
+use crate::found::{Found, Told};
+use crate::least::least;
+use crate::names::Names;
+use crate::state::State;
+use crate::walk::walk;
+use cd_sets::node_id::NodeId;
+use cd_syntax::type_tree::{Declarations, Tree};
+use std::alloc::{AllocError, Global};
+
+/// The equations of type declarations, which see one another and none else, from the node of this
+/// number on, and their names.
+///
+/// # Errors
+///
+/// Of all naming faults of the declarations the one with the least place, at one place in the order
+/// of `NameFault`; or want of memory.
+pub(crate) fn read_declarations<'t>(
+    alloc: Global,
+    first: usize,
+    declared: &'t Declarations,
+) -> Result<(Vec<Option<Equation>>, Names<'t>), NameError>
+    requires { AreWellMadeDeclarations (plain_declarations declared.now) }
+    ensures sound { OnOk result ((fault : Fault)
+        → IsFaultOfDeclarations (plain_declarations declared.now) fault → ⊥) }
+    ensures fault { IfErr result
+        (λ error. IsToldError (IsFaultOfDeclarations (plain_declarations declared.now)) error) }
+    ensures equations { IfOk result (λ read. plain_equations read.0.items
+        ≡ walked_list first [] [] (plain_declarations declared.now) []) }
+    ensures names { IfOk result (λ read. plain_names read.1
+        ≡ record { declarations = plain_declarations declared.now; first = first }) }
+{
+    let mut state = State::new(alloc);
+    let mut found = Found::new(alloc);
+    let base = Base {
+        alloc,
+        first,
+        outer: None,
+    };
+    let frame = walk_list(&base, declared, &mut state, &mut found)?;
+    match told(alloc, found) {
+        Ok(()) => Ok((state.equations, Names { frame })),
+        Err(error) => Err(error),
+    }
+}
+
+/// The equations of a type, which sees these names beside those of its own `where`, from the node
+/// of this number on, and the type's node.
+///
+/// # Errors
+///
+/// Of all naming faults of the type the one with the least place, at one place in the order of
+/// `NameFault`; or want of memory. Faults of what declares the names are not told here.
+pub(crate) fn read_type(
+    alloc: Global,
+    first: usize,
+    names: &Names<'_>,
+    tree: &Tree,
+) -> Result<(Vec<Option<Equation>>, NodeId), NameError>
+    requires { IsWellMade (plain tree.now) }
+    ensures sound { OnOk result ((fault : Fault)
+        → IsFaultOfType (declared_by names.now) (plain tree.now) fault → ⊥) }
+    ensures fault { IfErr result
+        (λ error. IsToldError (IsFaultOfType (declared_by names.now) (plain tree.now)) error) }
+    ensures equations { IfOk result (λ read. (read.1, plain_equations read.0.items)
+        ≡ walked first (numbered (plain_names names.now).first (declared_by names.now)) []
+        (plain tree.now) []) }
+{
+    let mut state = State::new(alloc);
+    let base = Base {
+        alloc,
+        first,
+        outer: Some(&names.frame),
+    };
+    let (root, found) = walk_type(&base, names.frame.declarations, tree, &mut state)?;
+    match told(alloc, found) {
+        Ok(()) => Ok((state.equations, root)),
+        Err(error) => Err(error),
+    }
+}
+
+// Walks over a type that sees this list of declarations beside those of its own `where`.
+fn walk_type<'t>(
+    base: &Base<'_, '_>,
+    declared: &'t Declarations,
+    tree: &'t Tree,
+    state: &mut State,
+) -> Result<(NodeId, Found<'t>), AllocError>
+    requires well_made { IsWellMade (plain tree.now) }
+    requires seen { lists_outside base.now
+        ≡ record { declarations = plain_declarations declared.now; list = 0 } ∷ [] }
+    ensures found { IfOk result (λ read. plain_found read.1
+        ≡ found_in_type (plain_declarations declared.now) (plain tree.now)) }
+    ensures equations { IfOk result (λ read. (read.0, plain_equations state.new.equations.items)
+        ≡ walked base.now.first (names_outside base.now) [] (plain tree.now)
+        (plain_equations state.old.equations.items)) }
+{
+    let mut found = Found::new(base.alloc);
+    found.enter(declared)?;
+    let root = walk(base, tree, &[], None, state, &mut found)?;
+    Ok((root, found))
+}
+
+// Tells the least fault of what is found.
+fn told(alloc: Global, found: Found<'_>) -> Result<(), NameError>
+    ensures sound { OnOk result (least_from None (all_faults (plain_found found.entry)) ≡ None) }
+    ensures fault { IfErr result
+        (λ error. IsLeast (least_from None (all_faults (plain_found found.entry))) error) }
+{
+    let faults = faults_of(alloc, found)?;
+    match least(faults.as_slice()) {
+        Some(told) => Err(error_of(&told)),
+        None => Ok(()),
+    }
+}
+
+// All faults of what is found.
+fn faults_of<'t>(alloc: Global, found: Found<'t>) -> Result<Vec<Told<'t>>, AllocError>
+    ensures { IfOk result (λ faults.
+        map plain_told faults.items ≡ all_faults (plain_found found.entry)) }
+{
+    let mut faults = found.faults;
+    tell_cycles(alloc, found.links.as_slice(), &mut faults)?;
+    Ok(faults)
+}
+
+// The error that tells a fault.
+fn error_of(told: &Told<'_>) -> NameError
+    ensures { IsLeast (Some (plain_told told.now)) result }
+{
+    match told.name.copy() {
+        Ok(name) => NameError::Fault {
+            fault: told.fault,
+            name,
+            at: told.at,
+        },
+        Err(_) => NameError::Memory,
+    }
+}

@@ -1,9 +1,0 @@
-pub mod Names
-pub mod Shape
-pub mod Frames
-pub mod Leaves
-pub mod Repeated
-pub mod Shaped
-pub mod Reading
-pub mod PlainTables
-pub mod Inner
