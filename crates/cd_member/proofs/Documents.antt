@@ -9,7 +9,10 @@ use Rattle.std.proofs.lemmas.Str.{scalars-chars}
 use Rattle.std.proofs.Math.Utf8.{scalar, scalars}
 use Rattle.cd_base.specs.declared.status.Status.TheVariants.{Done, No}
 use Rattle.cd_model.specs.AllOf.{AllOf}
-use Rattle.cd_model.specs.Interfaces.{Interfaces, value_in_written}
+use Rattle.cd_sets.specs.declared.node_id.NodeId.{NodeId}
+use Rattle.cd_model.specs.Formula.{Graph}
+use Rattle.cd_model.specs.Interfaces.{Interfaces, value_in_node}
+use Rattle.cd_model.specs.StandsFor.{StandsFor}
 use Rattle.cd_model.specs.Thing.{Thing, IsData, IsValue}
 use Rattle.cd_model.specs.Written.{Written}
 use Rattle.cd_documents.proofs.DataRead.{is_data}
@@ -21,7 +24,7 @@ use Rattle.cd_notation.specs.declared.read.NotationError.TheVariants as error
 use Rattle.cd_replies.specs.Bytes.{Bytes}
 use Rattle.cd_replies.specs.Disk.{Disk, HasText, refused}
 use Rattle.cd_replies.specs.Message.{reply_of, against}
-use Rattle.cd_replies.specs.Reply.{says, refusal}
+use Rattle.cd_replies.specs.Reply.{Reply, says, refusal}
 use Rattle.cd_replies.specs.declared.message.Message.{Message}
 use Rattle.cd_replies.specs.declared.refusal.Refusal.{Refusal}
 use Rattle.cd_replies.specs.declared.refusal.Refusal.TheVariants as refusal
@@ -58,25 +61,30 @@ stands_against text (error.TooDeep place) is found means =
     subst (λ found. RefusesDocument text (against found)) (sym same) (too_deep place is)
 stands_against text error.Memory is found means = absurd (false≢true means)
 
-module _ (document text : Bytes) (type : Written) where
+module _ (document text : Bytes) (graph : Graph) (id : NodeId) where
+  -- an answer where the document has this text and the node stands for the type
+  abbrev Answers : Reply → Type 0
+  Answers reply = (disk : Disk) → HasText disk document text → (type : Written) → StandsFor graph id type
+      → DocumentAnswer disk document type reply
+
   -- so it is refused
   pub document_is_refused : (found : Refusal) → RefusesDocument text (against found) → (r : Result Message AllocError)
-      → IfOk r (λ message. reply_of message ≡ refusal document text (against found))
-      → IfOk r (λ message. (disk : Disk) → HasText disk document text → DocumentAnswer disk document type (reply_of message))
+      → IfOk r (λ message. reply_of message ≡ refusal document text (against found)) → IfOk r (λ message. Answers (reply_of message))
   document_is_refused found stands r said =
-      replies r (refusal document text (against found)) (λ reply. (disk : Disk) → HasText disk document text → DocumentAnswer disk document type reply) said
-      (λ disk has. document_refused (refusal document text (against found)) (refused text has (against found) stands))
+      replies r (refusal document text (against found)) Answers said
+      (λ disk has type node. document_refused (refusal document text (against found)) (refused text has (against found) stands))
 
-  -- its value is in the type or outside
-  answered : (v : Thing) → WritesValue (chars text) v → (inside : Bool) → ((interfaces : Interfaces) → value_in_written interfaces v type inside)
-      → (disk : Disk) → HasText disk document text
-      → DocumentAnswer disk document type (if inside then says Done (codes "yes") else says No (codes "no"))
-  answered v writes true is disk has = yes v (record { text = text; has = has; writes = writes }) is
-  answered v writes false is disk has = no v (record { text = text; has = has; writes = writes }) is
+  -- its value is in the type or outside, as it is in the node
+  answered : (v : Thing) → WritesValue (chars text) v → IsValue v → (inside : Bool) → ((interfaces : Interfaces) → value_in_node graph interfaces v id inside)
+      → Answers (if inside then says Done (codes "yes") else says No (codes "no"))
+  answered v writes value true is = λ disk has type stands.
+      yes v (record { text = text; has = has; writes = writes }) (λ interfaces. (stands.values interfaces v true value).0 (is interfaces))
+  answered v writes value false is = λ disk has type stands.
+      no v (record { text = text; has = has; writes = writes }) (λ interfaces. (stands.values interfaces v false value).0 (is interfaces))
 
-  pub document_is_answered : (v : Thing) → WritesValue (chars text) v → (inside : Bool) → ((interfaces : Interfaces) → value_in_written interfaces v type inside)
-      → (r : Result Message AllocError) → IfOk r (λ message. reply_of message ≡ if inside then says Done (codes "yes") else says No (codes "no"))
-      → IfOk r (λ message. (disk : Disk) → HasText disk document text → DocumentAnswer disk document type (reply_of message))
-  document_is_answered v writes inside is r said =
-      replies r (if inside then says Done (codes "yes") else says No (codes "no"))
-      (λ reply. (disk : Disk) → HasText disk document text → DocumentAnswer disk document type reply) said (answered v writes inside is)
+  pub document_is_answered : (v : Thing) → WritesValue (chars text) v → IsValue v → (inside : Bool)
+      → ((interfaces : Interfaces) → value_in_node graph interfaces v id inside) → (r : Result Message AllocError)
+      → IfOk r (λ message. reply_of message ≡ if inside then says Done (codes "yes") else says No (codes "no"))
+      → IfOk r (λ message. Answers (reply_of message))
+  document_is_answered v writes value inside is r said =
+      replies r (if inside then says Done (codes "yes") else says No (codes "no")) Answers said (answered v writes value inside is)

@@ -1,39 +1,40 @@
 //! Whether the value that a text stands for is in a type.
-ghost use Rattle.std.specs.Prelude.{◌≡◌, IfOk, if◌then◌else◌, codes};
+ghost use Rattle.std.specs.Prelude.{◌≡◌, ◌<◌, IfOk, if◌then◌else◌, codes, length};
 ghost use Rattle.cd_base.specs.declared.status.Status.TheVariants.{Done, No};
-ghost use Rattle.cd_syntax.specs.PlainTree.{plain, plain_declarations};
+ghost use Rattle.cd_model.specs.StandsFor.{StandsFor};
+ghost use Rattle.cd_model.specs.Written.{Written};
+ghost use Rattle.cd_graph.specs.Nodes.{nodes};
 ghost use Rattle.cd_replies.specs.Disk.{Disk, HasText};
 ghost use Rattle.cd_replies.specs.Message.{reply_of};
 ghost use Rattle.cd_replies.specs.Reply.{says};
-ghost use Rattle.cd_replies.specs.Texts.{AreSound, IsSound, type_of};
 ghost use Rattle.cd_member.specs.MemberAnswer.{DocumentAnswer};
 ghost use Rattle.cd_member.specs.Inner.DocumentErrors.{IsOfDocument};
 
-use crate::within::is_within;
+use cd_asking::is_in;
 use cd_cells::Values;
+use cd_graph::Graph;
 use cd_notation::{NotationError, read_value};
 use cd_replies::message::{Message, plain_no, refused, yes};
 use cd_replies::refusal::Refusal;
-use cd_syntax::type_tree::{Declarations, Tree};
+use cd_sets::node_id::NodeId;
 use std::alloc::{AllocError, Global};
 
-/// The answer on a document that has this text.
+/// The answer on a document that has this text, where the node stands for the type.
 pub(crate) fn of_text(
     alloc: Global,
-    declared: &Declarations,
-    tree: &Tree,
+    graph: &Graph,
+    node: NodeId,
     document: &str,
     text: &str,
 ) -> Result<Message, AllocError>
-    requires declared { AreSound (plain_declarations declared.now) }
-    requires tree { IsSound (plain_declarations declared.now) (plain tree.now) }
+    requires { node.0 < length (nodes graph.now) }
     ensures { IfOk result (λ message. (disk : Disk) → HasText disk document.now text.now
-        → DocumentAnswer disk document.now
-        (type_of (plain_declarations declared.now) (plain tree.now)) (reply_of message)) }
+        → (type : Written) → StandsFor (nodes graph.now) node type
+        → DocumentAnswer disk document.now type (reply_of message)) }
 {
     let mut values = Values::new(alloc);
     match read_value(alloc, &mut values, text) {
-        Ok(id) => yes_or_no(alloc, is_within(alloc, declared, tree, &values, id)?),
+        Ok(id) => yes_or_no(alloc, is_in(alloc, graph, &values, id, node)?),
         Err(error) => refused(alloc, document, text, refusal_of(error)?),
     }
 }

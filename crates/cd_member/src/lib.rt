@@ -1,26 +1,32 @@
 //! The command `member`: whether the value of a document is in a type.
 #![tactic(auto)]
 
-ghost use Rattle.std.specs.Prelude.{◌≡◌, [], ◌∷◌};
-ghost use Rattle.cd_syntax.specs.PlainTree.{plain, plain_declarations};
+ghost use Rattle.std.specs.Prelude.{◌≡◌, ◌<◌, [], ◌∷◌, length};
+ghost use Rattle.cd_model.specs.StandsFor.{StandsFor};
+ghost use Rattle.cd_model.specs.Written.{Written};
+ghost use Rattle.cd_graph.specs.Nodes.{nodes};
+ghost use Rattle.cd_resolve.specs.Named.{AreNamed, plain_names, declared_by};
 ghost use Rattle.cd_replies.specs.Bytes.{Bytes};
 ghost use Rattle.cd_replies.specs.Message.{IsAnswer};
 ghost use Rattle.cd_replies.specs.Disk.{HasText};
 ghost use Rattle.cd_replies.specs.File.{ReadsAmong};
-ghost use Rattle.cd_replies.specs.Texts.{AreSound, IsSound, type_of};
+ghost use Rattle.cd_replies.specs.Naming.{AreNamedWell};
 ghost use Rattle.cd_member.specs.MemberAnswer.{FileDeclares, DocumentAnswer, MemberAnswer};
 ghost use Rattle.cd_member.specs.Inner.Finishing.{Finishes};
 
 use cd_base::files::Files;
+use cd_graph::Graph;
 use cd_replies::file::read_file;
 use cd_replies::message::{Message, no_text, refused};
-use cd_replies::reader::{read_declarations, read_type};
-use cd_syntax::type_tree::{Declarations, Tree};
+use cd_replies::reader::read_declarations;
+use cd_resolve::Names;
+use cd_sets::node_id::NodeId;
 use document::of_text;
+use reading::{declare, node};
 use std::alloc::{AllocError, Global};
 
 mod document;
-mod within;
+mod reading;
 
 /// Whether the value of a document is in a type text, which sees the type declarations of a file.
 /// The file is read first; the document is read where the file and the type text have no fault.
@@ -61,49 +67,55 @@ fn with_file<F: Files>(
         → MemberAnswer disk file.now document.now text.now reply)
         (F.state files.old) (F.state files.new) document.now result }
 {
-    match read_declarations(alloc, types)? {
-        Ok(declared) => with_declared(alloc, files, &declared, document, text),
-        Err(refusal) => refused(alloc, file, types, refusal),
+    let declared = match read_declarations(alloc, types)? {
+        Ok(declared) => declared,
+        Err(refusal) => return refused(alloc, file, types, refusal),
+    };
+    let mut graph = Graph::new(alloc)?;
+    match declare(alloc, &mut graph, &declared)? {
+        Ok(names) => with_names(alloc, files, &mut graph, &names, document, text),
+        Err(fault) => refused(alloc, file, types, fault),
     }
 }
 
-// The answer where a file declares these types.
-fn with_declared<F: Files>(
+// The answer where the type text sees names that have nodes.
+fn with_names<F: Files>(
     alloc: Global,
     files: &mut F,
-    declared: &Declarations,
+    graph: &mut Graph,
+    names: &Names<'_>,
     document: &str,
     text: &str,
 ) -> Result<Message, AllocError>
-    requires { AreSound (plain_declarations declared.now) }
+    requires names_sound { AreNamedWell (declared_by names.now) }
+    requires named { AreNamed (nodes graph.old) (plain_names names.now) }
     ensures { Finishes (λ disk reply. (file : Bytes)
-        → FileDeclares disk file (plain_declarations declared.now)
+        → FileDeclares disk file (declared_by names.now)
         → MemberAnswer disk file document.now text.now reply)
         (F.state files.old) (F.state files.new) document.now result }
 {
-    match read_type(alloc, declared, text)? {
-        Ok(tree) => with_type(alloc, files, declared, &tree, document),
+    match node(alloc, graph, names, text)? {
+        Ok(id) => with_type(alloc, files, graph, id, document),
         Err(refusal) => refused(alloc, "T", text, refusal),
     }
 }
 
-// The answer where the type is this one, which sees these declarations.
+// The answer where the node stands for the type.
 fn with_type<F: Files>(
     alloc: Global,
     files: &mut F,
-    declared: &Declarations,
-    tree: &Tree,
+    graph: &Graph,
+    id: NodeId,
     document: &str,
 ) -> Result<Message, AllocError>
-    requires declared { AreSound (plain_declarations declared.now) }
-    requires tree { IsSound (plain_declarations declared.now) (plain tree.now) }
-    ensures { Finishes (λ disk reply. DocumentAnswer disk document.now
-        (type_of (plain_declarations declared.now) (plain tree.now)) reply)
+    requires { id.0 < length (nodes graph.now) }
+    ensures { Finishes (λ disk reply. (type : Written) → StandsFor (nodes graph.now) id type
+        → DocumentAnswer disk document.now type reply)
         (F.state files.old) (F.state files.new) document.now result }
 {
     match read_file(files, document) {
         Err(error) => Err(error),
         Ok(Err(fault)) => no_text(alloc, document, fault),
-        Ok(Ok(text)) => of_text(alloc, declared, tree, document, text.as_str()),
+        Ok(Ok(text)) => of_text(alloc, graph, id, document, text.as_str()),
     }
 }

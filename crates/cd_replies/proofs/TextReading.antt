@@ -1,21 +1,20 @@
 -- What the code finds in a text or against it is so.
-use Rattle.std.proofs.Common.{◌≡◌, List, Ok, length, sym, ap, subst}
-use Rattle.std.specs.Str.{chars}
+use Rattle.std.proofs.Common.{◌≡◌, List, Ok, length, sym, subst}
 use Rattle.std.proofs.lemmas.Bool.{false≢true}
 use Rattle.cd_syntax.specs.declared.tokens.Token.{Token}
 use Rattle.cd_syntax.specs.SyntaxFaults.{Form}
-use Rattle.cd_syntax.specs.TypeTree.{Tree, Declarations}
-use Rattle.cd_names.specs.Errors.{IsToldError}
-use Rattle.cd_names.specs.Faults.{Fault, IsTold}
-use Rattle.cd_names.specs.declared.error.NameError.{NameError}
-use Rattle.cd_names.specs.declared.error.NameError.TheVariants as name_fault
+use Rattle.cd_syntax.specs.TypeTree.{Declarations, NoDeclaration}
+use Rattle.cd_resolve.specs.Errors.{IsToldError}
+use Rattle.cd_resolve.specs.Faults.{Fault, IsTold, IsFaultOfDeclarations, twice, built_in, unguarded, in_declared}
+use Rattle.cd_resolve.specs.declared.error.NameError.{NameError}
+use Rattle.cd_resolve.specs.declared.error.NameError.TheVariants as name_fault
 use Rattle.cd_parse_types.specs.Parsed.{IsFault}
 use Rattle.cd_parse_types.specs.declared.error.ParseError.{ParseError}
 use Rattle.cd_parse_types.specs.declared.error.ParseError.TheVariants as fault
-use Rattle.cd_parse_types.proofs.MadeWell.{text_makes_type, text_makes_declarations}
 use Rattle.cd_replies.specs.Bytes.{Bytes}
-use Rattle.cd_replies.specs.Texts.{AreSound, IsSound, Refuses, syntax, too_deep, naming}
-use Rattle.cd_replies.specs.Texts.{HasTokens, ReadsAs, Declares, type_of}
+use Rattle.cd_replies.specs.Texts.{Against, HasTokens, Declares, Refuses, RefusesDeclarations, syntax, too_deep, naming}
+use Rattle.cd_replies.specs.Naming.{Writes, AreNamedWell, RefusesNames}
+use Rattle.cd_replies.specs.Naming as names
 use Rattle.cd_replies.specs.Message.{against}
 use Rattle.cd_replies.specs.Inner.Refusal.{IsOfFault, IsOfNames}
 use Rattle.cd_replies.specs.declared.refusal.Refusal.{Refusal}
@@ -43,17 +42,34 @@ module _ (form : Form) (told : List Token → Fault → Type 0) (text : Bytes) w
       (naming tokens spelled (record { fault = fault; name = name; at = at }) (tells (record { fault = fault; name = name; at = at }) is))
   names_refused tokens spelled IsSuch tells name_fault.Memory is found means = absurd (false≢true means)
 
--- declarations that a text reads as are sound, and so is a type
-pub declares_sound : (text : Bytes) (declared : Declarations) → Declares text declared → AreSound declared
-declares_sound text declared declares = record {
-  well_made = text_makes_declarations (chars text) declares.tokens 1000 declared declares.spelled declares.written;
-  sound = declares.sound;
+-- the naming fault that is told of declarations is what is found
+pub names_told : (declared : Declarations) (error : NameError) → IsToldError (IsFaultOfDeclarations declared) error
+    → (found : Refusal) → IsOfNames error (Ok found) → RefusesNames declared (against found)
+names_told declared (name_fault.Fault fault name at) is found means =
+    let same : found ≡ refusal.Naming fault name at = cc in
+    subst (λ f. RefusesNames declared (against f)) (sym same) (names.naming (record { fault = fault; name = name; at = at }) is)
+names_told declared name_fault.Memory is found means = absurd (false≢true means)
+
+-- the text declares them where their names are sound, and else their naming fault stands against it
+pub writes_declares : (text : Bytes) (declared : Declarations) → Writes text declared → AreNamedWell declared → Declares text declared
+writes_declares text declared writes sound = record {
+  tokens = writes.tokens;
+  spelled = writes.spelled;
+  written = writes.written;
+  sound = sound;
 }
 
-pub reads_sound : (declared : Declarations) (text : Bytes) (is : Tree) → ReadsAs declared text (type_of declared is) → IsSound declared is
-reads_sound declared text is reads =
-    let same : reads.tree ≡ is = sym (ap (λ type. type.tree) reads.means) in
-    subst (IsSound declared) same (record {
-      well_made = text_makes_type (chars text) reads.tokens 1000 reads.tree reads.spelled reads.written;
-      sound = reads.sound;
-    })
+pub writes_refused : (text : Bytes) (declared : Declarations) → Writes text declared → (against : Against) → RefusesNames declared against
+    → RefusesDeclarations text against
+writes_refused text declared writes _ (names.naming fault told) =
+    naming writes.tokens writes.spelled fault (declared, writes.written, told)
+
+-- where nothing is declared, no naming fault is told
+pub none_refused : (against : Against) → RefusesNames NoDeclaration against → ⊥
+none_refused _ (names.naming fault told) = no_fault fault told.is
+  where
+    no_fault : (fault : Fault) → IsFaultOfDeclarations NoDeclaration fault → ⊥
+    no_fault _ (twice _ _ _ name at again) = elim again [ ]
+    no_fault _ (built_in _ _ _ name at is type declared builtin) = elim declared [ ]
+    no_fault _ (unguarded _ _ _ name at is first leads) = elim first [ ]
+    no_fault _ (in_declared _ _ _ name at is fault declared is_fault) = elim declared [ ]

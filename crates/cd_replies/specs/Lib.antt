@@ -1,6 +1,7 @@
 pub mod Bytes
 pub mod Position
 pub mod Texts
+pub mod Naming
 pub mod Within
 pub mod Reply
 pub mod Disk

@@ -13,9 +13,9 @@ use Rattle.cd_syntax.specs.declared.tokens.LexError.TheVariants.{BadChar, OpenTe
 use Rattle.cd_syntax.specs.declared.tokens.LexError.TheVariants.{TooWide, Memory}
 use Rattle.cd_replies.specs.Bytes.{Bytes}
 use Rattle.cd_replies.specs.Position.{position}
-use Rattle.cd_names.specs.Faults.{Fault}
-use Rattle.cd_names.specs.declared.fault.NameFault.{NameFault}
-use Rattle.cd_names.specs.declared.fault.NameFault.TheVariants.{Unknown, Twice, Unguarded}
+use Rattle.cd_resolve.specs.Faults.{Fault}
+use Rattle.cd_resolve.specs.declared.fault.NameFault.{NameFault}
+use Rattle.cd_resolve.specs.declared.fault.NameFault.TheVariants.{Unknown, Twice, Unguarded}
 use Rattle.cd_replies.specs.Texts.{Against, Lexical, Syntax, TooDeep, Naming}
 
 pub record Reply : Type 0 where

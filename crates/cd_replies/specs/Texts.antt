@@ -7,10 +7,9 @@ use Rattle.cd_syntax.specs.Tokens.{Spells}
 use Rattle.cd_syntax.specs.Faults.{Fails}
 use Rattle.cd_syntax.specs.TypeTree.{Tree, Declarations}
 use Rattle.cd_syntax.specs.TypeGrammar.{IsTree, AreDeclared}
-use Rattle.cd_syntax.specs.WellMade.{IsWellMade, AreWellMadeDeclarations}
 use Rattle.cd_syntax.specs.SyntaxFaults.{Form, AType, SomeDeclarations, IsSyntaxFault, IsDepthFault}
 use Rattle.cd_model.specs.Written.{Written}
-use Rattle.cd_names.specs.Faults.{Fault, IsFault, IsFaultOfList, IsTold}
+use Rattle.cd_resolve.specs.Faults.{Fault, IsFaultOfType, IsFaultOfDeclarations, IsTold}
 use Rattle.cd_replies.specs.Bytes.{Bytes}
 
 -- the text is spelled by these tokens
@@ -20,13 +19,6 @@ HasTokens text tokens = Spells false 0 (chars text) tokens
 -- the type that a tree is, which sees these declarations
 abbrev pub type_of : Declarations → Tree → Written
 type_of declared is = record { scope = declared ∷ []; tree = is }
-
--- a naming fault of a type that sees these declarations, and of declarations that see one another
-abbrev pub IsFaultOfType : Declarations → Tree → Fault → Type 0
-IsFaultOfType declared is fault = IsFault (declared ∷ []) (declared ∷ []) is fault
-
-abbrev pub IsFaultOfDeclarations : Declarations → Fault → Type 0
-IsFaultOfDeclarations declared fault = IsFaultOfList [] (declared ∷ []) declared fault
 
 -- the text reads as the type, which sees these declarations, and its names are sound
 pub record ReadsAs (declared : Declarations) (text : Bytes) (type : Written) : Type 0 where
@@ -83,13 +75,3 @@ RefusesType declared text against = Refuses AType (IsToldOfType declared) text a
 
 abbrev pub RefusesDeclarations : Bytes → Against → Type 0
 RefusesDeclarations text against = Refuses SomeDeclarations IsToldOfDeclarations text against
-
--- the declarations are well made, and no naming fault stands in them
-pub record AreSound (declared : Declarations) : Type 0 where
-  pub well_made : AreWellMadeDeclarations declared
-  pub sound : (fault : Fault) → IsFaultOfDeclarations declared fault → ⊥
-
--- so is a type that sees these declarations
-pub record IsSound (declared : Declarations) (is : Tree) : Type 0 where
-  pub well_made : IsWellMade is
-  pub sound : (fault : Fault) → IsFaultOfType declared is fault → ⊥

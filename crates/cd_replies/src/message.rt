@@ -10,7 +10,7 @@ use crate::file::FileFault;
 use crate::position::place;
 use crate::refusal::Refusal;
 use cd_base::status::Status;
-use cd_names::fault::NameFault;
+use cd_resolve::fault::NameFault;
 use cd_syntax::name::Name;
 use cd_syntax::tokens::LexError;
 use std::alloc::{AllocError, Global};

@@ -1,5 +1,5 @@
 //! What stands against a text.
-use cd_names::fault::NameFault;
+use cd_resolve::fault::NameFault;
 use cd_syntax::name::Name;
 use cd_syntax::tokens::LexError;
 

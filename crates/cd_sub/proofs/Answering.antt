@@ -1,34 +1,41 @@
 -- Messages that tell an answer.
 use Rattle.std.proofs.Common.{◌≡◌, Result, Ok, Err}
-use Rattle.std.specs.Prelude.{IfOk, String, string_bytes}
+use Rattle.std.specs.Prelude.{IfOk, String, string_bytes, true, false}
 use Rattle.std.specs.Global.{Global}
 use Rattle.std.specs.declared.alloc.AllocError.{AllocError}
 use Rattle.cd_base.specs.FilesState.{FilesState}
 use Rattle.cd_syntax.specs.TypeTree.{Declarations}
-use Rattle.cd_model.specs.Written.{Written}
+use Rattle.cd_sets.specs.declared.node_id.NodeId.{NodeId}
+use Rattle.cd_model.specs.Formula.{Graph}
 use Rattle.cd_replies.specs.Bytes.{Bytes}
 use Rattle.cd_replies.specs.Reply.{Reply, cannot_read}
-use Rattle.cd_replies.specs.Texts.{ReadsAs, Declares, RefusesDeclarations}
+use Rattle.cd_replies.specs.Naming.{StandsForText}
+use Rattle.cd_replies.specs.Texts.{RefusesDeclarations}
 use Rattle.cd_replies.specs.Disk.{Disk, HasText, marked, told_disk, marked_disk}
 use Rattle.cd_replies.proofs.Messages.{replies}
 use Rattle.cd_replies.proofs.FilesMet.{has_text, met_same, FaultMet, failed, granted, fault_met}
-use Rattle.cd_sub.specs.SubAnswer.{SubAnswer, yes, no, SubTypesAnswer, file_refused, on_texts}
-use Rattle.cd_sub.specs.Inner.Comparing.{ComparesTypes, within, outside}
+use Rattle.cd_sub.specs.SubAnswer.{SubAnswer, yes, no, SubTypesAnswer, file_refused}
+use Rattle.cd_sub.specs.Inner.Comparing.{ComparesNodes, within, outside}
 use Rattle.cd_replies.specs.Message.{IsAnswer, reply_of}
 use Rattle.cd_replies.specs.File.{IsFileRead, said_of}
 use Rattle.cd_replies.specs.declared.file.FileFault.{FileFault}
 use Rattle.cd_replies.specs.declared.message.Message.{Message}
 
--- what is told of two types that texts read as is the answer
-pub compared : (declared : Declarations) (text1 text2 : Bytes) (first second : Written) → ReadsAs declared text1 first → ReadsAs declared text2 second
-    → (r : Result Message AllocError) → IfOk r (λ message. ComparesTypes first second (reply_of message))
+-- what is told of two nodes, which stand for what texts read as, is the answer
+pub compared : (graph : Graph) (declared : Declarations) (text1 text2 : Bytes) (first second : NodeId) → StandsForText graph first declared text1
+    → StandsForText graph second declared text2 → (r : Result Message AllocError)
+    → IfOk r (λ message. ComparesNodes graph first second (reply_of message))
     → IfOk r (λ message. SubAnswer declared text1 text2 (reply_of message))
-compared declared text1 text2 first second is1 is2 (Ok message) compares = by_reply (reply_of message) compares
+compared graph declared text1 text2 first second is1 is2 (Ok message) compares = by_reply (reply_of message) compares
   where
-    by_reply : (reply : Reply) → ComparesTypes first second reply → SubAnswer declared text1 text2 reply
-    by_reply _ (within all) = yes first second is1 is2 all
-    by_reply _ (outside element is is_in is_out) = no first second is1 is2 element is is_in is_out
-compared declared text1 text2 first second is1 is2 (Err error) compares = tt
+    by_reply : (reply : Reply) → ComparesNodes graph first second reply → SubAnswer declared text1 text2 reply
+    by_reply _ (within all) =
+        yes is1.type is2.type is1.reads is2.reads
+        (λ is element inside. (is2.stands.elements is true element).0 (all is element ((is1.stands.elements is true element).1 inside)))
+    by_reply _ (outside element is is_in is_out) =
+        no is1.type is2.type is1.reads is2.reads element is
+        ((is1.stands.elements element true is).0 is_in) ((is2.stands.elements element false is).0 is_out)
+compared graph declared text1 text2 first second is1 is2 (Err error) compares = tt
 
 -- what is said of a file that has no text is an answer
 answers_met : (old new : FilesState) (name text1 text2 : Bytes) (reply : Reply) → FaultMet RefusesDeclarations old new name reply
@@ -59,14 +66,6 @@ answers_text old new name text1 text2 text is (Ok message) said = (
   said (told_disk old) (has_text old new name text is),
 )
 answers_text old new name text1 text2 text is (Err error) said = (told_disk old, met_same old new is.0, tt)
-
--- what is said of a file with these declarations is what `sub` answers, and else what stands against it
-pub on_file : (name text text1 text2 : Bytes) (declared : Declarations) → Declares text declared
-    → (r : Result Message AllocError) → IfOk r (λ message. SubAnswer declared text1 text2 (reply_of message))
-    → IfOk r (λ message. (disk : Disk) → HasText disk name text → SubTypesAnswer disk name text1 text2 (reply_of message))
-on_file name text text1 text2 declared declares (Ok message) answers =
-    λ disk has. on_texts text has declared declares (reply_of message) answers
-on_file name text text1 text2 declared declares (Err error) answers = tt
 
 pub answers_nothing : (old new : FilesState) (name text1 text2 : Bytes) (error : AllocError) → IsFileRead old new name (Err error)
     → IsAnswer (λ disk. SubTypesAnswer disk name text1 text2) old new (Err error)

@@ -5,7 +5,6 @@ use crate::clauses::clauses_of;
 use crate::elements::{copy, deep};
 use crate::graphs::{formula, size};
 use crate::integers::integers;
-use crate::names::{declared, names};
 use crate::orders::otherwise;
 use crate::outside::{memory_reads, puts, reads};
 use crate::questions::verdict;
@@ -31,14 +30,12 @@ pub(crate) fn answer<F: Files>(
         "characters" => characters(alloc, of, text(row, "with")),
         "copies" => copies(alloc, of),
         "declarations" => declarations_of(alloc, of),
-        "declared_names" => declared(alloc, of, text(row, "with")),
         "deep" => deep(alloc, of, number(row, "count")),
         "files" => reads(alloc, files, of),
         "fronts" => front(alloc, of, number(row, "from"), number(row, "depth")),
         "integers" => integers(alloc, of, text(row, "with")),
         "memory_files" => memory_reads(alloc, text(row, "held"), of),
         "memory_sink" => puts(alloc, text(row, "refused"), of),
-        "names" => names(alloc, of),
         "order" => order(alloc, of, text(row, "with")),
         "sets" => set(alloc, of),
         "subsets" => subsets(alloc, of),

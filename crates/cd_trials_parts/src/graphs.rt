@@ -7,7 +7,8 @@ use std::alloc::Global;
 
 /// How many nodes declared types have, and how many members their unions have.
 pub(crate) fn size(alloc: Global, types: &str) -> Option<String> {
-    let batch = resolve(alloc, 14, &declarations(alloc, types)?).ok()?;
+    let declared = declarations(alloc, types)?;
+    let batch = resolve(alloc, 14, &declared).ok()?;
     let nodes = batch.formulas.items().len();
     let members = members(batch.formulas.items());
     format!(in alloc; "{nodes} nodes, {members} members").ok()

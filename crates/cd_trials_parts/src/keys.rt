@@ -2,11 +2,10 @@
 use toml::Value;
 
 // The keys of the rows of each table beside `of` and `gives`.
-const KEYS: [(&str, &str); 16] = [
+const KEYS: [(&str, &str); 15] = [
     ("atoms", "with"),
     ("characters", "with"),
     ("clauses", "types"),
-    ("declared_names", "with"),
     ("deep", "count"),
     ("element_copies", "types"),
     ("formulas", "types"),

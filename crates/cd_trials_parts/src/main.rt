@@ -12,7 +12,6 @@ mod graphs;
 mod heads;
 mod integers;
 mod keys;
-mod names;
 mod orders;
 mod outside;
 mod questions;

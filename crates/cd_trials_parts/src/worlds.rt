@@ -1,39 +1,31 @@
 //! Worlds with nodes for the types that texts declare, and questions of these nodes.
-ghost use Rattle.std.specs.Prelude.{◌<◌, [], ◌∷◌, IfSome, length};
+ghost use Rattle.std.specs.Prelude.{◌<◌, IfSome};
 ghost use Rattle.std.specs.Bool.{OnTrue};
 ghost use Rattle.cd_syntax.specs.PlainTree.{plain_declarations};
 ghost use Rattle.cd_syntax.specs.WellMade.{AreWellMadeDeclarations};
-ghost use Rattle.cd_names.specs.Faults.{Fault, IsFaultOfList};
 ghost use Rattle.cd_rules.specs.Family.{AsksNodes};
 ghost use Rattle.cd_model.specs.AllOf.{AllOf};
 
 use cd_empty::{Verdict, World};
 use cd_lex::lex;
-use cd_names::check_declarations;
 use cd_parse_types::parse_declarations;
-use cd_resolve::{Names, resolve};
+use cd_resolve::resolve;
 use cd_sets::id_set::IdSet;
 use cd_sets::node_id::NodeId;
 use cd_sets::question::Question;
+use cd_syntax::name::Name;
 use cd_syntax::type_tree::Declarations;
 use std::alloc::{AllocError, Global};
 
-/// The declarations that a text is, if it is some and their names are sound.
+/// The declarations that a text is, if it is some.
 pub(crate) fn declarations(alloc: Global, text: &str) -> Option<Declarations>
-    ensures well_made { IfSome result
-        (λ declared. AreWellMadeDeclarations (plain_declarations declared)) }
-    ensures sound { IfSome result (λ declared. (fault : Fault)
-        → IsFaultOfList [] (plain_declarations declared ∷ []) (plain_declarations declared) fault
-        → ⊥) }
+    ensures { IfSome result (λ declared. AreWellMadeDeclarations (plain_declarations declared)) }
 {
     let Ok(tokens) = lex(alloc, text) else {
         return None;
     };
-    let Ok(declared) = parse_declarations(alloc, tokens.as_slice(), text.len()) else {
-        return None;
-    };
-    match check_declarations(alloc, &declared) {
-        Ok(()) => Some(declared),
+    match parse_declarations(alloc, tokens.as_slice(), text.len()) {
+        Ok(declared) => Some(declared),
         Err(_) => None,
     }
 }
@@ -42,7 +34,7 @@ pub(crate) fn declarations(alloc: Global, text: &str) -> Option<Declarations>
 #[derive(Drop)]
 pub(crate) struct Session {
     pub(crate) world: World,
-    names: Vec<Names>,
+    names: Vec<(Name, NodeId)>,
 }
 
 impl Session {
@@ -68,18 +60,24 @@ impl Session {
             return None;
         }
         let batch = resolve(alloc, first, &declared).ok()?;
-        self.names.push(batch.names).ok()?;
         self.world.extend(batch.formulas).ok()?;
+        self.add_names(first, &declared)
+    }
+
+    // Adds the names of declarations, whose nodes follow one another from this one on.
+    fn add_names(&mut self, first: usize, declared: &Declarations) -> Option<()> {
+        for (index, declaration) in declared.items().iter().enumerate() {
+            let id = NodeId(first.checked_add(index)?);
+            self.names.push((declaration.name.copy().ok()?, id)).ok()?;
+        }
         Some(())
     }
 
     // The node of a name.
     fn node(&self, word: &str) -> Option<NodeId> {
-        for list in self.names.iter() {
-            for (name, id) in list.items() {
-                if name.as_str() == word {
-                    return Some(*id);
-                }
+        for (name, id) in self.names.iter() {
+            if name.as_str() == word {
+                return Some(*id);
             }
         }
         None

@@ -1,8 +1,8 @@
 -- What faults of syntax and of names are against a text.
 use Rattle.std.specs.Prelude.{◌≡◌, Result, Ok, IsErr}
 use Rattle.std.specs.declared.alloc.AllocError.{AllocError}
-use Rattle.cd_names.specs.declared.error.NameError.{NameError}
-use Rattle.cd_names.specs.declared.error.NameError.TheVariants as names
+use Rattle.cd_resolve.specs.declared.error.NameError.{NameError}
+use Rattle.cd_resolve.specs.declared.error.NameError.TheVariants as names
 use Rattle.cd_parse_types.specs.declared.error.ParseError.{ParseError}
 use Rattle.cd_parse_types.specs.declared.error.ParseError.TheVariants as fault
 use Rattle.cd_replies.specs.declared.refusal.Refusal.{Refusal}

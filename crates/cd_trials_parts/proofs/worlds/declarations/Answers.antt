@@ -4,8 +4,8 @@ use Rattle.cd_parse_types.proofs.MadeWell.{text_makes_declarations}
 use Rattle.cd_trials_parts.proofs.worlds.declarations.Goals as goal
 
 -- what the tokens of a text write is well made
-pub returns-in-Ok-check_declarations-clause-well_made : goal.returns-in-Ok-check_declarations-clause-well_made
-returns-in-Ok-check_declarations-clause-well_made c =
+pub returns-in-Ok-parse_declarations : goal.returns-in-Ok-parse_declarations
+returns-in-Ok-parse_declarations c =
     let written = rw c.as_slice.ensures.value at c.in-Ok-parse_declarations.ensures.declarations in
     text_makes_declarations (chars c.args.text.now) c.in-Ok.tokens.items 1000 (plain_declarations c.in-Ok-parse_declarations.declared)
     c.in-Ok.ensures.tokens written

@@ -1,5 +1,0 @@
-use Rattle.cd_sub.proofs.compare.node.Given as goal
-
--- the declarations are those that the names are of
-abbrev pub ghost-resolve_type : goal.ghost-resolve_type
-ghost-resolve_type g a = g.list
