@@ -1,0 +1,11 @@
+pub mod Grammar
+pub mod Automaton
+pub mod Reading
+pub mod Valid
+pub mod Weights
+pub mod Running
+pub mod Tables
+pub mod Validator
+pub mod TableGrammar
+pub mod Flat
+pub mod Goals
