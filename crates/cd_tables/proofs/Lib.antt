@@ -1,0 +1,3 @@
+mod Searching
+mod Comparing
+pub mod Characters

@@ -1,0 +1,4 @@
+pub mod Spelling
+pub mod Rows
+pub mod Memory
+pub mod Words
