@@ -1,0 +1,95 @@
+-- A whole is of the sort that its goal says.
+use Rattle.std.proofs.Common.{◌≡◌, ◌∙◌, sym, ap, subst, refl, ℕ, zero, suc, true, false, List, ◌∷◌, map}
+use Rattle.std.proofs.Common.{arith, eq-eqb, ltb-true, inl, inr}
+use Rattle.std.specs.Prelude.{◌⊎◌, ◌<◌, nat_eq, nat_lt}
+use Rattle.cd_lr.specs.Grammar.{Symbol, Terminal, one, made, Row, nothing, next, Whole}
+use Rattle.cd_lr.specs.Tables.{either, not, left, right, left_of}
+use Rattle.cd_lr.proofs.GoalsFirst.{whole_by_text}
+use Rattle.cd_grammar.specs.declared.goal.Goal.{Goal}
+use Rattle.cd_grammar.specs.declared.goal.Goal.TheVariants as goal
+use Rattle.cd_grammar.specs.declared.make.Make.TheVariants as make
+use Rattle.cd_grammar.specs.declared.make.One.TheVariants as one
+use Rattle.cd_grammar.specs.declared.make.Several.TheVariants as several
+use Rattle.cd_grammar.specs.Terminals.{terminal_of_goal}
+use Rattle.cd_grammar.specs.Language.{Entry, To, Placed, place_of, kind_of, value_of, is_free, build, type_grammar}
+use Rattle.cd_grammar.specs.Tables.{tables}
+use Rattle.cd_grammar.proofs.Sorts.{Sort, OfTree, OfFile, sort_of, second, no_file, file}
+use Rattle.cd_grammar.proofs.SortedParts.{Facts, AreKept, Fits, AreFit, Each, made_fits}
+use Rattle.cd_grammar.proofs.SortedRules.{of_rule, parts_of}
+use Rattle.cd_grammar.proofs.SortedTokens.{IsProper}
+use Rattle.cd_grammar.proofs.SortedSymbols.{row_fits}
+
+-- the rules of a start
+data IsStart : ℕ → Type 0 where
+  a_type : IsStart 1
+  empty_file : IsStart 2
+  a_file : IsStart 3
+
+is_start : (p : ℕ) → left tables p ≡ tables.start → IsStart p
+is_start p same = by p same (below (of_rule (λ n r. either (not (nat_eq (left_of r) 1)) (nat_lt n 4)) refl p))
+  where
+    below : (either (not (nat_eq (left tables p) 1)) (nat_lt p 4) ≡ true) ⊎ (left tables p ≡ 0) → p < 4
+    below (inl so) = ltb-true p 4 (subst (λ n. either (not (nat_eq n 1)) (nat_lt p 4) ≡ true) same so)
+    below (inr whole) = let no : suc zero ≡ zero = sym same ∙ whole in absurd cc
+
+    by : (n : ℕ) → left tables n ≡ tables.start → n < 4 → IsStart n
+    by zero same below = let no : zero ≡ suc zero = same in absurd cc
+    by (suc zero) same below = a_type
+    by (suc (suc zero)) same below = empty_file
+    by (suc (suc (suc zero))) same below = a_file
+    by (suc (suc (suc (suc n)))) same below = absurd (omega (arith, below))
+
+-- a row that begins with a terminal begins with a token of it
+first_token : (depth : ℕ) (xs : List Symbol) (entries : List Entry) (values : List Placed)
+    → Row type_grammar depth xs entries values → (opens k : ℕ) (more : List Symbol) → xs ≡ Terminal opens k ∷ more
+    → (first : Entry) (rest : List Entry) → entries ≡ first ∷ rest → kind_of first ≡ k
+first_token _ _ _ _ (nothing depth) opens k more is first rest same = absurd cc
+first_token _ _ _ _ (next depth _ xs _ b _ vs (one _ opens entry room) row) w k more is first rest same =
+    let kinds : kind_of entry ≡ k = cc in
+    let firsts : entry ≡ first = cc in
+    sym (ap kind_of firsts) ∙ kinds
+first_token _ _ _ _ (next depth _ xs _ b _ vs (made _ p entries values derived) row) w k more is first rest same =
+    absurd cc
+
+-- so no row of a goal begins with the terminal of another one
+other_goal : (is : Goal) (k : ℕ) → nat_eq (terminal_of_goal is) k ≡ false → (depth : ℕ) (more : List Symbol)
+    → (rest : List Entry) (values : List Placed) → Row type_grammar depth (Terminal 0 k ∷ more) (To is ∷ rest) values
+    → ⊥
+other_goal is k other depth more rest values row =
+    let same : terminal_of_goal is ≡ k = first_token depth _ _ values row 0 k more refl (To is) rest refl in
+    let no : false ≡ true = sym other ∙ eq-eqb (terminal_of_goal is) k same in
+    absurd cc
+
+-- a text is to be a tree or a file
+abbrev pub sort_of_goal : Goal → Sort
+sort_of_goal goal.TypeText = OfTree
+sort_of_goal goal.TypeFile = OfFile
+
+module _ (facts : Facts) (kept : AreKept facts) where
+  start_fits : (is : Goal) (p : ℕ) → IsStart p → (depth : ℕ) (rest : List Entry) (values : List Placed)
+      → Row type_grammar depth (right tables p) (To is ∷ rest) values
+      → AreFit facts (map sort_of (right tables p)) (parts_of values)
+      → Fits facts (sort_of_goal is) (build p values).1
+  start_fits goal.TypeText _ a_type depth rest values row are =
+      made_fits facts kept (make.Several several.Second) _ OfTree (place_of values) (parts_of values) second are
+  start_fits goal.TypeText _ empty_file depth rest values row are =
+      absurd (other_goal goal.TypeText _ refl depth _ rest values row)
+  start_fits goal.TypeText _ a_file depth rest values row are =
+      absurd (other_goal goal.TypeText _ refl depth _ rest values row)
+  start_fits goal.TypeFile _ a_type depth rest values row are =
+      absurd (other_goal goal.TypeFile _ refl depth _ rest values row)
+  start_fits goal.TypeFile _ empty_file depth rest values row are =
+      made_fits facts kept (make.One one.NoFile) _ OfFile (place_of values) (parts_of values) no_file are
+  start_fits goal.TypeFile _ a_file depth rest values row are =
+      made_fits facts kept (make.Several several.File) _ OfFile (place_of values) (parts_of values) file are
+
+  -- what it is as a whole
+  pub whole_fits : (is : Goal) (depth : ℕ) (rest : List Entry) (v : Placed) → Each (IsProper facts.of_label) rest
+      → Whole type_grammar depth (To is ∷ rest) v → Fits facts (sort_of_goal is) v.1
+  whole_fits is depth rest v are derived =
+      let (p, same, values, row, made_so) =
+      whole_by_text tables (terminal_of_goal goal.TypeText) tables.start refl kind_of value_of is_free build depth
+      (To is ∷ rest) v derived in
+      let fits = row_fits facts kept depth (right tables p) (To is ∷ rest) values row (tt, are) in
+      subst (λ w. Fits facts (sort_of_goal is) w.1) (sym made_so)
+      (start_fits is p (is_start p same) depth rest values row fits)

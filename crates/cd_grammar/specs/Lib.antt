@@ -1,0 +1,10 @@
+pub mod Bnf
+pub mod Parts
+pub mod Actions
+pub mod Rules
+pub mod Terminals
+pub mod Tables
+pub mod Ruled
+pub mod Language
+pub mod Forms
+pub mod Examples
