@@ -5,5 +5,4 @@ pub mod Reading
 pub mod Members
 pub mod Labels
 mod FieldAt
-mod SameNames
 pub mod Sizes

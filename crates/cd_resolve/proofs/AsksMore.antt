@@ -3,7 +3,8 @@ use Rattle.std.proofs.Common.{ℕ, ◌≤◌, List, [], ◌∷◌, arith}
 use Rattle.cd_syntax.specs.declared.type_tree.Post.{Post}
 use Rattle.cd_syntax.specs.declared.type_tree.Post.TheVariants as post
 use Rattle.cd_model.specs.AllOf.{AllOf}
-use Rattle.cd_regex.specs.Regular.{Regular, Regulars, Nothing, Item, Seq, Alt, Star, Plus, Opt, NoRegular, ARegular, regulars_of, AsksBelow, AskBelow}
+use Rattle.cd_regex.specs.Regular.{Regular, Regulars, Nothing, Item, Seq, Alt, Star, Plus, Opt, NoRegular, ARegular}
+use Rattle.cd_regex.specs.Regular.{regulars_of, AsksBelow, AskBelow}
 use Rattle.cd_resolve.specs.Inner.Repeated.{repeated}
 
 mutual

@@ -4,8 +4,11 @@ use Rattle.std.proofs.lemmas.List.{length-append}
 use Rattle.cd_sets.specs.declared.node_id.NodeId.{NodeId}
 use Rattle.cd_syntax.specs.Name.{Name, IsLabel}
 use Rattle.cd_syntax.specs.TypeTree as type
-use Rattle.cd_syntax.specs.TypeTree.{Tree, tree, Kind, Trees, NoTree, ATree, Signs, NoSign, ASign, Fields, NoField, AField, Declarations, NoDeclaration, ADeclaration}
-use Rattle.cd_syntax.specs.WellMade.{IsWellMade, IsWellMadeKind, AreWellMade, AreWellMadeSigns, AreWellMadeFields, AreWellMadeDeclarations, IsWellMadeRegular, IsWellMadeRegularKind, AreWellMadeRegulars}
+use Rattle.cd_syntax.specs.TypeTree.{Tree, tree, Kind, Trees, NoTree, ATree, Signs, NoSign, ASign, Fields, NoField}
+use Rattle.cd_syntax.specs.TypeTree.{AField, Declarations, NoDeclaration, ADeclaration}
+use Rattle.cd_syntax.specs.WellMade.{IsWellMade, IsWellMadeKind, AreWellMade, AreWellMadeSigns, AreWellMadeFields}
+use Rattle.cd_syntax.specs.WellMade.{AreWellMadeDeclarations, IsWellMadeRegular, IsWellMadeRegularKind}
+use Rattle.cd_syntax.specs.WellMade.{AreWellMadeRegulars}
 use Rattle.cd_model.specs.AllOf.{AllOf}
 use Rattle.cd_model.specs.BuiltIns.{node_named}
 use Rattle.cd_model.specs.Formula.{Formula, Field, Xml, Record}
@@ -18,12 +21,20 @@ use Rattle.cd_resolve.specs.Inner.Frames.{Frames, number_in}
 use Rattle.cd_resolve.specs.Inner.Leaves.{integers, characters, atom, Pairs, Arrows, sorted}
 use Rattle.cd_resolve.specs.Inner.Members.{Sign, union_of, meet_of}
 use Rattle.cd_resolve.specs.Inner.Solves.{IsNode, AreEquations}
-use Rattle.cd_resolve.specs.Inner.Walk.{unread, entered, settled, one_more, frame_after, walked, walked_kind, walked_trees, walked_signs, walked_fields, walked_regular, walked_regular_kind, walked_regulars, walked_declared, walked_list}
-use Rattle.cd_resolve.proofs.Growing.{appends_longer, entered_length, settled_length, pushed_appends, chained_appends, united_appends, met_appends, walked_appends, trees_append, signs_append, fields_append, regular_appends, regulars_append, declared_longer, list_longer}
+use Rattle.cd_resolve.specs.Inner.Walk.{unread, entered, settled, one_more, frame_after, walked, walked_kind}
+use Rattle.cd_resolve.specs.Inner.Walk.{walked_trees, walked_signs, walked_fields, walked_regular, walked_regular_kind}
+use Rattle.cd_resolve.specs.Inner.Walk.{walked_regulars, walked_declared, walked_list}
+use Rattle.cd_resolve.proofs.Growing.{appends_longer, entered_length, settled_length, pushed_appends, chained_appends}
+use Rattle.cd_resolve.proofs.Growing.{united_appends, met_appends, walked_appends, trees_append, signs_append}
+use Rattle.cd_resolve.proofs.Growing.{fields_append, regular_appends, regulars_append, declared_longer, list_longer}
 use Rattle.cd_resolve.proofs.MembersKept.{each_more, union_keeps, meet_keeps}
-use Rattle.cd_resolve.proofs.NodesOfWalks.{IsOfNodes, HaveNodes, frames_later, frame_has, tree_has, trees_have, signs_have, fields_have, regular_asks}
-use Rattle.cd_resolve.proofs.NodesBounded.{are_nodes, AreBounded, none_bounded, both_bounded, pushed_bounded, unread_bounded, settled_bounded}
-use Rattle.cd_resolve.proofs.BoundsMade.{integers_leaf, characters_leaf, still, small, leaf_bounded, text_bounded, chained_bounded, united_bounded, met_bounded, sequenced_bounded, recorded_bounded}
+use Rattle.cd_resolve.proofs.NodesOfWalks.{IsOfNodes, HaveNodes, frames_later, frame_has, tree_has, trees_have}
+use Rattle.cd_resolve.proofs.NodesOfWalks.{signs_have, fields_have, regular_asks}
+use Rattle.cd_resolve.proofs.NodesBounded.{are_nodes, AreBounded, none_bounded, both_bounded, pushed_bounded}
+use Rattle.cd_resolve.proofs.NodesBounded.{unread_bounded, settled_bounded}
+use Rattle.cd_resolve.proofs.BoundsMade.{integers_leaf, characters_leaf, still, small, leaf_bounded, text_bounded}
+use Rattle.cd_resolve.proofs.BoundsMade.{chained_bounded, united_bounded, met_bounded, sequenced_bounded}
+use Rattle.cd_resolve.proofs.BoundsMade.{recorded_bounded}
 
 -- The equations are over the first nodes and over nodes of so many equations
 module _ (nodes first : ℕ) (names : List (Name × NodeId))

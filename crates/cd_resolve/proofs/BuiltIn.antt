@@ -2,8 +2,8 @@
 use Rattle.std.proofs.Common.{◌≡◌, List, [], ◌∷◌, true, inl, inr}
 use Rattle.cd_syntax.specs.Name.{Name}
 use Rattle.cd_syntax.specs.declared.builtin.BuiltinName.{BuiltinName}
-use Rattle.cd_syntax.specs.TypeGrammar.{IsBuiltin}
-use Rattle.cd_syntax.specs.TypeGrammar as grammar
+use Rattle.cd_syntax.specs.BuiltIn.{IsBuiltin}
+use Rattle.cd_syntax.specs.BuiltIn as grammar
 use Rattle.cd_resolve.specs.Inner.BuiltinNames.{is_builtin, builtin_names}
 use Rattle.cd_resolve.proofs.Complete.{among_in}
 use Rattle.cd_resolve.proofs.InLists.{IsIn}

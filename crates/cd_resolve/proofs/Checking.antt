@@ -1,7 +1,8 @@
 -- What is told of a type, and of type declarations, is the least of their faults.
-use Rattle.std.proofs.Common.{◌≡◌, ℕ, zero, suc, ◌<◌, ◌≤◌, ◌⊎◌, inl, inr, List, [], ◌∷◌, length, Some, None, refl, sym, ap, ◌∙◌, arith}
+use Rattle.std.proofs.Common.{◌≡◌, ℕ, zero, suc, ◌<◌, ◌≤◌, ◌⊎◌, inl, inr, List, [], ◌∷◌, length, Some, None, refl, sym}
+use Rattle.std.proofs.Common.{ap, ◌∙◌, arith}
 use Rattle.std.specs.List.{slice_get as nth}
-use Rattle.std.specs.Prelude.{Result, Ok, Err, OnOk, IfErr}
+use Rattle.std.proofs.lemmas.Option.{same_Some}
 use Rattle.cd_syntax.specs.TypeTree.{Tree, Declarations}
 use Rattle.cd_resolve.specs.Faults.{Fault, IsFault, IsFaultOfList}
 use Rattle.cd_resolve.specs.Errors.{IsToldError}
@@ -20,9 +21,6 @@ use Rattle.cd_resolve.proofs.FoundAreFaults.{IsSound, sound_entered, sound_walke
 use Rattle.cd_resolve.proofs.Exact.{IsWalk, all_sound, all_complete}
 use Rattle.cd_resolve.proofs.LeastFault.{nothing_told, least_told}
 
-some_of : {A : Type 0} → (a b : A) → Some a ≡ Some b → a ≡ b
-some_of a b same = cc
-
 -- what a type sees, and the walk over it
 abbrev seen : Declarations → Frames
 seen declared = record { declarations = declared; list = zero } ∷ []
@@ -38,7 +36,7 @@ IsOfType declared is one = IsFault (declared ∷ []) (declared ∷ []) is one
 
 only_seen : (declared : Declarations) (n : ℕ) (frames : Frames) → nth (seen declared ∷ []) n ≡ Some frames
     → (n ≡ zero) × (seen declared ≡ frames)
-only_seen declared zero frames at = (refl, some_of _ _ at)
+only_seen declared zero frames at = (refl, same_Some _ _ at)
 only_seen declared (suc n) frames at = absurd cc
 
 begun_sound : (declared : Declarations) (is : Tree)
@@ -81,7 +79,7 @@ type_walk declared is = record {
         → length (let one : List Declarations = declared ∷ [] in one) < length (scope_of frames) → suc zero ≤ n
     late zero frames at inside =
         let first = (walked_grows (seen declared) None is (begun declared)).lists zero (seen declared) refl in
-        absurd (not_inside declared frames (some_of _ _ (sym first ∙ at)) inside)
+        absurd (not_inside declared frames (same_Some _ _ (sym first ∙ at)) inside)
     late (suc n) frames at inside = omega arith
 
     old : (n : ℕ) (frames : Frames) → (suc zero ≤ n) ⊎
@@ -182,36 +180,3 @@ declared_told declared (error.Fault fault name at) least = least_told (all_fault
     (all_complete [] zero (IsOfDeclared declared) (over_declared declared) (declared_walk declared))
     (record { fault = fault; name = name; at = at }) (rw (declared_faults declared) at least)
 declared_told declared error.Memory least = tt
-
--- and so of what the code gives
-on_ok : {A E : Type 0} → (P Q : Type 0) (r : Result A E) → (P → Q) → OnOk r P → OnOk r Q
-on_ok P Q (Ok x) then h = then h
-on_ok P Q (Err e) then h = tt
-
-if_err : {A E : Type 0} → (P Q : E → Type 0) (r : Result A E) → ((e : E) → P e → Q e) → IfErr r P → IfErr r Q
-if_err P Q (Ok x) then h = tt
-if_err P Q (Err e) then h = then e h
-
-pub type_ok : {A : Type 0} → (r : Result A NameError) (declared : Declarations) (is : Tree) (s : State Declarations)
-    → s ≡ found_in_type declared is
-    → OnOk r (least_from None (all_faults s) ≡ None)
-    → OnOk r ((one : Fault) → IsFault (declared ∷ []) (declared ∷ []) is one → ⊥)
-type_ok r declared is s equal = on_ok _ _ r (λ none. type_sound declared is (rw equal at none))
-
-pub declared_ok : {A : Type 0} → (r : Result A NameError) (declared : Declarations) (s : State Declarations)
-    → s ≡ found_in_declarations declared
-    → OnOk r (least_from None (all_faults s) ≡ None)
-    → OnOk r ((one : Fault) → IsFaultOfList [] (declared ∷ []) declared one → ⊥)
-declared_ok r declared s equal = on_ok _ _ r (λ none. declared_sound declared (rw equal at none))
-
-pub type_err : {A : Type 0} → (r : Result A NameError) (declared : Declarations) (is : Tree) (s : State Declarations)
-    → s ≡ found_in_type declared is
-    → IfErr r (IsLeast (least_from None (all_faults s)))
-    → IfErr r (IsToldError (IsFault (declared ∷ []) (declared ∷ []) is))
-type_err r declared is s equal = if_err _ _ r (λ e least. type_told declared is e (rw equal at least))
-
-pub declared_err : {A : Type 0} → (r : Result A NameError) (declared : Declarations) (s : State Declarations)
-    → s ≡ found_in_declarations declared
-    → IfErr r (IsLeast (least_from None (all_faults s)))
-    → IfErr r (IsToldError (IsFaultOfList [] (declared ∷ []) declared))
-declared_err r declared s equal = if_err _ _ r (λ e least. declared_told declared e (rw equal at least))

@@ -1,26 +1,31 @@
 -- Each fault of a tree is found, but those of names that lead back to themselves, whose lists are entered.
-use Rattle.std.proofs.Common.{◌≡◌, ◌≢◌, ℕ, ◌≤◌, ◌⊎◌, inl, inr, List, [], ◌∷◌, ◌++◌, length, Bool, true, false, Option, Some, None, refl, sym, ap, ◌∙◌}
+use Rattle.std.proofs.Common.{◌≡◌, ◌≢◌, ℕ, ◌≤◌, ◌⊎◌, inl, inr, List, [], ◌∷◌, ◌++◌, length, Bool, true, false, Option}
+use Rattle.std.proofs.Common.{Some, None, refl, sym, ap, ◌∙◌}
 use Rattle.std.specs.Prelude.{◌||◌, bytes_eq}
 use Rattle.std.specs.List.{slice_get as nth}
 use Rattle.std.proofs.lemmas.Bool.{cases_Bool}
 use Rattle.std.proofs.lemmas.Slice.Eq.{bytes_eq-Decides}
 use Rattle.cd_syntax.specs.Name.{Name}
 use Rattle.cd_syntax.specs.TypeTree.{Tree, tree, Fields, Declarations}
-use Rattle.cd_syntax.specs.TypeGrammar.{IsBuiltin}
-use Rattle.cd_syntax.specs.TypeGrammar as grammar
+use Rattle.cd_syntax.specs.BuiltIn.{IsBuiltin}
+use Rattle.cd_syntax.specs.BuiltIn as grammar
 use Rattle.cd_model.specs.Scope.{Scope, declared_as}
 use Rattle.cd_model.specs.Guarded.{LeadsTo}
 use Rattle.cd_model.specs.Written.{kind_of}
 use Rattle.cd_resolve.specs.declared.fault.NameFault.TheVariants.{Unknown, Twice, Unguarded}
-use Rattle.cd_resolve.specs.Faults.{Fault, IsField, LabelAgain, IsDeclared, DeclaredAgain, IsFirst, IsFault, IsFaultOfList}
+use Rattle.cd_resolve.specs.Faults.{Fault, IsField, LabelAgain, IsDeclared, DeclaredAgain, IsFirst, IsFault}
+use Rattle.cd_resolve.specs.Faults.{IsFaultOfList}
 use Rattle.cd_resolve.specs.Faults as fault
 use Rattle.cd_resolve.specs.Inner.BuiltinNames.{is_among, is_builtin}
-use Rattle.cd_resolve.specs.Inner.Finding.{Frames, innermost, Id, Place, State, told_if, entered, met, place_of, labelled, start_of, found_in, found_in_declared}
+use Rattle.cd_resolve.specs.Inner.Finding.{Frames, innermost, Id, Place, State, told_if, entered, met, place_of}
+use Rattle.cd_resolve.specs.Inner.Finding.{labelled, start_of, found_in, found_in_declared}
 use Rattle.cd_resolve.proofs.InLists.{IsIn, in_front, in_last, in_more}
 use Rattle.cd_resolve.proofs.Rich.{whole}
-use Rattle.cd_resolve.proofs.FoundGrows.{Grows, then, if_grows, labelled_grows, walked_grows, fields_grow, declared_grows}
+use Rattle.cd_resolve.proofs.FoundGrows.{Grows, then, if_grows, labelled_grows, walked_grows, fields_grow}
+use Rattle.cd_resolve.proofs.FoundGrows.{declared_grows}
 use Rattle.cd_resolve.proofs.WhatNamesMean.{scope_of, Fits, fits_on, IsNode, declared_at, place_found}
-use Rattle.cd_resolve.proofs.Visits.{Visited, ListVisited, kind_visited, later_late, visits_part, visits_list, under, in_list, under_fits}
+use Rattle.cd_resolve.proofs.Visits.{Visited, ListVisited, kind_visited, later_late, visits_part, visits_list, under}
+use Rattle.cd_resolve.proofs.Visits.{in_list, under_fits}
 
 -- names among others
 pub among_in : (names : List Name) (name : Name) → is_among names name ≡ true → IsIn name names
@@ -95,7 +100,8 @@ pub again_told : (label : Name) (at : ℕ) (fields : Fields) (seen : List Name) 
     → LabelAgain label at fields
     → IsIn (twice label at) (labelled seen fields s).faults
 again_told label at _ seen s (fault.LabelAgain.here _ _ there optional is other rest on) =
-    label_told label at is rest (seen ++ label ∷ []) (told_if (is_among seen label) label there s) on (in_last label seen)
+    label_told label at is rest (seen ++ label ∷ []) (told_if (is_among seen label) label there s) on
+    (in_last label seen)
 again_told label at _ seen s (fault.LabelAgain.later _ other _ there optional is rest on) =
     again_told label at rest (seen ++ other ∷ []) (told_if (is_among seen other) other there s) on
 
@@ -190,7 +196,8 @@ visits_first least frames list name at is _ seen s t (fault.IsFirst.later _ othe
     let two = found_in whole frames (start_of (is_among seen other) list other) another one in
     let more = then s one two (if_grows (is_among seen other || is_builtin other) other there s)
     (walked_grows frames (start_of (is_among seen other) list other) another one) in
-    visits_first least frames list name at is rest (seen ++ other ∷ []) two t on (not_in_more seen name other differ none)
+    visits_first least frames list name at is rest (seen ++ other ∷ []) two t on
+    (not_in_more seen name other differ none)
     (fits_on s two frames more fits) (later_late least s two more late) grows
 
 -- a name of a list that leads back to itself

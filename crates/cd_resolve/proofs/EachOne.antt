@@ -1,7 +1,6 @@
 -- What is so of each of a list is so of one that is read of it, and of each where one is put in its place.
 use Rattle.std.proofs.Common.{ℕ, zero, suc, ◌<◌, List, [], ◌∷◌, ◌++◌, length, get_or, set, inl, inr, arith}
 use Rattle.cd_model.specs.AllOf.{AllOf}
-use Rattle.cd_resolve.specs.Inner.Order as order
 use Rattle.cd_resolve.specs.Inner.Order.{IsOneOf}
 
 -- one of them that is read at a number has the fact of each
@@ -17,11 +16,6 @@ pub each_set : {X : Type 0} (fact : X → Type 0) (list : List X) (index : ℕ) 
 each_set fact [] index is holds each = tt
 each_set fact (one ∷ rest) zero is holds each = (holds, each.1)
 each_set fact (one ∷ rest) (suc index) is holds each = (each.0, each_set fact rest index is holds each.1)
-
--- what is so of each number, in the words of the model
-pub known_each : (fact : ℕ → Type 0) (list : List ℕ) → order.AllOf fact list → AllOf fact list
-known_each fact [] each = tt
-known_each fact (one ∷ rest) each = (each.0, known_each fact rest each.1)
 
 -- one of the first is one of both, and so is one of the others
 pub one_of_first : (number : ℕ) (first later : List ℕ) → IsOneOf number first → IsOneOf number (first ++ later)

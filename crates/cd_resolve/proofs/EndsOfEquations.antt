@@ -2,6 +2,7 @@
 use Rattle.std.proofs.Common.{ℕ, ◌+◌, ◌<◌, ◌≤◌, List, length, sym, subst}
 use Rattle.cd_sets.specs.declared.node_id.NodeId.{NodeId}
 use Rattle.cd_syntax.specs.Name.{Name}
+use Rattle.cd_model.specs.AllOf.{AllOf}
 use Rattle.cd_model.specs.BuiltIns.{node}
 use Rattle.cd_model.specs.Guarded.{IsGuarded}
 use Rattle.cd_model.specs.Scope.{Scope, Declared}
@@ -9,7 +10,7 @@ use Rattle.cd_model.proofs.Leading.{IsIn}
 use Rattle.cd_resolve.specs.Inner.Names.{AreBelow}
 use Rattle.cd_resolve.specs.Inner.Equation.{Equations, Is, Same}
 use Rattle.cd_resolve.specs.Inner.Links.{links}
-use Rattle.cd_resolve.specs.Inner.Order.{AllOf, Ends}
+use Rattle.cd_resolve.specs.Inner.Order.{Ends}
 use Rattle.cd_resolve.proofs.EndsOfLists.{ends_by_row}
 use Rattle.cd_resolve.proofs.EndsOfNames.{node_ends, node_of_tree_ends}
 use Rattle.cd_resolve.proofs.EndsOfTrees.{number_ends}

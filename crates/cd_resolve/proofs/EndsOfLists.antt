@@ -1,14 +1,8 @@
 -- All ways from a number end where they end from each number that it leads to.
-use Rattle.std.proofs.Common.{ℕ, zero, suc, ◌+◌, ◌≤◌, List, [], ◌∷◌, ◌++◌, arith}
-use Rattle.cd_resolve.specs.Inner.Order.{AllOf, row, IsShort, Ends}
-use Rattle.cd_resolve.proofs.Lists.{each_weaker}
-
--- what holds of each of two lists holds of one after the other
-pub each_of_both : (Fact : ℕ → Type 0) (first second : List ℕ) → AllOf Fact first → AllOf Fact second
-    → AllOf Fact (first ++ second)
-each_of_both Fact [] second is_first is_second = is_second
-each_of_both Fact (number ∷ rest) second is_first is_second =
-    (is_first.0, each_of_both Fact rest second is_first.1 is_second)
+use Rattle.std.proofs.Common.{ℕ, zero, suc, ◌+◌, ◌≤◌, List, [], ◌∷◌, arith}
+use Rattle.cd_model.specs.AllOf.{AllOf}
+use Rattle.cd_resolve.specs.Inner.Order.{row, IsShort, Ends}
+use Rattle.cd_resolve.proofs.MembersKept.{each_weaker}
 
 module _ (links : List (List ℕ)) where
   -- ways that are shorter than this are shorter than more
@@ -16,7 +10,7 @@ module _ (links : List (List ℕ)) where
   short_for_more zero more number fits short = elim short [ ]
   short_for_more (suc most) zero number fits short = absurd (omega arith)
   short_for_more (suc most) (suc more) number fits short = each_weaker (IsShort links most) (IsShort links more)
-      (row links number) (λ next. short_for_more most more next (omega arith)) short
+      (λ next. short_for_more most more next (omega arith)) (row links number) short
 
   -- where the ways from each of some numbers end, none is longer than some number
   all_are_short : (numbers : List ℕ) → AllOf (Ends links) numbers → (most : ℕ) × AllOf (IsShort links most) numbers
@@ -29,8 +23,8 @@ module _ (links : List (List ℕ)) where
         one.0 + all.0,
         (
           short_for_more one.0 (one.0 + all.0) number (omega arith) one.1,
-          each_weaker (IsShort links all.0) (IsShort links (one.0 + all.0)) rest
-              (λ next. short_for_more all.0 (one.0 + all.0) next (omega arith)) all.1,
+          each_weaker (IsShort links all.0) (IsShort links (one.0 + all.0))
+              (λ next. short_for_more all.0 (one.0 + all.0) next (omega arith)) rest all.1,
         ),
       )
 

@@ -1,5 +1,6 @@
 -- All ways end from a node of a tree that leads to guarded names alone.
-use Rattle.std.proofs.Common.{◌≡◌, ℕ, zero, suc, ◌≤◌, ◌⊎◌, inl, inr, List, length, Option, Some, None, [], refl, sym, subst, ◌∙◌, arith}
+use Rattle.std.proofs.Common.{◌≡◌, ℕ, zero, suc, ◌≤◌, ◌⊎◌, inl, inr, List, length, Option, Some, None, [], refl, sym}
+use Rattle.std.proofs.Common.{subst, ◌∙◌, arith}
 use Rattle.std.proofs.lemmas.Option.{none-some}
 use Rattle.std.specs.Option.{unwrap_or}
 use Rattle.cd_sets.specs.declared.node_id.NodeId.{NodeId}
@@ -84,7 +85,8 @@ module _ (first : ℕ) (equations : Equations) (names : List (Name × NodeId)) (
         → EquatesKind first equations names frames kind id → Covered Fact (scope_of base frames) kind
         → EndsAt first equations id
     node_ends frames kind id lists equated covered =
-        kind_ends first equations (omega arith) names base (Leads Fact seen) (leads_closed Fact seen) (names_end (length seen) seen (omega arith)) frames kind id lists equated
+        kind_ends first equations (omega arith) names base (Leads Fact seen) (leads_closed Fact seen)
+        (names_end (length seen) seen (omega arith)) frames kind id lists equated
         (leads_to frames kind covered)
 
     -- and so from a node of a tree
@@ -92,5 +94,6 @@ module _ (first : ℕ) (equations : Equations) (names : List (Name × NodeId)) (
         → Equates first equations names frames is id → Covered Fact (scope_of base frames) (kind_of is)
         → EndsAt first equations id
     node_of_tree_ends frames is id lists equated covered =
-        tree_ends first equations (omega arith) names base (Leads Fact seen) (leads_closed Fact seen) (names_end (length seen) seen (omega arith)) frames is id lists equated
+        tree_ends first equations (omega arith) names base (Leads Fact seen) (leads_closed Fact seen)
+        (names_end (length seen) seen (omega arith)) frames is id lists equated
         (leads_to frames (kind_of is) covered)

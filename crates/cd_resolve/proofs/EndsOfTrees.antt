@@ -1,45 +1,31 @@
 -- All ways end from a node of a tree, if they end from the names that it leads to.
-use Rattle.std.proofs.Common.{◌≡◌, ℕ, ◌+◌, ◌<◌, ◌≤◌, true, false, List, [], ◌∷◌, map, Option, Some, None, sym, subst, arith}
+use Rattle.std.proofs.Common.{◌≡◌, ℕ, ◌+◌, ◌<◌, ◌≤◌, true, false, List, [], ◌∷◌, map, Option, Some, None, sym, subst}
+use Rattle.std.proofs.Common.{arith}
 use Rattle.std.specs.List.{slice_get}
 use Rattle.cd_sets.specs.declared.node_id.NodeId.{NodeId}
 use Rattle.cd_syntax.specs.Name.{Name}
-use Rattle.cd_syntax.specs.declared.builtin.BuiltinName.{BuiltinName}
-use Rattle.cd_syntax.specs.declared.builtin.BuiltinName.TheVariants as builtin
 use Rattle.cd_syntax.specs.TypeTree as type
 use Rattle.cd_syntax.specs.TypeTree.{Tree, tree, Kind, Trees, NoTree, ATree, Signs, NoSign, ASign}
-use Rattle.cd_model.specs.AllOf as model
+use Rattle.cd_model.specs.AllOf.{AllOf}
 use Rattle.cd_model.specs.BuiltIns.{EMPTY, ANY, NIL, node, node_named}
 use Rattle.cd_model.specs.Formula.{Formula, Pair, Xml, Arrow}
 use Rattle.cd_model.specs.Guarded.{IsOneOf, IsSigned}
 use Rattle.cd_model.specs.Scope.{Scope}
 use Rattle.cd_model.specs.Written.{kind_of}
+use Rattle.cd_model.proofs.Covered.{each_both}
 use Rattle.cd_model.proofs.Places.{AreClosed}
 use Rattle.cd_resolve.specs.Inner.Equation.{Equation, Equations, Is, And, Or}
-use Rattle.cd_resolve.specs.Inner.Equates.{IsAt, HasLeaf, EquatesText, HasUnion, HasMeet, Equates, EquatesKind, EquatesEach, EquatesSigns, AllEquated}
+use Rattle.cd_resolve.specs.Inner.Equates.{IsAt, HasLeaf, EquatesText, HasUnion, HasMeet, Equates, EquatesKind}
+use Rattle.cd_resolve.specs.Inner.Equates.{EquatesEach, EquatesSigns, AllEquated}
 use Rattle.cd_resolve.specs.Inner.Frames.{Frames, scope_of, node_under}
 use Rattle.cd_resolve.specs.Inner.Leaves.{integers, characters}
 use Rattle.cd_resolve.specs.Inner.Links.{number_at, numbers_of, numbers_under, links}
 use Rattle.cd_resolve.specs.Inner.Members.{Sign, union_of, meet_of}
-use Rattle.cd_resolve.specs.Inner.Order.{AllOf, Ends}
-use Rattle.cd_resolve.proofs.EndsOfLists.{each_of_both, ends_by_row}
+use Rattle.cd_resolve.specs.Inner.Order.{Ends}
+use Rattle.cd_resolve.proofs.EndsOfLists.{ends_by_row}
 use Rattle.cd_resolve.proofs.LinksRows.{number_is, row_of_equation}
 use Rattle.cd_resolve.proofs.MembersKept.{union_keeps, meet_keeps}
-
--- the built-in nodes are the first ones
-named_below : (name : BuiltinName) → (node_named name).0 < 14
-named_below builtin.Empty = omega arith
-named_below builtin.Any = omega arith
-named_below builtin.Int = omega arith
-named_below builtin.Char = omega arith
-named_below builtin.Byte = omega arith
-named_below builtin.Atom = omega arith
-named_below builtin.Bool = omega arith
-named_below builtin.String = omega arith
-named_below builtin.Arrow = omega arith
-named_below builtin.Pair = omega arith
-named_below builtin.Record = omega arith
-named_below builtin.AnyXml = omega arith
-named_below builtin.Data = omega arith
+use Rattle.cd_resolve.proofs.NodesOfWalks.{built_in_below}
 
 module _ (first : ℕ) (equations : Equations) where
   -- all ways from a node end
@@ -67,15 +53,15 @@ module _ (first : ℕ) (equations : Equations) where
       (node_of_number is.number (number_ends is.number equation is.is each))
 
   -- the numbers of nodes
-  nodes_end : (ids : List NodeId) → model.AllOf EndsAt ids → AllOf (Ends (links first equations)) (numbers_of first ids)
+  nodes_end : (ids : List NodeId) → AllOf EndsAt ids → AllOf (Ends (links first equations)) (numbers_of first ids)
   nodes_end [] each = tt
-  nodes_end (id ∷ ids) each = each_of_both (Ends (links first equations)) (number_at first id) (numbers_of first ids)
+  nodes_end (id ∷ ids) each = each_both (Ends (links first equations)) (number_at first id) (numbers_of first ids)
       each.0 (nodes_end ids each.1)
 
-  signed_end : (signs : List Sign) → model.AllOf (λ sign. EndsAt sign.1) signs
+  signed_end : (signs : List Sign) → AllOf (λ sign. EndsAt sign.1) signs
       → AllOf (Ends (links first equations)) (numbers_of first (map (λ sign. sign.1) signs))
   signed_end [] each = tt
-  signed_end (sign ∷ signs) each = each_of_both (Ends (links first equations)) (number_at first sign.1)
+  signed_end (sign ∷ signs) each = each_both (Ends (links first equations)) (number_at first sign.1)
       (numbers_of first (map (λ sign. sign.1) signs)) each.0 (signed_end signs each.1)
 
   module _ (built_in : 14 ≤ first) where
@@ -93,14 +79,14 @@ module _ (first : ℕ) (equations : Equations) where
     at_text (c ∷ text) id is = at_equation id (Is (Pair is.0 is.1)) is.2 tt
 
     -- a union and a meet, whatever members are left
-    at_union : (id : NodeId) (ids : List NodeId) → HasUnion first equations id ids → model.AllOf EndsAt ids → EndsAt id
+    at_union : (id : NodeId) (ids : List NodeId) → HasUnion first equations id ids → AllOf EndsAt ids → EndsAt id
     at_union id [] is each = at_older id EMPTY is (omega arith)
     at_union id (one ∷ []) is each = subst EndsAt (sym is) each.0
     at_union id (one ∷ other ∷ rest) is each =
         at_equation id (Or (one ∷ other ∷ rest)) is (nodes_end (one ∷ other ∷ rest) each)
 
     at_meet : (id : NodeId) (signs : List Sign) → HasMeet first equations id signs
-        → model.AllOf (λ sign. EndsAt sign.1) signs → EndsAt id
+        → AllOf (λ sign. EndsAt sign.1) signs → EndsAt id
     at_meet id [] is each = at_older id ANY is (omega arith)
     at_meet id ((true, one) ∷ []) is each = subst EndsAt (sym is) each.0
     at_meet id ((false, one) ∷ []) is each = at_equation id (And ((false, one) ∷ [])) is
@@ -128,7 +114,7 @@ module _ (first : ℕ) (equations : Equations) where
           pub kind_ends : (frames : Frames) (kind : Kind) (id : NodeId) → AllEquated first equations names frames
               → EquatesKind first equations names frames kind id → Stands (scope_of base frames) kind → EndsAt id
           kind_ends frames (type.Builtin name) id lists equated stands =
-              at_older id (node_named name) equated (named_below name)
+              at_older id (node_named name) equated (built_in_below name)
           kind_ends frames (type.Ints low high) id lists equated stands = at_leaf (integers low high) id equated
           kind_ends frames (type.Chars low high) id lists equated stands = at_leaf (characters low high) id equated
           kind_ends frames (type.Atom name) id lists equated stands = at_equation id _ equated tt
@@ -172,7 +158,7 @@ module _ (first : ℕ) (equations : Equations) where
           -- each of some trees
           trees_end : (frames : Frames) (trees : Trees) (ids : List NodeId) → AllEquated first equations names frames
               → EquatesEach first equations names frames trees ids
-              → ((is : Tree) → IsOneOf is trees → Stands (scope_of base frames) (kind_of is)) → model.AllOf EndsAt ids
+              → ((is : Tree) → IsOneOf is trees → Stands (scope_of base frames) (kind_of is)) → AllOf EndsAt ids
           trees_end frames NoTree [] lists equated stand = tt
           trees_end frames NoTree (id ∷ ids) lists equated stand = elim equated [ ]
           trees_end frames (ATree one rest) [] lists equated stand = elim equated [ ]
@@ -185,7 +171,7 @@ module _ (first : ℕ) (equations : Equations) where
           signs_end : (frames : Frames) (signs : Signs) (signed : List Sign) → AllEquated first equations names frames
               → EquatesSigns first equations names frames signs signed
               → ((is : Tree) → IsSigned is signs → Stands (scope_of base frames) (kind_of is))
-              → model.AllOf (λ sign. EndsAt sign.1) signed
+              → AllOf (λ sign. EndsAt sign.1) signed
           signs_end frames NoSign [] lists equated stand = tt
           signs_end frames NoSign (sign ∷ signed) lists equated stand = elim equated [ ]
           signs_end frames (ASign kept one rest) [] lists equated stand = elim equated [ ]

@@ -1,6 +1,8 @@
 -- The faults that are found, with those of names that lead back to themselves by links, are all faults.
-use Rattle.std.proofs.Common.{◌≡◌, ℕ, zero, ◌<◌, ◌≤◌, ◌⊎◌, inl, inr, List, [], ◌∷◌, length, Bool, true, false, Some, refl, sym, ap, ◌∙◌}
+use Rattle.std.proofs.Common.{◌≡◌, ℕ, zero, ◌<◌, ◌≤◌, ◌⊎◌, inl, inr, List, [], ◌∷◌, length, Bool, true, false, Some}
+use Rattle.std.proofs.Common.{refl, sym, ap, ◌∙◌}
 use Rattle.std.specs.List.{slice_get as nth}
+use Rattle.std.proofs.lemmas.Option.{same_Some}
 use Rattle.cd_syntax.specs.Name.{Name}
 use Rattle.cd_syntax.specs.TypeTree.{Tree, Kind, Declarations, NoDeclaration}
 use Rattle.cd_model.specs.Scope.{Scope, Declared}
@@ -8,7 +10,7 @@ use Rattle.cd_model.specs.Guarded.{LeadsTo}
 use Rattle.cd_model.specs.Guarded as guarded
 use Rattle.cd_model.specs.Written.{kind_of}
 use Rattle.cd_resolve.specs.declared.fault.NameFault.TheVariants.{Unguarded}
-use Rattle.cd_resolve.specs.Faults.{Fault, IsFirst, IsFaultOfList}
+use Rattle.cd_resolve.specs.Faults.{Fault, IsFirst}
 use Rattle.cd_resolve.specs.Faults as fault
 use Rattle.cd_resolve.specs.Inner.Finding.{Frames, innermost, Id, Link, State}
 use Rattle.cd_resolve.specs.Inner.Cycles.{is_cyclic, unguarded, told_cycle, cycles_told}
@@ -26,9 +28,6 @@ pub record IsOneNode (at other_at : ℕ) (is other_is : Tree) (frames other_fram
   pub tree_is : is ≡ other_is
   pub frames_are : frames ≡ other_frames
 
-some_of : {A : Type 0} → (a b : A) → Some a ≡ Some b → a ≡ b
-some_of a b same = cc
-
 one_place : (at other_at : ℕ) (is other_is : Tree) (name : Name) (frames other_frames : Frames) → frames ≡ other_frames
     → IsFirst name at is (innermost frames) → IsFirst name other_at other_is (innermost other_frames)
     → IsOneNode at other_at is other_is frames other_frames
@@ -44,7 +43,7 @@ one_node : (lists : List Frames) (id : Id) (at other_at : ℕ) (is other_is : Tr
     → IsNode lists id other_at other_is other_frames → IsOneNode at other_at is other_is frames other_frames
 one_node lists id at other_at is other_is frames other_frames node other =
     one_place at other_at is other_is id.name frames other_frames
-    (some_of frames other_frames (sym node.listed ∙ other.listed)) node.first other.first
+    (same_Some frames other_frames (sym node.listed ∙ other.listed)) node.first other.first
 
 -- to lead on through a declared name
 leads_through : (outer scope : Scope) (kind : Kind) (middle last : Declared) → LeadsTo outer scope kind middle
@@ -198,7 +197,8 @@ pub record IsWalk (outer : Scope) (least : ℕ) (IsWhole : Fault → Type 0) (t 
   pub complete : (one : Fault) → IsWhole one → Outcome outer least t one
   pub visited : (n : ℕ) (frames : Frames) → nth t.lists n ≡ Some frames
       → (least ≤ n) ⊎ (length outer < length (scope_of frames)) → ListVisited zero n frames t
-  pub late : (n : ℕ) (frames : Frames) → nth t.lists n ≡ Some frames → length outer < length (scope_of frames) → least ≤ n
+  pub late : (n : ℕ) (frames : Frames) → nth t.lists n ≡ Some frames → length outer < length (scope_of frames)
+      → least ≤ n
 
 -- a name that leads back to itself by links is a fault
 loop_equal : (outer : Scope) (name : Name) (is other_is : Tree) (frames other_frames : Frames) → is ≡ other_is
@@ -215,7 +215,8 @@ cycle_sound outer least IsWhole t walk one cycle =
     let true_link = walk.sound.links link cycle.is_in in
     let path = true_path outer t.lists t.links link.to link.to walk.sound.links
     (cyclic_leads t.links link.to cycle.cyclic) in
-    let ends = one_node t.lists link.to path.start_at path.to_at path.start_is path.to_is path.start_frames path.to_frames
+    let ends = one_node t.lists link.to
+    path.start_at path.to_at path.start_is path.to_is path.start_frames path.to_frames
     path.start_node path.to_node in
     let here = one_node t.lists link.to path.start_at link.at path.start_is true_link.to_is path.start_frames
     true_link.to_frames path.start_node true_link.to_node in
@@ -319,7 +320,8 @@ loop_told outer least IsWhole t walk one loop =
         → IsIn one (cycles_told t.links t.links t.faults)
     loop_is one t frames is first kind id stands leads link is_in to to_is to_frames to_node =
         let node : IsNode t.lists id link.at to_is to_frames = rw to at to_node in
-        let same_node = one_node t.lists id link.at stands.at to_is stands.is to_frames stands.frames node stands.node in
+        let same_node = one_node t.lists id link.at stands.at to_is stands.is to_frames stands.frames node
+        stands.node in
         let at_is : one.at ≡ stands.at = same_at one.name id.name one.at stands.at is stands.is frames stands.frames
         stands.declared first stands.node.first in
         let name_is : one.name ≡ id.name = ap (λ each. each.name) stands.declared in

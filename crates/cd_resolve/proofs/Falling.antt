@@ -1,5 +1,6 @@
 -- A name with a rank does not lead back to itself, where all links fall.
-use Rattle.std.proofs.Common.{◌≡◌, ℕ, ◌<◌, Bool, true, false, List, [], ◌∷◌, Option, Some, None, is_some, refl, sym, ap, ◌∙◌, inl, inr, arith}
+use Rattle.std.proofs.Common.{◌≡◌, ℕ, ◌<◌, Bool, true, false, List, [], ◌∷◌, Option, Some, None, is_some, refl, sym, ap}
+use Rattle.std.proofs.Common.{◌∙◌, inl, inr, arith}
 use Rattle.std.specs.Prelude.{◌&&◌}
 use Rattle.std.specs.List.{list_all}
 use Rattle.std.specs.Option.{unwrap_or}
@@ -39,7 +40,8 @@ falls_to (Some start) (Some to) rank fall is =
     record { rank = to; is = refl; less = omega (arith, same, less) }
 
 link_lesser : (ranks : Ranks) (links : List Link) (link : Link) (start : Id) (rank : ℕ) → all_fall ranks links ≡ true
-    → IsIn link links → link.start ≡ start → rank_of ranks start.name ≡ Some rank → Lesser (rank_of ranks link.to.name) rank
+    → IsIn link links → link.start ≡ start → rank_of ranks start.name ≡ Some rank
+    → Lesser (rank_of ranks link.to.name) rank
 link_lesser ranks links link start rank fall is starts ranked =
     falls_to (rank_of ranks link.start.name) (rank_of ranks link.to.name) rank
     (each_passes (link_falls ranks) links link fall is) (ap (λ id. rank_of ranks id.name) starts ∙ ranked)

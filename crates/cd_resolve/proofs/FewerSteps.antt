@@ -1,10 +1,10 @@
 -- Each step of a search leaves fewer steps.
 use Rattle.std.proofs.Common.{◌≡◌, ℕ, ◌+◌, ◌<◌, Bool, true, false, List, ◌∷◌, length, Some, get_or, set, arith}
 use Rattle.std.specs.List.{slice_get}
+use Rattle.std.proofs.lemmas.Option.{slice_get_within}
 use Rattle.cd_resolve.specs.declared.search.Frame.{Frame}
 use Rattle.cd_resolve.specs.Inner.Order.{row}
 use Rattle.cd_resolve.specs.Inner.Search.{steps}
-use Rattle.cd_resolve.proofs.Lists.{place_within}
 use Rattle.cd_resolve.proofs.Seen.{fewer_unseen}
 
 -- where a number of the row is passed
@@ -13,11 +13,11 @@ pub fewer_with_passed : (links : List (List ℕ)) (seen : List Bool) (frame : Fr
     → steps links seen (record { number = frame.number; looked = frame.looked + 1 } ∷ frames)
     < steps links seen (frame ∷ frames)
 fewer_with_passed links seen frame frames next at =
-    let within = place_within (row links frame.number) frame.looked next at in omega arith
+    let within = slice_get_within (row links frame.number) frame.looked next at in omega arith
 
 -- where a number is opened
-pub fewer_with_new : (links : List (List ℕ)) (seen : List Bool) (frames : List Frame) (number : ℕ) → number < length seen
-    → length seen ≡ length links → get_or seen number false ≡ false
+pub fewer_with_new : (links : List (List ℕ)) (seen : List Bool) (frames : List Frame) (number : ℕ)
+    → number < length seen → length seen ≡ length links → get_or seen number false ≡ false
     → steps links (set seen number true) (record { number = number; looked = 0 } ∷ frames) < steps links seen frames
 fewer_with_new links seen frames number within sized new =
     let fewer = fewer_unseen links seen number within sized new in omega arith

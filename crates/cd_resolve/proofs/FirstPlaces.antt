@@ -1,12 +1,16 @@
 -- How first places change where a name is added.
-use Rattle.std.proofs.Common.{◌≡◌, ℕ, ◌+◌, Bool, true, false, cond, ◌||◌, List, [], ◌∷◌, ◌++◌, length, Option, Some, None, refl, sym, ap, ◌∙◌, true≢false, is_some, arith}
-use Rattle.std.specs.Prelude.{bytes_eq, if◌then◌else◌}
+use Rattle.std.proofs.Common.{◌≡◌, ℕ, zero, suc, ◌+◌, ◌<◌, ◌≤◌, Bool, true, false, cond, ◌||◌, List, [], ◌∷◌, ◌++◌}
+use Rattle.std.proofs.Common.{length, take}
+use Rattle.std.proofs.Common.{Option, Some, None, refl, sym, ap, ◌∙◌, true≢false, is_some, arith}
+use Rattle.std.proofs.Common.{ltb-true, ltb-false, lt-ltb, le-ltb}
+use Rattle.std.specs.Prelude.{bytes_eq, nat_lt, if◌then◌else◌}
 use Rattle.std.specs.List.{list_any}
 use Rattle.std.specs.Option.{option_map, option_or}
 use Rattle.std.specs.Cmp.Lexicographic.{nat_list_eq_equiv, bytes_decides}
 use Rattle.indexmap.specs.IndexMap.{IndexMap}
 use Rattle.cd_syntax.specs.Name.{Name}
 use Rattle.cd_resolve.specs.declared.key.Key.{Key}
+use Rattle.cd_resolve.specs.Inner.BuiltinNames.{is_among}
 use Rattle.cd_resolve.specs.Inner.Places.{first_place, AreFirstPlaces, Enters}
 
 -- a name that is added has its first place at the end, unless it is there
@@ -22,7 +26,8 @@ at_end (first ∷ names) name other = by (bytes_eq first other) (first_place nam
     by : (same : Bool) (x : Option ℕ) (last : Bool)
         → first_place (names ++ name ∷ []) other ≡ option_or x (cond last (Some (length names)) None)
         → cond same (Some 0) (option_map (λ place. place + 1) (first_place (names ++ name ∷ []) other))
-        ≡ option_or (cond same (Some 0) (option_map (λ place. place + 1) x)) (cond last (Some (length (first ∷ names))) None)
+        ≡ option_or (cond same (Some 0) (option_map (λ place. place + 1) x))
+        (cond last (Some (length (first ∷ names))) None)
     by true x last on = refl
     by false (Some place) last on = ap (option_map (λ place. place + 1)) on
     by false None true on = ap (option_map (λ place. place + 1)) on ∙ ap Some more
@@ -45,6 +50,46 @@ has_place (other ∷ names) name = by (bytes_eq other name) (first_place names n
     by true x on = refl
     by false None on = on
     by false (Some place) on = on
+
+-- a place is one of the first so many
+abbrev pub is_before : (count : ℕ) → Option ℕ → Bool
+is_before count None = false
+is_before count (Some place) = nat_lt place count
+
+-- none is one of the first none, and of the first so many and one more one place more is
+none_before : (place : Option ℕ) → is_before zero place ≡ false
+none_before None = refl
+none_before (Some place) = le-ltb place zero (omega arith)
+
+one_later : (place count : ℕ) → nat_lt (place + 1) (suc count) ≡ nat_lt place count
+one_later place count = by (nat_lt place count) (ltb-true place count) (ltb-false place count)
+  where
+    by : (before : Bool) → (before ≡ true → place < count) → (before ≡ false → count ≤ place)
+        → nat_lt (place + 1) (suc count) ≡ before
+    by true is not = let less = is refl in lt-ltb (place + 1) (suc count) (omega arith)
+    by false is not = let more = not refl in le-ltb (place + 1) (suc count) (omega arith)
+
+-- the first place of a name is one of them where the name is one of the first so many
+among_first : (names : List Name) (name : Name) (count : ℕ)
+    → is_before count (first_place names name) ≡ is_among (take count names) name
+among_first names name zero = none_before (first_place names name)
+among_first [] name (suc count) = refl
+among_first (other ∷ names) name (suc count) =
+    by (bytes_eq other name) (first_place names name) (among_first names name count)
+    ∙ ap (λ same. same || is_among (take count names) name) (nat_list_eq_equiv.symm other name)
+  where
+    by : (same : Bool) (x : Option ℕ) → is_before count x ≡ is_among (take count names) name
+        → is_before (suc count) (cond same (Some 0) (option_map (λ place. place + 1) x))
+        ≡ (same || is_among (take count names) name)
+    by true x on = lt-ltb 0 (suc count) (omega arith)
+    by false None on = on
+    by false (Some place) on = one_later place count ∙ on
+
+-- the same of the place that is found in names that are these
+pub found_before : (place : Option ℕ) (found_in names : List Name) (name : Name) (count : ℕ)
+    → place ≡ first_place found_in name → found_in ≡ names → is_before count place ≡ is_among (take count names) name
+found_before place found_in names name count found same =
+    ap (is_before count) (found ∙ ap (λ names. first_place names name) same) ∙ among_first names name count
 
 -- where a name has a place, nothing changes
 pub there_already : (place_of : Name → Option ℕ) (name other : Name) (place : ℕ) → is_some (place_of name) ≡ true

@@ -1,7 +1,8 @@
 -- A formula of a graph is one of a longer graph.
 use Rattle.std.proofs.Common.{ℕ, ◌<◌, ◌≤◌, arith}
 use Rattle.cd_syntax.specs.Name.{Name}
-use Rattle.cd_model.specs.Formula.{Formula, Formulas, Nothing, Everything, Ints, Chars, Atoms, Pair, Xml, Record, Arrow, And, Or, Not, NoFormula, AFormula, Field, IsFormula, AreFormulas}
+use Rattle.cd_model.specs.Formula.{Formula, Formulas, Nothing, Everything, Ints, Chars, Atoms, Pair, Xml, Record, Arrow}
+use Rattle.cd_model.specs.Formula.{And, Or, Not, NoFormula, AFormula, Field, IsFormula, AreFormulas}
 use Rattle.cd_resolve.proofs.MembersKept.{each_weaker}
 
 mutual

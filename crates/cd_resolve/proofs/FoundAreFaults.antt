@@ -1,23 +1,34 @@
 -- Each fault that is found is one, and each link is true.
-use Rattle.std.proofs.Common.{◌≡◌, ℕ, ◌<◌, ◌≤◌, ◌⊎◌, inl, inr, List, [], ◌∷◌, ◌++◌, length, Bool, true, false, Option, Some, None, refl, sym, arith}
+use Rattle.std.proofs.Common.{◌≡◌, ℕ, ◌<◌, ◌≤◌, ◌⊎◌, inl, inr, List, [], ◌∷◌, ◌++◌, length, Bool, true, false, Option}
+use Rattle.std.proofs.Common.{Some, None, refl, sym, arith}
 use Rattle.std.specs.Prelude.{◌||◌}
 use Rattle.std.specs.List.{slice_get as nth}
 use Rattle.cd_syntax.specs.Name.{Name}
-use Rattle.cd_syntax.specs.TypeTree.{Tree, tree, Kind, Builtin, Ints, Chars, Atom, Text, Tuple, Arrows, Union, Meet, Sequence, Record, Xml, Named, Where, Variable, Default, Trees, NoTree, ATree, Signs, NoSign, ASign, Fields, NoField, AField, Declarations, NoDeclaration, ADeclaration, Regular, regular, RegularKind, Nothing, Item, Seq, Alt, Repeat, Capture, Regulars, NoRegular, ARegular}
+use Rattle.cd_syntax.specs.TypeTree.{Tree, tree, Kind, Builtin, Ints, Chars, Atom, Text, Tuple, Arrows, Union, Meet}
+use Rattle.cd_syntax.specs.TypeTree.{Sequence, Record, Xml, Named, Where, Variable, Default, Trees, NoTree, ATree}
+use Rattle.cd_syntax.specs.TypeTree.{Signs, NoSign, ASign, Fields, NoField, AField, Declarations, NoDeclaration}
+use Rattle.cd_syntax.specs.TypeTree.{ADeclaration, Regular, regular, RegularKind, Nothing, Item, Seq, Alt, Repeat}
+use Rattle.cd_syntax.specs.TypeTree.{Capture, Regulars, NoRegular, ARegular}
 use Rattle.cd_model.specs.Scope.{Scope, Declared}
 use Rattle.cd_model.specs.Guarded.{IsOneOf, IsSigned, LeadsTo}
 use Rattle.cd_model.specs.Guarded as guarded
 use Rattle.cd_model.specs.Written.{kind_of}
 use Rattle.cd_resolve.specs.declared.fault.NameFault.{NameFault}
 use Rattle.cd_resolve.specs.declared.fault.NameFault.TheVariants.{Unknown, Twice}
-use Rattle.cd_resolve.specs.Faults.{Fault, IsField, LabelAgain, IsItem, IsItemOfOne, IsDeclared, DeclaredAgain, IsFirst, IsFault, IsFaultOfList}
+use Rattle.cd_resolve.specs.Faults.{Fault, IsField, LabelAgain, IsItem, IsItemOfOne, IsDeclared, DeclaredAgain, IsFirst}
+use Rattle.cd_resolve.specs.Faults.{IsFault, IsFaultOfList}
 use Rattle.cd_resolve.specs.Faults as fault
 use Rattle.cd_resolve.specs.Inner.BuiltinNames.{is_among, is_builtin}
-use Rattle.cd_resolve.specs.Inner.Finding.{Frames, innermost, Id, Link, Place, State, told, told_if, entered, linked, met, place_of, labelled, start_of, found_in, found_in_kind, found_in_trees, found_in_signs, found_in_fields, found_in_declared, found_in_regular, found_in_regular_kind, found_in_regulars}
+use Rattle.cd_resolve.specs.Inner.Finding.{Frames, innermost, Id, Link, Place, State, told, told_if, entered, linked}
+use Rattle.cd_resolve.specs.Inner.Finding.{met, place_of, labelled, start_of, found_in, found_in_kind, found_in_trees}
+use Rattle.cd_resolve.specs.Inner.Finding.{found_in_signs, found_in_fields, found_in_declared, found_in_regular}
+use Rattle.cd_resolve.specs.Inner.Finding.{found_in_regular_kind, found_in_regulars}
 use Rattle.cd_resolve.proofs.InLists.{IsIn, in_front, in_last, in_more}
 use Rattle.cd_resolve.proofs.Rich.{whole}
-use Rattle.cd_resolve.proofs.FoundGrows.{Grows, same, then, if_grows, entered_grows, labelled_grows, walked_grows, declared_grows, regular_grows}
-use Rattle.cd_resolve.proofs.WhatNamesMean.{scope_of, Fits, fits_on, IsNode, node_on, declared_at, place_found, place_none}
+use Rattle.cd_resolve.proofs.FoundGrows.{Grows, same, then, if_grows, entered_grows, labelled_grows, walked_grows}
+use Rattle.cd_resolve.proofs.FoundGrows.{declared_grows, regular_grows}
+use Rattle.cd_resolve.proofs.WhatNamesMean.{scope_of, Fits, fits_on, IsNode, node_on, declared_at, place_found}
+use Rattle.cd_resolve.proofs.WhatNamesMean.{place_none}
 use Rattle.cd_resolve.proofs.Visits.{under, in_list, under_fits}
 use Rattle.cd_resolve.proofs.Complete.{among_in, in_among, twice}
 use Rattle.cd_resolve.proofs.BuiltIn.{is_built_in}
@@ -138,8 +149,8 @@ sound_met : (outer : Scope) (least : ℕ) (IsWhole : Fault → Type 0) (frames :
     → IsStart outer s.lists start (LeadsTo outer (scope_of frames) (Named name))
     → (place ≡ None → IsWhole (record { fault = Unknown; name = name; at = at }))
     → IsSound outer least IsWhole (met start name at place s)
-sound_met outer least IsWhole frames start name at None s sound fits here starts unknown = sound_told outer least IsWhole
-    Unknown name at s sound (unknown refl)
+sound_met outer least IsWhole frames start name at None s sound fits here starts unknown =
+    sound_told outer least IsWhole Unknown name at s sound (unknown refl)
 sound_met outer least IsWhole frames None name at (Some place) s sound fits here starts unknown = sound
 sound_met outer least IsWhole frames (Some id) name at (Some place) s sound fits here starts unknown =
     let there = place_found s.lists frames name place fits here in
@@ -158,7 +169,8 @@ sound_met outer least IsWhole frames (Some id) name at (Some place) s sound fits
 
 -- the labels of a record, where those before are of it
 pub record AreBefore (seen : List Name) (fields all : Fields) : Type 0 where
-  pub again : (label : Name) (at : ℕ) (is : Tree) → IsIn label seen → IsField label at is fields → LabelAgain label at all
+  pub again : (label : Name) (at : ℕ) (is : Tree) → IsIn label seen → IsField label at is fields
+      → LabelAgain label at all
   pub inside : (label : Name) (at : ℕ) → LabelAgain label at fields → LabelAgain label at all
 
 again_here : (other label : Name) (there at : ℕ) (optional : Bool) (one is : Tree) (rest : Fields) → other ≡ label
@@ -171,7 +183,8 @@ before_more : (seen : List Name) (label : Name) (at : ℕ) (optional : Bool) (is
     → AreBefore seen (AField label at optional is rest) all → AreBefore (seen ++ label ∷ []) rest all
 before_more seen label at optional is rest all before = record {
   again = λ other there one is_in field. by other there one field (in_more other label seen is_in);
-  inside = λ other there on. before.inside other there (fault.LabelAgain.later other label there at optional is rest on);
+  inside = λ other there on. before.inside other there
+      (fault.LabelAgain.later other label there at optional is rest on);
 }
   where
     by : (other : Name) (there : ℕ) (one : Tree) → IsField other there one rest → IsIn other seen ⊎ (other ≡ label)
@@ -258,8 +271,8 @@ not_both : (names : List Name) (name : Name) → is_among names name ≡ false �
 not_both names name none is = let some = in_among names name is in absurd cc
 
 -- the tree of a declaration is led to from its name, where it is the first of its name
-declared_start : (outer : Scope) (s : State Frames) (frames : Frames) (list : ℕ) (seen : List Name) (name : Name) (at : ℕ)
-    (is : Tree) (rest : Declarations) (b : Bool)
+declared_start : (outer : Scope) (s : State Frames) (frames : Frames) (list : ℕ) (seen : List Name) (name : Name)
+    (at : ℕ) (is : Tree) (rest : Declarations) (b : Bool)
     → is_among seen name ≡ b → AreDeclaredBefore seen (ADeclaration name at is rest) (innermost frames)
     → nth s.lists list ≡ Some frames → length outer < length (scope_of frames)
     → IsStart outer s.lists (start_of b list name) (LeadsTo outer (scope_of frames) (kind_of is))
@@ -307,19 +320,22 @@ mutual
   sound_kind outer least IsWhole frames start span (Tuple trees) s sound fits long starts of_whole =
       sound_trees outer least IsWhole frames None trees s sound fits long
       (nothing_led outer s (TreesLead outer (scope_of frames) trees))
-      (λ is one_of one is_fault. of_whole one (fault.in_part outer (scope_of frames) (scope_of frames) span (Tuple trees)
+      (λ is one_of one is_fault. of_whole one
+      (fault.in_part outer (scope_of frames) (scope_of frames) span (Tuple trees)
       is one (fault.in_tuple (scope_of frames) is trees one_of) is_fault))
   sound_kind outer least IsWhole frames start span (Arrows trees) s sound fits long starts of_whole =
       sound_trees outer least IsWhole frames None trees s sound fits long
       (nothing_led outer s (TreesLead outer (scope_of frames) trees))
-      (λ is one_of one is_fault. of_whole one (fault.in_part outer (scope_of frames) (scope_of frames) span (Arrows trees)
+      (λ is one_of one is_fault. of_whole one
+      (fault.in_part outer (scope_of frames) (scope_of frames) span (Arrows trees)
       is one (fault.in_arrows (scope_of frames) is trees one_of) is_fault))
   sound_kind outer least IsWhole frames start span (Union trees) s sound fits long starts of_whole =
       sound_trees outer least IsWhole frames start trees s sound fits long
-      (start_on outer s s start (LeadsTo outer (scope_of frames) (Union trees)) (TreesLead outer (scope_of frames) trees)
-      (same s)
+      (start_on outer s s start (LeadsTo outer (scope_of frames) (Union trees))
+      (TreesLead outer (scope_of frames) trees) (same s)
       (λ name led. guarded.in_union outer (scope_of frames) trees led.0 name led.1 led.2) starts)
-      (λ is one_of one is_fault. of_whole one (fault.in_part outer (scope_of frames) (scope_of frames) span (Union trees)
+      (λ is one_of one is_fault. of_whole one
+      (fault.in_part outer (scope_of frames) (scope_of frames) span (Union trees)
       is one (fault.in_union (scope_of frames) is trees one_of) is_fault))
   sound_kind outer least IsWhole frames start span (Meet first signs) s sound fits long starts of_whole =
       let more = walked_grows frames start first s in
@@ -328,8 +344,8 @@ mutual
       (start_on outer s s start (LeadsTo outer (scope_of frames) (Meet first signs))
       (LeadsTo outer (scope_of frames) (kind_of first)) (same s)
       (λ name led. guarded.in_first outer (scope_of frames) first signs name led) starts)
-      (λ one is_fault. of_whole one (fault.in_part outer (scope_of frames) (scope_of frames) span (Meet first signs) first
-      one (fault.in_first (scope_of frames) first signs) is_fault)))
+      (λ one is_fault. of_whole one (fault.in_part outer (scope_of frames) (scope_of frames) span
+      (Meet first signs) first one (fault.in_first (scope_of frames) first signs) is_fault)))
       (fits_on s _ frames more fits) long
       (start_on outer s (found_in whole frames start first s) start (LeadsTo outer (scope_of frames) (Meet first signs))
       (SignsLead outer (scope_of frames) signs) more
@@ -378,7 +394,8 @@ mutual
       let one_state = entered there s in
       let two_state = in_list declarations frames s in
       let to_one = entered_grows there s in
-      let to_two = then s one_state two_state to_one (declared_grows there (length s.lists) [] declarations one_state) in
+      let to_two = then s one_state two_state to_one
+      (declared_grows there (length s.lists) [] declarations one_state) in
       let there_fits = under_fits declarations frames s fits in
       let long_too : length outer ≤ length (scope_of there) = omega arith in
       let inside : length outer < length (scope_of there) = omega arith in
@@ -497,8 +514,8 @@ mutual
       → Fits s.lists frames → length outer ≤ length (scope_of frames)
       → ((is : Tree) → IsItem is all → (one : Fault) → IsFault outer (scope_of frames) is one → IsWhole one)
       → IsSound outer least IsWhole (found_in_regular whole frames all s)
-  sound_regular outer least IsWhole frames (regular span kind) s sound fits long of_whole = sound_regular_kind outer least
-      IsWhole frames span kind s sound fits long of_whole
+  sound_regular outer least IsWhole frames (regular span kind) s sound fits long of_whole =
+      sound_regular_kind outer least IsWhole frames span kind s sound fits long of_whole
 
   sound_regular_kind : (outer : Scope) (least : ℕ) (IsWhole : Fault → Type 0) (frames : Frames) (span : _)
       (kind : RegularKind) (s : State Frames) → IsSound outer least IsWhole s

@@ -4,12 +4,20 @@ use Rattle.std.specs.Prelude.{◌||◌}
 use Rattle.std.specs.List.{slice_get as nth}
 use Rattle.std.proofs.lemmas.List.{length-append}
 use Rattle.cd_syntax.specs.Name.{Name}
-use Rattle.cd_syntax.specs.TypeTree.{Tree, tree, Kind, Builtin, Ints, Chars, Atom, Text, Tuple, Arrows, Union, Meet, Sequence, Record, Xml, Named, Where, Variable, Default, Trees, NoTree, ATree, Signs, NoSign, ASign, Fields, NoField, AField, Declarations, NoDeclaration, ADeclaration, Regular, regular, RegularKind, Nothing, Item, Seq, Alt, Repeat, Capture, Regulars, NoRegular, ARegular}
+use Rattle.cd_syntax.specs.TypeTree.{Tree, tree, Kind, Builtin, Ints, Chars, Atom, Text, Tuple, Arrows, Union, Meet}
+use Rattle.cd_syntax.specs.TypeTree.{Sequence, Record, Xml, Named, Where, Variable, Default, Trees, NoTree, ATree}
+use Rattle.cd_syntax.specs.TypeTree.{Signs, NoSign, ASign, Fields, NoField, AField, Declarations, NoDeclaration}
+use Rattle.cd_syntax.specs.TypeTree.{ADeclaration, Regular, regular, RegularKind, Nothing, Item, Seq, Alt, Repeat}
+use Rattle.cd_syntax.specs.TypeTree.{Capture, Regulars, NoRegular, ARegular}
 use Rattle.cd_resolve.specs.declared.fault.NameFault.{NameFault}
 use Rattle.cd_resolve.specs.Faults.{Fault}
 use Rattle.cd_resolve.specs.Inner.BuiltinNames.{is_among, is_builtin}
-use Rattle.cd_resolve.specs.Inner.Finding.{Frames, Id, Link, Place, State, told, told_if, entered, met, place_of, labelled, start_of, found_in, found_in_kind, found_in_trees, found_in_signs, found_in_fields, found_in_declared, found_in_regular, found_in_regular_kind, found_in_regulars}
-use Rattle.cd_resolve.proofs.InLists.{IsIn, in_front, nth_front}
+use Rattle.cd_resolve.specs.Inner.Finding.{Frames, Id, Link, Place, State, told, told_if, entered, met, place_of}
+use Rattle.cd_resolve.specs.Inner.Finding.{labelled, start_of, found_in, found_in_kind, found_in_trees, found_in_signs}
+use Rattle.cd_resolve.specs.Inner.Finding.{found_in_fields, found_in_declared, found_in_regular, found_in_regular_kind}
+use Rattle.cd_resolve.specs.Inner.Finding.{found_in_regulars}
+use Rattle.cd_resolve.proofs.GrowingLists.{get_before}
+use Rattle.cd_resolve.proofs.InLists.{IsIn, in_front}
 use Rattle.cd_resolve.proofs.Rich.{whole}
 
 pub record Grows (s t : State Frames) : Type 0 where
@@ -45,7 +53,7 @@ if_grows false name at s = same s
 pub entered_grows : (frames : Frames) (s : State Frames) → Grows s (entered frames s)
 entered_grows frames s = record {
   faults = λ one is. is;
-  lists = λ n there is. nth_front there s.lists _ n is;
+  lists = λ n there is. get_before there s.lists _ n is;
   links = λ
       link is. is;
   longer = let more = length-append s.lists (frames ∷ []) in omega arith;
@@ -115,7 +123,8 @@ mutual
   signs_grow frames start (ASign kept is rest) s = then s _ _ (walked_grows frames start is s)
       (signs_grow frames start rest (found_in whole frames start is s))
 
-  pub fields_grow : (frames : Frames) (fields : Fields) (s : State Frames) → Grows s (found_in_fields whole frames fields s)
+  pub fields_grow : (frames : Frames) (fields : Fields) (s : State Frames)
+      → Grows s (found_in_fields whole frames fields s)
   fields_grow frames NoField s = same s
   fields_grow frames (AField label at optional is rest) s = then s _ _ (walked_grows frames None is s)
       (fields_grow frames rest (found_in whole frames None is s))
@@ -142,7 +151,8 @@ mutual
   regular_kind_grows frames (Repeat is post) s = regular_grows frames is s
   regular_kind_grows frames (Capture name is) s = regular_grows frames is s
 
-  pub regulars_grow : (frames : Frames) (all : Regulars) (s : State Frames) → Grows s (found_in_regulars whole frames all s)
+  pub regulars_grow : (frames : Frames) (all : Regulars) (s : State Frames)
+      → Grows s (found_in_regulars whole frames all s)
   regulars_grow frames NoRegular s = same s
   regulars_grow frames (ARegular first rest) s = then s _ _ (regular_grows frames first s)
       (regulars_grow frames rest (found_in_regular whole frames first s))

@@ -1,19 +1,24 @@
 -- A walk loses no equation: one over a tree puts equations after those that are there, and one over declared names
 -- gives each its own.
-use Rattle.std.proofs.Common.{◌≡◌, ℕ, zero, suc, ◌+◌, ◌-◌, ◌<◌, ◌≤◌, true, List, [], ◌∷◌, ◌++◌, length, set, Option, Some, None, refl, sym, ap, subst, ◌∙◌, append_assoc, arith}
+use Rattle.std.proofs.Common.{◌≡◌, ℕ, zero, suc, ◌+◌, ◌-◌, ◌<◌, ◌≤◌, true, List, [], ◌∷◌, ◌++◌, length, set, Option}
+use Rattle.std.proofs.Common.{Some, None, refl, sym, ap, subst, ◌∙◌, append_assoc, arith}
 use Rattle.std.specs.List.{slice_get}
 use Rattle.std.proofs.lemmas.List.{append-nil, length-append, length-set}
 use Rattle.cd_sets.specs.declared.node_id.NodeId.{NodeId}
 use Rattle.cd_syntax.specs.Name.{Name}
 use Rattle.cd_syntax.specs.TypeTree as type
-use Rattle.cd_syntax.specs.TypeTree.{Tree, tree, Kind, Trees, NoTree, ATree, Signs, NoSign, ASign, Fields, NoField, AField, Declarations, NoDeclaration, ADeclaration}
+use Rattle.cd_syntax.specs.TypeTree.{Tree, tree, Kind, Trees, NoTree, ATree, Signs, NoSign, ASign, Fields, NoField}
+use Rattle.cd_syntax.specs.TypeTree.{AField, Declarations, NoDeclaration, ADeclaration}
 use Rattle.cd_model.specs.Formula.{Formula, Field}
 use Rattle.cd_regex.specs.Regular.{Regular}
 use Rattle.cd_resolve.specs.Inner.Equation.{Equation, Equations, Same}
 use Rattle.cd_resolve.specs.Inner.Frames.{Frames, number_in}
 use Rattle.cd_resolve.specs.Inner.Leaves.{characters, Joint, Pairs, Arrows}
 use Rattle.cd_resolve.specs.Inner.Members.{Sign, union_of, meet_of}
-use Rattle.cd_resolve.specs.Inner.Walk.{Read, unread, entered, settled, pushed, leaf, walked_text, chained, united, met, one_more, frame_after, walked, walked_kind, walked_trees, walked_signs, walked_fields, walked_regular, walked_regular_kind, walked_regulars, walked_declared, walked_list}
+use Rattle.cd_resolve.specs.Inner.Walk.{Read, unread, entered, settled, pushed, leaf, walked_text, chained, united, met}
+use Rattle.cd_resolve.specs.Inner.Walk.{one_more, frame_after, walked, walked_kind, walked_trees, walked_signs}
+use Rattle.cd_resolve.specs.Inner.Walk.{walked_fields, walked_regular, walked_regular_kind, walked_regulars}
+use Rattle.cd_resolve.specs.Inner.Walk.{walked_declared, walked_list}
 use Rattle.cd_resolve.proofs.GrowingLists.{get_before, get_later, get_set, get_other, set_later}
 
 -- the equations of the first are those of the second, and more may follow

@@ -2,14 +2,21 @@
 use Rattle.std.proofs.Common.{◌≡◌, ℕ, ◌⊎◌, inl, inr, List, [], ◌∷◌, ◌++◌, subst}
 use Rattle.cd_syntax.specs.Name.{Name}
 use Rattle.cd_syntax.specs.declared.tokens.Span.{Span}
-use Rattle.cd_syntax.specs.TypeTree.{Tree, tree, Kind, Builtin, Ints, Chars, Atom, Text, Tuple, Arrows, Union, Meet, Sequence, Record, Xml, Named, Where, Variable, Default, Trees, NoTree, ATree, Signs, NoSign, ASign, Fields, NoField, AField, Declarations, NoDeclaration, ADeclaration, Regular, regular, RegularKind, Nothing, Item, Seq, Alt, Repeat, Capture, Regulars, NoRegular, ARegular}
+use Rattle.cd_syntax.specs.TypeTree.{Tree, tree, Kind, Builtin, Ints, Chars, Atom, Text, Tuple, Arrows, Union, Meet}
+use Rattle.cd_syntax.specs.TypeTree.{Sequence, Record, Xml, Named, Where, Variable, Default, Trees, NoTree, ATree}
+use Rattle.cd_syntax.specs.TypeTree.{Signs, NoSign, ASign, Fields, NoField, AField, Declarations, NoDeclaration}
+use Rattle.cd_syntax.specs.TypeTree.{ADeclaration, Regular, regular, RegularKind, Nothing, Item, Seq, Alt, Repeat}
+use Rattle.cd_syntax.specs.TypeTree.{Capture, Regulars, NoRegular, ARegular}
 use Rattle.cd_model.specs.AllOf.{AllOf}
-use Rattle.cd_model.specs.Scope.{Scope, Declared, names_in, names_in_kind, names_in_trees, names_in_signs, names_in_fields, names_declared, names_in_regular, names_in_regular_kind, names_in_regulars, names_over}
+use Rattle.cd_model.specs.Scope.{Scope, Declared, names_in, names_in_kind, names_in_trees, names_in_signs}
+use Rattle.cd_model.specs.Scope.{names_in_fields, names_declared, names_in_regular, names_in_regular_kind}
+use Rattle.cd_model.specs.Scope.{names_in_regulars, names_over}
 use Rattle.cd_model.specs.Guarded.{IsOneOf, IsSigned, LeadsTo, IsGuarded, NamesAreGuarded}
 use Rattle.cd_model.specs.Guarded as guarded
 use Rattle.cd_model.specs.Written.{kind_of}
 use Rattle.cd_model.proofs.Covered.{each_both}
-use Rattle.cd_resolve.specs.Faults.{Fault, IsField, IsItem, IsItemOfOne, IsPart, IsDeclared, DeclaredAgain, IsFirst, IsFault, IsFaultOfList}
+use Rattle.cd_resolve.specs.Faults.{Fault, IsField, IsItem, IsItemOfOne, IsPart, IsDeclared, DeclaredAgain, IsFirst}
+use Rattle.cd_resolve.specs.Faults.{IsFault, IsFaultOfList}
 use Rattle.cd_resolve.specs.Faults as fault
 use Rattle.cd_resolve.proofs.OuterNames.{Ends, IsOuter, Passes, composed, ways}
 
@@ -35,7 +42,8 @@ pub record IsSound (outer scope : Scope) (declarations : Declarations) : Type 0 
 sound_list : (outer scope : Scope) (declarations : Declarations)
     → ((fault : Fault) → IsFaultOfList outer scope declarations fault → ⊥) → IsSound outer scope declarations
 sound_list outer scope declarations none = record {
-  first = λ name at is first leads. none _ (fault.IsFaultOfList.unguarded outer scope declarations name at is first leads);
+  first = λ name at is first leads. none _
+      (fault.IsFaultOfList.unguarded outer scope declarations name at is first leads);
   inside = λ name at is one wrong is_wrong. none wrong
       (fault.IsFaultOfList.in_declared outer scope declarations name at is wrong one is_wrong);
   once = λ name at again. none _ (fault.IsFaultOfList.twice outer scope declarations name at again);
@@ -67,7 +75,8 @@ module _ (base : Declarations) (outer : Scope) where
   mutual
     pub each_in : (scope : Scope) (is : Tree) → Ends base scope → NoFault scope is → AllOf Fact (names_in scope is)
     each_in scope (tree span kind) ends none = each_in_kind scope span kind ends none
-        (λ inner part is_part wrong is. none wrong (fault.IsFault.in_part outer scope inner span kind part wrong is_part is))
+        (λ inner part is_part wrong is. none wrong
+        (fault.IsFault.in_part outer scope inner span kind part wrong is_part is))
 
     each_in_kind : (scope : Scope) (span : Span) (kind : Kind) → Ends base scope → NoFault scope (tree span kind)
         → ((inner : Scope) (part : Tree) → IsPart scope kind inner part → NoFault inner part)
@@ -91,7 +100,8 @@ module _ (base : Declarations) (outer : Scope) where
         each_both Fact (names_in scope tag ++ names_in scope attributes) (names_in scope content)
         (each_both Fact (names_in scope tag) (names_in scope attributes)
         (each_in scope tag ends (parts scope tag (fault.IsPart.in_tag scope tag attributes content)))
-        (each_in scope attributes ends (parts scope attributes (fault.IsPart.in_attributes scope tag attributes content))))
+        (each_in scope attributes ends
+        (parts scope attributes (fault.IsPart.in_attributes scope tag attributes content))))
         (each_in scope content ends (parts scope content (fault.IsPart.in_content scope tag attributes content)))
     each_in_kind scope span (Where is declarations) ends none parts =
         let within = Ends.under base declarations scope ends in
@@ -184,8 +194,9 @@ module _ (base : Declarations) (none : (fault : Fault) → IsFaultOfList [] (bas
     where
       by : (scope : Scope) → scope ≡ base ∷ [] → IsFirst is.name outer.at is.tree base
           → LeadsTo [] scope (kind_of is.tree) (record { name = is.name; scope = scope; tree = is.tree }) → ⊥
-      by scope alone first leads = none _ (fault.IsFaultOfList.unguarded [] (base ∷ []) base is.name outer.at is.tree first
-          (subst (λ scope. LeadsTo [] scope (kind_of is.tree) (record { name = is.name; scope = scope; tree = is.tree }))
+      by scope alone first leads = none _
+          (fault.IsFaultOfList.unguarded [] (base ∷ []) base is.name outer.at is.tree first (subst
+          (λ scope. LeadsTo [] scope (kind_of is.tree) (record { name = is.name; scope = scope; tree = is.tree }))
           alone leads))
 
   -- nor does a name that is declared inside of it, since it would do so by a name of the list

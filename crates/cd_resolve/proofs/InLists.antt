@@ -1,5 +1,5 @@
 -- What is in a list, and at which place.
-use Rattle.std.proofs.Common.{◌≡◌, ℕ, zero, suc, ◌<◌, ◌⊎◌, inl, inr, List, [], ◌∷◌, ◌++◌, length, Some, refl, sym, ap, arith}
+use Rattle.std.proofs.Common.{◌≡◌, ℕ, zero, suc, ◌⊎◌, inl, inr, List, [], ◌∷◌, ◌++◌, Some, refl, sym, ap}
 use Rattle.std.specs.List.{slice_get as nth}
 
 abbrev pub IsIn : {A : Type 0} → A → List A → Type 0
@@ -36,26 +36,7 @@ in_more a b xs is = by (in_either a xs (b ∷ []) is)
     by (inr (inl same)) = inr same
     by (inr (inr is)) = elim is [ ]
 
--- what stands at a place of a list stands in it
-pub nth_front : {A : Type 0} → (a : A) (xs ys : List A) (n : ℕ) → nth xs n ≡ Some a → nth (xs ++ ys) n ≡ Some a
-nth_front a [] ys n is = absurd cc
-nth_front a (x ∷ xs) ys zero is = is
-nth_front a (x ∷ xs) ys (suc n) is = nth_front a xs ys n is
-
-pub nth_last : {A : Type 0} → (a : A) (xs : List A) → nth (xs ++ a ∷ []) (length xs) ≡ Some a
-nth_last a [] = refl
-nth_last a (x ∷ xs) = nth_last a xs
-
-pub nth_within : {A : Type 0} → (xs ys : List A) (n : ℕ) → n < length xs → nth (xs ++ ys) n ≡ nth xs n
-nth_within [] ys n within = absurd (omega arith)
-nth_within (x ∷ xs) ys zero within = refl
-nth_within (x ∷ xs) ys (suc n) within = nth_within xs ys n (omega arith)
-
-pub nth_is_within : {A : Type 0} → (a : A) (xs : List A) (n : ℕ) → nth xs n ≡ Some a → n < length xs
-nth_is_within a [] n is = absurd cc
-nth_is_within a (x ∷ xs) zero is = omega arith
-nth_is_within a (x ∷ xs) (suc n) is = let on = nth_is_within a xs n is in omega arith
-
+-- what stands in a list has a place there, and what has one stands in it
 pub nth_of : {A : Type 0} → (a : A) (xs : List A) → IsIn a xs → (n : ℕ) × (nth xs n ≡ Some a)
 nth_of a [] is = elim is [ ]
 nth_of a (x ∷ xs) (inl same) = (zero, ap Some (sym same))

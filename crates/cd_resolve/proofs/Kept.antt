@@ -16,8 +16,9 @@ named_kept graph more declarations name (Some is) (Some id) sound named =
 named_kept graph more declarations name None (Some id) sound named = named
 named_kept graph more declarations name (Some is) None sound named = named
 
-pub names_kept : (graph more : Graph) (names : Names) → IsGraph graph → AreNamed graph names → AreNamed (graph ++ more) names
+pub names_kept : (graph more : Graph) (names : Names) → IsGraph graph → AreNamed graph names
+    → AreNamed (graph ++ more) names
 names_kept graph more names sound are = record {
-  each = λ name. named_kept graph more names.declarations name (tree_in names.declarations name) (node_of names name) sound
-      (are.each name);
+  each = λ name. named_kept graph more names.declarations name (tree_in names.declarations name)
+      (node_of names name) sound (are.each name);
 }

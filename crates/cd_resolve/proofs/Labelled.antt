@@ -1,5 +1,5 @@
 -- The fields of a well made list of fields have labels.
-use Rattle.std.proofs.Common.{ℕ, List, [], ◌∷◌, ◌++◌}
+use Rattle.std.proofs.Common.{ℕ, List}
 use Rattle.cd_sets.specs.declared.node_id.NodeId.{NodeId}
 use Rattle.cd_syntax.specs.Name.{Name, IsLabel}
 use Rattle.cd_syntax.specs.TypeTree.{Fields, NoField, AField}
@@ -9,12 +9,7 @@ use Rattle.cd_resolve.specs.Inner.Equation.{Equations}
 use Rattle.cd_resolve.specs.Inner.Frames.{Frames}
 use Rattle.cd_resolve.specs.Inner.PlainState.{HaveLabels}
 use Rattle.cd_resolve.specs.Inner.Walk.{walked, walked_fields, one_more}
-
--- one more
-more_labels : (made : List (Name × Field)) (one : Name × Field) → HaveLabels made → IsLabel one.0
-    → HaveLabels (made ++ one ∷ [])
-more_labels [] one are is = (is, tt)
-more_labels (first ∷ rest) one are is = (are.0, more_labels rest one are.1 is)
+use Rattle.cd_resolve.proofs.MembersKept.{each_more}
 
 pub walked_labels : (first : ℕ) (names : List (Name × NodeId)) (frames : Frames) (fields : Fields)
     (made : List (Name × Field)) (s : Equations) → AreWellMadeFields fields → HaveLabels made
@@ -24,4 +19,5 @@ walked_labels first names frames (AField label at optional is rest) made s well 
     walked_labels first names frames rest
     (one_more made (label, record { optional = optional; type = (walked first names frames is s).0 }))
     (walked first names frames is s).1 well.2
-    (more_labels made (label, record { optional = optional; type = (walked first names frames is s).0 }) labels well.0)
+    (each_more (λ field. IsLabel field.0) made
+    (label, record { optional = optional; type = (walked first names frames is s).0 }) labels well.0)

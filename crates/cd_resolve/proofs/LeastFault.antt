@@ -1,8 +1,10 @@
 -- The least of a list of faults is one of them, and none of them comes before it.
-use Rattle.std.proofs.Common.{◌≡◌, ◌<◌, ◌≤◌, ◌⊎◌, inl, inr, List, [], ◌∷◌, true, false, Option, Some, None, refl, sym, ◌∙◌, arith}
+use Rattle.std.proofs.Common.{◌≡◌, ◌<◌, ◌≤◌, ◌⊎◌, inl, inr, List, [], ◌∷◌, true, false, Option, Some, None, refl, sym}
+use Rattle.std.proofs.Common.{◌∙◌, arith}
 use Rattle.std.specs.Bool.{Decides}
 use Rattle.std.proofs.lemmas.Bool.{cases_Bool, cases_order, cases_lt}
 use Rattle.std.proofs.lemmas.Bool.Decides.{Decides-eqb, Decides-and, Decides-or, Decides-ltb}
+use Rattle.std.proofs.lemmas.Option.{same_Some}
 use Rattle.cd_resolve.specs.Faults.{Fault, rank, IsBefore, IsTold}
 use Rattle.cd_resolve.specs.Inner.Cycles.{goes_before, lesser, least_from}
 use Rattle.cd_resolve.proofs.InLists.{IsIn}
@@ -53,12 +55,9 @@ record IsLeastOf (start : Option Fault) (rest : List Fault) (one : Fault) : Type
 before_equal : (one other : Fault) → one ≡ other → IsBefore one other
 before_equal one other equal = rw equal (before_itself other)
 
-some_of : {A : Type 0} → (a b : A) → Some a ≡ Some b → a ≡ b
-some_of a b same = cc
-
 in_rest : (middle : Option Fault) (x : Fault) (rest : List Fault) (one : Fault) → middle ≡ Some x
     → (middle ≡ Some one) ⊎ IsIn one rest → IsIn one (x ∷ rest)
-in_rest middle x rest one middle_is (inl is) = inl (some_of one x (sym is ∙ middle_is))
+in_rest middle x rest one middle_is (inl is) = inl (same_Some one x (sym is ∙ middle_is))
 in_rest middle x rest one middle_is (inr is) = inr is
 
 least_taken : (start : Option Fault) (x : Fault) (rest : List Fault) (one : Fault) (middle : Option Fault)
@@ -94,7 +93,7 @@ least_is : (rest : List Fault) (start : Option Fault) (one : Fault) → least_fr
     → IsLeastOf start rest one
 least_is [] start one is = record {
   is = inl is;
-  first_start = λ other starts. before_equal one other (some_of one other (sym is ∙ starts));
+  first_start = λ other starts. before_equal one other (same_Some one other (sym is ∙ starts));
   first = λ other nothing. elim nothing [ ];
 }
 least_is (x ∷ rest) None one is =
@@ -104,7 +103,7 @@ least_is (x ∷ rest) (Some s) one is = by (cases_Bool (goes_before x s)) (least
     by : (goes_before x s ≡ true) ⊎ (goes_before x s ≡ false) → IsLeastOf (lesser (Some s) x) rest one
         → IsLeastOf (Some s) (x ∷ rest) one
     by (inl goes) least = least_taken (Some s) x rest one (lesser (Some s) x) (rw goes refl) least
-        (λ other starts. rw (some_of s other starts) at (is_before x s goes))
+        (λ other starts. rw (same_Some s other starts) at (is_before x s goes))
     by (inr stays) least = least_kept s x rest one (lesser (Some s) x) (rw stays refl) least (is_after x s stays)
 
 some_is_least : (rest : List Fault) (s : Fault) → least_from (Some s) rest ≡ None → ⊥

@@ -46,14 +46,12 @@ pub mod Solved
 pub mod EndsOfTrees
 pub mod EndsOfNames
 pub mod EndsOfEquations
-pub mod SameNames
 pub mod Comparing
 pub mod Counting
 pub mod Entering
 pub mod Sizes
 pub mod Views
 pub mod WellMadeItems
-pub mod LabelsRise
 pub mod Labelled
 pub mod Steps
 pub mod Inserted

@@ -1,18 +1,19 @@
 -- The rows of equations, and that what they lead to has rows.
-use Rattle.std.proofs.Common.{◌≡◌, ℕ, zero, suc, ◌+◌, ◌-◌, ◌<◌, ◌≤◌, inl, inr, Bool, true, false, List, [], ◌∷◌, map, length, Option, Some, None, refl, sym, subst, ap, ◌∙◌, arith, if◌then◌else◌}
+use Rattle.std.proofs.Common.{◌≡◌, ℕ, zero, suc, ◌+◌, ◌-◌, ◌<◌, ◌≤◌, inl, inr, Bool, true, false, List, [], ◌∷◌, map}
+use Rattle.std.proofs.Common.{length, Option, Some, None, refl, sym, subst, ap, ◌∙◌, arith, if◌then◌else◌}
 use Rattle.std.specs.Prelude.{nat_le}
 use Rattle.std.specs.List.{slice_get}
 use Rattle.std.specs.Option.{option_flatten}
 use Rattle.std.proofs.lemmas.Bool.{leb-true, leb-false}
 use Rattle.std.proofs.lemmas.List.{length-map}
 use Rattle.cd_sets.specs.declared.node_id.NodeId.{NodeId}
-use Rattle.cd_model.specs.AllOf as model
+use Rattle.cd_model.specs.AllOf.{AllOf}
 use Rattle.cd_model.specs.BuiltIns.{node}
+use Rattle.cd_model.proofs.Covered.{each_both}
 use Rattle.cd_resolve.specs.Inner.Equation.{Equation, Equations, Is, Same, And, Or}
 use Rattle.cd_resolve.specs.Inner.Links.{number_at, numbers_of, numbers_under, links}
-use Rattle.cd_resolve.specs.Inner.Order.{AllOf, row, AreRows}
+use Rattle.cd_resolve.specs.Inner.Order.{row, AreRows}
 use Rattle.cd_resolve.specs.Inner.Solves.{IsNode, IsEquation, AreEquations}
-use Rattle.cd_resolve.proofs.EndsOfLists.{each_of_both}
 
 -- the equation of a number, if there is one
 abbrev pub found : Equations → ℕ → Option Equation
@@ -79,17 +80,17 @@ module _ (nodes first count : ℕ) (old : nodes ≤ first) where
       by_node (inl small) number same = absurd (omega arith)
       by_node (inr own) number same = let top = own.1 in omega arith
 
-  numbers_below : (ids : List NodeId) → model.AllOf (IsNode nodes first count) ids
+  numbers_below : (ids : List NodeId) → AllOf (IsNode nodes first count) ids
       → AllOf (λ next. next < count) (numbers_of first ids)
   numbers_below [] are = tt
-  numbers_below (id ∷ ids) are = each_of_both (λ next. next < count) (number_at first id) (numbers_of first ids)
+  numbers_below (id ∷ ids) are = each_both (λ next. next < count) (number_at first id) (numbers_of first ids)
       (number_below id are.0) (numbers_below ids are.1)
 
   signs_below : (signs : List (Bool × NodeId))
-      → model.AllOf (λ (sign : Bool × NodeId). IsNode nodes first count sign.1) signs
+      → AllOf (λ (sign : Bool × NodeId). IsNode nodes first count sign.1) signs
       → AllOf (λ next. next < count) (numbers_of first (map (λ sign. sign.1) signs))
   signs_below [] are = tt
-  signs_below (sign ∷ signs) are = each_of_both (λ next. next < count) (number_at first sign.1)
+  signs_below (sign ∷ signs) are = each_both (λ next. next < count) (number_at first sign.1)
       (numbers_of first (map (λ sign. sign.1) signs)) (number_below sign.1 are.0) (signs_below signs are.1)
 
   under_below : (equation : Option Equation)

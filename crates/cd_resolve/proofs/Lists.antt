@@ -1,8 +1,10 @@
 -- A fact of each of a list, what is one of a list, and an order with one number more.
-use Rattle.std.proofs.Common.{◌≡◌, ℕ, zero, suc, ◌<◌, ◌⊎◌, inl, inr, List, [], ◌∷◌, ◌++◌, length, Some, None, sym, subst, take, append_assoc, arith}
+use Rattle.std.proofs.Common.{◌≡◌, ℕ, zero, suc, ◌⊎◌, inl, inr, List, [], ◌∷◌, ◌++◌, Some, None, sym, subst, take}
+use Rattle.std.proofs.Common.{append_assoc}
 use Rattle.std.proofs.lemmas.List.{append-nil}
 use Rattle.std.specs.List.{slice_get}
-use Rattle.cd_resolve.specs.Inner.Order.{AllOf, IsOneOf, row, ComeAfter}
+use Rattle.cd_model.specs.AllOf.{AllOf}
+use Rattle.cd_resolve.specs.Inner.Order.{IsOneOf, row, ComeAfter}
 
 -- what holds of each of a list holds of one of it
 pub each_at : (Fact : ℕ → Type 0) (list : List ℕ) (number : ℕ) → AllOf Fact list → IsOneOf number list → Fact number
@@ -10,22 +12,7 @@ each_at Fact [] number each is = elim is [ ]
 each_at Fact (other ∷ rest) number each (inl same) = subst Fact same each.0
 each_at Fact (other ∷ rest) number each (inr on) = each_at Fact rest number each.1 on
 
--- a fact that follows from that of each
-pub each_weaker : (Fact Other : ℕ → Type 0) (list : List ℕ) → ((number : ℕ) → Fact number → Other number) → AllOf Fact list
-    → AllOf Other list
-each_weaker Fact Other [] weaker each = tt
-each_weaker Fact Other (number ∷ rest) weaker each = (
-  weaker number each.0,
-  each_weaker Fact Other rest weaker each.1,
-)
-
--- of each of a list and of one more
-pub each_more : (Fact : ℕ → Type 0) (list : List ℕ) (number : ℕ) → AllOf Fact list → Fact number
-    → AllOf Fact (list ++ number ∷ [])
-each_more Fact [] number each fact = (fact, tt)
-each_more Fact (other ∷ rest) number each fact = (each.0, each_more Fact rest number each.1 fact)
-
--- of each at the front, and of the next
+-- a fact of each at the front, and of the next
 pub each_taken : (Fact : ℕ → Type 0) (list : List ℕ) (place number : ℕ) → slice_get list place ≡ Some number
     → AllOf Fact (take place list) → Fact number → AllOf Fact (take (suc place) list)
 each_taken Fact [] place number at each fact = absurd cc
@@ -47,18 +34,6 @@ pub one_at : (list : List ℕ) (place number : ℕ) → slice_get list place ≡
 one_at [] place number at = absurd cc
 one_at (other ∷ rest) zero number at = inl cc
 one_at (other ∷ rest) (suc place) number at = inr (one_at rest place number at)
-
--- a place at which something stands is within the list
-pub place_within : (list : List ℕ) (place number : ℕ) → slice_get list place ≡ Some number → place < length list
-place_within [] place number at = absurd cc
-place_within (other ∷ rest) zero number at = omega arith
-place_within (other ∷ rest) (suc place) number at = let on = place_within rest place number at in omega arith
-
--- one of a list is one of the list with one more
-pub one_in_front : (list : List ℕ) (last number : ℕ) → IsOneOf number list → IsOneOf number (list ++ last ∷ [])
-one_in_front [] last number is = elim is [ ]
-one_in_front (other ∷ rest) last number (inl same) = inl same
-one_in_front (other ∷ rest) last number (inr on) = inr (one_in_front rest last number on)
 
 -- the last of a list is one of it
 pub one_at_last : (list : List ℕ) (last number : ℕ) → last ≡ number → IsOneOf number (list ++ last ∷ [])

@@ -1,10 +1,11 @@
 -- A node that is made has its equation, and several nodes have those of the trees that they were made of.
-use Rattle.std.proofs.Common.{◌≡◌, ℕ, suc, ◌+◌, true, false, List, [], ◌∷◌, ◌++◌, map, length, Option, Some, None, refl, sym, subst, ◌∙◌, arith}
+use Rattle.std.proofs.Common.{◌≡◌, ℕ, suc, ◌+◌, true, false, List, [], ◌∷◌, ◌++◌, map, length, Option, Some, None, refl}
+use Rattle.std.proofs.Common.{sym, subst, ◌∙◌, arith}
 use Rattle.std.specs.List.{slice_get}
 use Rattle.cd_sets.specs.declared.node_id.NodeId.{NodeId}
 use Rattle.cd_syntax.specs.Name.{Name}
 use Rattle.cd_syntax.specs.TypeTree as type
-use Rattle.cd_syntax.specs.TypeTree.{Tree, tree, Kind, Trees, NoTree, ATree, Signs, NoSign, ASign, Fields, NoField, AField, Declarations, NoDeclaration, ADeclaration}
+use Rattle.cd_syntax.specs.TypeTree.{Trees, NoTree, ATree, Signs, Fields}
 use Rattle.cd_model.specs.Formula.{Formula, Field, Pair}
 use Rattle.cd_regex.specs.Regular.{Regular, regulars_of}
 use Rattle.cd_regex.specs.Automaton.{sequence_formulas}
@@ -12,7 +13,8 @@ use Rattle.cd_resolve.specs.Inner.Equation.{Equation, Equations, Is, And, Or}
 use Rattle.cd_resolve.specs.Inner.Frames.{Frames}
 use Rattle.cd_resolve.specs.Inner.Leaves.{characters, Joint, joined}
 use Rattle.cd_resolve.specs.Inner.Members.{Sign}
-use Rattle.cd_resolve.specs.Inner.Equates.{IsAt, HasLeaf, EquatesText, HasUnion, HasMeet, HaveFormulas, EquatesChain, EquatesEach, EquatesSigns, EquatesFields, EquatesRegulars}
+use Rattle.cd_resolve.specs.Inner.Equates.{IsAt, HasLeaf, EquatesText, HasUnion, HasMeet, HaveFormulas, EquatesChain}
+use Rattle.cd_resolve.specs.Inner.Equates.{EquatesEach, EquatesSigns, EquatesFields, EquatesRegulars}
 use Rattle.cd_resolve.specs.Inner.Walk.{pushed, leaf, walked_text, chained, united, met, ReadRegular, sequenced}
 use Rattle.cd_resolve.proofs.GrowingLists.{get_next, get_later}
 use Rattle.cd_resolve.proofs.Growing.{Grows, grows_then, appends_grows, pushed_appends, leaf_appends}

@@ -1,5 +1,6 @@
 -- Where a name is found: in a list round it, where its node holds what its tree does, or outside of all lists.
-use Rattle.std.proofs.Common.{◌≡◌, ℕ, ◌+◌, Bool, true, false, List, [], ◌∷◌, Option, Some, None, ◌⊎◌, inl, inr, refl, ap, subst, ◌∙◌, bytes_eq, if◌then◌else◌, arith}
+use Rattle.std.proofs.Common.{◌≡◌, ℕ, ◌+◌, Bool, true, false, List, [], ◌∷◌, Option, Some, None, ◌⊎◌, inl, inr, refl}
+use Rattle.std.proofs.Common.{ap, subst, ◌∙◌, bytes_eq, if◌then◌else◌, arith}
 use Rattle.std.specs.Option.{option_map, unwrap_or}
 use Rattle.cd_sets.specs.declared.node_id.NodeId.{NodeId}
 use Rattle.cd_syntax.specs.Name.{Name}
@@ -10,7 +11,7 @@ use Rattle.cd_resolve.specs.Inner.Names.{node_of}
 use Rattle.cd_resolve.specs.Inner.Equation.{Equations, Same}
 use Rattle.cd_resolve.specs.Inner.Equates.{IsAt, Equates, AreEquated, AllEquated}
 use Rattle.cd_resolve.specs.Named.{index_in}
-use Rattle.cd_resolve.specs.Inner.Frames.{Frame, Frames, scope_of, node_under}
+use Rattle.cd_resolve.specs.Inner.Frames.{Frames, scope_of, node_under}
 use Rattle.cd_resolve.specs.Inner.Frames as frames
 
 module _ (first : ℕ) (equations : Equations) (names : List (Name × NodeId)) where
@@ -62,8 +63,6 @@ module _ (first : ℕ) (equations : Equations) (names : List (Name × NodeId)) w
       pub there : node_under names sees name ≡ node number
       pub declared : declared_as (scope_of base sees) name
           ≡ Some (record { name = name; scope = scope_of base inner; tree = is })
-      pub bound : declared_as (scope_of [] sees) name
-          ≡ Some (record { name = name; scope = scope_of [] inner; tree = is })
       pub around : AllEquated first equations names inner
       pub has_root : IsName inner number is
 
@@ -71,12 +70,11 @@ module _ (first : ℕ) (equations : Equations) (names : List (Name × NodeId)) w
     pub record IsOutside (sees : Frames) (name : Name) : Type 0 where
       pub there : node_under names sees name ≡ unwrap_or (node_of names name) EMPTY
       pub declared : declared_as (scope_of base sees) name ≡ declared_as base name
-      pub free : declared_as (scope_of [] sees) name ≡ None
 
     -- a name is one of these
     pub found : (sees : Frames) (name : Name) → AllEquated first equations names sees
         → IsInside sees name ⊎ IsOutside sees name
-    found [] name around = inr (record { there = refl; declared = refl; free = refl })
+    found [] name around = inr (record { there = refl; declared = refl })
     found (frame ∷ outer) name around = by_list
         (index_in frame.declarations name) (tree_in frame.declarations name) refl refl
         (in_list (frame ∷ outer) frame.first frame.declarations name around.0)
@@ -88,8 +86,8 @@ module _ (first : ℕ) (equations : Equations) (names : List (Name × NodeId)) w
         node_there : Option ℕ → NodeId
         node_there index = frames.declared_or frame.first index (node_under names outer name)
 
-        declared_there : Scope → Option Tree → Option Declared
-        declared_there base is =
+        declared_there : Option Tree → Option Declared
+        declared_there is =
             declared_or is name (scope_of base (frame ∷ outer)) (declared_as (scope_of base outer) name)
 
         by_outer : index_in frame.declarations name ≡ None → tree_in frame.declarations name ≡ None
@@ -99,15 +97,13 @@ module _ (first : ℕ) (equations : Equations) (names : List (Name × NodeId)) w
           number = inside.number;
           is = inside.is;
           there = ap node_there no_index ∙ inside.there;
-          declared = ap (declared_there base) no_tree ∙ inside.declared;
-          bound = ap (declared_there []) no_tree ∙ inside.bound;
+          declared = ap declared_there no_tree ∙ inside.declared;
           around = inside.around;
           has_root = inside.has_root;
         })
         by_outer no_index no_tree (inr outside) = inr (record {
           there = ap node_there no_index ∙ outside.there;
-          declared = ap (declared_there base) no_tree ∙ outside.declared;
-          free = ap (declared_there []) no_tree ∙ outside.free;
+          declared = ap declared_there no_tree ∙ outside.declared;
         })
 
         by_list : (index : Option ℕ) (is : Option Tree) → index_in frame.declarations name ≡ index
@@ -121,8 +117,7 @@ module _ (first : ℕ) (equations : Equations) (names : List (Name × NodeId)) w
           number = frame.first + index;
           is = is;
           there = ap node_there index_is;
-          declared = ap (declared_there base) tree_is;
-          bound = ap (declared_there []) tree_is;
+          declared = ap declared_there tree_is;
           around = around;
           has_root = is_name;
         })

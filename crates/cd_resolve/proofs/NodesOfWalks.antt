@@ -1,11 +1,13 @@
 -- What built-in nodes, nodes of given names and nodes with equations have in common, the node that a walk gives has.
-use Rattle.std.proofs.Common.{◌≡◌, ℕ, ◌+◌, ◌<◌, ◌≤◌, Bool, true, false, List, [], ◌∷◌, map, length, Option, Some, None, refl, subst, bytes_eq, if◌then◌else◌, arith}
+use Rattle.std.proofs.Common.{◌≡◌, ℕ, ◌+◌, ◌<◌, ◌≤◌, Bool, true, false, List, [], ◌∷◌, map, length, Option, Some, None}
+use Rattle.std.proofs.Common.{refl, subst, bytes_eq, if◌then◌else◌, arith}
 use Rattle.std.specs.Option.{option_map, unwrap_or}
 use Rattle.std.proofs.lemmas.List.{length-append}
 use Rattle.cd_sets.specs.declared.node_id.NodeId.{NodeId}
 use Rattle.cd_syntax.specs.Name.{Name}
 use Rattle.cd_syntax.specs.TypeTree as type
-use Rattle.cd_syntax.specs.TypeTree.{Tree, tree, Kind, Trees, NoTree, ATree, Signs, NoSign, ASign, Fields, NoField, AField, Declarations, NoDeclaration, ADeclaration}
+use Rattle.cd_syntax.specs.TypeTree.{Tree, tree, Kind, Trees, NoTree, ATree, Signs, NoSign, ASign, Fields, NoField}
+use Rattle.cd_syntax.specs.TypeTree.{AField, Declarations, NoDeclaration, ADeclaration}
 use Rattle.cd_syntax.specs.declared.builtin.BuiltinName.{BuiltinName}
 use Rattle.cd_syntax.specs.declared.builtin.BuiltinName.TheVariants as name
 use Rattle.cd_model.specs.AllOf.{AllOf}
@@ -19,7 +21,10 @@ use Rattle.cd_resolve.specs.Named.{index_in}
 use Rattle.cd_resolve.specs.Inner.Frames.{Frame, Frames, declared_or, node_under, number_in}
 use Rattle.cd_resolve.specs.Inner.Leaves.{characters, Joint, Pairs, Arrows}
 use Rattle.cd_resolve.specs.Inner.Members.{Sign, union_of, meet_of}
-use Rattle.cd_resolve.specs.Inner.Walk.{pushed, leaf, walked_text, chained, united, met, one_more, sequenced, frame_after, ReadRegular, walked, walked_kind, walked_trees, walked_signs, walked_fields, walked_regular, walked_regular_kind, walked_regulars, walked_list}
+use Rattle.cd_resolve.specs.Inner.Walk.{pushed, leaf, walked_text, chained, united, met, one_more, sequenced}
+use Rattle.cd_resolve.specs.Inner.Walk.{frame_after, ReadRegular, walked, walked_kind, walked_trees, walked_signs}
+use Rattle.cd_resolve.specs.Inner.Walk.{walked_fields, walked_regular, walked_regular_kind, walked_regulars}
+use Rattle.cd_resolve.specs.Inner.Walk.{walked_list}
 use Rattle.cd_resolve.proofs.Growing.{appends_longer, walked_appends, regular_appends, list_longer}
 use Rattle.cd_resolve.proofs.MembersKept.{each_weaker, each_more, union_keeps, meet_keeps}
 use Rattle.cd_resolve.proofs.AsksMore.{asks_more, asks_repeated, ask_all}

@@ -15,8 +15,8 @@ use Rattle.cd_resolve.specs.Inner.Equates.{Equates, EquatesKind, AllEquated}
 
 -- The equations are those of the nodes from the first number on, names that no list declares have these nodes, and each
 -- name that is declared has the fact
-pub data HasOrigin (first : ℕ) (equations : Equations) (names : List (Name × NodeId)) (base : Scope) (Fact : Declared → Type 0)
-    : ℕ → Type 0 where
+pub data HasOrigin (first : ℕ) (equations : Equations) (names : List (Name × NodeId)) (base : Scope)
+    (Fact : Declared → Type 0) : ℕ → Type 0 where
   unread : (number : ℕ) → slice_get equations number ≡ Some None → HasOrigin first equations names base Fact number
   formula : (number : ℕ) (is : Formula) → slice_get equations number ≡ Some (Some (Is is))
       → HasOrigin first equations names base Fact number

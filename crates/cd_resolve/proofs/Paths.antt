@@ -1,20 +1,33 @@
 -- Each list that is entered is walked over, so what a declared name leads to is led to by links.
-use Rattle.std.proofs.Common.{◌≡◌, ℕ, zero, suc, ◌<◌, ◌≤◌, ◌⊎◌, inl, inr, List, [], ◌∷◌, ◌++◌, length, Bool, true, false, Option, Some, None, refl, sym, ap, ◌∙◌}
+use Rattle.std.proofs.Common.{◌≡◌, ℕ, zero, suc, ◌<◌, ◌≤◌, ◌⊎◌, inl, inr, List, [], ◌∷◌, ◌++◌, length, Bool, true}
+use Rattle.std.proofs.Common.{false, Option, Some, None, refl, sym, ap, ◌∙◌}
 use Rattle.std.specs.Prelude.{◌||◌}
 use Rattle.std.specs.List.{slice_get as nth}
+use Rattle.std.proofs.lemmas.Option.{same_Some}
 use Rattle.cd_syntax.specs.Name.{Name}
-use Rattle.cd_syntax.specs.TypeTree.{Tree, tree, Kind, Builtin, Ints, Chars, Atom, Text, Tuple, Arrows, Union, Meet, Sequence, Record, Xml, Named, Where, Variable, Default, Trees, NoTree, ATree, Signs, NoSign, ASign, Fields, NoField, AField, Declarations, NoDeclaration, ADeclaration, Regular, regular, RegularKind, Nothing, Item, Seq, Alt, Repeat, Capture, Regulars, NoRegular, ARegular}
+use Rattle.cd_syntax.specs.TypeTree.{Tree, tree, Kind, Builtin, Ints, Chars, Atom, Text, Tuple, Arrows, Union, Meet}
+use Rattle.cd_syntax.specs.TypeTree.{Sequence, Record, Xml, Named, Where, Variable, Default, Trees, NoTree, ATree}
+use Rattle.cd_syntax.specs.TypeTree.{Signs, NoSign, ASign, Fields, NoField, AField, Declarations, NoDeclaration}
+use Rattle.cd_syntax.specs.TypeTree.{ADeclaration, Regular, regular, RegularKind, Nothing, Item, Seq, Alt, Repeat}
+use Rattle.cd_syntax.specs.TypeTree.{Capture, Regulars, NoRegular, ARegular}
 use Rattle.cd_model.specs.Scope.{Scope, Declared, declared_as}
 use Rattle.cd_model.specs.Guarded.{LeadsTo}
 use Rattle.cd_model.specs.Guarded as guarded
 use Rattle.cd_model.specs.Written.{kind_of}
 use Rattle.cd_resolve.specs.Inner.BuiltinNames.{is_among, is_builtin}
-use Rattle.cd_resolve.specs.Inner.Finding.{Frames, innermost, Id, Link, Place, State, told_if, entered, met, place_of, labelled, start_of, found_in, found_in_kind, found_in_trees, found_in_signs, found_in_fields, found_in_declared, found_in_regular, found_in_regular_kind, found_in_regulars}
+use Rattle.cd_resolve.specs.Inner.Finding.{Frames, innermost, Id, Link, Place, State, told_if, entered, met, place_of}
+use Rattle.cd_resolve.specs.Inner.Finding.{labelled, start_of, found_in, found_in_kind, found_in_trees, found_in_signs}
+use Rattle.cd_resolve.specs.Inner.Finding.{found_in_fields, found_in_declared, found_in_regular, found_in_regular_kind}
+use Rattle.cd_resolve.specs.Inner.Finding.{found_in_regulars}
 use Rattle.cd_resolve.proofs.InLists.{IsIn, in_last}
 use Rattle.cd_resolve.proofs.Rich.{whole}
-use Rattle.cd_resolve.proofs.FoundGrows.{Grows, same, then, if_grows, entered_grows, met_grows, labelled_grows, walked_grows, trees_grow, signs_grow, fields_grow, declared_grows, regular_grows, regulars_grow}
-use Rattle.cd_resolve.proofs.WhatNamesMean.{scope_of, Fits, fits_on, IsNode, node_on, declared_at, IsFound, place_found, place_none}
-use Rattle.cd_resolve.proofs.Visits.{VisitedKind, ListVisited, kind_visited, later_late, visits_tree, visits_trees, visits_signs, visits_body, visits_list, under, in_list, under_fits}
+use Rattle.cd_resolve.proofs.FoundGrows.{Grows, then, if_grows, entered_grows, met_grows, labelled_grows}
+use Rattle.cd_resolve.proofs.FoundGrows.{walked_grows, trees_grow, signs_grow, fields_grow, declared_grows}
+use Rattle.cd_resolve.proofs.FoundGrows.{regular_grows, regulars_grow}
+use Rattle.cd_resolve.proofs.WhatNamesMean.{scope_of, Fits, fits_on, IsNode, node_on, declared_at, IsFound, place_found}
+use Rattle.cd_resolve.proofs.WhatNamesMean.{place_none}
+use Rattle.cd_resolve.proofs.Visits.{VisitedKind, ListVisited, kind_visited, later_late, visits_tree, visits_trees}
+use Rattle.cd_resolve.proofs.Visits.{visits_signs, visits_body, visits_list, under, in_list, under_fits}
 use Rattle.cd_resolve.proofs.Complete.{visits_first}
 use Rattle.cd_resolve.proofs.Reaching.{Leads, by_link, leads_on}
 
@@ -79,13 +92,15 @@ mutual
   pub new_walked : (least : ℕ) (frames : Frames) (start : Option Id) (is : Tree) (s t : State Frames)
       → Fits s.lists frames → least ≤ length s.lists
       → Grows (found_in whole frames start is s) t → New least s (found_in whole frames start is s) t
-  new_walked least frames start (tree span kind) s t fits late grows = new_kind least frames start span.from kind s t fits
-      late grows
+  new_walked least frames start (tree span kind) s t fits late grows =
+      new_kind least frames start span.from kind s t fits late grows
 
   new_kind : (least : ℕ) (frames : Frames) (start : Option Id) (at : ℕ) (kind : Kind) (s t : State Frames)
       → Fits s.lists frames → least ≤ length s.lists
-      → Grows (found_in_kind whole frames start at kind s) t → New least s (found_in_kind whole frames start at kind s) t
-  new_kind least frames start at (Tuple trees) s t fits late grows = new_trees least frames None trees s t fits late grows
+      → Grows (found_in_kind whole frames start at kind s) t
+      → New least s (found_in_kind whole frames start at kind s) t
+  new_kind least frames start at (Tuple trees) s t fits late grows =
+      new_trees least frames None trees s t fits late grows
   new_kind least frames start at (Arrows trees) s t fits late grows = new_trees least frames None trees s t fits late
       grows
   new_kind least frames start at (Union trees) s t fits late grows = new_trees least frames start trees s t fits late
@@ -95,7 +110,8 @@ mutual
       let more = walked_grows frames start first s in
       new_then least s one _ t (new_walked least frames start first s t fits late
       (then one _ t (signs_grow frames start signs one) grows))
-      (new_signs least frames start signs one t (fits_on s one frames more fits) (later_late least s one more late) grows)
+      (new_signs least frames start signs one t (fits_on s one frames more fits)
+      (later_late least s one more late) grows)
   new_kind least frames start at (Sequence is) s t fits late grows = new_regular least frames is s t fits late grows
   new_kind least frames start at (Record fields more) s t fits late grows =
       let one = labelled [] fields s in
@@ -112,12 +128,14 @@ mutual
       let to_three = walked_grows frames None content two in
       let far = then s one two to_one to_two in
       new_then least s two three t
-      (new_then least s one two t (new_walked least frames None tag s t fits late (then one two t to_two (then two three t
-      to_three grows)))
+      (new_then least s one two t
+      (new_walked least frames None tag s t fits late (then one two t to_two (then two three t to_three grows)))
       (new_walked least frames None attributes one t (fits_on s one frames to_one fits)
       (later_late least s one to_one late) (then two three t to_three grows)))
-      (new_walked least frames None content two t (fits_on s two frames far fits) (later_late least s two far late) grows)
-  new_kind least frames start at (Named name) s t fits late grows = new_met least start name at (place_of frames name) s t
+      (new_walked least frames None content two t (fits_on s two frames far fits)
+      (later_late least s two far late) grows)
+  new_kind least frames start at (Named name) s t fits late grows =
+      new_met least start name at (place_of frames name) s t
   new_kind least frames start at (Where is declarations) s t fits late grows =
       let there = under declarations frames s in
       let one = entered there s in
@@ -128,7 +146,8 @@ mutual
       let to_three = walked_grows there start is two in
       let one_fits = under_fits declarations frames s fits in
       new_then least s two three t
-      (new_then least s one two t (new_entered least declarations frames s t fits late (then two three t to_three grows))
+      (new_then least s one two t
+      (new_entered least declarations frames s t fits late (then two three t to_three grows))
       (new_declared least there (length s.lists) [] declarations one t one_fits (later_late least s one to_one late)
       (then two three t to_three grows)))
       (new_walked least there start is two t (fits_on one two there to_two one_fits)
@@ -141,8 +160,8 @@ mutual
   new_kind least frames start at (Variable name) s t fits late grows = none_new least s t
   new_kind least frames start at (Default name constant) s t fits late grows = none_new least s t
 
-  new_trees : (least : ℕ) (frames : Frames) (start : Option Id) (trees : Trees) (s t : State Frames) → Fits s.lists frames
-      → least ≤ length s.lists
+  new_trees : (least : ℕ) (frames : Frames) (start : Option Id) (trees : Trees) (s t : State Frames)
+      → Fits s.lists frames → least ≤ length s.lists
       → Grows (found_in_trees whole frames start trees s) t → New least s (found_in_trees whole frames start trees s) t
   new_trees least frames start NoTree s t fits late grows = none_new least s t
   new_trees least frames start (ATree first rest) s t fits late grows =
@@ -150,10 +169,11 @@ mutual
       let more = walked_grows frames start first s in
       new_then least s one _ t (new_walked least frames start first s t fits late
       (then one _ t (trees_grow frames start rest one) grows))
-      (new_trees least frames start rest one t (fits_on s one frames more fits) (later_late least s one more late) grows)
+      (new_trees least frames start rest one t (fits_on s one frames more fits)
+      (later_late least s one more late) grows)
 
-  new_signs : (least : ℕ) (frames : Frames) (start : Option Id) (signs : Signs) (s t : State Frames) → Fits s.lists frames
-      → least ≤ length s.lists
+  new_signs : (least : ℕ) (frames : Frames) (start : Option Id) (signs : Signs) (s t : State Frames)
+      → Fits s.lists frames → least ≤ length s.lists
       → Grows (found_in_signs whole frames start signs s) t → New least s (found_in_signs whole frames start signs s) t
   new_signs least frames start NoSign s t fits late grows = none_new least s t
   new_signs least frames start (ASign kept is rest) s t fits late grows =
@@ -161,7 +181,8 @@ mutual
       let more = walked_grows frames start is s in
       new_then least s one _ t (new_walked least frames start is s t fits late
       (then one _ t (signs_grow frames start rest one) grows))
-      (new_signs least frames start rest one t (fits_on s one frames more fits) (later_late least s one more late) grows)
+      (new_signs least frames start rest one t (fits_on s one frames more fits)
+      (later_late least s one more late) grows)
 
   new_fields : (least : ℕ) (frames : Frames) (fields : Fields) (s t : State Frames) → Fits s.lists frames
       → least ≤ length s.lists
@@ -234,9 +255,6 @@ pub record IsPlace (lists : List Frames) (frames : Frames) (name : Name) (one : 
   pub found : IsFound lists frames name place
   pub equal : one ≡ declared_at name found.frames_there found.is
 
-some_of : {A : Type 0} → (a b : A) → Some a ≡ Some b → a ≡ b
-some_of a b same = cc
-
 not_some : {A : Type 0} → (a : A) (found : Option A) → found ≡ None → found ≡ Some a → ⊥
 not_some a found none is = absurd cc
 
@@ -248,7 +266,7 @@ is_place lists frames name one fits is = by (place_of frames name) refl
     by None none = absurd (not_some one (declared_as (scope_of frames) name) (place_none frames name none) is)
     by (Some place) here =
         let there = place_found lists frames name place fits here in
-        record { place = place; is_place = here; found = there; equal = some_of _ _ (sym is ∙ there.declared) }
+        record { place = place; is_place = here; found = there; equal = same_Some _ _ (sym is ∙ there.declared) }
 
 -- each list is walked over whose names are gone through
 abbrev pub AllVisited : Scope → State Frames → Type 0
@@ -297,8 +315,8 @@ leads_path _ _ _ _ frames id t (guarded.in_first outer scope is signs name leads
 leads_path _ _ _ _ frames id t (guarded.in_signed outer scope first is signs name one leads) same_scope all visited =
     let more = walked_grows frames (Some id) first visited.before in
     leads_path outer scope (kind_of is) name frames id t leads same_scope all
-    (kind_visited zero (Some id) frames is t (visits_signs zero (Some id) frames is signs (found_in whole frames (Some id)
-    first visited.before) t one
+    (kind_visited zero (Some id) frames is t
+    (visits_signs zero (Some id) frames is signs (found_in whole frames (Some id) first visited.before) t one
     (fits_on _ _ frames more visited.fits) (later_late zero _ _ more visited.late) visited.grows))
 leads_path _ _ _ _ frames id t (guarded.under_where outer scope is declarations name leads) same_scope all visited =
     leads_path outer (declarations ∷ scope) (kind_of is) name (under declarations frames visited.before) id t leads

@@ -1,5 +1,6 @@
 -- Where a name is declared in a list, by its first place there.
-use Rattle.std.proofs.Common.{◌≡◌, ℕ, suc, ◌+◌, ◌<◌, Bool, true, false, cond, List, [], ◌∷◌, map, length, Option, Some, None, refl, sym, ap, ◌∙◌, slice_get, subst, arith}
+use Rattle.std.proofs.Common.{◌≡◌, ℕ, suc, ◌+◌, ◌<◌, Bool, true, false, cond, List, [], ◌∷◌, map, length, Option, Some}
+use Rattle.std.proofs.Common.{None, refl, sym, ap, ◌∙◌, slice_get, subst, arith}
 use Rattle.std.specs.Prelude.{bytes_eq}
 use Rattle.std.specs.Option.{option_map, unwrap_or}
 use Rattle.std.proofs.lemmas.List.{length-map}
@@ -35,9 +36,11 @@ place_at (one ∷ items) name index is = by (bytes_eq one.name name) (first_plac
     (place_at items name) is
   where
     by : (same : Bool) (x : Option ℕ)
-        → ((i : ℕ) → x ≡ Some i → place_in (declarations_of items) name ≡ option_map (λ one. one.at) (slice_get items i))
+        → ((i : ℕ) → x ≡ Some i
+        → place_in (declarations_of items) name ≡ option_map (λ one. one.at) (slice_get items i))
         → cond same (Some 0) (option_map (λ place. place + 1) x) ≡ Some index
-        → cond same (Some one.at) (place_in (declarations_of items) name) ≡ option_map (λ one. one.at) (slice_get (one ∷ items) index)
+        → cond same (Some one.at) (place_in (declarations_of items) name)
+        ≡ option_map (λ one. one.at) (slice_get (one ∷ items) index)
     by true x on is =
         let first : 0 ≡ index = ap (λ o. unwrap_or o 0) is in
         ap (λ n. option_map (λ one. one.at) (slice_get (one ∷ items) n)) first
@@ -45,7 +48,8 @@ place_at (one ∷ items) name index is = by (bytes_eq one.name name) (first_plac
     by false (Some i) on is =
         let number : i + 1 ≡ index = ap (λ o. unwrap_or o 0) is in
         let next : suc i ≡ index = omega (arith, number) in
-        subst (λ n. place_in (declarations_of items) name ≡ option_map (λ one. one.at) (slice_get (one ∷ items) n)) next (on i refl)
+        subst (λ n. place_in (declarations_of items) name ≡ option_map (λ one. one.at) (slice_get (one ∷ items) n)) next
+        (on i refl)
 
 place_of_item : (one : Option CodeDeclaration) → option_map (λ one. one.at) (option_map plain_declaration one)
     ≡ option_map (λ one. (out-Declaration one).at) one
@@ -61,7 +65,8 @@ placed declarations items names name index indexed are found =
     let there = ap (λ all. first_place (names_in all) name) are ∙ sym (ap (λ all. first_place all name) indexed)
     ∙ sym found in
     ap (λ all. place_in all name) (sym are) ∙ place_at (map plain_declaration items) name index there
-    ∙ ap (option_map (λ one. one.at)) (slice_get-map plain_declaration items index) ∙ place_of_item (slice_get items index)
+    ∙ ap (option_map (λ one. one.at)) (slice_get-map plain_declaration items index)
+    ∙ place_of_item (slice_get items index)
 
 item_within : (items : List Declaration) (name : Name) (index : ℕ)
     → first_place (names_in (declarations_of items)) name ≡ Some index → index < length items

@@ -1,5 +1,6 @@
 -- What is reached by links, and that it is all.
-use Rattle.std.proofs.Common.{◌≡◌, ℕ, zero, suc, ◌+◌, ◌<◌, ◌≤◌, ◌⊎◌, inl, inr, Bool, true, false, List, [], ◌∷◌, ◌++◌, length, Option, Some, None, refl, sym, ap, ◌∙◌, arith}
+use Rattle.std.proofs.Common.{◌≡◌, ℕ, zero, suc, ◌+◌, ◌<◌, ◌≤◌, ◌⊎◌, inl, inr, Bool, true, false, List, [], ◌∷◌, ◌++◌}
+use Rattle.std.proofs.Common.{length, Option, Some, None, refl, sym, ap, ◌∙◌, arith}
 use Rattle.std.specs.Prelude.{not, ◌&&◌, ◌||◌}
 use Rattle.std.specs.List.{slice_get as nth}
 use Rattle.std.specs.Bool.{Decides}
@@ -7,10 +8,13 @@ use Rattle.std.proofs.lemmas.Bool.{cases_Bool}
 use Rattle.std.proofs.lemmas.Bool.Decides.{Decides-eqb, Decides-and, Decides-like}
 use Rattle.std.proofs.lemmas.Slice.Eq.{bytes_eq-Decides}
 use Rattle.std.proofs.lemmas.List.{length-append}
+use Rattle.std.proofs.lemmas.Option.{slice_get_within}
 use Rattle.cd_syntax.specs.Name.{Name}
 use Rattle.cd_resolve.specs.Inner.Finding.{Id, Link}
-use Rattle.cd_resolve.specs.Inner.Cycles.{same_id, is_held, add_if, with_next, with_next_of, reached_after, reached, is_cyclic}
-use Rattle.cd_resolve.proofs.InLists.{IsIn, in_front, in_last, in_more, nth_front, nth_is_within, nth_of, in_nth}
+use Rattle.cd_resolve.specs.Inner.Cycles.{same_id, is_held, add_if, with_next, with_next_of, reached_after, reached}
+use Rattle.cd_resolve.specs.Inner.Cycles.{is_cyclic}
+use Rattle.cd_resolve.proofs.GrowingLists.{get_before}
+use Rattle.cd_resolve.proofs.InLists.{IsIn, in_front, in_last, in_more, nth_of, in_nth}
 
 -- a declared name leads to another one by links
 pub data Leads (links : List Link) : Id → Id → Type 0 where
@@ -59,7 +63,7 @@ add_keeps false x id seen is = is
 
 add_keeps_place : (b : Bool) (x id : Id) (seen : List Id) (n : ℕ) → nth seen n ≡ Some x
     → nth (add_if b id seen) n ≡ Some x
-add_keeps_place true x id seen n is = nth_front x seen (id ∷ []) n is
+add_keeps_place true x id seen n is = get_before x seen (id ∷ []) n is
 add_keeps_place false x id seen n is = is
 
 -- nothing that is seen is lost, nor its place
@@ -153,7 +157,8 @@ unseen_fewer (first ∷ rest) seen link (inl same) new =
     let before : is_held seen first.to ≡ false = rw (ap (λ one. one.to) same) at new in
     let less = unseen_less rest seen link.to in
     rw (here, before) (omega arith)
-unseen_fewer (first ∷ rest) seen link (inr on) new = by (is_held seen first.to) (is_held (seen ++ link.to ∷ []) first.to)
+unseen_fewer (first ∷ rest) seen link (inr on) new =
+    by (is_held seen first.to) (is_held (seen ++ link.to ∷ []) first.to)
     (held_more seen link.to first.to) (unseen_fewer rest seen link on new)
   where
     by : (b c : Bool) → (b ≡ true → c ≡ true) → unseen rest (seen ++ link.to ∷ []) < unseen rest seen
@@ -305,7 +310,7 @@ led_reached links _ _ (by_link start x link is starts ends) = rw (sym ends)
 led_reached links _ _ (and_on start between x link before is starts ends) =
     let there = nth_of between (reached links start) (led_reached links start between before) in
     let bound = reached_bound (length links) links start in
-    let within = nth_is_within between (reached links start) there.0 there.1 in
+    let within = slice_get_within (reached links start) there.0 between there.1 in
     rw (sym ends) (reached_closed (length links) links start link there.0 between is (omega arith) there.1 starts)
 
 pub reached_is_led : (links : List Link) (start x : Id) → IsIn x (reached links start) → Leads links start x

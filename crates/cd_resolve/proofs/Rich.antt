@@ -1,11 +1,19 @@
 -- The walk with the lists that each list of declarations stands under finds what the walk without them finds.
-use Rattle.std.proofs.Common.{◌≡◌, ℕ, List, [], ◌∷◌, ◌++◌, length, map, Bool, true, false, Option, Some, None, refl, ap, ◌∙◌}
+use Rattle.std.proofs.Common.{◌≡◌, ℕ, List, [], ◌∷◌, ◌++◌, length, map, Bool, true, false, Option, Some, None, refl, ap}
+use Rattle.std.proofs.Common.{◌∙◌}
 use Rattle.std.specs.Prelude.{◌||◌}
 use Rattle.std.proofs.lemmas.List.{map-append, length-map}
 use Rattle.cd_syntax.specs.Name.{Name}
-use Rattle.cd_syntax.specs.TypeTree.{Tree, tree, Kind, Builtin, Ints, Chars, Atom, Text, Tuple, Arrows, Union, Meet, Sequence, Record, Xml, Named, Where, Variable, Default, Trees, NoTree, ATree, Signs, NoSign, ASign, Fields, NoField, AField, Declarations, NoDeclaration, ADeclaration, Regular, regular, RegularKind, Nothing, Item, Seq, Alt, Repeat, Capture, Regulars, NoRegular, ARegular}
+use Rattle.cd_syntax.specs.TypeTree.{Tree, tree, Kind, Builtin, Ints, Chars, Atom, Text, Tuple, Arrows, Union, Meet}
+use Rattle.cd_syntax.specs.TypeTree.{Sequence, Record, Xml, Named, Where, Variable, Default, Trees, NoTree, ATree}
+use Rattle.cd_syntax.specs.TypeTree.{Signs, NoSign, ASign, Fields, NoField, AField, Declarations, NoDeclaration}
+use Rattle.cd_syntax.specs.TypeTree.{ADeclaration, Regular, regular, RegularKind, Nothing, Item, Seq, Alt, Repeat}
+use Rattle.cd_syntax.specs.TypeTree.{Capture, Regulars, NoRegular, ARegular}
 use Rattle.cd_resolve.specs.Inner.BuiltinNames.{is_among, is_builtin}
-use Rattle.cd_resolve.specs.Inner.Finding.{Frames, innermost, Id, Place, State, told_if, entered, met, place_of, labelled, start_of, found_in, found_in_kind, found_in_trees, found_in_signs, found_in_fields, found_in_declared, found_in_regular, found_in_regular_kind, found_in_regulars, found_in_list}
+use Rattle.cd_resolve.specs.Inner.Finding.{Frames, innermost, Id, Place, State, told_if, entered, met, place_of}
+use Rattle.cd_resolve.specs.Inner.Finding.{labelled, start_of, found_in, found_in_kind, found_in_trees, found_in_signs}
+use Rattle.cd_resolve.specs.Inner.Finding.{found_in_fields, found_in_declared, found_in_regular, found_in_regular_kind}
+use Rattle.cd_resolve.specs.Inner.Finding.{found_in_regulars, found_in_list}
 
 -- the lists that each list of declarations stands under, itself the first, are kept
 abbrev pub whole : Frames → Frames
@@ -46,7 +54,8 @@ mutual
   lean_kind frames start at (Arrows trees) s = lean_trees frames None trees s
   lean_kind frames start at (Union trees) s = lean_trees frames start trees s
   lean_kind frames start at (Meet first signs) s =
-      ap (found_in_signs innermost frames start signs) (lean_walked frames start first s) ∙ lean_signs frames start signs
+      ap (found_in_signs innermost frames start signs) (lean_walked frames start first s)
+      ∙ lean_signs frames start signs
       (found_in whole frames start first s)
   lean_kind frames start at (Sequence is) s = lean_regular frames is s
   lean_kind frames start at (Record fields more) s =
@@ -55,7 +64,8 @@ mutual
   lean_kind frames start at (Xml tag attributes content) s =
       ap (λ s. found_in innermost frames None content (found_in innermost frames None attributes s))
       (lean_walked frames None tag s)
-      ∙ ap (found_in innermost frames None content) (lean_walked frames None attributes (found_in whole frames None tag s))
+      ∙ ap (found_in innermost frames None content)
+      (lean_walked frames None attributes (found_in whole frames None tag s))
       ∙ lean_walked frames None content (found_in whole frames None attributes (found_in whole frames None tag s))
   lean_kind frames start at (Named name) s = lean_met start name at (place_of frames name) s
   lean_kind frames start at (Where is declarations) s =
@@ -70,7 +80,8 @@ mutual
       (lean_declared (record { declarations = declarations; list = length s.lists } ∷ frames) (length s.lists) []
       declarations (entered (record { declarations = declarations; list = length s.lists } ∷ frames) s))
       ∙ lean_walked (record { declarations = declarations; list = length s.lists } ∷ frames) start is
-      (found_in_declared whole (record { declarations = declarations; list = length s.lists } ∷ frames) (length s.lists) []
+      (found_in_declared whole (record { declarations = declarations; list = length s.lists } ∷ frames)
+      (length s.lists) []
       declarations (entered (record { declarations = declarations; list = length s.lists } ∷ frames) s))
   lean_kind frames start at (Builtin name) s = refl
   lean_kind frames start at (Ints low high) s = refl
@@ -129,7 +140,8 @@ mutual
   lean_regulars : (frames : Frames) (all : Regulars) (s : State Frames)
       → found_in_regulars innermost frames all (lean s) ≡ lean (found_in_regulars whole frames all s)
   lean_regulars frames NoRegular s = refl
-  lean_regulars frames (ARegular first rest) s = ap (found_in_regulars innermost frames rest) (lean_regular frames first s)
+  lean_regulars frames (ARegular first rest) s =
+      ap (found_in_regulars innermost frames rest) (lean_regular frames first s)
       ∙ lean_regulars frames rest (found_in_regular whole frames first s)
 
 pub lean_list : (outer : Frames) (declarations : Declarations) (s : State Frames)

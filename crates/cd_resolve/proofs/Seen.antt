@@ -1,5 +1,6 @@
 -- What is seen when one number more is.
-use Rattle.std.proofs.Common.{◌≡◌, ℕ, zero, suc, ◌+◌, ◌<◌, ◌⊎◌, inl, inr, Bool, true, false, List, [], ◌∷◌, length, refl, ap, get_or, set, arith}
+use Rattle.std.proofs.Common.{◌≡◌, ℕ, zero, suc, ◌+◌, ◌<◌, ◌⊎◌, inl, inr, Bool, true, false, List, [], ◌∷◌, length}
+use Rattle.std.proofs.Common.{refl, ap, get_or, set, arith}
 use Rattle.cd_resolve.specs.Inner.Order.{row}
 use Rattle.cd_resolve.specs.Inner.Search.{IsSeen, AreKept, unseen_steps}
 

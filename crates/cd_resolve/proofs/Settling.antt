@@ -1,5 +1,7 @@
 -- Where formulas are made in an order in which each comes after those that it is made of, each is right at the end.
-use Rattle.std.proofs.Common.{◌≡◌, ℕ, zero, suc, ◌-◌, ◌<◌, Bool, true, false, List, [], ◌∷◌, ◌++◌, map, length, set, Option, Some, None, refl, sym, ap, ap₂, subst, ◌∙◌, arith, append_assoc, ◌⊎◌, inl, inr, if◌then◌else◌}
+use Rattle.std.proofs.Common.{◌≡◌, ℕ, zero, suc, ◌-◌, ◌<◌, Bool, true, false, List, [], ◌∷◌, ◌++◌, map, length, set}
+use Rattle.std.proofs.Common.{Option, Some, None, refl, sym, ap, ap₂, subst, ◌∙◌, arith, append_assoc, ◌⊎◌, inl, inr}
+use Rattle.std.proofs.Common.{if◌then◌else◌}
 use Rattle.std.specs.Prelude.{nat_le}
 use Rattle.std.specs.List.{slice_get}
 use Rattle.std.specs.Option.{unwrap_or}
@@ -10,7 +12,6 @@ use Rattle.cd_model.specs.AllOf.{AllOf}
 use Rattle.cd_model.specs.BuiltIns.{node}
 use Rattle.cd_model.specs.Formula as formula
 use Rattle.cd_model.specs.Formula.{Graph, Formula, Nothing, formula_at, formulas_of}
-use Rattle.cd_resolve.specs.Inner.Order as order
 use Rattle.cd_resolve.specs.Inner.Order.{IsOneOf, ComeAfter, row}
 use Rattle.cd_resolve.specs.Inner.Equation.{Equation, Equations, Is, Same, And, Or}
 use Rattle.cd_resolve.specs.Inner.Solves.{signed, made}
@@ -127,7 +128,7 @@ module _ (old : Graph) (first : ℕ) where
     -- one more number is settled
     module _ (done : List ℕ) (number : ℕ) (formulas : List Formula) (settled : Settled done formulas)
         (new : IsOneOf number done → ⊥)
-        (known : order.AllOf (λ next. IsOneOf next done) (row (links first all) number))
+        (known : AllOf (λ next. IsOneOf next done) (row (links first all) number))
         (below : number < length formulas) where
       abbrev after : List Formula
       after = with_made old first formulas number (found all number)
@@ -178,20 +179,20 @@ module _ (old : Graph) (first : ℕ) where
       }
 
     settles : (done left : List ℕ) (formulas : List Formula) → ComeAfter (links first all) done left
-        → order.AllOf (λ number. number < length formulas) left → Settled done formulas
+        → AllOf (λ number. number < length formulas) left → Settled done formulas
         → Settled (done ++ left) (filled old first all left formulas)
     settles done [] formulas later known settled = rw append-nil settled
     settles done (number ∷ left) formulas later known settled =
         subst (λ (all_done : List ℕ). Settled all_done (filled old first all (number ∷ left) formulas))
         (append_assoc done (number ∷ []) left)
         (settles (done ++ number ∷ []) left _ later.2
-        (subst (λ (count : ℕ). order.AllOf (λ number. number < count) left)
+        (subst (λ (count : ℕ). AllOf (λ number. number < count) left)
         (sym (made_length formulas number (found all number))) known.1)
         (one_more done number formulas settled later.0 later.1 known.0))
 
     -- after all numbers of an order each that has an equation has its formula
     pub all_settled : (left : List ℕ) (formulas : List Formula) → ComeAfter (links first all) [] left
-        → order.AllOf (λ number. number < length formulas) left → (number : ℕ) → IsOneOf number left
+        → AllOf (λ number. number < length formulas) left → (number : ℕ) → IsOneOf number left
         → (equation : Equation) → found all number ≡ Some equation
         → formula_at (filled old first all left formulas) (node number)
         ≡ made (so_far old first (filled old first all left formulas)) equation
@@ -214,7 +215,8 @@ module _ (old : Graph) (first : ℕ) where
             → formula_at formulas (node number)
             ≡ formula_at (with_made old first formulas other (found all other)) (node number)
         by_number (inl same) =
-            ap (λ (found : Option Equation). formula_at (with_made old first formulas other found) (node number)) (sym (ap (found all) same ∙ none))
+            ap (λ (found : Option Equation). formula_at (with_made old first formulas other found) (node number))
+            (sym (ap (found all) same ∙ none))
         by_number (inr apart) = kept_by formulas other number (found all other) apart
 
     pub filled_length : (left : List ℕ) (formulas : List Formula)

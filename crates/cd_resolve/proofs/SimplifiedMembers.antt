@@ -1,5 +1,6 @@
 -- Unions and meets over nodes hold the same without the members that are dropped.
-use Rattle.std.proofs.Common.{◌≡◌, ℕ, Bool, true, false, ◌&&◌, ◌||◌, List, [], ◌∷◌, ◌++◌, ◌⊎◌, inl, inr, map, refl, sym, ap, subst, ◌∙◌, if◌then◌else◌}
+use Rattle.std.proofs.Common.{◌≡◌, ℕ, Bool, true, false, ◌&&◌, ◌||◌, List, [], ◌∷◌, ◌++◌, ◌⊎◌, inl, inr, map, refl, sym}
+use Rattle.std.proofs.Common.{ap, subst, ◌∙◌, if◌then◌else◌}
 use Rattle.std.specs.Bool.{beq}
 use Rattle.std.specs.Cmp.{booleans_Decides}
 use Rattle.std.specs.List.{list_any}
@@ -10,7 +11,8 @@ use Rattle.cd_model.specs.Formula as formula
 use Rattle.cd_model.specs.Formula.{Graph, Formula, Formulas, NoFormula, AFormula, formula_at, formulas_of}
 use Rattle.cd_resolve.specs.Inner.Equates.{HasUnion, HasMeet}
 use Rattle.cd_resolve.specs.Inner.Equation.{Equations, And, Or}
-use Rattle.cd_resolve.specs.Inner.Members.{Sign, same_node, adds_nothing, joined_to, union_of, same_sign, takes_nothing, met_with, meet_of}
+use Rattle.cd_resolve.specs.Inner.Members.{Sign, same_node, adds_nothing, joined_to, union_of, same_sign, takes_nothing}
+use Rattle.cd_resolve.specs.Inner.Members.{met_with, meet_of}
 use Rattle.cd_resolve.specs.Inner.Solves.{Solves, signed}
 use Rattle.cd_resolve.proofs.BuiltInNodes.{Begins, formula_of_empty, formula_of_any}
 use Rattle.cd_resolve.proofs.GivenFormulas.{solved}

@@ -1,6 +1,10 @@
 -- How many steps a walk over a tree takes at most, which falls with each.
 use Rattle.std.proofs.Common.{◌≡◌, ℕ, zero, suc, ◌+◌, ◌<◌, List, [], ◌∷◌, map, length, get_or, arith}
-use Rattle.cd_syntax.specs.TypeTree.{Tree, tree, Kind, Tuple, Arrows, Union, Meet, Sequence, Record, Xml, Where, Trees, NoTree, ATree, Signs, NoSign, ASign, Fields, NoField, AField, Declarations, NoDeclaration, ADeclaration, Regular, regular, RegularKind, Nothing, Item, Seq, Alt, Repeat, Capture, Regulars, NoRegular, ARegular, trees_of, signs_of, fields_of, declarations_of, regulars_of}
+use Rattle.cd_syntax.specs.TypeTree.{Tree, tree, Kind, Tuple, Arrows, Union, Meet, Sequence, Record, Xml, Where, Trees}
+use Rattle.cd_syntax.specs.TypeTree.{NoTree, ATree, Signs, NoSign, ASign, Fields, NoField, AField, Declarations}
+use Rattle.cd_syntax.specs.TypeTree.{NoDeclaration, ADeclaration, Regular, regular, RegularKind, Nothing, Item, Seq}
+use Rattle.cd_syntax.specs.TypeTree.{Alt, Repeat, Capture, Regulars, NoRegular, ARegular, trees_of, signs_of, fields_of}
+use Rattle.cd_syntax.specs.TypeTree.{declarations_of, regulars_of}
 use Rattle.cd_syntax.specs.PlainTree.{plain, plain_signed, plain_field, plain_declaration, plain_regular}
 use Rattle.cd_syntax.specs.declared.type_tree.Tree.{Tree as CodeTree}
 use Rattle.cd_syntax.specs.declared.type_tree.SignedTree.{SignedTree as CodeSigned}
@@ -60,14 +64,16 @@ pub trees_fall : (items : List CodeTree) (index : ℕ) (item : CodeTree) → ite
     → size (plain item) < size_trees (trees_of (map plain items))
 trees_fall [] index item is within = absurd (omega arith)
 trees_fall (first ∷ rest) zero item is within = rw is (omega arith)
-trees_fall (first ∷ rest) (suc index) item is within = let on = trees_fall rest index item is (omega arith) in omega arith
+trees_fall (first ∷ rest) (suc index) item is within =
+    let on = trees_fall rest index item is (omega arith) in omega arith
 
 pub signs_fall : (items : List CodeSigned) (index : ℕ) (item : CodeSigned) → item ≡ get_or items index item
     → index < length items
     → size (plain_signed item).tree < size_signs (signs_of (map plain_signed items))
 signs_fall [] index item is within = absurd (omega arith)
 signs_fall (first ∷ rest) zero item is within = rw is (omega arith)
-signs_fall (first ∷ rest) (suc index) item is within = let on = signs_fall rest index item is (omega arith) in omega arith
+signs_fall (first ∷ rest) (suc index) item is within =
+    let on = signs_fall rest index item is (omega arith) in omega arith
 
 pub fields_fall : (items : List CodeField) (index : ℕ) (item : CodeField) → item ≡ get_or items index item
     → index < length items
@@ -90,5 +96,5 @@ pub regulars_fall : (items : List CodeRegular) (index : ℕ) (item : CodeRegular
     → size_regular (plain_regular item) < size_regulars (regulars_of (map plain_regular items))
 regulars_fall [] index item is within = absurd (omega arith)
 regulars_fall (first ∷ rest) zero item is within = rw is (omega arith)
-regulars_fall (first ∷ rest) (suc index) item is within = let on = regulars_fall rest index item is (omega arith) in omega
-    arith
+regulars_fall (first ∷ rest) (suc index) item is within =
+    let on = regulars_fall rest index item is (omega arith) in omega arith

@@ -1,5 +1,7 @@
 -- Formulas that were all made solve the equations, in each graph that they are put after.
-use Rattle.std.proofs.Common.{◌≡◌, ℕ, zero, suc, ◌+◌, ◌-◌, ◌<◌, ◌≤◌, Bool, true, false, List, [], ◌∷◌, ◌++◌, map, length, Option, Some, None, refl, sym, ap, ap₂, subst, ◌∙◌, arith, inl, inr, if◌then◌else◌}
+use Rattle.std.proofs.Common.{◌≡◌, ℕ, zero, suc, ◌+◌, ◌-◌, ◌<◌, ◌≤◌, Bool, true, false, List, [], ◌∷◌, ◌++◌, map}
+use Rattle.std.proofs.Common.{length, Option, Some, None, refl, sym, ap, ap₂, subst, ◌∙◌, arith, inl, inr}
+use Rattle.std.proofs.Common.{if◌then◌else◌}
 use Rattle.std.specs.Prelude.{nat_le}
 use Rattle.std.specs.List.{slice_get}
 use Rattle.std.specs.Option.{unwrap_or, option_flatten}
@@ -15,7 +17,6 @@ use Rattle.cd_resolve.specs.Inner.Equation.{Equation, Equations, Is, Same, And, 
 use Rattle.cd_resolve.specs.Inner.Solves.{made, IsNode, IsEquation, AreEquations, Solves, AgreesWith}
 use Rattle.cd_resolve.specs.Inner.Links.{numbers_under, links}
 use Rattle.cd_resolve.specs.Inner.Filling.{at_once, left, so_far, filled, AreFilled}
-use Rattle.cd_resolve.proofs.Lists as numbers
 use Rattle.cd_resolve.proofs.LinksRows.{found, found_at, links_length}
 use Rattle.cd_resolve.proofs.MembersKept.{each_weaker}
 use Rattle.cd_resolve.proofs.Settling.{Under, made_same, all_settled, all_kept, filled_length}
@@ -148,8 +149,9 @@ module _ (old : Graph) (first : ℕ) (fits : length old ≤ first) (equations : 
       → formula_at done (node number) ≡ made (so_far old first done) equation
   made_so number below equation at = all_settled old first (map left equations) ordered (map at_once equations)
       (subst (λ (rows : List (List ℕ)). ComeAfter rows [] ordered) (sym (links_left first equations)) is.after)
-      (numbers.each_weaker (λ number. number < length (links first equations))
-      (λ number. number < length (map at_once equations)) ordered (λ number below. omega (arith, links_length first equations, length-map equations at_once)) is.known)
+      (each_weaker (λ number. number < length (links first equations))
+      (λ number. number < length (map at_once equations))
+      (λ number below. omega (arith, links_length first equations, length-map equations at_once)) ordered is.known)
       number (is.all number (omega (arith, links_length first equations))) equation at
 
   -- and each that is none has the formula that was given
@@ -229,6 +231,7 @@ is_solved old first fits equations sound olds batch filling =
     subst (IsSolved old first equations) (sym filling.2) (record {
       number = long;
       formulas = subst (λ (count : ℕ).
-          AllOf (IsFormula (first + count)) (done old first fits equations sound ordered filling.1)) (sym long) (done_are old first fits equations sound ordered filling.1 olds);
+          AllOf (IsFormula (first + count)) (done old first fits equations sound ordered filling.1)) (sym long)
+          (done_are old first fits equations sound ordered filling.1 olds);
       solves = λ graph long agrees. solved old first fits equations sound ordered filling.1 graph long agrees;
     })

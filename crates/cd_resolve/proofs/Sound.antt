@@ -1,17 +1,20 @@
 -- Each step of the search keeps it sound.
-use Rattle.std.proofs.Common.{◌≡◌, ℕ, ◌+◌, ◌<◌, ◌⊎◌, inl, inr, Bool, true, false, List, [], ◌∷◌, ◌++◌, length, Some, None, sym, subst, ◌∙◌, take, get_or, set, add-one, arith}
+use Rattle.std.proofs.Common.{◌≡◌, ℕ, ◌+◌, ◌<◌, ◌⊎◌, inl, inr, Bool, true, false, List, [], ◌∷◌, ◌++◌, length, Some}
+use Rattle.std.proofs.Common.{None, sym, subst, ◌∙◌, take, get_or, set, add-one, arith}
 use Rattle.std.proofs.lemmas.List.{length-set}
 use Rattle.std.specs.List.{slice_get}
 use Rattle.cd_resolve.specs.declared.search.Frame.{Frame}
 use Rattle.cd_resolve.specs.Inner.Order.{IsOneOf, row, AreRows, Ends, IsOrder}
 use Rattle.cd_resolve.specs.Inner.Search.{IsSeen, IsOpen, AreKept, AllSeen, Leads, AllLead, AreOpen, IsSound}
-use Rattle.cd_resolve.proofs.Lists.{each_at, each_weaker, each_more, each_taken, each_to_end, one_at, one_in_front, one_at_last, one_of_more, come_after_more}
+use Rattle.cd_resolve.proofs.EachOne.{one_of_first}
+use Rattle.cd_resolve.proofs.Lists.{each_at, each_taken, each_to_end, one_at, one_at_last, one_of_more, come_after_more}
+use Rattle.cd_resolve.proofs.MembersKept.{each_weaker, each_more}
 use Rattle.cd_resolve.proofs.Ways.{leads_to, no_way_back, all_lead_on, open_leads}
 use Rattle.cd_resolve.proofs.Seen.{kept_with, is_seen_now, seen_before}
 
 -- open numbers stay so where more is seen
-open_with_seen : (links : List (List ℕ)) (seen more : List Bool) (order : List ℕ) (frames : List Frame) → AreKept seen more
-    → AreOpen links seen order frames → AreOpen links more order frames
+open_with_seen : (links : List (List ℕ)) (seen more : List Bool) (order : List ℕ) (frames : List Frame)
+    → AreKept seen more → AreOpen links seen order frames → AreOpen links more order frames
 open_with_seen links seen more order [] kept are = tt
 open_with_seen links seen more order (frame ∷ rest) kept are = (
   are.0,
@@ -32,7 +35,7 @@ open_with_put links seen order number (frame ∷ rest) ends lead are = (
   are.1,
   (λ is. unput (one_of_more order number frame.number is)),
   each_weaker (λ next. IsOneOf next order) (λ next. IsOneOf next (order ++ number ∷ []))
-      (take frame.looked (row links frame.number)) (λ next. one_in_front order number next) are.3,
+      (λ next. one_of_first next order (number ∷ [])) (take frame.looked (row links frame.number)) are.3,
   are.4,
   open_with_put links seen order number rest ends lead.1 are.5,
 )
@@ -52,7 +55,7 @@ sound_with_new links seen frames order number sound has new lead =
     record {
       sized = length-set seen number true ∙ sound.sized;
       known = sound.known;
-      put_seen = each_weaker (IsSeen seen) (IsSeen (set seen number true)) order kept.still sound.put_seen;
+      put_seen = each_weaker (IsSeen seen) (IsSeen (set seen number true)) kept.still order sound.put_seen;
       seen_found = λ other is. found other (seen_before seen number other is);
       after = sound.after;
       are_open = (
@@ -79,8 +82,8 @@ sound_with_new links seen frames order number sound has new lead =
     unput put = let seen_then = each_at (IsSeen seen) order number sound.put_seen put in absurd cc
 
 -- what is met and was seen is put, since no way leads back
-met_is_put : (links : List (List ℕ)) (seen : List Bool) (frame : Frame) (frames : List Frame) (order : List ℕ) (next : ℕ)
-    → IsSound links seen (frame ∷ frames) order → IsOneOf next (row links frame.number) → IsSeen seen next
+met_is_put : (links : List (List ℕ)) (seen : List Bool) (frame : Frame) (frames : List Frame) (order : List ℕ)
+    (next : ℕ) → IsSound links seen (frame ∷ frames) order → IsOneOf next (row links frame.number) → IsSeen seen next
     → Ends links next → IsOneOf next order
 met_is_put links seen frame frames order next sound on is ends = by (sound.seen_found next is)
   where
@@ -94,7 +97,8 @@ met_is_put links seen frame frames order next sound on is ends = by (sound.seen_
         (leads, all_lead_on links frames frame.number next sound.are_open.4 leads)))
 
 -- a number of the row is passed
-pub sound_with_passed : (links : List (List ℕ)) (seen : List Bool) (frame : Frame) (frames : List Frame) (order : List ℕ)
+pub sound_with_passed : (links : List (List ℕ)) (seen : List Bool) (frame : Frame) (frames : List Frame)
+    (order : List ℕ)
     (next : ℕ) → IsSound links seen (frame ∷ frames) order → slice_get (row links frame.number) frame.looked ≡ Some next
     → IsSeen seen next → Ends links next
     → IsSound links seen (record { number = frame.number; looked = frame.looked + 1 } ∷ frames) order
@@ -132,7 +136,7 @@ sound_with_put links seen frame frames order sound at ends = record {
   where
     found : (other : ℕ) → IsOneOf other order ⊎ IsOpen other (frame ∷ frames)
         → IsOneOf other (order ++ frame.number ∷ []) ⊎ IsOpen other frames
-    found other (inl put) = inl (one_in_front order frame.number other put)
+    found other (inl put) = inl (one_of_first other order (frame.number ∷ []) put)
     found other (inr (inl same)) = inl (one_at_last order frame.number other same)
     found other (inr (inr is)) = inr is
 
@@ -150,7 +154,8 @@ order_of_all links seen order sound all = record {
     by number (inr is) = elim is [ ]
 
 -- the same where the new state is given by equations, as the code gives it
-pub sound_when_added : (links : List (List ℕ)) (seen more : List Bool) (frames opened : List Frame) (order same : List ℕ)
+pub sound_when_added : (links : List (List ℕ)) (seen more : List Bool) (frames opened : List Frame)
+    (order same : List ℕ)
     (number : ℕ) → IsSound links seen frames order → number < length links → get_or seen number false ≡ false
     → AllLead links frames number → more ≡ set seen number true
     → opened ≡ record { number = number; looked = 0 } ∷ frames → same ≡ order → IsSound links more opened same
@@ -169,7 +174,8 @@ all_lead_next links seen frame frames order next sound at =
 pub next_has_row : (links : List (List ℕ)) (number place next : ℕ) → AreRows links
     → slice_get (row links number) place ≡ Some next → next < length links
 next_has_row links number place next rows at =
-    each_at (λ other. other < length links) (row links number) next (rows number) (one_at (row links number) place next at)
+    each_at (λ other. other < length links) (row links number) next (rows number)
+    (one_at (row links number) place next at)
 
 -- likewise where a number of the row is passed
 pub sound_when_passed : (links : List (List ℕ)) (seen same : List Bool) (frame : Frame) (frames opened : List Frame)

@@ -1,5 +1,6 @@
 -- One step of a walk over a list of trees.
-use Rattle.std.proofs.Common.{◌≡◌, refl, ◌∙◌, sym, ap, ap₂, ℕ, ◌+◌, ◌<◌, ◌≤◌, Bool, List, [], ◌∷◌, ◌++◌, map, length, arith}
+use Rattle.std.proofs.Common.{◌≡◌, refl, ◌∙◌, sym, ap, ap₂, ℕ, ◌+◌, ◌<◌, ◌≤◌, Bool, List, [], ◌∷◌, ◌++◌, map, length}
+use Rattle.std.proofs.Common.{arith}
 use Rattle.std.proofs.lemmas.List.{map_push}
 use Rattle.cd_sets.specs.declared.node_id.NodeId.{NodeId}
 use Rattle.cd_syntax.specs.Name.{Name}
@@ -14,7 +15,8 @@ use Rattle.cd_resolve.specs.declared.state.Joint.TheVariants as joint
 use Rattle.cd_resolve.specs.Inner.Frames.{Frames}
 use Rattle.cd_resolve.specs.Inner.Equation.{Equations}
 use Rattle.cd_resolve.specs.Inner.PlainState.{plain_joint, plain_one, chain_of}
-use Rattle.cd_resolve.specs.Inner.Walk.{Read, one_more, settled, chained_all, walked, walked_kind, walked_trees, walked_signs, walked_fields, walked_declared}
+use Rattle.cd_resolve.specs.Inner.Walk.{Read, one_more, settled, chained_all, walked, walked_kind, walked_trees}
+use Rattle.cd_resolve.specs.Inner.Walk.{walked_signs, walked_fields, walked_declared}
 
 module _ (first : ℕ) (names : List (Name × NodeId)) (frames : Frames) where
   -- what the first tree gives goes after what was made

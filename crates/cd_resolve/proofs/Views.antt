@@ -2,7 +2,8 @@
 use Rattle.std.proofs.Common.{◌≡◌, ℕ, ◌+◌, ◌<◌, List, ◌∷◌, length, get_or, drop, ap, sym, ◌∙◌}
 use Rattle.std.proofs.lemmas.List.{at_drop_more}
 use Rattle.cd_syntax.specs.PlainTree.{plain, plain_signed, plain_field, plain_declaration}
-use Rattle.cd_syntax.specs.PlainTree.{tree_layer, kind_layer, trees_layer, signs_layer, signed_layer, fields_layer, field_layer, declarations_layer, declaration_layer}
+use Rattle.cd_syntax.specs.PlainTree.{tree_layer, kind_layer, trees_layer, signs_layer, signed_layer, fields_layer}
+use Rattle.cd_syntax.specs.PlainTree.{field_layer, declarations_layer, declaration_layer}
 use Rattle.cd_syntax.specs.PlainTree.{regular_layer, regular_kind_layer, regulars_layer}
 use Rattle.cd_syntax.specs.declared.type_tree.SignedTree.{SignedTree as CodeSigned, fold_out-SignedTree}
 use Rattle.cd_syntax.specs.declared.type_tree.FieldTree.{FieldTree as CodeField, fold_out-FieldTree}
@@ -35,5 +36,5 @@ declaration_is = fold_out-Declaration _ _ _ _ _ _ _ _ _ _ _ _
 pub at_item : {X Y : Type 0} (F : List X → Y) (items : List X) (index : ℕ) (item : X) → item ≡ get_or items index item
     → index < length items
     → F (drop index items) ≡ F (item ∷ drop (index + 1) items)
-at_item F items index item is more = at_drop_more F items index item more ∙ ap (λ next. F (next ∷ drop (index + 1) items))
-    (sym is)
+at_item F items index item is more = at_drop_more F items index item more
+    ∙ ap (λ next. F (next ∷ drop (index + 1) items)) (sym is)

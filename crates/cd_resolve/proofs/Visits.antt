@@ -6,12 +6,15 @@ use Rattle.cd_model.specs.Scope.{Scope}
 use Rattle.cd_model.specs.Guarded.{IsOneOf, IsSigned}
 use Rattle.cd_model.specs.Guarded as guarded
 use Rattle.cd_model.specs.Written.{kind_of}
-use Rattle.cd_resolve.specs.Faults.{IsField, IsItem, IsItemOfOne, IsPart, IsDeclared, IsFirst}
+use Rattle.cd_resolve.specs.Faults.{IsField, IsItem, IsItemOfOne, IsPart}
 use Rattle.cd_resolve.specs.Faults as fault
-use Rattle.cd_resolve.specs.Inner.Finding.{Frames, innermost, Id, State, entered, labelled, found_in, found_in_kind, found_in_trees, found_in_signs, found_in_fields, found_in_declared, found_in_regular, found_in_regulars}
-use Rattle.cd_resolve.proofs.InLists.{nth_last}
+use Rattle.cd_resolve.specs.Inner.Finding.{Frames, innermost, Id, State, entered, labelled, found_in, found_in_kind}
+use Rattle.cd_resolve.specs.Inner.Finding.{found_in_trees, found_in_signs, found_in_fields, found_in_declared}
+use Rattle.cd_resolve.specs.Inner.Finding.{found_in_regular, found_in_regulars}
+use Rattle.cd_resolve.proofs.GrowingLists.{get_next}
 use Rattle.cd_resolve.proofs.Rich.{whole}
-use Rattle.cd_resolve.proofs.FoundGrows.{Grows, then, entered_grows, labelled_grows, walked_grows, trees_grow, signs_grow, fields_grow, declared_grows, regular_grows, regulars_grow}
+use Rattle.cd_resolve.proofs.FoundGrows.{Grows, then, entered_grows, labelled_grows, walked_grows, trees_grow}
+use Rattle.cd_resolve.proofs.FoundGrows.{signs_grow, fields_grow, declared_grows, regular_grows, regulars_grow}
 use Rattle.cd_resolve.proofs.WhatNamesMean.{scope_of, Fits, fits_on}
 
 -- the tree is walked over before this is found, from some state that has so many lists at least
@@ -43,8 +46,8 @@ kind_visited least start frames (tree span kind) t visited = record
 pub later_late : (least : ℕ) (s t : State Frames) → Grows s t → least ≤ length s.lists → least ≤ length t.lists
 later_late least s t grows late = let longer = grows.longer in omega arith
 
-pub visits_tree : (least : ℕ) (start : Option Id) (frames : Frames) (is : Tree) (s t : State Frames) → Fits s.lists frames
-    → least ≤ length s.lists
+pub visits_tree : (least : ℕ) (start : Option Id) (frames : Frames) (is : Tree) (s t : State Frames)
+    → Fits s.lists frames → least ≤ length s.lists
     → Grows (found_in whole frames start is s) t → Visited least start frames is t
 visits_tree least start frames is s t fits late grows = record { before = s; fits = fits; late = late; grows = grows }
 
@@ -94,7 +97,8 @@ visits_fields least frames label at is _ s t (fault.IsField.first _ _ optional _
 visits_fields least frames label at is _ s t (fault.IsField.later _ other _ there optional _ another rest on) fits late
     grows =
     let more = walked_grows frames None another s in
-    visits_fields least frames label at is rest (found_in whole frames None another s) t on (fits_on s _ frames more fits)
+    visits_fields least frames label at is rest (found_in whole frames None another s) t on
+    (fits_on s _ frames more fits)
     (later_late least s _ more late) grows
 
 mutual
@@ -103,14 +107,14 @@ mutual
       → least ≤ length s.lists → Grows (found_in_regular whole frames all s) t → Visited least None frames is t
   visits_item least frames is _ s t (fault.IsItem.item span _) fits late grows = record
       { before = s; fits = fits; late = late; grows = grows }
-  visits_item least frames is _ s t (fault.IsItem.in_seq span _ all on) fits late grows = visits_items least frames is all
-      s t on fits late grows
-  visits_item least frames is _ s t (fault.IsItem.in_alt span _ all on) fits late grows = visits_items least frames is all
-      s t on fits late grows
-  visits_item least frames is _ s t (fault.IsItem.repeated span _ all post on) fits late grows = visits_item least frames
-      is all s t on fits late grows
-  visits_item least frames is _ s t (fault.IsItem.captured span _ name all on) fits late grows = visits_item least frames
-      is all s t on fits late grows
+  visits_item least frames is _ s t (fault.IsItem.in_seq span _ all on) fits late grows =
+      visits_items least frames is all s t on fits late grows
+  visits_item least frames is _ s t (fault.IsItem.in_alt span _ all on) fits late grows =
+      visits_items least frames is all s t on fits late grows
+  visits_item least frames is _ s t (fault.IsItem.repeated span _ all post on) fits late grows =
+      visits_item least frames is all s t on fits late grows
+  visits_item least frames is _ s t (fault.IsItem.captured span _ name all on) fits late grows =
+      visits_item least frames is all s t on fits late grows
 
   visits_items : (least : ℕ) (frames : Frames) (is : Tree) (all : Regulars) (s t : State Frames) → IsItemOfOne is all
       → Fits s.lists frames
@@ -141,7 +145,7 @@ in_list declarations frames s = found_in_declared whole (under declarations fram
 pub under_fits : (declarations : Declarations) (frames : Frames) (s : State Frames) → Fits s.lists frames
     → Fits (entered (under declarations frames s) s).lists (under declarations frames s)
 under_fits declarations frames s fits = (
-  nth_last (under declarations frames s) s.lists,
+  get_next (under declarations frames s) s.lists [],
   fits_on s _ frames
       (entered_grows (under declarations frames s) s) fits,
 )
@@ -246,7 +250,8 @@ visits_part least start frames _ _ _ _ t same_scope (fault.in_attributes scope t
 visits_part least start frames _ _ _ _ t same_scope (fault.in_content scope tag attributes content) kind =
     let one = found_in whole frames None tag kind.before in
     let two = found_in whole frames None attributes one in
-    let more = then _ _ _ (walked_grows frames None tag kind.before) (walked_grows frames None attributes one) in record {
+    let more = then _ _ _ (walked_grows frames None tag kind.before) (walked_grows frames None attributes one) in
+    record {
       frames = frames;
       start = None;
       scope = same_scope;

@@ -1,10 +1,12 @@
 -- The node that a walk gives has the equations of the tree.
-use Rattle.std.proofs.Common.{◌≡◌, ℕ, ◌+◌, ◌≤◌, true, List, [], ◌∷◌, map, length, Some, refl, sym, subst, ◌∙◌, append_assoc, arith}
+use Rattle.std.proofs.Common.{◌≡◌, ℕ, ◌+◌, ◌≤◌, true, List, [], ◌∷◌, map, length, Some, refl, sym, subst, ◌∙◌}
+use Rattle.std.proofs.Common.{append_assoc, arith}
 use Rattle.std.proofs.lemmas.List.{append-nil}
 use Rattle.cd_sets.specs.declared.node_id.NodeId.{NodeId}
 use Rattle.cd_syntax.specs.Name.{Name}
 use Rattle.cd_syntax.specs.TypeTree as type
-use Rattle.cd_syntax.specs.TypeTree.{Tree, tree, Kind, Trees, NoTree, ATree, Signs, NoSign, ASign, Fields, NoField, AField, Declarations, NoDeclaration, ADeclaration}
+use Rattle.cd_syntax.specs.TypeTree.{Tree, tree, Kind, Trees, NoTree, ATree, Signs, NoSign, ASign, Fields, NoField}
+use Rattle.cd_syntax.specs.TypeTree.{AField, Declarations, NoDeclaration, ADeclaration}
 use Rattle.cd_model.specs.BuiltIns.{node_named}
 use Rattle.cd_model.specs.Formula.{Formula, Field, Xml, Record}
 use Rattle.cd_model.specs.Written.{any_or_none}
@@ -15,11 +17,19 @@ use Rattle.cd_resolve.specs.Inner.Equation.{Equation, Equations, Is, Same}
 use Rattle.cd_resolve.specs.Inner.Frames.{Frames, number_in}
 use Rattle.cd_resolve.specs.Inner.Leaves.{Pairs, Arrows, sorted}
 use Rattle.cd_resolve.specs.Inner.Members.{Sign, union_of, meet_of}
-use Rattle.cd_resolve.specs.Inner.Equates.{HasMeet, Equates, EquatesKind, EquatesRegular, EquatesRegularKind, AreEquated}
-use Rattle.cd_resolve.specs.Inner.Walk.{entered, settled, met, one_more, frame_after, walked, walked_kind, walked_trees, walked_signs, walked_fields, walked_regular, walked_regular_kind, walked_regulars, walked_declared, walked_list}
-use Rattle.cd_resolve.proofs.Growing.{Grows, grows_then, appends_grows, appends_longer, AreUnread, unread_later, entered_length, entered_unread, settled_is, settled_grows, settled_unread, settled_length, pushed_appends, chained_appends, united_appends, met_appends, walked_appends, trees_append, signs_append, fields_append, regular_appends, regulars_append, declared_grows, list_longer}
+use Rattle.cd_resolve.specs.Inner.Equates.{HasMeet, Equates, EquatesKind, EquatesRegular, EquatesRegularKind}
+use Rattle.cd_resolve.specs.Inner.Equates.{AreEquated}
+use Rattle.cd_resolve.specs.Inner.Walk.{entered, settled, met, one_more, frame_after, walked, walked_kind, walked_trees}
+use Rattle.cd_resolve.specs.Inner.Walk.{walked_signs, walked_fields, walked_regular, walked_regular_kind}
+use Rattle.cd_resolve.specs.Inner.Walk.{walked_regulars, walked_declared, walked_list}
+use Rattle.cd_resolve.proofs.Growing.{Grows, grows_then, appends_grows, appends_longer, AreUnread, unread_later}
+use Rattle.cd_resolve.proofs.Growing.{entered_length, entered_unread, settled_is, settled_grows, settled_unread}
+use Rattle.cd_resolve.proofs.Growing.{settled_length, pushed_appends, chained_appends, united_appends, met_appends}
+use Rattle.cd_resolve.proofs.Growing.{walked_appends, trees_append, signs_append, fields_append, regular_appends}
+use Rattle.cd_resolve.proofs.Growing.{regulars_append, declared_grows, list_longer}
 use Rattle.cd_resolve.proofs.NodesBelow.{AreBefore, before_later, before_inside, regular_below}
-use Rattle.cd_resolve.proofs.MadeEquations.{pushed_at, leaf_at, text_at, united_at, met_at, sequenced_at, chained_at, TreesAt, SignsAt, FieldsAt, RegularsAt, all_trees, all_fields, all_regulars}
+use Rattle.cd_resolve.proofs.MadeEquations.{pushed_at, leaf_at, text_at, united_at, met_at, sequenced_at, chained_at}
+use Rattle.cd_resolve.proofs.MadeEquations.{TreesAt, SignsAt, FieldsAt, RegularsAt, all_trees, all_fields, all_regulars}
 
 module _ (first : ℕ) (names : List (Name × NodeId)) (enough : 14 ≤ first) (named : AreBelow first names) where
   mutual

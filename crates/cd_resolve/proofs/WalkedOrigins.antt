@@ -3,11 +3,13 @@ use Rattle.std.proofs.Common.{ℕ, ◌+◌, ◌<◌, ◌≤◌, true, List, [], 
 use Rattle.cd_sets.specs.declared.node_id.NodeId.{NodeId}
 use Rattle.cd_syntax.specs.Name.{Name}
 use Rattle.cd_syntax.specs.TypeTree as type
-use Rattle.cd_syntax.specs.TypeTree.{Tree, tree, Kind, Trees, NoTree, ATree, Signs, NoSign, ASign, Fields, NoField, AField, Declarations, NoDeclaration, ADeclaration}
+use Rattle.cd_syntax.specs.TypeTree.{Tree, tree, Kind, Trees, NoTree, ATree, Signs, NoSign, ASign, Fields, NoField}
+use Rattle.cd_syntax.specs.TypeTree.{AField, Declarations, NoDeclaration, ADeclaration}
 use Rattle.cd_model.specs.AllOf.{AllOf}
 use Rattle.cd_model.specs.BuiltIns.{node_named}
 use Rattle.cd_model.specs.Formula.{Formula, Field, Xml, Record}
-use Rattle.cd_model.specs.Scope.{Scope, Declared, names_in, names_in_trees, names_in_signs, names_in_fields, names_declared, names_in_regular, names_in_regular_kind, names_in_regulars, names_over}
+use Rattle.cd_model.specs.Scope.{Scope, Declared, names_in, names_in_trees, names_in_signs, names_in_fields}
+use Rattle.cd_model.specs.Scope.{names_declared, names_in_regular, names_in_regular_kind, names_in_regulars, names_over}
 use Rattle.cd_model.specs.Written.{kind_of, any_or_none}
 use Rattle.cd_model.proofs.Covered.{Covered, each_parts, each_both, covered_tree}
 use Rattle.cd_model.proofs.CoveredParts.{covered_xml}
@@ -19,12 +21,19 @@ use Rattle.cd_resolve.specs.Inner.Frames.{Frames, scope_of, number_in}
 use Rattle.cd_resolve.specs.Inner.Leaves.{Pairs, Arrows, sorted, atom}
 use Rattle.cd_resolve.specs.Inner.Members.{Sign, union_of, meet_of}
 use Rattle.cd_resolve.specs.Inner.Equates.{AllEquated}
-use Rattle.cd_resolve.specs.Inner.Walk.{entered, settled, united, met, one_more, frame_after, walked, walked_kind, walked_trees, walked_signs, walked_fields, walked_regular, walked_regular_kind, walked_regulars, walked_declared, walked_list}
+use Rattle.cd_resolve.specs.Inner.Walk.{entered, settled, united, met, one_more, frame_after, walked, walked_kind}
+use Rattle.cd_resolve.specs.Inner.Walk.{walked_trees, walked_signs, walked_fields, walked_regular, walked_regular_kind}
+use Rattle.cd_resolve.specs.Inner.Walk.{walked_regulars, walked_declared, walked_list}
 use Rattle.cd_resolve.proofs.Origins.{HasOrigin}
-use Rattle.cd_resolve.proofs.Growing.{Grows, grows_then, appends_grows, appends_longer, AreUnread, unread_later, entered_length, entered_unread, settled_grows, settled_unread, settled_length, pushed_appends, chained_appends, united_appends, met_appends, walked_appends, trees_append, signs_append, fields_append, regular_appends, regulars_append, declared_grows, list_longer}
+use Rattle.cd_resolve.proofs.Growing.{Grows, grows_then, appends_grows, appends_longer, AreUnread, unread_later}
+use Rattle.cd_resolve.proofs.Growing.{entered_length, entered_unread, settled_grows, settled_unread, settled_length}
+use Rattle.cd_resolve.proofs.Growing.{pushed_appends, chained_appends, united_appends, met_appends, walked_appends}
+use Rattle.cd_resolve.proofs.Growing.{trees_append, signs_append, fields_append, regular_appends, regulars_append}
+use Rattle.cd_resolve.proofs.Growing.{declared_grows, list_longer}
 use Rattle.cd_resolve.proofs.NodesBelow.{AreBefore, before_later, before_inside}
 use Rattle.cd_resolve.proofs.WalkedEquations.{kind_equates, list_equates}
-use Rattle.cd_resolve.proofs.MadeOrigins.{pushed_have, leaf_have, text_have, chained_have, united_have, met_have, connective_has, states_have, entered_have}
+use Rattle.cd_resolve.proofs.MadeOrigins.{pushed_have, leaf_have, text_have, chained_have, united_have, met_have}
+use Rattle.cd_resolve.proofs.MadeOrigins.{connective_has, states_have, entered_have}
 
 module _ (first : ℕ) (names : List (Name × NodeId)) (base : Scope) (Fact : Declared → Type 0) (final : Equations)
     (enough : 14 ≤ first) (named : AreBelow first names) where

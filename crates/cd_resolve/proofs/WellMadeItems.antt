@@ -2,7 +2,8 @@
 use Rattle.std.proofs.Common.{◌≡◌, ℕ, zero, suc, ◌<◌, List, [], ◌∷◌, map, length, get_or, sym, subst, arith}
 use Rattle.cd_syntax.specs.TypeTree.{trees_of, signs_of, fields_of, declarations_of, regulars_of}
 use Rattle.cd_syntax.specs.PlainTree.{plain, plain_signed, plain_field, plain_declaration, plain_regular}
-use Rattle.cd_syntax.specs.WellMade.{IsWellMade, AreWellMade, AreWellMadeSigns, AreWellMadeFields, AreWellMadeDeclarations, IsWellMadeRegular, AreWellMadeRegulars}
+use Rattle.cd_syntax.specs.WellMade.{IsWellMade, AreWellMade, AreWellMadeSigns, AreWellMadeFields}
+use Rattle.cd_syntax.specs.WellMade.{AreWellMadeDeclarations, IsWellMadeRegular, AreWellMadeRegulars}
 use Rattle.cd_syntax.specs.declared.type_tree.Tree.{Tree as CodeTree}
 use Rattle.cd_syntax.specs.declared.type_tree.SignedTree.{SignedTree as CodeSigned}
 use Rattle.cd_syntax.specs.declared.type_tree.FieldTree.{FieldTree as CodeField}
@@ -38,11 +39,13 @@ pub declaration_made : (items : List CodeDeclaration) (index : ℕ) (item : Code
 declaration_made [] index item is within made = absurd (omega arith)
 declaration_made (first ∷ rest) zero item is within made =
     subst (λ one. IsWellMade (plain_declaration one).tree) (sym is) made.0
-declaration_made (first ∷ rest) (suc index) item is within made = declaration_made rest index item is (omega arith) made.1
+declaration_made (first ∷ rest) (suc index) item is within made =
+    declaration_made rest index item is (omega arith) made.1
 
 pub regular_made : (items : List CodeRegular) (index : ℕ) (item : CodeRegular) → item ≡ get_or items index item
     → index < length items → AreWellMadeRegulars (regulars_of (map plain_regular items))
     → IsWellMadeRegular (plain_regular item)
 regular_made [] index item is within made = absurd (omega arith)
-regular_made (first ∷ rest) zero item is within made = subst (λ one. IsWellMadeRegular (plain_regular one)) (sym is) made.0
+regular_made (first ∷ rest) zero item is within made =
+    subst (λ one. IsWellMadeRegular (plain_regular one)) (sym is) made.0
 regular_made (first ∷ rest) (suc index) item is within made = regular_made rest index item is (omega arith) made.1

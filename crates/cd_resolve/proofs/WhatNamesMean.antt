@@ -1,9 +1,11 @@
 -- What the number of a list and a name stand for.
-use Rattle.std.proofs.Common.{◌≡◌, ◌≢◌, ℕ, List, [], ◌∷◌, map, true, false, Option, Some, None, refl, sym, ◌⊎◌, inl, inr}
+use Rattle.std.proofs.Common.{◌≡◌, ◌≢◌, ℕ, List, [], ◌∷◌, map, true, false, Option, Some, None, refl, sym, ◌⊎◌, inl}
+use Rattle.std.proofs.Common.{inr}
 use Rattle.std.specs.Prelude.{bytes_eq}
 use Rattle.std.specs.List.{slice_get as nth}
 use Rattle.std.proofs.lemmas.Bool.{cases_Bool}
 use Rattle.std.proofs.lemmas.Slice.Eq.{bytes_eq-Decides}
+use Rattle.std.proofs.lemmas.Option.{same_Some}
 use Rattle.cd_syntax.specs.Name.{Name}
 use Rattle.cd_syntax.specs.TypeTree.{Tree, Declarations, NoDeclaration, ADeclaration}
 use Rattle.cd_model.specs.Scope.{Scope, Declared, declared_as, tree_in}
@@ -50,14 +52,14 @@ equal name = (bytes_eq-Decides name name).1 refl
 pub first_place : (name : Name) (at : ℕ) (is : Tree) (declarations : Declarations) → IsFirst name at is declarations
     → place_in declarations name ≡ Some at
 first_place name at is _ (fault.IsFirst.here _ _ _ rest) = rw (equal name) refl
-first_place name at is _ (fault.IsFirst.later _ other _ there _ another rest differ on) = rw (not_equal name other differ)
-    (first_place name at is rest on)
+first_place name at is _ (fault.IsFirst.later _ other _ there _ another rest differ on) =
+    rw (not_equal name other differ) (first_place name at is rest on)
 
 pub first_tree : (name : Name) (at : ℕ) (is : Tree) (declarations : Declarations) → IsFirst name at is declarations
     → tree_in declarations name ≡ Some is
 first_tree name at is _ (fault.IsFirst.here _ _ _ rest) = rw (equal name) refl
-first_tree name at is _ (fault.IsFirst.later _ other _ there _ another rest differ on) = rw (not_equal name other differ)
-    (first_tree name at is rest on)
+first_tree name at is _ (fault.IsFirst.later _ other _ there _ another rest differ on) =
+    rw (not_equal name other differ) (first_tree name at is rest on)
 
 pub place_first : (declarations : Declarations) (name : Name) (at : ℕ) → place_in declarations name ≡ Some at
     → (is : Tree) × IsFirst name at is declarations
@@ -99,9 +101,6 @@ pub record IsFound (lists : List Frames) (frames : Frames) (name : Name) (place 
   pub node : IsNode lists (record { list = place.list; name = name }) place.at is frames_there
   pub declared : declared_as (scope_of frames) name ≡ Some (declared_at name frames_there is)
 
-some_of : {A : Type 0} → (a b : A) → Some a ≡ Some b → a ≡ b
-some_of a b same = cc
-
 pub place_found : (lists : List Frames) (frames : Frames) (name : Name) (place : Place) → Fits lists frames
     → place_of frames name ≡ Some place → IsFound lists frames name place
 place_found lists [] name place fits is = absurd cc
@@ -111,7 +110,7 @@ place_found lists (frame ∷ outer) name place fits is = by (place_in frame.decl
     by : (at : Option ℕ) → place_in frame.declarations name ≡ at
         → (place_of outer name ≡ Some place → IsFound lists outer name place) → IsFound lists (frame ∷ outer) name place
     by (Some at) here on =
-        let place_is = some_of _ _ (rw here at is) in
+        let place_is = same_Some _ _ (rw here at is) in
         let first = place_first frame.declarations name at here in
         let tree_is = first_tree name at first.0 frame.declarations first.1 in
         rw (sym place_is) (record {
@@ -129,7 +128,8 @@ place_found lists (frame ∷ outer) name place fits is = by (place_in frame.decl
           declared = rw (place_nothing frame.declarations name here) found.declared;
         }
 
-pub place_none : (frames : Frames) (name : Name) → place_of frames name ≡ None → declared_as (scope_of frames) name ≡ None
+pub place_none : (frames : Frames) (name : Name) → place_of frames name ≡ None
+    → declared_as (scope_of frames) name ≡ None
 place_none [] name none = refl
 place_none (frame ∷ outer) name none = by (place_in frame.declarations name) refl (place_none outer name)
   where

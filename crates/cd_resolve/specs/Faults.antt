@@ -1,7 +1,7 @@
 -- What is wrong with the names of a written type, and where.
 use Rattle.std.specs.Prelude.{◌≡◌, ◌≢◌, ℕ, ◌<◌, ◌≤◌, ◌⊎◌, [], ◌∷◌, None, Bool}
 use Rattle.cd_syntax.specs.Name.{Name}
-use Rattle.cd_syntax.specs.TypeGrammar.{IsBuiltin}
+use Rattle.cd_syntax.specs.BuiltIn.{IsBuiltin}
 use Rattle.cd_syntax.specs.TypeTree.{Tree, tree, Kind, Tuple, Arrows, Union, Meet, Sequence, Record}
 use Rattle.cd_syntax.specs.TypeTree.{Xml, Named, Where, Trees, Signs, Fields, AField, Declarations}
 use Rattle.cd_syntax.specs.TypeTree.{ADeclaration, Regular, regular, Item, Seq, Alt, Repeat}

@@ -16,7 +16,6 @@ ghost use Rattle.cd_resolve.specs.Inner.Walk.{entered, frame_after};
 use crate::base::Base;
 use crate::found::{Found, Id, start_of};
 use crate::frame::Frame;
-use crate::name_index::NameIndex;
 use crate::scope::under;
 use crate::state::State;
 use crate::taken::is_taken;
@@ -48,17 +47,8 @@ pub(crate) fn walk_list<'t>(
 {
     let number = state.equations.len();
     let frame = enter(base, declarations, state, found)?;
-    let list = frame.list;
-    let frames = under(base.alloc, frame.copy()?, &[])?;
-    walk_declared(
-        base,
-        number,
-        list,
-        declarations,
-        frames.as_slice(),
-        state,
-        found,
-    )?;
+    let frames = under(base.alloc, &frame, &[])?;
+    walk_declared(base, number, &frame, frames.as_slice(), state, found)?;
     Ok(frame)
 }
 
@@ -112,17 +102,8 @@ fn walk_under<'t>(
 {
     let number = state.equations.len();
     let frame = enter(base, declarations, state, found)?;
-    let list = frame.list;
-    let frames = under(base.alloc, frame, outer)?;
-    walk_declared(
-        base,
-        number,
-        list,
-        declarations,
-        frames.as_slice(),
-        state,
-        found,
-    )?;
+    let frames = under(base.alloc, &frame, outer)?;
+    walk_declared(base, number, &frame, frames.as_slice(), state, found)?;
     Ok(frames)
 }
 
@@ -150,33 +131,33 @@ fn enter<'t>(
     Frame::of(base.alloc, declarations, first, list)
 }
 
-// Walks over the trees of the innermost list of declarations, which has this number among the
-// lists, and whose names have the equations from this number on.
+// Walks over the trees of a list of declarations, which is the innermost of these, and whose names
+// have the equations from this number on.
 #[cycle(walk)]
 fn walk_declared<'t>(
     base: &Base<'_, '_>,
     from: usize,
-    list: usize,
-    declarations: &'t Declarations,
+    frame: &Frame<'t>,
     frames: &[Frame<'t>],
     state: &mut State,
     found: &mut Found<'t>,
 ) -> Result<(), AllocError>
-    requires { AreWellMadeDeclarations (plain_declarations declarations.now) }
+    requires { AreWellMadeDeclarations (plain_declarations frame.now.declarations.now) }
     ensures found { IfOk result (λ _. plain_found found.new
-        ≡ found_in_declared innermost (lists_seen base.now frames.now) list []
-        (plain_declarations declarations.now) (plain_found found.old)) }
+        ≡ found_in_declared innermost (lists_seen base.now frames.now) frame.now.list []
+        (plain_declarations frame.now.declarations.now) (plain_found found.old)) }
     ensures equations { OnOk result (plain_equations state.new.equations.items
         ≡ walked_declared base.now.first (names_outside base.now) (plain_frames frames.now) from
-        (plain_declarations declarations.now) (plain_equations state.old.equations.items)) }
+        (plain_declarations frame.now.declarations.now)
+        (plain_equations state.old.equations.items)) }
 {
-    let mut seen = NameIndex::new(base.alloc);
+    let items = frame.declarations.items();
     let mut number = from;
-    for declaration in declarations.items() {
+    for (place, declaration) in items.iter().enumerate() {
         let name = &declaration.name;
-        let again = seen.add(name)?;
+        let again = frame.declares_before(place, name);
         found.tell_twice(is_taken(again, name), name, declaration.at)?;
-        let start = start_of(again, list, name);
+        let start = start_of(again, frame.list, name);
         let root = walk(base, &declaration.tree, frames, start, state, found)?;
         state.settle(number, root);
         // No graph is so long.

@@ -29,8 +29,10 @@ pub(crate) struct Spot {
 }
 
 impl<'t> Frame<'t> {
+    ghost use Rattle.std.specs.Prelude.{take};
     ghost use Rattle.std.specs.Option.{option_map};
     ghost use Rattle.cd_resolve.specs.Named.{index_in};
+    ghost use Rattle.cd_resolve.specs.Inner.BuiltinNames.{is_among};
     ghost use Rattle.cd_resolve.specs.Inner.Finding.{place_in};
     ghost use Rattle.cd_resolve.specs.Inner.PlainFound.{list_frame};
     ghost use Rattle.cd_resolve.specs.Inner.PlainState.{plain_frame};
@@ -88,5 +90,16 @@ impl<'t> Frame<'t> {
         let declaration = self.declarations.items().get(index)?;
         let at = declaration.at;
         Some(Spot { index, at })
+    }
+
+    /// Whether one of its first so many declarations has a name.
+    pub(crate) fn declares_before(&self, count: usize, name: &Name) -> bool
+        ensures { result ≡ is_among
+            (take count (names_in (plain_declarations self.now.declarations.now))) name.now }
+    {
+        match self.names.as_ref().find(name) {
+            Some(place) => place < count,
+            None => false,
+        }
     }
 }

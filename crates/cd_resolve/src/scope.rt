@@ -9,16 +9,16 @@ use std::alloc::{AllocError, Global};
 /// The lists of declarations with one more, which is the innermost.
 pub(crate) fn under<'t>(
     alloc: Global,
-    frame: Frame<'t>,
+    frame: &Frame<'t>,
     outer: &[Frame<'t>],
 ) -> Result<Vec<Frame<'t>>, AllocError>
     ensures nodes { IfOk result (λ frames.
-        plain_frames frames.items ≡ plain_frame frame.entry ∷ plain_frames outer.now) }
+        plain_frames frames.items ≡ plain_frame frame.now ∷ plain_frames outer.now) }
     ensures lists { IfOk result (λ frames.
-        list_frames frames.items ≡ list_frame frame.entry ∷ list_frames outer.now) }
+        list_frames frames.items ≡ list_frame frame.now ∷ list_frames outer.now) }
 {
     let mut frames = Vec::new(alloc);
-    frames.push(frame)?;
+    frames.push(frame.copy()?)?;
     add_all(&mut frames, outer)?;
     Ok(frames)
 }

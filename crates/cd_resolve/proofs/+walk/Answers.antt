@@ -1,18 +1,21 @@
-use Rattle.std.proofs.Common.{List, [], ◌+◌, map, drop, ap, sym, subst, ◌∙◌, rules, arith}
+use Rattle.std.proofs.Common.{List, [], ◌+◌, map, take, drop, ap, sym, subst, ◌∙◌, rules, arith}
 use Rattle.std.proofs.lemmas.List.{length-map}
 use Rattle.cd_syntax.specs.TypeTree.{signs_of, fields_of, declarations_of}
 use Rattle.cd_syntax.specs.PlainTree.{plain, plain_fields, plain_signed, plain_field, plain_declaration}
-use Rattle.cd_syntax.specs.WellMade.{AreWellMade, AreWellMadeSigns, AreWellMadeFields, AreWellMadeDeclarations, AreWellMadeRegulars}
+use Rattle.cd_syntax.specs.PlainTree.{plain_declarations}
+use Rattle.cd_syntax.specs.WellMade.{AreWellMade, AreWellMadeSigns, AreWellMadeFields, AreWellMadeDeclarations}
+use Rattle.cd_syntax.specs.WellMade.{AreWellMadeRegulars}
 use Rattle.cd_syntax.specs.Name.{Name}
 use Rattle.cd_model.specs.Formula.{Field}
 use Rattle.cd_graph.specs.PlainFormula.{plain_named}
 use Rattle.cd_resolve.specs.Inner.Equation.{Equations, plain_equations}
 use Rattle.cd_resolve.specs.Inner.Walk.{chained, chained_all, walked_signs, walked_fields, walked_declared}
 use Rattle.cd_resolve.specs.Inner.Finding.{innermost, found_in_signs, found_in_fields, found_in_declared}
+use Rattle.cd_resolve.specs.Inner.NamesDeclared.{names_in}
 use Rattle.cd_resolve.specs.Inner.PlainBase.{names_outside, lists_seen}
 use Rattle.cd_resolve.specs.Inner.PlainFound.{plain_found, plain_start}
 use Rattle.cd_resolve.specs.Inner.PlainState.{plain_frames, plain_joint, HaveLabels}
-use Rattle.cd_resolve.proofs.Declaring.{declared_more as found_more}
+use Rattle.cd_resolve.proofs.Declaring.{one_name_more, declared_more as found_more}
 use Rattle.cd_resolve.proofs.Labelled.{walked_labels}
 use Rattle.cd_resolve.proofs.Sizes.{trees_fall, signs_fall, fields_fall, declarations_fall, regulars_fall}
 use Rattle.cd_resolve.proofs.Steps.{short_chain, long_chain, signs_more, fields_more, declared_more}
@@ -80,13 +83,12 @@ sequence::walk_regulars-walk_regular-requires t c =
 
 pub declare::walk_declared-walk-requires : goal.declare::walk_declared-walk-requires
 declare::walk_declared-walk-requires t c =
-    let fall = rw (c.items-declaration-items.ensures, ap (λ one. one.tree) (declaration_is c.declaration-item.result))
-    at (declarations_fall c.items-declaration-items.result.now c.loop-declaration.declaration-index
-    c.declaration-item.result c.declaration-item.is c.loop-declaration-test.true) in
-    let made = rw (ap (λ one. one.tree) (declaration_is c.declaration-item.result)) at
-    (declaration_made c.items-declaration-items.result.now c.loop-declaration.declaration-index
-    c.declaration-item.result c.declaration-item.is c.loop-declaration-test.true
-    (subst AreWellMadeDeclarations (sym c.items-declaration-items.ensures) c.requires)) in
+    let fall = rw (c.items-items.ensures, ap (λ one. one.tree) (declaration_is c.index-items-place.result))
+    at (declarations_fall c.items-items.result.now c.loop-place.place c.index-items-place.result c.index-items-place.is
+    c.loop-place-test.true) in
+    let made = rw (ap (λ one. one.tree) (declaration_is c.index-items-place.result)) at
+    (declaration_made c.items-items.result.now c.loop-place.place c.index-items-place.result c.index-items-place.is
+    c.loop-place-test.true (subst AreWellMadeDeclarations (sym c.items-items.ensures) c.requires)) in
     (search (rules, fall, c.decreases), made)
 
 -- the fields of a well made list have labels
@@ -141,40 +143,35 @@ record::walk_fields-loop-field-preserved t c =
     let found_in = rw (sym (ap (λ one. one.tree) (field_is c.field-item.result))) at c.in_ok-node.ensures.found in
     (rw found_in (sym left_found ∙ c.loop-field.invariant.0), step ∙ sym one ∙ c.loop-field.invariant.1)
 
-pub declare::walk_declared-loop-declaration-preserved : goal.declare::walk_declared-loop-declaration-preserved
-declare::walk_declared-loop-declaration-preserved t c =
+pub declare::walk_declared-loop-place-preserved : goal.declare::walk_declared-loop-place-preserved
+declare::walk_declared-loop-place-preserved t c =
     let first = c.args.base.now.first in
     let names = (names_outside c.args.base.now) in
     let frames = plain_frames c.args.frames.now in
-    let left = at_item (λ left. walked_declared first names frames c.loop-declaration.number
-    (declarations_of (map plain_declaration left)) (plain_equations c.loop-declaration.state.equations.items))
-    c.items-declaration-items.result.now c.loop-declaration.declaration-index c.declaration-item.result
-    c.declaration-item.is c.loop-declaration-test.true in
-    let one = rw (declaration_is c.declaration-item.result) at left in
-    let step = declared_more first names frames c.declaration-item.result.name c.declaration-item.result.at
-    c.loop-declaration.number c.in-Some.next (plain c.declaration-item.result.tree)
-    (declarations_of (map plain_declaration
-    (drop (c.loop-declaration.declaration-index + 1) c.items-declaration-items.result.now)))
-    (plain_equations c.loop-declaration.state.equations.items) (plain_equations c.walk.new.state.equations.items)
+    let lists = lists_seen c.args.base.now c.args.frames.now in
+    let declared = plain_declarations c.args.frame.now.declarations.now in
+    let items = c.items-items.result.now in
+    let place = c.loop-place.place in
+    let one = c.index-items-place.result in
+    let rest = declarations_of (map plain_declaration (drop (place + 1) items)) in
+    let left = at_item (λ left. walked_declared first names frames c.loop-place.number
+    (declarations_of (map plain_declaration left)) (plain_equations c.loop-place.state.equations.items))
+    items place one c.index-items-place.is c.loop-place-test.true in
+    let here = rw (declaration_is one) at left in
+    let step = declared_more first names frames one.name one.at c.loop-place.number c.in-Some.next (plain one.tree) rest
+    (plain_equations c.loop-place.state.equations.items) (plain_equations c.walk.new.state.equations.items)
     (plain_equations c.settle.new.self.equations.items) c.in_ok-root.root c.in_ok-root.ensures.equations
     c.settle.ensures c.in-Some.ensures.1 in
-    let left_found = at_item (λ left. found_in_declared innermost (lists_seen c.args.base.now c.args.frames.now)
-    c.args.list c.loop-declaration.seen (declarations_of (map plain_declaration left))
-    (plain_found c.loop-declaration.found))
-    c.items-declaration-items.result.now c.loop-declaration.declaration-index c.declaration-item.result
-    c.declaration-item.is c.loop-declaration-test.true in
-    let one_found = rw (declaration_is c.declaration-item.result) at left_found in
-    let rest = declarations_of (map plain_declaration
-    (drop (c.loop-declaration.declaration-index + 1) c.items-declaration-items.result.now)) in
+    let left_found = at_item (λ left. found_in_declared innermost lists c.args.frame.now.list
+    (take place (names_in declared)) (declarations_of (map plain_declaration left)) (plain_found c.loop-place.found))
+    items place one c.index-items-place.is c.loop-place-test.true in
+    let here_found = rw (declaration_is one) at left_found in
+    let one_more = rw (ap (λ one. one.name) (declaration_is one)) at
+    (one_name_more items declared place one c.items-items.ensures c.index-items-place.is c.loop-place-test.true) in
     let told = rw c.is_taken.ensures at c.in_ok-tell_twice.ensures in
-    let step_found = found_more (lists_seen c.args.base.now c.args.frames.now) c.args.list
-    c.loop-declaration.seen _
-    (record {
-      name = c.declaration-item.result.name;
-      at = c.declaration-item.result.at;
-      tree = plain c.declaration-item.result.tree;
-    }) rest
-    (plain_found c.loop-declaration.found) (plain_found c.tell_twice.new.self) (plain_found c.walk.new.found)
-    c.in_ok-again.again (plain_start c.start_of-start.result) c.in_ok-again.ensures.again c.in_ok-again.ensures.added
+    let step_found = found_more lists c.args.frame.now.list (take place (names_in declared)) _
+    (record { name = one.name; at = one.at; tree = plain one.tree }) rest
+    (plain_found c.loop-place.found) (plain_found c.tell_twice.new.self) (plain_found c.walk.new.found)
+    c.declares_before-again.result (plain_start c.start_of-start.result) c.declares_before-again.ensures one_more
     c.start_of-start.ensures told c.in_ok-root.ensures.found in
-    (step_found ∙ sym one_found ∙ c.loop-declaration.invariant.0, step ∙ sym one ∙ c.loop-declaration.invariant.1)
+    (step_found ∙ sym here_found ∙ c.loop-place.invariant.0, step ∙ sym here ∙ c.loop-place.invariant.1)

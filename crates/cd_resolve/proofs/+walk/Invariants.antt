@@ -1,15 +1,20 @@
-use Rattle.std.proofs.Common.{◌≡◌, ◌+◌, [], ◌∷◌, true, map, drop, suc}
+use Rattle.std.proofs.Common.{◌≡◌, ◌+◌, [], ◌∷◌, true, map, take, drop, suc}
 use Rattle.cd_syntax.specs.TypeTree.{trees_of, signs_of, fields_of, regulars_of, declarations_of}
-use Rattle.cd_syntax.specs.PlainTree.{plain, plain_kind, plain_trees, plain_signed, plain_signs, plain_field, plain_fields, plain_declaration, plain_declarations, plain_regular, plain_regular_kind, plain_regulars}
+use Rattle.cd_syntax.specs.PlainTree.{plain, plain_kind, plain_trees, plain_signed, plain_signs, plain_field}
+use Rattle.cd_syntax.specs.PlainTree.{plain_fields, plain_declaration, plain_declarations, plain_regular}
+use Rattle.cd_syntax.specs.PlainTree.{plain_regular_kind, plain_regulars}
 use Rattle.cd_regex.specs.PlainRegular.{plain as plain_reg}
 use Rattle.cd_graph.specs.PlainFormula.{plain_named}
 use Rattle.cd_resolve.specs.Inner.Equation.{plain_equations}
 use Rattle.cd_resolve.specs.Inner.Walk.{walked_trees, walked_signs, walked_fields, walked_regulars, walked_declared}
-use Rattle.cd_resolve.specs.Inner.Finding.{innermost, found_in_trees, found_in_signs, found_in_fields, found_in_declared, found_in_regulars}
+use Rattle.cd_resolve.specs.Inner.Finding.{innermost, found_in_trees, found_in_signs, found_in_fields}
+use Rattle.cd_resolve.specs.Inner.Finding.{found_in_declared, found_in_regulars}
+use Rattle.cd_resolve.specs.Inner.NamesDeclared.{names_in}
 use Rattle.cd_resolve.specs.Inner.PlainBase.{names_outside, lists_seen}
 use Rattle.cd_resolve.specs.Inner.PlainFound.{plain_found, plain_start}
 use Rattle.cd_resolve.specs.Inner.PlainState.{plain_frames}
-use Rattle.cd_resolve.proofs.Sizes.{size, size_kind, size_trees, size_signs, size_fields, size_declarations, size_regular, size_regular_kind, size_regulars}
+use Rattle.cd_resolve.proofs.Sizes.{size, size_kind, size_trees, size_signs, size_fields, size_declarations}
+use Rattle.cd_resolve.proofs.Sizes.{size_regular, size_regular_kind, size_regulars}
 use Rattle.cd_resolve.proofs.+walk.Given as goal
 
 abbrev pub decreases-walk::walk : goal.decreases-walk::walk
@@ -50,7 +55,7 @@ abbrev pub decreases-declare::walk_under : goal.decreases-declare::walk_under
 decreases-declare::walk_under l = suc (size_declarations (plain_declarations l.declarations.now))
 
 abbrev pub decreases-declare::walk_declared : goal.decreases-declare::walk_declared
-decreases-declare::walk_declared l = size_declarations (plain_declarations l.declarations.now)
+decreases-declare::walk_declared l = size_declarations (plain_declarations l.frame.now.declarations.now)
 
 abbrev pub decreases-sequence::walk_sequence : goal.decreases-sequence::walk_sequence
 decreases-sequence::walk_sequence l = suc (size_regular (plain_regular l.expression.now))
@@ -110,14 +115,15 @@ invariant-sequence::walk_regulars-loop-expression l =
     ≡ walked_regulars l.base.first (names_outside l.base) (plain_frames l.frames) (plain_regulars l.all) []
     (plain_equations l.fn.state.equations.items))
 
-abbrev pub invariant-declare::walk_declared-loop-declaration : goal.invariant-declare::walk_declared-loop-declaration
-invariant-declare::walk_declared-loop-declaration l =
-    (found_in_declared innermost (lists_seen l.base l.frames) l.list l.seen
-    (declarations_of (map plain_declaration (drop l.declaration-index l.declaration-items))) (plain_found l.found)
-    ≡ found_in_declared innermost (lists_seen l.base l.frames) l.list [] (plain_declarations l.declarations)
-    (plain_found l.fn.found))
+-- those that are seen are the names of the declarations before
+abbrev pub invariant-declare::walk_declared-loop-place : goal.invariant-declare::walk_declared-loop-place
+invariant-declare::walk_declared-loop-place l =
+    (found_in_declared innermost (lists_seen l.base l.frames) l.frame.list
+    (take l.place (names_in (plain_declarations l.frame.declarations.now)))
+    (declarations_of (map plain_declaration (drop l.place l.items))) (plain_found l.found)
+    ≡ found_in_declared innermost (lists_seen l.base l.frames) l.frame.list []
+    (plain_declarations l.frame.declarations.now) (plain_found l.fn.found))
     × (walked_declared l.base.first (names_outside l.base) (plain_frames l.frames) l.number
-    (declarations_of (map plain_declaration (drop l.declaration-index l.declaration-items)))
-    (plain_equations l.state.equations.items)
+    (declarations_of (map plain_declaration (drop l.place l.items))) (plain_equations l.state.equations.items)
     ≡ walked_declared l.base.first (names_outside l.base) (plain_frames l.frames) l.fn.from
-    (plain_declarations l.declarations) (plain_equations l.fn.state.equations.items))
+    (plain_declarations l.frame.declarations.now) (plain_equations l.fn.state.equations.items))

@@ -3,12 +3,9 @@
 use Rattle.std.specs.Prelude.{◌≡◌, ℕ, zero, suc, ◌<◌, List, [], ◌∷◌, ◌++◌, length, ◌⊎◌}
 use Rattle.std.specs.List.{slice_get}
 use Rattle.std.specs.Option.{unwrap_or}
+use Rattle.cd_model.specs.AllOf.{AllOf}
 
--- a fact of each of a list, and of one of it
-abbrev pub AllOf : (ℕ → Type 0) → List ℕ → Type 0
-AllOf Fact [] = Unit {0}
-AllOf Fact (number ∷ rest) = Fact number × AllOf Fact rest
-
+-- a number is one of a list
 abbrev pub IsOneOf : ℕ → List ℕ → Type 0
 IsOneOf number [] = ⊥
 IsOneOf number (other ∷ rest) = (other ≡ number) ⊎ IsOneOf number rest

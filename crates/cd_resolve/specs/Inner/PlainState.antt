@@ -1,8 +1,9 @@
 -- What the walk of the code goes by, as plain data.
-use Rattle.std.specs.Prelude.{ℕ, List, [], ◌∷◌, ◌++◌, Option, Some, None, map, take, drop}
+use Rattle.std.specs.Prelude.{ℕ, List, ◌∷◌, ◌++◌, Option, Some, None, map, take, drop}
 use Rattle.cd_syntax.specs.Name.{Name, IsLabel}
 use Rattle.cd_syntax.specs.TypeTree.{Kind, Tuple, Arrows as ArrowsOf, Trees}
 use Rattle.cd_syntax.specs.PlainTree.{plain_declarations}
+use Rattle.cd_model.specs.AllOf.{AllOf}
 use Rattle.cd_model.specs.Formula.{Field}
 use Rattle.cd_graph.specs.PlainFormula.{plain_field}
 use Rattle.cd_graph.specs.declared.fields.Field.{Field as CodeField}
@@ -31,8 +32,7 @@ plain_one field = (field.0, plain_field field.1)
 
 -- each of these has a label
 abbrev pub HaveLabels : {X : Type 0} → List (Name × X) → Type 0
-HaveLabels [] = Unit {0}
-HaveLabels (one ∷ rest) = IsLabel one.0 × HaveLabels rest
+HaveLabels named = AllOf (λ one. IsLabel one.0) named
 
 -- one more thing, at a place in a list
 abbrev pub put : {X : Type 0} → X → Option ℕ → List X → List X

@@ -1,8 +1,9 @@
 -- What a search from each number in turn keeps true, and how much it still has to look at.
 use Rattle.std.specs.Prelude.{◌≡◌, ℕ, ◌+◌, ◌-◌, ◌<◌, Bool, true, false, List, [], ◌∷◌, length, ◌⊎◌}
 use Rattle.std.specs.Prelude.{take, slice_index_or}
+use Rattle.cd_model.specs.AllOf.{AllOf}
 use Rattle.cd_resolve.specs.declared.search.Frame.{Frame}
-use Rattle.cd_resolve.specs.Inner.Order.{AllOf, IsOneOf, row, IsShort, ComeAfter}
+use Rattle.cd_resolve.specs.Inner.Order.{IsOneOf, row, IsShort, ComeAfter}
 
 -- the number is seen
 abbrev pub IsSeen : List Bool → ℕ → Type 0

@@ -6,5 +6,6 @@ use Rattle.cd_resolve.proofs.declarations.declared_names.Given as goal
 
 -- the names so far, and then those that are left, are all
 abbrev pub invariant-loop-declaration : goal.invariant-loop-declaration
-invariant-loop-declaration l = l.names ++ names_in (declarations_of (map plain_declaration (drop l.declaration-index l.declaration-items)))
+invariant-loop-declaration l = l.names
+    ++ names_in (declarations_of (map plain_declaration (drop l.declaration-index l.declaration-items)))
     ≡ names_in (plain_declarations l.declarations)

@@ -13,4 +13,5 @@ one-requires c = (same_texts c.as_str.result.now c.as_str.utf8 (subst IsLabel (s
 pub returns : goal.returns
 returns c =
     let same = (same_texts c.as_str.result.now c.as_str.utf8 (subst IsLabel (sym c.as_str.ensures) c.requires)).1 in
-    c.atoms.ensures ∙ ap Atoms c.in_ok-one.ensures ∙ ap (λ name. Atoms (listing (name ∷ []))) (sym same ∙ c.as_str.ensures)
+    c.atoms.ensures ∙ ap Atoms c.in_ok-one.ensures
+    ∙ ap (λ name. Atoms (listing (name ∷ []))) (sym same ∙ c.as_str.ensures)

@@ -10,9 +10,8 @@ use Rattle.cd_resolve.specs.Inner.Solves.{AreEquations}
 use Rattle.cd_resolve.specs.Inner.Links.{links}
 use Rattle.cd_resolve.specs.Inner.Order.{AreRows, Ends, IsOrder}
 use Rattle.cd_resolve.specs.Inner.Filling.{at_once, left}
-use Rattle.cd_resolve.proofs.EachOne.{known_each}
-use Rattle.cd_resolve.proofs.Lists.{each_weaker}
 use Rattle.cd_resolve.proofs.LinksRows.{are_rows, links_length}
+use Rattle.cd_resolve.proofs.MembersKept.{each_weaker}
 use Rattle.cd_resolve.proofs.Solved.{left_sound}
 use Rattle.cd_resolve.proofs.solve.formulas_of.Goals as goal
 
@@ -73,9 +72,8 @@ known : (slice : List (Vec ℕ Global)) (order numbers_left : List ℕ) (size : 
     → AllOf (λ number. number < size) numbers_left
 known slice order numbers_left size long is same =
     subst (AllOf (λ number. number < size)) (sym same)
-    (known_each (λ number. number < size) order
-    (each_weaker (λ number. number < length (numbers slice)) (λ number. number < size) order
-    (λ number below. omega (arith, long, length-map slice (λ (row : Vec ℕ Global). row.items))) is.known))
+    (each_weaker (λ number. number < length (numbers slice)) (λ number. number < size)
+    (λ number below. omega (arith, long, length-map slice (λ (row : Vec ℕ Global). row.items))) order is.known)
 
 pub fill-requires-clause-known : goal.fill-requires-clause-known
 fill-requires-clause-known c =

@@ -23,7 +23,8 @@ solve-requires-clause-sound c =
 
 pub solve-requires-clause-ends : goal.solve-requires-clause-ends
 solve-requires-clause-ends c = λ number less.
-    subst (λ (equations : Equations). Ends (links c.args.first equations) number) (sym c.in_ok-equations.ensures.equations)
+    subst (λ (equations : Equations). Ends (links c.args.first equations) number)
+    (sym c.in_ok-equations.ensures.equations)
     (declarations_end (plain_declarations c.args.declared.now) c.in_ok-equations.ensures.sound c.args.first
     c.requires.built_ins number
     (omega (
@@ -45,6 +46,7 @@ returns-clause-stand c = λ graph long begins.
       length-map c.in_ok-equations.equations.items (option_map plain_equation),
       ap length c.in_ok-equations.ensures.equations,
     ))
-    (subst (λ (equations : Equations). Solves (graph ++ batch) c.args.first equations) c.in_ok-equations.ensures.equations
-    (c.in_ok-formulas.ensures.solves graph long
-    (subst (λ (old : Graph). AgreesWith old graph) (sym c.in_ok-new.ensures) (begins_agree built_ins graph begins.0 begins.1)))))
+    (subst (λ (equations : Equations). Solves (graph ++ batch) c.args.first equations)
+    c.in_ok-equations.ensures.equations (c.in_ok-formulas.ensures.solves graph long
+    (subst (λ (old : Graph). AgreesWith old graph) (sym c.in_ok-new.ensures)
+    (begins_agree built_ins graph begins.0 begins.1)))))

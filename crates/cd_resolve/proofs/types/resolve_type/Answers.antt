@@ -12,6 +12,7 @@ use Rattle.cd_resolve.proofs.types.resolve_type.Goals as goal
 pub returns-clause-stands : goal.returns-clause-stands
 returns-clause-stands c = IfOk-weaker c.resolve_type_from.result _ _
     (λ batch stands. subst (λ graph. StandsFor (graph ++ plain_list batch.formulas) batch.root
-    (record { scope = declared_by c.args.names.now ∷ []; tree = plain c.args.tree.now })) (append-nil (nodes c.args.graph.now))
+    (record { scope = declared_by c.args.names.now ∷ []; tree = plain c.args.tree.now }))
+    (append-nil (nodes c.args.graph.now))
     (stands [] (ap length (append-nil (nodes c.args.graph.now)) ∙ sym c.len-first.ensures.count)))
     c.resolve_type_from.ensures.stands

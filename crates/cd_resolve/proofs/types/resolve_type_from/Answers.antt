@@ -23,7 +23,8 @@ read c = walked c.args.first (list_of (plain_names c.args.names.now)) [] (plain 
 bounds : (c : In_ok-equations) → AreEquations (length (nodes c.args.graph.now)) c.args.first (read c).1
     × IsNode (length (nodes c.args.graph.now)) c.args.first (length (read c).1) (read c).0
 bounds c = type_bounds (plain_names c.args.names.now) c.requires.names_sound (plain c.args.tree.now)
-    c.in_ok-equations.ensures.sound (nodes c.args.graph.now) c.knows.ensures.sound c.knows.ensures.built_in c.requires.named
+    c.in_ok-equations.ensures.sound
+    (nodes c.args.graph.now) c.knows.ensures.sound c.knows.ensures.built_in c.requires.named
     c.args.first c.requires.first c.requires.well_made
 
 pub solve-requires-clause-sound : goal.solve-requires-clause-sound
@@ -36,7 +37,8 @@ pub solve-requires-clause-ends : goal.solve-requires-clause-ends
 solve-requires-clause-ends c = λ number less.
     subst (λ (read : Read). Ends (links c.args.first read.1) number) (sym c.in_ok-equations.ensures.equations)
     (type_ends (plain_names c.args.names.now) c.requires.names_sound (plain c.args.tree.now)
-    c.in_ok-equations.ensures.sound (nodes c.args.graph.now) c.knows.ensures.sound c.knows.ensures.built_in c.requires.named
+    c.in_ok-equations.ensures.sound
+    (nodes c.args.graph.now) c.knows.ensures.sound c.knows.ensures.built_in c.requires.named
     c.args.first c.requires.first number
     (omega (
       arith,
@@ -49,10 +51,12 @@ pub returns-clause-stands : goal.returns-clause-stands
 returns-clause-stands c = λ more long.
     let batch = plain_list c.in_ok-formulas.formulas in
     let all = nodes c.args.graph.now ++ more ++ batch in
-    subst (λ (read : Read). StandsFor all read.0 (record { scope = declared_by c.args.names.now ∷ []; tree = plain c.args.tree.now }))
+    subst (λ (read : Read). StandsFor all read.0
+    (record { scope = declared_by c.args.names.now ∷ []; tree = plain c.args.tree.now }))
     (sym c.in_ok-equations.ensures.equations)
     (type_stands (plain_names c.args.names.now) c.requires.names_sound (plain c.args.tree.now)
-    c.in_ok-equations.ensures.sound (nodes c.args.graph.now) c.knows.ensures.sound c.knows.ensures.built_in c.requires.named
+    c.in_ok-equations.ensures.sound
+    (nodes c.args.graph.now) c.knows.ensures.sound c.knows.ensures.built_in c.requires.named
     c.args.first c.requires.first more batch long
     (omega (
       arith,

@@ -13,8 +13,10 @@ invariant_of-self-in-Ok c =
     let last : c.len-place.result ≡ length names =
     let mapped = length-map c.self.inside.names.items (λ name. name.now) in
     search (rules, mapped, c.len-place.ensures) in
-    let entered = subst (λ place. Enters c.args.name.now place c.self.inside.places c.enter.new.places) last c.in-Ok.ensures.entered in
-    let all = ap (map (λ name. name.now)) c.in_ok-push.ensures.items ∙ map_push (λ name. name.now) c.self.inside.names.items c.args.name in
+    let entered = subst (λ place. Enters c.args.name.now place c.self.inside.places c.enter.new.places) last
+    c.in-Ok.ensures.entered in
+    let all = ap (map (λ name. name.now)) c.in_ok-push.ensures.items
+    ∙ map_push (λ name. name.now) c.self.inside.names.items c.args.name in
     subst (λ names. AreFirstPlaces names c.enter.new.places) (sym all)
     (extended names c.args.name.now c.self.inside.places c.enter.new.places c.self.invariant entered)
 

@@ -1,7 +1,7 @@
 use Rattle.std.proofs.Common.{sym, subst, None}
 use Rattle.cd_graph.specs.PlainFormula.{plain_named}
 use Rattle.cd_model.specs.Formula.{AreRisingLabels}
-use Rattle.cd_resolve.proofs.LabelsRise.{sorted_rises}
+use Rattle.cd_resolve.proofs.Rising.{sorted_rises}
 use Rattle.cd_resolve.proofs.state.State.record.Goals as goal
 
 -- labels rise where fields are sorted
