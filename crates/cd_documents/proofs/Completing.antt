@@ -8,8 +8,7 @@ use Rattle.cd_syntax.specs.declared.tokens.Span.{Span}
 use Rattle.cd_syntax.specs.declared.tokens.Token.{Token}
 use Rattle.cd_syntax.specs.declared.tokens.TokenKind.TheVariants as token
 use Rattle.cd_syntax.specs.Name.{Name}
-use Rattle.cd_syntax.specs.TypeGrammar as grammar
-use Rattle.cd_syntax.specs.TypeGrammar.{at}
+use Rattle.cd_syntax.specs.Tokens.{at}
 use Rattle.cd_model.specs.Thing.{Thing, Character, Record, Fields}
 use Rattle.cd_documents.specs.Document as document
 use Rattle.cd_documents.specs.Document.{the_nil, characters_before, is_among, with_field, IsDocument, AreParts, AreItems, AreFields, AreMoreFields, AreAttributes}
@@ -183,12 +182,12 @@ mutual
       ≡ run most (state AtValue (InContent tag (with_fields labels values all) ∷ frames)) more
   attributes_come _ _ _ _ (document.no_attribute depth labels) most _ first tag values frames right more le = refl
   attributes_come _ _ _ _ (document.no_attribute depth labels) most _ later tag values frames right more le = refl
-  attributes_come _ _ _ _ (document.attribute depth labels label span equal tokens _ rest value others other is_new is grammar.none are) most place at_place tag values frames right more le =
+  attributes_come _ _ _ _ (document.attribute depth labels label span equal tokens _ rest value others other is_new is document.no_semicolon are) most place at_place tag values frames right more le =
       attribute_label place at_place most label span labels tag values frames other is_new (equal_at equal ∷ (tokens ++ rest) ++ close_tag right ∷ more)
       ∙ ap (run most (state AtValue (InTag tag (label ∷ labels) values ∷ frames))) (append_assoc tokens rest (close_tag right ∷ more))
       ∙ comes depth tokens value is most (InTag tag (label ∷ labels) values ∷ frames) (rest ++ close_tag right ∷ more) (omega (arith, le))
       ∙ attributes_come depth (label ∷ labels) rest others are most AfterAttribute later tag (value ∷ values) frames right more le
-  attributes_come _ _ _ _ (document.attribute depth labels label span equal tokens _ rest value others other is_new is (grammar.semicolon mark) are) most place at_place tag values frames right more le =
+  attributes_come _ _ _ _ (document.attribute depth labels label span equal tokens _ rest value others other is_new is (document.one_semicolon mark) are) most place at_place tag values frames right more le =
       attribute_label place at_place most label span labels tag values frames other is_new (equal_at equal ∷ (tokens ++ semicolon_at mark ∷ rest) ++ close_tag right ∷ more)
       ∙ ap (run most (state AtValue (InTag tag (label ∷ labels) values ∷ frames))) (append_assoc tokens (semicolon_at mark ∷ rest) (close_tag right ∷ more))
       ∙ comes depth tokens value is most (InTag tag (label ∷ labels) values ∷ frames) (semicolon_at mark ∷ rest ++ close_tag right ∷ more) (omega (arith, le))

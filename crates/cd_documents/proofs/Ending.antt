@@ -5,7 +5,7 @@ use Rattle.cd_syntax.specs.declared.sign.Sign.TheVariants as sign
 use Rattle.cd_syntax.specs.declared.tokens.Token.{Token}
 use Rattle.cd_syntax.specs.declared.tokens.TokenKind.{TokenKind}
 use Rattle.cd_syntax.specs.declared.tokens.TokenKind.TheVariants as token
-use Rattle.cd_syntax.specs.TypeGrammar.{at}
+use Rattle.cd_syntax.specs.Tokens.{at}
 use Rattle.cd_model.specs.Thing.{Thing, Integer, Atom, Xml, Record, NoField}
 use Rattle.cd_documents.specs.Document.{the_nil}
 use Rattle.cd_documents.specs.Machine.{Place, AtValue, AtItem, AfterPart, AtField, AfterField, AtTag, AtAttribute, AfterAttribute, AtEqual, Done, Frame, InTuple, InSequence, InRecord, InTag, InContent, state, pairs, with_fields, put, Fits, Ends}

@@ -151,7 +151,7 @@ read_deeper depth most tokens value is =
 
 -- no document begins with a token at which the machine is stuck
 stuck : (most : ℕ) (before : List Token) (one : Token) (last : State) (from : ℕ) → reach most start before ≡ Ok last → step most last one ≡ Err (Syntax from)
-    → (depth : ℕ) (more : List Token) → ADocument depth ((before ++ one ∷ []) ++ more) → ⊥
+    → (depth : ℕ) (more : List Token) → ADocument.Writes depth ((before ++ one ∷ []) ++ more) → ⊥
 stuck most before one last from is wrong depth more (value, document) =
     let le : most ≤ depth + most = omega arith in
     let reads : run (depth + most) start (before ++ one ∷ more) ≡ Ok (Some value) =
@@ -179,7 +179,7 @@ wrong_at most before one rest end last from is wrong fits =
       within = within_them before one rest;
       before = subst (BeginSome ADocument most) (sym (before_it before one rest)) (begun most before last is fits);
       wrong = λ depth more document. stuck most before one last from is wrong depth more
-          (subst (λ tokens. ADocument depth (tokens ++ more)) (with_it before one rest) document);
+          (subst (λ tokens. ADocument.Writes depth (tokens ++ more)) (with_it before one rest) document);
     }))
 
 pub wrong_token : (most : ℕ) (tokens : List Token) (end from : ℕ) → run most start tokens ≡ Err (Syntax from) → IsSyntaxFault ADocument most tokens end from

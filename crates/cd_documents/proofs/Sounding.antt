@@ -7,8 +7,7 @@ use Rattle.cd_syntax.specs.declared.tokens.Span.{Span}
 use Rattle.cd_syntax.specs.declared.tokens.Token.{Token}
 use Rattle.cd_syntax.specs.declared.tokens.TokenKind.TheVariants as token
 use Rattle.cd_syntax.specs.Name.{Name}
-use Rattle.cd_syntax.specs.TypeGrammar as grammar
-use Rattle.cd_syntax.specs.TypeGrammar.{at}
+use Rattle.cd_syntax.specs.Tokens.{at}
 use Rattle.cd_model.specs.Thing.{Thing, Integer, Character, Atom, Pair, Xml, Record, Fields, NoField}
 use Rattle.cd_documents.specs.Document as document
 use Rattle.cd_documents.specs.Document.{the_nil, characters_before, is_among, with_field, IsDocument, AreParts, AreItems, AreFields, AreMoreFields, AreAttributes}
@@ -240,7 +239,7 @@ attribute_made r after tag label span labels values tokens other new (equal, lat
   with_field label value all,
   body,
   ap (λ all. at (token.Word label) span ∷ all) (equals ∙ ap (λ all. equal_at equal ∷ all) (is ∙ ap (λ all. inner ++ all) ends ∙ sym (append_assoc inner more (close_tag right ∷ (content ++ last))))),
-  document.attribute r labels label span equal inner [] more value all other new derives grammar.none attributes,
+  document.attribute r labels label span equal inner [] more value all other new derives document.no_semicolon attributes,
   written,
   closed,
 )
@@ -253,7 +252,7 @@ attribute_made r after tag label span labels values tokens other new (equal, lat
   body,
   ap (λ all. at (token.Word label) span ∷ all) (equals ∙ ap (λ all. equal_at equal ∷ all) (is ∙ ap (λ all. inner ++ all) (marked ∙ ap (λ all. semicolon_at mark ∷ all) ends)
       ∙ sym (append_assoc inner (semicolon_at mark ∷ more) (close_tag right ∷ (content ++ last))))),
-  document.attribute r labels label span equal inner (semicolon_at mark ∷ []) more value all other new derives (grammar.semicolon mark) attributes,
+  document.attribute r labels label span equal inner (semicolon_at mark ∷ []) more value all other new derives (document.one_semicolon mark) attributes,
   written,
   closed,
 )

@@ -9,7 +9,7 @@ use Rattle.cd_syntax.specs.declared.tokens.Token.{Token}
 use Rattle.cd_syntax.specs.declared.tokens.TokenKind.{TokenKind}
 use Rattle.cd_syntax.specs.declared.tokens.TokenKind.TheVariants as token
 use Rattle.cd_syntax.specs.Name.{Name}
-use Rattle.cd_syntax.specs.TypeGrammar.{at}
+use Rattle.cd_syntax.specs.Tokens.{at}
 use Rattle.cd_documents.specs.Terminal as is
 use Rattle.cd_documents.specs.Terminal.{Terminal, terminal}
 

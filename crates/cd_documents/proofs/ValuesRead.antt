@@ -19,7 +19,7 @@ use Rattle.cd_syntax.specs.Quotes as quotes
 use Rattle.cd_syntax.specs.Quotes.{Quotes, IsEscapeLetter}
 use Rattle.cd_syntax.specs.Tokens as tokens_of
 use Rattle.cd_syntax.specs.Tokens.{Writes, Spells}
-use Rattle.cd_syntax.specs.TypeGrammar.{at}
+use Rattle.cd_syntax.specs.Tokens.{at}
 use Rattle.cd_model.specs.AllOf.{AllOf}
 use Rattle.cd_model.specs.Thing.{Thing, Fields, NoField, Field, LabelsRise, IsValue, AreValues}
 use Rattle.cd_documents.specs.Document as document

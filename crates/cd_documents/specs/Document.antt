@@ -12,7 +12,7 @@ use Rattle.cd_syntax.specs.declared.tokens.Span.{Span}
 use Rattle.cd_syntax.specs.declared.tokens.Token.{Token}
 use Rattle.cd_syntax.specs.declared.tokens.TokenKind.TheVariants as token
 use Rattle.cd_syntax.specs.Name.{Name}
-use Rattle.cd_syntax.specs.TypeGrammar.{at, MayBeSemicolon}
+use Rattle.cd_syntax.specs.Tokens.{at}
 use Rattle.cd_model.specs.Thing.{Thing, Integer, Character, Atom, Pair, Xml, Record, Fields}
 use Rattle.cd_model.specs.Thing.{NoField, Field}
 
@@ -35,6 +35,11 @@ with_field label value NoField = Field label value NoField
 with_field label value (Field other is rest) =
     if is_lt (slice_cmp nat_cmp label other) then Field label value (Field other is rest)
     else Field other is (with_field label value rest)
+
+-- a `;` or nothing
+pub data MayBeSemicolon : List Token → Type 0 where
+  no_semicolon : MayBeSemicolon []
+  one_semicolon : (span : Span) → MayBeSemicolon (at (token.Sign sign.Semicolon) span ∷ [])
 
 mutual
   -- Value = Int | Chars of one character | Text | Atom | "(" Value { "," Value } ")"

@@ -1,14 +1,14 @@
 -- Where tokens stop being a document.
 use Rattle.std.specs.Prelude.{◌≡◌, ℕ, true, List, take, length}
 use Rattle.cd_syntax.specs.declared.tokens.Token.{Token}
-use Rattle.cd_syntax.specs.SyntaxFaults.{Form, BeginSome, IsSyntaxFault, place_of}
+use Rattle.cd_syntax.specs.SyntaxFaults.{Form, form_of, BeginSome, IsSyntaxFault, place_of}
 use Rattle.cd_model.specs.Thing.{Thing}
 use Rattle.cd_documents.specs.Document.{IsDocument}
 use Rattle.cd_documents.specs.Terminal.{open_after, opens_at}
 
 -- the form of documents
 abbrev pub ADocument : Form
-ADocument depth tokens = (value : Thing) × IsDocument depth tokens value
+ADocument = form_of (λ depth tokens. (value : Thing) × IsDocument depth tokens value)
 
 -- An opening bracket at which as many are open as may be, whether or not it could stand there: the
 -- tokens before it begin a document

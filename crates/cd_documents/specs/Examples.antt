@@ -6,7 +6,7 @@ use Rattle.cd_syntax.specs.declared.tokens.Span.{Span}
 use Rattle.cd_syntax.specs.declared.tokens.Token.{Token}
 use Rattle.cd_syntax.specs.declared.tokens.TokenKind.TheVariants as token
 use Rattle.cd_syntax.specs.Name.{Name}
-use Rattle.cd_syntax.specs.TypeGrammar.{at}
+use Rattle.cd_syntax.specs.Tokens.{at}
 use Rattle.cd_model.specs.Thing.{Thing, Integer, Character, Atom, Pair, Xml, Record, NoField, Field}
 use Rattle.cd_documents.specs.Document.{the_nil}
 

@@ -4,7 +4,6 @@ mod Concluding
 mod Causing
 mod OneCommand
 mod OneFault
-mod OneDeclarations
 mod OneRefusal
 mod OneDocument
 mod OneStatus

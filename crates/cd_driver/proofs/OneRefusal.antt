@@ -3,18 +3,19 @@ use Rattle.std.proofs.Common.{◌≡◌, List, length, refl, sym, ap, subst, ◌
 use Rattle.std.specs.Str.{chars}
 use Rattle.cd_syntax.specs.declared.tokens.Token.{Token}
 use Rattle.cd_syntax.specs.TypeTree.{Declarations}
-use Rattle.cd_syntax.specs.TypeGrammar.{IsTree, AreDeclared}
-use Rattle.cd_syntax.specs.SyntaxFaults.{Form, AType, SomeDeclarations, IsSyntaxFault, IsDepthFault}
+use Rattle.cd_syntax.specs.SyntaxFaults.{Form, IsForm, IsSyntaxFault, IsDepthFault}
+use Rattle.cd_grammar.specs.Language.{IsTree, AreDeclared}
+use Rattle.cd_grammar.specs.Forms.{AType, SomeDeclarations}
+use Rattle.cd_grammar.proofs.FormsOfTexts.{type_form, declarations_form}
+use Rattle.cd_grammar.proofs.OneReading.{one_tree, one_declared}
 use Rattle.cd_model.specs.Written.{Written}
 use Rattle.cd_resolve.specs.Faults.{Fault, IsFaultOfType, IsFaultOfDeclarations}
 use Rattle.cd_lex.proofs.ReadingIsOne.{one_list, one_fault, not_both as spelled_or_not}
-use Rattle.cd_type_reader.proofs.OneTree.{one_tree}
 use Rattle.cd_replies.specs.Bytes.{Bytes}
 use Rattle.cd_replies.specs.Reply.{refusal}
 use Rattle.cd_replies.specs.Texts.{Against, Lexical, Syntax, TooDeep, Naming, HasTokens, Refuses, lexical, syntax, too_deep, naming}
 use Rattle.cd_replies.specs.Texts.{ReadsAs, Declares, RefusesType, RefusesDeclarations, IsToldOfType, IsToldOfDeclarations, type_of}
 use Rattle.cd_driver.proofs.OneFault.{syntax_one, depth_one, not_both, written_no_syntax, written_no_depth}
-use Rattle.cd_driver.proofs.OneDeclarations.{one_declared}
 
 -- the same thing stands against a text, or a naming fault in each case
 data IsAlike : (a b : Against) → Type 0 where
@@ -25,7 +26,8 @@ one_status : (origin text : Bytes) (a b : Against) → IsAlike a b → (refusal 
 one_status origin text a b (same _ _ is) = ap (λ against. (refusal origin text against).status) is
 one_status origin text _ _ (both_naming a b) = refl
 
-module _ (form : Form) (told : List Token → Fault → Type 0) (writes : (tokens : List Token) (fault : Fault) → told tokens fault → form 1000 tokens) (text : Bytes) where
+module _ (form : Form) (law : IsForm form) (told : List Token → Fault → Type 0)
+    (writes : (tokens : List Token) (fault : Fault) → told tokens fault → form.Writes 1000 tokens) (text : Bytes) where
   -- the text is spelled by the same tokens
   same_tokens : (first second : List Token) → HasTokens text first → HasTokens text second → second ≡ first
   same_tokens first second spelled other = one_list (chars text) second first other spelled
@@ -42,71 +44,71 @@ module _ (form : Form) (told : List Token → Fault → Type 0) (writes : (token
   one_refusal _ _ (syntax a_ts a_spelled a_p a_fault) (lexical b_f b_fails) =
       absurd (spelled_or_not (chars text) a_ts b_f a_spelled b_fails)
   one_refusal _ _ (syntax a_ts a_spelled a_p a_fault) (syntax b_ts b_spelled b_p b_fault) =
-      same _ _ (ap Syntax (syntax_one form 1000 a_ts (length text) a_p b_p a_fault
+      same _ _ (ap Syntax (syntax_one form law 1000 a_ts (length text) a_p b_p a_fault
       (subst (λ ts. IsSyntaxFault form 1000 ts (length text) b_p) (same_tokens a_ts b_ts a_spelled b_spelled) b_fault)))
   one_refusal _ _ (syntax a_ts a_spelled a_p a_fault) (too_deep b_ts b_spelled b_p b_fault) =
-      absurd (not_both form 1000 a_ts (length text) a_p b_p a_fault
+      absurd (not_both form law 1000 a_ts (length text) a_p b_p a_fault
       (subst (λ ts. IsDepthFault form 1000 ts (length text) b_p) (same_tokens a_ts b_ts a_spelled b_spelled) b_fault))
   one_refusal _ _ (syntax a_ts a_spelled a_p a_fault) (naming b_ts b_spelled b_fault b_told) =
-      absurd (written_no_syntax form 1000 a_ts (length text) a_p
-      (subst (form 1000) (same_tokens a_ts b_ts a_spelled b_spelled) (writes b_ts b_fault b_told)) a_fault)
+      absurd (written_no_syntax form law 1000 a_ts (length text) a_p
+      (subst (form.Writes 1000) (same_tokens a_ts b_ts a_spelled b_spelled) (writes b_ts b_fault b_told)) a_fault)
   one_refusal _ _ (too_deep a_ts a_spelled a_p a_fault) (lexical b_f b_fails) =
       absurd (spelled_or_not (chars text) a_ts b_f a_spelled b_fails)
   one_refusal _ _ (too_deep a_ts a_spelled a_p a_fault) (syntax b_ts b_spelled b_p b_fault) =
-      absurd (not_both form 1000 a_ts (length text) b_p a_p
+      absurd (not_both form law 1000 a_ts (length text) b_p a_p
       (subst (λ ts. IsSyntaxFault form 1000 ts (length text) b_p) (same_tokens a_ts b_ts a_spelled b_spelled) b_fault) a_fault)
   one_refusal _ _ (too_deep a_ts a_spelled a_p a_fault) (too_deep b_ts b_spelled b_p b_fault) =
-      same _ _ (ap TooDeep (depth_one form 1000 a_ts (length text) a_p b_p a_fault
+      same _ _ (ap TooDeep (depth_one form law 1000 a_ts (length text) a_p b_p a_fault
       (subst (λ ts. IsDepthFault form 1000 ts (length text) b_p) (same_tokens a_ts b_ts a_spelled b_spelled) b_fault)))
   one_refusal _ _ (too_deep a_ts a_spelled a_p a_fault) (naming b_ts b_spelled b_fault b_told) =
-      absurd (written_no_depth form 1000 a_ts (length text) a_p
-      (subst (form 1000) (same_tokens a_ts b_ts a_spelled b_spelled) (writes b_ts b_fault b_told)) a_fault)
+      absurd (written_no_depth form law 1000 a_ts (length text) a_p
+      (subst (form.Writes 1000) (same_tokens a_ts b_ts a_spelled b_spelled) (writes b_ts b_fault b_told)) a_fault)
   one_refusal _ _ (naming a_ts a_spelled a_fault a_told) (lexical b_f b_fails) =
       absurd (spelled_or_not (chars text) a_ts b_f a_spelled b_fails)
   one_refusal _ _ (naming a_ts a_spelled a_fault a_told) (syntax b_ts b_spelled b_p b_fault) =
-      absurd (written_no_syntax form 1000 a_ts (length text) b_p (writes a_ts a_fault a_told)
+      absurd (written_no_syntax form law 1000 a_ts (length text) b_p (writes a_ts a_fault a_told)
       (subst (λ ts. IsSyntaxFault form 1000 ts (length text) b_p) (same_tokens a_ts b_ts a_spelled b_spelled) b_fault))
   one_refusal _ _ (naming a_ts a_spelled a_fault a_told) (too_deep b_ts b_spelled b_p b_fault) =
-      absurd (written_no_depth form 1000 a_ts (length text) b_p (writes a_ts a_fault a_told)
+      absurd (written_no_depth form law 1000 a_ts (length text) b_p (writes a_ts a_fault a_told)
       (subst (λ ts. IsDepthFault form 1000 ts (length text) b_p) (same_tokens a_ts b_ts a_spelled b_spelled) b_fault))
   one_refusal _ _ (naming a_ts a_spelled a_fault a_told) (naming b_ts b_spelled b_fault b_told) =
       both_naming a_fault b_fault
 
   -- nothing stands against tokens that are of the form, where no naming fault is told of what they write
-  stands_not : (tokens : List Token) → HasTokens text tokens → form 1000 tokens → ((fault : Fault) → told tokens fault → ⊥)
+  stands_not : (tokens : List Token) → HasTokens text tokens → form.Writes 1000 tokens → ((fault : Fault) → told tokens fault → ⊥)
       → (against : Against) → Refuses form told text against → ⊥
   stands_not tokens spelled written sound _ (lexical f fails) = spelled_or_not (chars text) tokens f spelled fails
   stands_not tokens spelled written sound _ (syntax ts other p fault) =
-      written_no_syntax form 1000 tokens (length text) p written
+      written_no_syntax form law 1000 tokens (length text) p written
       (subst (λ ts. IsSyntaxFault form 1000 ts (length text) p) (same_tokens tokens ts spelled other) fault)
   stands_not tokens spelled written sound _ (too_deep ts other p fault) =
-      written_no_depth form 1000 tokens (length text) p written
+      written_no_depth form law 1000 tokens (length text) p written
       (subst (λ ts. IsDepthFault form 1000 ts (length text) p) (same_tokens tokens ts spelled other) fault)
   stands_not tokens spelled written sound _ (naming ts other fault is) =
       sound fault (subst (λ ts. told ts fault) (same_tokens tokens ts spelled other) is)
 
-writes_type : (declared : Declarations) (tokens : List Token) (fault : Fault) → IsToldOfType declared tokens fault → AType 1000 tokens
+writes_type : (declared : Declarations) (tokens : List Token) (fault : Fault) → IsToldOfType declared tokens fault → AType.Writes 1000 tokens
 writes_type declared tokens fault is = (is.0, is.1)
 
-writes_declarations : (tokens : List Token) (fault : Fault) → IsToldOfDeclarations tokens fault → SomeDeclarations 1000 tokens
+writes_declarations : (tokens : List Token) (fault : Fault) → IsToldOfDeclarations tokens fault → SomeDeclarations.Writes 1000 tokens
 writes_declarations tokens fault is = (is.0, is.1)
 
 -- what is said of what stands against a text has one status
 pub one_type_refusal : (declared : Declarations) (origin text : Bytes) (a b : Against) → RefusesType declared text a → RefusesType declared text b
     → (refusal origin text a).status ≡ (refusal origin text b).status
 one_type_refusal declared origin text a b first second = one_status origin text a b
-    (one_refusal AType (IsToldOfType declared) (writes_type declared) text a b first second)
+    (one_refusal AType type_form (IsToldOfType declared) (writes_type declared) text a b first second)
 
 pub one_declarations_refusal : (origin text : Bytes) (a b : Against) → RefusesDeclarations text a → RefusesDeclarations text b
     → (refusal origin text a).status ≡ (refusal origin text b).status
 one_declarations_refusal origin text a b first second = one_status origin text a b
-    (one_refusal SomeDeclarations IsToldOfDeclarations writes_declarations text a b first second)
+    (one_refusal SomeDeclarations declarations_form IsToldOfDeclarations writes_declarations text a b first second)
 
 -- a text that reads as a type is not refused, nor is one that reads as declarations
 pub reads_unrefused : (declared : Declarations) (text : Bytes) (is : Written) → ReadsAs declared text is
     → (against : Against) → RefusesType declared text against → ⊥
 reads_unrefused declared text is reads against refuses =
-    stands_not AType (IsToldOfType declared) (writes_type declared) text reads.tokens reads.spelled (reads.tree, reads.written)
+    stands_not AType type_form (IsToldOfType declared) (writes_type declared) text reads.tokens reads.spelled (reads.tree, reads.written)
     (λ fault told.
     let same = one_tree 1000 1000 reads.tokens told.0 reads.tree told.1 reads.written in
     reads.sound fault (subst (λ tree. IsFaultOfType declared tree fault) same told.2.is))
@@ -115,7 +117,7 @@ reads_unrefused declared text is reads against refuses =
 pub declares_unrefused : (text : Bytes) (declared : Declarations) → Declares text declared
     → (against : Against) → RefusesDeclarations text against → ⊥
 declares_unrefused text declared declares against refuses =
-    stands_not SomeDeclarations IsToldOfDeclarations writes_declarations text declares.tokens declares.spelled (declared, declares.written)
+    stands_not SomeDeclarations declarations_form IsToldOfDeclarations writes_declarations text declares.tokens declares.spelled (declared, declares.written)
     (λ fault told.
     let same = one_declared 1000 1000 declares.tokens told.0 declared told.1 declares.written in
     declares.sound fault (subst (λ list. IsFaultOfDeclarations list fault) same told.2.is))

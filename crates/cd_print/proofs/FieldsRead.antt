@@ -7,8 +7,7 @@ use Rattle.std.proofs.lemmas.Bool.Decides.{nat_tests}
 use Rattle.cd_syntax.specs.Name.{Name, IsLabel, is_word, begins_word, goes_on_word}
 use Rattle.cd_syntax.specs.Tokens as tokens
 use Rattle.cd_syntax.specs.Tokens.{EndsWord, Spells}
-use Rattle.cd_syntax.specs.TypeGrammar as types
-use Rattle.cd_syntax.specs.TypeGrammar.{at}
+use Rattle.cd_syntax.specs.Tokens.{at}
 use Rattle.cd_syntax.specs.declared.sign.Sign.TheVariants as sign
 use Rattle.cd_syntax.specs.declared.tokens.Span.{Span}
 use Rattle.cd_syntax.specs.declared.tokens.Token.{Token}
@@ -176,7 +175,7 @@ module _ (depth : ℕ) where
                 (ap (λ all. field.of_value ++ all) split.is ∙ sym (append_assoc field.of_value split.first split.last));
             form = subst (AreAttributes depth before _) is
                 (document.attribute depth before label field.span field.equal field.of_value [] split.first value others named.1 new field.document
-                types.none split.form);
+                document.no_semicolon split.form);
             tail = split.tail;
           }
 

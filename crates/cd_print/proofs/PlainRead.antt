@@ -14,7 +14,7 @@ use Rattle.cd_syntax.specs.Name.{Name, IsLabel}
 use Rattle.cd_syntax.specs.Quotes as quotes
 use Rattle.cd_syntax.specs.Tokens as tokens
 use Rattle.cd_syntax.specs.Tokens.{EndsWord, Writes}
-use Rattle.cd_syntax.specs.TypeGrammar.{at}
+use Rattle.cd_syntax.specs.Tokens.{at}
 use Rattle.cd_syntax.specs.declared.tokens.Span.{Span}
 use Rattle.cd_syntax.specs.declared.tokens.Token.{Token}
 use Rattle.cd_syntax.specs.declared.tokens.TokenKind.{TokenKind}

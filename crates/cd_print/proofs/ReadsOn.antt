@@ -3,7 +3,7 @@ use Rattle.std.proofs.Common.{ℕ, ◌+◌, Bool, true, false, List, [], ◌∷�
 use Rattle.cd_syntax.specs.Signs.{characters, closes}
 use Rattle.cd_syntax.specs.Tokens as tokens
 use Rattle.cd_syntax.specs.Tokens.{EndsWord, Writes, Spells, IsDropped, joins, bytes, token_at}
-use Rattle.cd_syntax.specs.TypeGrammar.{at}
+use Rattle.cd_syntax.specs.Tokens.{at}
 use Rattle.cd_syntax.specs.declared.sign.Sign.{Sign as ASign}
 use Rattle.cd_syntax.specs.declared.tokens.Span.{Span}
 use Rattle.cd_syntax.specs.declared.tokens.Token.{Token}

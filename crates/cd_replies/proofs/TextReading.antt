@@ -8,9 +8,9 @@ use Rattle.cd_resolve.specs.Errors.{IsToldError}
 use Rattle.cd_resolve.specs.Faults.{Fault, IsTold, IsFaultOfDeclarations, twice, built_in, unguarded, in_declared}
 use Rattle.cd_resolve.specs.declared.error.NameError.{NameError}
 use Rattle.cd_resolve.specs.declared.error.NameError.TheVariants as name_fault
-use Rattle.cd_parse_types.specs.Parsed.{IsFault}
-use Rattle.cd_parse_types.specs.declared.error.ParseError.{ParseError}
-use Rattle.cd_parse_types.specs.declared.error.ParseError.TheVariants as fault
+use Rattle.cd_parser.specs.Parsed.{IsFault}
+use Rattle.cd_parser.specs.declared.error.ParseError.{ParseError}
+use Rattle.cd_parser.specs.declared.error.ParseError.TheVariants as fault
 use Rattle.cd_replies.specs.Bytes.{Bytes}
 use Rattle.cd_replies.specs.Texts.{Against, HasTokens, Declares, Refuses, RefusesDeclarations, syntax, too_deep, naming}
 use Rattle.cd_replies.specs.Naming.{Writes, AreNamedWell, RefusesNames}

@@ -4,7 +4,7 @@ use Rattle.std.specs.Prelude.{List}
 use Rattle.cd_sets.specs.declared.node_id.NodeId.{NodeId}
 use Rattle.cd_syntax.specs.declared.tokens.Token.{Token}
 use Rattle.cd_syntax.specs.TypeTree.{Declarations}
-use Rattle.cd_syntax.specs.TypeGrammar.{AreDeclared}
+use Rattle.cd_grammar.specs.Language.{AreDeclared}
 use Rattle.cd_model.specs.Formula.{Graph}
 use Rattle.cd_model.specs.StandsFor.{StandsFor}
 use Rattle.cd_model.specs.Written.{Written}

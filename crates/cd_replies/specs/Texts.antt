@@ -6,8 +6,9 @@ use Rattle.cd_syntax.specs.declared.tokens.LexError.{LexError}
 use Rattle.cd_syntax.specs.Tokens.{Spells}
 use Rattle.cd_syntax.specs.Faults.{Fails}
 use Rattle.cd_syntax.specs.TypeTree.{Tree, Declarations}
-use Rattle.cd_syntax.specs.TypeGrammar.{IsTree, AreDeclared}
-use Rattle.cd_syntax.specs.SyntaxFaults.{Form, AType, SomeDeclarations, IsSyntaxFault, IsDepthFault}
+use Rattle.cd_syntax.specs.SyntaxFaults.{Form, IsSyntaxFault, IsDepthFault}
+use Rattle.cd_grammar.specs.Language.{IsTree, AreDeclared}
+use Rattle.cd_grammar.specs.Forms.{AType, SomeDeclarations}
 use Rattle.cd_model.specs.Written.{Written}
 use Rattle.cd_resolve.specs.Faults.{Fault, IsFaultOfType, IsFaultOfDeclarations, IsTold}
 use Rattle.cd_replies.specs.Bytes.{Bytes}

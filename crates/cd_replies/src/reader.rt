@@ -18,7 +18,7 @@ ghost use Rattle.cd_replies.specs.Texts.{HasTokens, RefusesType, RefusesDeclarat
 use crate::refusal::Refusal;
 use cd_graph::Graph;
 use cd_lex::lex;
-use cd_parse_types::{ParseError, parse_declarations, parse_type};
+use cd_parser::{ParseError, parse_declarations, parse_type};
 use cd_resolve::error::NameError;
 use cd_resolve::{Batch, Names, TypeBatch, resolve, resolve_type};
 use cd_syntax::tokens::{LexError, Token};

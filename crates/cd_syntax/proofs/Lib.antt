@@ -1,3 +1,2 @@
 pub mod Spelled
-pub mod TypesIn
-mod SameNames
+pub mod SameNames

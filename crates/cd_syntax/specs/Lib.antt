@@ -1,4 +1,5 @@
 pub mod Name
+pub mod BuiltIn
 pub mod ComparingNames
 pub mod Integer
 pub mod Signs
@@ -10,7 +11,4 @@ pub mod Digits
 pub mod TypeTree
 pub mod PlainTree
 pub mod WellMade
-pub mod TypeGrammar
-pub mod PlainBase
 pub mod SyntaxFaults
-pub mod Examples

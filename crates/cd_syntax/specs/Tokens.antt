@@ -3,6 +3,7 @@ use Rattle.std.specs.Prelude.{◌≡◌, ℕ, pos, ◌+◌, ◌==◌, ◌||◌, 
 use Rattle.std.specs.Prelude.{[], ◌∷◌, ◌++◌, length, IsTrue, encode_utf8_all}
 use Rattle.std.specs.Char.{is_ascii_digit}
 use Rattle.cd_syntax.specs.declared.sign.Sign.{Sign as ASign}
+use Rattle.cd_syntax.specs.declared.tokens.Span.{Span}
 use Rattle.cd_syntax.specs.declared.tokens.Token.{Token}
 use Rattle.cd_syntax.specs.declared.tokens.TokenKind.{TokenKind}
 use Rattle.cd_syntax.specs.declared.tokens.TokenKind.TheVariants.{Word, Int, Chars, Text, Atom}
@@ -84,3 +85,7 @@ pub data Spells : (joined : Bool) (at : ℕ) → List ℕ → List Token → Typ
       → Writes joined written text kind
       → Spells (joins kind) (at + bytes written) text tokens
       → Spells joined at (written ++ text) (token_at at written kind ∷ tokens)
+
+-- a token of a kind, at any place
+abbrev pub at : TokenKind → Span → Token
+at kind span = record { kind = kind; span = span }

@@ -1,11 +1,8 @@
-//! The syntax of types, and the definitions that every theorem of the program cites: elements,
-//! spelling and grammar. They stand in `specs/`.
+//! What is written: names, tokens and the trees of types, and how texts spell tokens. The definitions stand in `specs/`.
 #![tactic(auto)]
 
-pub mod base;
 pub mod builtin;
 pub mod constant;
-pub mod laws;
 mod make;
 pub mod name;
 pub mod sign;

@@ -11,7 +11,7 @@ use crate::questions::verdict;
 use crate::row::{number, text};
 use crate::sets::{copies, order, set, subsets, union};
 use crate::tokens::tokens;
-use crate::types::{declarations_of, front, type_of};
+use crate::types::{declarations_of, type_of};
 use crate::worlds::Session;
 use cd_base::files::Files;
 use std::alloc::{AllocError, Global};
@@ -32,7 +32,6 @@ pub(crate) fn answer<F: Files>(
         "declarations" => declarations_of(alloc, of),
         "deep" => deep(alloc, of, number(row, "count")),
         "files" => reads(alloc, files, of),
-        "fronts" => front(alloc, of, number(row, "from"), number(row, "depth")),
         "integers" => integers(alloc, of, text(row, "with")),
         "memory_files" => memory_reads(alloc, text(row, "held"), of),
         "memory_sink" => puts(alloc, text(row, "refused"), of),

@@ -2,14 +2,13 @@
 use toml::Value;
 
 // The keys of the rows of each table beside `of` and `gives`.
-const KEYS: [(&str, &str); 15] = [
+const KEYS: [(&str, &str); 14] = [
     ("atoms", "with"),
     ("characters", "with"),
     ("clauses", "types"),
     ("deep", "count"),
     ("element_copies", "types"),
     ("formulas", "types"),
-    ("fronts", "from depth"),
     ("integers", "with"),
     ("memory_files", "held"),
     ("memory_sink", "refused"),

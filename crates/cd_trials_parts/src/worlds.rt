@@ -8,7 +8,7 @@ ghost use Rattle.cd_model.specs.AllOf.{AllOf};
 
 use cd_empty::{Verdict, World};
 use cd_lex::lex;
-use cd_parse_types::parse_declarations;
+use cd_parser::parse_declarations;
 use cd_resolve::resolve;
 use cd_sets::id_set::IdSet;
 use cd_sets::node_id::NodeId;

@@ -3,8 +3,8 @@ use Rattle.std.specs.Prelude.{◌≡◌, Result, Ok, IsErr}
 use Rattle.std.specs.declared.alloc.AllocError.{AllocError}
 use Rattle.cd_resolve.specs.declared.error.NameError.{NameError}
 use Rattle.cd_resolve.specs.declared.error.NameError.TheVariants as names
-use Rattle.cd_parse_types.specs.declared.error.ParseError.{ParseError}
-use Rattle.cd_parse_types.specs.declared.error.ParseError.TheVariants as fault
+use Rattle.cd_parser.specs.declared.error.ParseError.{ParseError}
+use Rattle.cd_parser.specs.declared.error.ParseError.TheVariants as fault
 use Rattle.cd_replies.specs.declared.refusal.Refusal.{Refusal}
 use Rattle.cd_replies.specs.declared.refusal.Refusal.TheVariants as refusal
 

@@ -1,7 +1,7 @@
 use Rattle.std.specs.Str.{chars}
 use Rattle.cd_syntax.specs.PlainTree.{plain_declarations}
-use Rattle.cd_syntax.specs.SyntaxFaults.{SomeDeclarations}
-use Rattle.cd_parse_types.proofs.MadeWell.{text_makes_declarations}
+use Rattle.cd_grammar.specs.Forms.{SomeDeclarations}
+use Rattle.cd_grammar.proofs.MadeWell.{text_makes_declarations}
 use Rattle.cd_replies.specs.Texts.{lexical, IsToldOfDeclarations}
 use Rattle.cd_replies.proofs.TextReading.{fault_refused}
 use Rattle.cd_replies.proofs.reader.read_declarations.Goals as goal

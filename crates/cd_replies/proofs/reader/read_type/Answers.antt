@@ -1,7 +1,7 @@
 use Rattle.std.specs.Str.{chars}
 use Rattle.cd_syntax.specs.PlainTree.{plain}
-use Rattle.cd_syntax.specs.SyntaxFaults.{AType}
-use Rattle.cd_parse_types.proofs.MadeWell.{text_makes_type}
+use Rattle.cd_grammar.specs.Forms.{AType}
+use Rattle.cd_grammar.proofs.MadeWell.{text_makes_type}
 use Rattle.cd_resolve.specs.Faults.{IsFaultOfType}
 use Rattle.cd_resolve.specs.Named.{declared_by}
 use Rattle.cd_replies.specs.Texts.{lexical, IsToldOfType}

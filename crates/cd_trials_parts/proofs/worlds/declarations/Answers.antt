@@ -1,6 +1,6 @@
 use Rattle.std.specs.Str.{chars}
 use Rattle.cd_syntax.specs.PlainTree.{plain_declarations}
-use Rattle.cd_parse_types.proofs.MadeWell.{text_makes_declarations}
+use Rattle.cd_grammar.proofs.MadeWell.{text_makes_declarations}
 use Rattle.cd_trials_parts.proofs.worlds.declarations.Goals as goal
 
 -- what the tokens of a text write is well made

@@ -1,9 +1,0 @@
-pub mod Fronts
-pub mod DeclaringCuts
-pub mod DeclaringForms
-pub mod DeclaringFronts
-pub mod DeclaringHeads
-pub mod DeclaringFaults
-pub mod DeclaringOn
-pub mod SpelledTokens
-pub mod MadeWell

@@ -1,2 +1,0 @@
--- What serves private functions. No public clause speaks of it.
-pub mod Declaring

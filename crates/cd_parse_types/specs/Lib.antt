@@ -1,3 +1,0 @@
-pub mod Parsed
-pub mod Front
-pub mod Inner

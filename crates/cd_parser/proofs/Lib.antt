@@ -1,0 +1,14 @@
+mod OfMany
+mod TextsRead
+mod Places
+mod Taking
+mod FrontParts
+mod RowsGrow
+mod Letters
+mod BuiltInNames
+mod Words
+mod ListedFits
+mod Stacks
+mod Steps
+mod Agreement
+mod Beginning

@@ -1,0 +1,15 @@
+use crate::part::Part;
+use cd_syntax::tokens::Span;
+
+/// A part that was read.
+#[derive(Drop)]
+pub(crate) struct Cell<'t> {
+    /// The state of the automaton after it.
+    pub(crate) state: u16,
+    /// How many levels may open after it.
+    pub(crate) room: usize,
+    /// Where it stands.
+    pub(crate) span: Span,
+    /// What it is.
+    pub(crate) part: Part<'t>,
+}

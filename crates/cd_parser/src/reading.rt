@@ -1,0 +1,12 @@
+use crate::part::Part;
+
+/// What is read of tokens.
+#[derive(Drop)]
+pub(crate) enum Reading<'t> {
+    /// What all of them write.
+    Whole(Part<'t>),
+    /// The number of the first token that cannot come, or how many there are.
+    Wrong(usize),
+    /// That of a token whose level has no room.
+    TooDeep(usize),
+}

@@ -1,0 +1,29 @@
+//! Rows that grow.
+ghost use Rattle.std.specs.Prelude.{◌≡◌, [], ◌∷◌, ◌++◌, IfOk};
+
+use std::alloc::{AllocError, Global};
+
+/// A row of one.
+pub(crate) fn row_of<T: Drop>(alloc: Global, one: T) -> Result<Vec<T>, AllocError>
+    ensures { IfOk result (λ all. all.items ≡ one ∷ []) }
+{
+    let mut all = Vec::new(alloc);
+    all.push(one)?;
+    Ok(all)
+}
+
+/// A row, and one after it.
+pub(crate) fn added<T: Drop>(mut all: Vec<T>, last: T) -> Result<Vec<T>, AllocError>
+    ensures { IfOk result (λ longer. longer.items ≡ all.items ++ last ∷ []) }
+{
+    all.push(last)?;
+    Ok(all)
+}
+
+/// A row, and those after it.
+pub(crate) fn joined<T: Drop>(mut all: Vec<T>, mut rest: Vec<T>) -> Result<Vec<T>, AllocError>
+    ensures { IfOk result (λ longer. longer.items ≡ all.items ++ rest.items) }
+{
+    all.append(&mut rest)?;
+    Ok(all)
+}

@@ -1,0 +1,171 @@
+//! What was read, the last part on top.
+ghost use Rattle.std.specs.Prelude.{◌≡◌, ◌+◌, [], ◌∷◌, map, take, drop, length, slice_get};
+ghost use Rattle.std.specs.Prelude.{IfOk, OnOk};
+ghost use Rattle.cd_lr.specs.Automaton as machine;
+ghost use Rattle.cd_lr.specs.Flat.{entry};
+ghost use Rattle.cd_grammar.specs.Language.{place_of, made_by, build};
+ghost use Rattle.cd_grammar.specs.Rules.{lines};
+ghost use Rattle.cd_parser.specs.Listed.{automaton, the_grammar, listed};
+ghost use Rattle.cd_parser.specs.PlainParts.{plain_part, parts_in};
+ghost use Rattle.cd_parser.specs.PlainStacks.{plain_value, plain_stack, put};
+
+use crate::cell::Cell;
+use crate::made::{of_one, of_several};
+use crate::part::Part;
+use crate::table::{goto_at, left_of, length_of, make_of};
+use cd_grammar::make::{Make, One};
+use cd_syntax::tokens::Span;
+use std::alloc::{AllocError, Global};
+use std::mem;
+
+/// The state at the top.
+pub(crate) fn state_of(stack: &[Cell<'_>]) -> u16
+    ensures { result ≡ machine.state_of (plain_stack stack.now) }
+{
+    match stack {
+        [] => 0,
+        [.., last] => last.state,
+    }
+}
+
+/// How many levels may open after it.
+pub(crate) fn room_of(most: usize, stack: &[Cell<'_>]) -> usize
+    ensures { result ≡ machine.room_of most (plain_stack stack.now) }
+{
+    match stack {
+        [] => most,
+        [.., last] => last.room,
+    }
+}
+
+/// Puts what a rule makes of the last parts in their place.
+///
+/// # Errors
+///
+/// Want of memory.
+pub(crate) fn reduce<'t>(
+    alloc: Global,
+    most: usize,
+    rule: u16,
+    stack: &mut Vec<Cell<'t>>,
+) -> Result<(), AllocError>
+    ensures { OnOk result (plain_stack stack.new.items
+        ≡ machine.pushed the_grammar automaton most rule
+        (machine.popped (entry listed.lengths rule) [] (plain_stack stack.old.items))) }
+{
+    let at = stack.len().saturating_sub(usize::from(length_of(rule)));
+    if stack.len() - at == 1 {
+        return reduce_top(alloc, most, rule, at, stack);
+    }
+    let cells = stack.split_off(at)?;
+    reduce_several(alloc, most, rule, cells, stack)
+}
+
+// The one part is the top, which is changed in its place.
+fn reduce_top<'t>(
+    alloc: Global,
+    most: usize,
+    rule: u16,
+    top: usize,
+    stack: &mut Vec<Cell<'t>>,
+) -> Result<(), AllocError>
+    requires { top + 1 ≡ length stack.old.items }
+    ensures { OnOk result (plain_stack stack.new.items
+        ≡ machine.pushed the_grammar automaton most rule
+        (map plain_value (drop top stack.old.items), plain_stack (take top stack.old.items))) }
+{
+    let below = &stack[..top];
+    let state = goto_at(state_of(below), left_of(rule));
+    let room = room_of(most, below);
+    let cell = &mut stack[top];
+    remake(alloc, rule, cell)?;
+    cell.state = state;
+    cell.room = room;
+    Ok(())
+}
+
+// What a rule makes of the one part, in its place.
+fn remake<'t>(alloc: Global, rule: u16, cell: &mut Cell<'t>) -> Result<(), AllocError>
+    ensures { OnOk result (plain_value cell.new ≡ build rule (plain_value cell.old ∷ [])) }
+{
+    match make_of(rule) {
+        Some(Make::One(One::That)) => Ok(()),
+        Some(make) => {
+            let part = mem::replace(&mut cell.part, Part::Junk);
+            cell.part = of_one(alloc, make, cell.span, part)?;
+            Ok(())
+        }
+        None => {
+            cell.part = Part::Junk;
+            Ok(())
+        }
+    }
+}
+
+fn reduce_several<'t>(
+    alloc: Global,
+    most: usize,
+    rule: u16,
+    cells: Vec<Cell<'t>>,
+    stack: &mut Vec<Cell<'t>>,
+) -> Result<(), AllocError>
+    ensures { OnOk result (plain_stack stack.new.items
+        ≡ machine.pushed the_grammar automaton most rule
+        (map plain_value cells.entry.items, plain_stack stack.old.items)) }
+{
+    let span = place_of(&cells);
+    let made = made_of_several(alloc, rule, span, cells)?;
+    push(most, rule, span, made, stack)
+}
+
+fn made_of_several<'t>(
+    alloc: Global,
+    rule: u16,
+    here: Span,
+    cells: Vec<Cell<'t>>,
+) -> Result<Part<'t>, AllocError>
+    ensures { IfOk result (λ made. plain_part made
+        ≡ made_by (slice_get lines rule) here (parts_in cells.entry.items)) }
+{
+    match make_of(rule) {
+        Some(make) => of_several(alloc, make, here, cells),
+        None => Ok(Part::Junk),
+    }
+}
+
+// What a rule made is put where its left side leads.
+fn push<'t>(
+    most: usize,
+    rule: u16,
+    span: Span,
+    part: Part<'t>,
+    stack: &mut Vec<Cell<'t>>,
+) -> Result<(), AllocError>
+    ensures { OnOk result (plain_stack stack.new.items
+        ≡ put most rule (span, plain_part part.entry) (plain_stack stack.old.items)) }
+{
+    let state = goto_at(state_of(stack), left_of(rule));
+    let room = room_of(most, stack);
+    let cell = Cell {
+        state,
+        room,
+        span,
+        part,
+    };
+    stack.push(cell)?;
+    Ok(())
+}
+
+// From the first's beginning to the last's end.
+fn place_of(cells: &[Cell<'_>]) -> Span
+    ensures { result ≡ place_of (map plain_value cells.now) }
+{
+    match cells {
+        [] => Span { from: 0, to: 0 },
+        [only] => only.span,
+        [first, .., last] => Span {
+            from: first.span.from,
+            to: last.span.to,
+        },
+    }
+}

@@ -1,0 +1,86 @@
+//! The types and the files of declarations that tokens write.
+ghost use Rattle.std.specs.Prelude.{◌≡◌, ℕ, IfOk, IfErr};
+ghost use Rattle.cd_syntax.specs.TypeTree.{Tree as PlainTree, Declarations as PlainDeclarations};
+ghost use Rattle.cd_syntax.specs.PlainTree.{plain, plain_declarations};
+ghost use Rattle.cd_grammar.specs.Parts.{ATree, AFile};
+ghost use Rattle.cd_grammar.specs.Language.{IsTree, AreDeclared};
+ghost use Rattle.cd_grammar.specs.Forms.{AType, SomeDeclarations};
+ghost use Rattle.cd_parser.specs.Parsed.{IsFault};
+ghost use Rattle.cd_parser.specs.PlainParts.{plain_part};
+
+use crate::error::{MOST_OPEN, ParseError, place_of};
+use crate::part::Part;
+use crate::reader::read;
+use crate::reading::Reading;
+use cd_grammar::goal::Goal;
+use cd_syntax::tokens::Token;
+use cd_syntax::type_tree::{Declarations, Tree};
+use std::alloc::Global;
+
+/// The type that tokens write, all of them; `end` is the place of the end of their text.
+///
+/// # Errors
+///
+/// The first fault of syntax or the first place that is more than 1,000 deep, or want of memory.
+pub fn parse_type(alloc: Global, tokens: &[Token], end: usize) -> Result<Tree, ParseError>
+    ensures tree { IfOk result (λ is. IsTree 1000 tokens.now (plain is)) }
+    ensures fault { IfErr result (λ error. IsFault AType 1000 tokens.now end error) }
+{
+    let reading = match read(alloc, Goal::TypeText, tokens, MOST_OPEN) {
+        Ok(reading) => reading,
+        Err(_) => return Err(ParseError::Memory),
+    };
+    match reading {
+        Reading::Whole(part) => Ok(tree_in(part)),
+        Reading::Wrong(index) => Err(ParseError::Syntax(place_of(tokens, end, index))),
+        Reading::TooDeep(index) => Err(ParseError::TooDeep(place_of(tokens, end, index))),
+    }
+}
+
+/// The type declarations that tokens write, all of them; `end` is the place of the end of their
+/// text.
+///
+/// # Errors
+///
+/// The first fault of syntax or the first place that is more than 1,000 deep, or want of memory.
+pub fn parse_declarations(
+    alloc: Global,
+    tokens: &[Token],
+    end: usize,
+) -> Result<Declarations, ParseError>
+    ensures declarations { IfOk result (λ declarations.
+        AreDeclared 1000 tokens.now (plain_declarations declarations)) }
+    ensures fault { IfErr result (λ error. IsFault SomeDeclarations 1000 tokens.now end error) }
+{
+    let reading = match read(alloc, Goal::TypeFile, tokens, MOST_OPEN) {
+        Ok(reading) => reading,
+        Err(_) => return Err(ParseError::Memory),
+    };
+    match reading {
+        Reading::Whole(part) => Ok(file_in(part)),
+        Reading::Wrong(index) => Err(ParseError::Syntax(place_of(tokens, end, index))),
+        Reading::TooDeep(index) => Err(ParseError::TooDeep(place_of(tokens, end, index))),
+    }
+}
+
+// The tree of a part that is one.
+fn tree_in(part: Part<'_>) -> Tree
+    requires { (is : PlainTree) × (plain_part part ≡ ATree is) }
+    ensures { ATree (plain result) ≡ plain_part part.entry }
+{
+    match part {
+        Part::Tree(tree) => Box::into_inner(tree),
+        _ => unreachable!(),
+    }
+}
+
+// The declarations of a part that is a file of such.
+fn file_in(part: Part<'_>) -> Declarations
+    requires { (is : PlainDeclarations) × (plain_part part ≡ AFile is) }
+    ensures { AFile (plain_declarations result) ≡ plain_part part.entry }
+{
+    match part {
+        Part::File(declarations) => declarations,
+        _ => unreachable!(),
+    }
+}
