@@ -1,0 +1,4 @@
+pub mod Expr
+pub mod PlainExpr
+pub mod PlainProgram
+pub mod WellMade
