@@ -2,7 +2,7 @@
 import re
 from dataclasses import dataclass
 
-WORD = re.compile(r'"[^"]+"|\w+|[^\s\w"]')
+WORD = re.compile(r'"[^"]+"|\w+\'?|[^\s\w"]')
 CLOSING = {"[": "]", "{": "}", "(": ")"}
 
 
@@ -86,7 +86,7 @@ class Reader:
             return {"[": Choice((inner, NOTHING)), "{": Repeat(inner), "(": inner}[word]
         if word[0] == '"':
             return Token("'" + word[1:-1], int(word[1:-1] in self.openers))
-        if not word.isidentifier():
+        if not word.rstrip("'").isidentifier():
             raise ValueError(f"a rule has the sign {word}")
         return Token(word, 0) if word in self.kinds else Name(word)
 

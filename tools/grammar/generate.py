@@ -1,6 +1,6 @@
 #!/usr/bin/env python3
-"""Writes the tables of the grammar that crates/cd_grammar/specs/Rules.antt says in lines: as data of the logic
-(crates/cd_grammar/specs/Tables.antt) and as Rust statics (crates/cd_parser/src/tables.rt)."""
+"""Writes the tables of the grammar that crates/cd_grammar/specs says in lines (TreeRules, ProgramRules, Rules): as data
+of the logic (specs/Tables.antt) and as Rust statics (src/tables.rt)."""
 import argparse
 import sys
 from pathlib import Path
@@ -13,17 +13,21 @@ import rules
 import rust
 
 TOP = Path(__file__).resolve().parents[2]
-RULES = "crates/cd_grammar/specs/Rules.antt"
+RULES = [f"crates/cd_grammar/specs/{name}.antt" for name in ["TreeRules", "ProgramRules", "Rules"]]
 DATA = "crates/cd_grammar/specs/Tables.antt"
-STATICS = "crates/cd_parser/src/tables.rt"
+STATICS = "crates/cd_grammar/src/tables.rt"
 
 
 def text_of(name):
     return (TOP / name).read_text(encoding="utf-8")
 
 
+def read_grammar():
+    return rules.read("".join(text_of(name) for name in RULES))
+
+
 def read_automaton():
-    return lalr.Automaton(rules.read(text_of(RULES)))
+    return lalr.Automaton(read_grammar())
 
 
 def outputs(automaton):
@@ -54,7 +58,7 @@ def main():
         sys.exit(f"generate.py: {error}")
     stale = differing(texts)
     if words.check and stale:
-        sys.exit("\n".join(f"generate.py: {name} is not what {RULES} gives: run generate.py" for name in stale))
+        sys.exit("\n".join(f"generate.py: {name} is not what the lines give: run generate.py" for name in stale))
     for name in stale:
         (TOP / name).write_text(texts[name], encoding="utf-8")
     print(summary(automaton))

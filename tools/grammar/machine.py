@@ -1,4 +1,4 @@
-"""The LR machine over the statics of crates/cd_parser/src/tables.rt, for tests."""
+"""The LR machine over the statics of crates/cd_grammar/src/tables.rt, for tests."""
 import re
 
 READ = "read"

@@ -1,12 +1,19 @@
-"""The grammar that crates/cd_grammar/specs/Rules.antt says in lines."""
+"""The grammar that the files of crates/cd_grammar/specs say in lines."""
 import re
 from collections import Counter
 from typing import NamedTuple
 
 STRING = r'"((?:[^"\\]|\\.)*)"'
-LINE = re.compile(STRING + r"\s*⟼\s*(One|Several)\s+\(?(\w+)(?:\s+(true|false|post\.\w+)\))?\s*∷\s*")
+COUNTS = {"One": 1, "Two": 2, "Three": 3, "Four": 4, "Five": 5, "Six": 6}
+LINE = re.compile(STRING + rf"\s*⟼\s*({'|'.join(COUNTS)})\s+\(?(\w+)(?:\s+(true|false|\w+\.\w+)\))?\s*∷\s*")
 NAME = re.compile(r"codes\s*" + STRING + r"\s*∷\s*")
 END = "$"
+
+# what lines and names are made of, in order: lists, each with what stands in the place of `~`
+LINES = [("start_lines", ""), ("tree_lines", ""), ("tree_lines", "'"), ("word_lines", ""), ("pattern_lines", ""),
+         ("program_lines", "")]
+NAMES = [("start_names", ""), ("tree_names", ""), ("tree_names", "'"), ("word_names", ""), ("pattern_names", ""),
+         ("program_names", "")]
 
 
 class GrammarError(Exception):
@@ -53,13 +60,14 @@ class Grammar:
 
 
 def read(text):
-    """The grammar of the text of Rules.antt."""
+    """The grammar of the texts of the files, one after the other."""
     text = without_comments(text)
     terminals = [unescaped(found[1]) for found in entries(text, "terminals", NAME)]
-    nonterminals = [unescaped(found[1]) for found in entries(text, "nonterminals", NAME)]
+    nonterminals = [unescaped(found[1]).replace("~", mark)
+                    for name, mark in NAMES for found in entries(text, name, NAME)]
     check_names(terminals, nonterminals)
-    rules = [read_line(unescaped(found[1]), found.groups()[1:], terminals, nonterminals)
-             for found in entries(text, "lines", LINE)]
+    rules = [read_line(unescaped(found[1]).replace("~", mark), found.groups()[1:], terminals, nonterminals)
+             for name, mark in LINES for found in entries(text, name, LINE)]
     check_whole(rules)
     grammar = Grammar(rules, terminals, nonterminals)
     check_used(grammar)
@@ -106,8 +114,8 @@ def read_line(line, make, terminals, nonterminals):
     if left not in nonterminals:
         raise GrammarError(f"the line `{line}`: {left} is not among the nonterminals")
     right = tuple(read_part(part, line, terminals, nonterminals) for part in parts[1:])
-    if (make[0] == "One") != (len(right) == 1):
-        raise GrammarError(f"the line `{line}`: what is made of one part has `One` before it, and else `Several`")
+    if COUNTS[make[0]] != len(right):
+        raise GrammarError(f"the line `{line}` has {len(right)} parts, and what it makes is of {make[0].lower()}")
     return Rule(nonterminals.index(left), right, make, line)
 
 

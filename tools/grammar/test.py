@@ -20,24 +20,39 @@ import rules
 PAGE = "docs/LANGUAGE.md"
 SHOWN = 10
 
-# what a text of random tokens is to be, and the rule that makes them; sequences are made on purpose, since few types
-# have one
-MADE = [("TypeText", "Tree"), ("TypeText", "Items"), ("TypeText", "Items"), ("TypeFile", "File")]
-ITEMS = '"[" Reg "]"'
+# How functions at random begin, and how many tokens that is; in parentheses stands what a level is open in.
+FUNCTION = '"let" "fun" Variable ( "(" ( TypeName "->" TypeName ) ")" )'
+FIXED = 8
+
+# rules that make random tokens besides those of the page: sequences, since few types have one, and what stands in a
+# function
+RULES = {
+    "Items": '"[" Reg "]"',
+    "Branching": f"{FUNCTION} Branches",
+    "Giving": f'{FUNCTION} Variable "->" Expr',
+    "Taking": f'{FUNCTION} Union\' "->" Variable',
+    "TakingItems": f'{FUNCTION} "[" Reg\' "]" "->" Variable',
+}
+
+# what a text of random tokens is to be, the rule that makes them, and how many at the front are always the same
+MADE = [("TypeText", "Tree", 0), ("TypeText", "Items", 0), ("TypeText", "Items", 0), ("TypeFile", "File", 0),
+        ("ProgramText", "Program", 0), ("ProgramText", "Branching", FIXED), ("ProgramText", "Giving", FIXED),
+        ("ProgramText", "Giving", FIXED), ("ProgramText", "Taking", FIXED), ("ProgramText", "TakingItems", FIXED),
+        ("ProgramText", "TakingItems", FIXED)]
 
 
 class Test:
     """The readers, and the differences that were found."""
 
     def __init__(self, seed, length):
-        self.grammar = rules.read(generate.text_of(generate.RULES))
+        self.grammar = generate.read_grammar()
         self.machine = machine.Machine(generate.text_of(generate.STATICS))
         self.language = language.read(generate.text_of(PAGE))
         self.recognizer = earley.Recognizer(self.language)
         self.chance = random.Random(seed)
         self.length = length
-        made = dict(self.language, Items=ebnf.Reader(ITEMS, language.KINDS, language.OPENERS).whole())
-        self.of_page = ebnf.Deriver(made, self.chance)
+        made = {name: language.rule(name, text) for name, text in RULES.items()}
+        self.of_page = ebnf.Deriver({**self.language, **made}, self.chance)
         self.of_lines = ebnf.Deriver(language.of_lines(self.grammar), self.chance)
         self.numbers = {name: number for number, name in enumerate(self.grammar.terminals)}
         goals = set(language.STARTS)
@@ -51,12 +66,12 @@ class Test:
     def answer(self, tokens, most):
         return self.machine.answer([self.numbers[name] for name in tokens], most)
 
-    def edited(self, tokens):
-        """The tokens with some edits, or none."""
+    def edited(self, tokens, fixed):
+        """The tokens with some edits after those that are fixed, or none."""
         tokens = list(tokens)
         for _ in range(self.chance.choice([0, 1, 1, 1, 2, 3])):
             edit = self.chance.choice([self.replace, self.drop, self.insert, self.swap, self.cut])
-            edit(tokens, self.chance.randrange(len(tokens) + 1))
+            edit(tokens, self.chance.randint(fixed, len(tokens)))
         return tokens
 
     def any_token(self):
@@ -90,9 +105,9 @@ class Test:
         """Both readers on tokens at random."""
         accepted = 0
         for _ in range(count):
-            goal, name = self.chance.choice(MADE)
-            derived = [token for token, _ in self.of_page.derive(name, self.chance.randint(1, self.length))]
-            accepted += self.both_read(goal, self.edited(derived)[:self.length])
+            goal, name, fixed = self.chance.choice(MADE)
+            derived = [token for token, _ in self.of_page.derive(name, fixed + self.chance.randint(1, self.length))]
+            accepted += self.both_read(goal, self.edited(derived, fixed)[:fixed + self.length])
         return f"{count} token lists at random, {accepted} of them accepted"
 
     def each_state(self, states):
@@ -116,10 +131,10 @@ class Test:
         """Whether the machine finds tokens too deep where more levels are open than it has."""
         most = 0
         for number in range(count):
-            goal, name = self.chance.choice(MADE)
+            goal, name, fixed = self.chance.choice(MADE)
             wanted = self.chance.randint(1, 2 * self.length)
             if number % 2:
-                derived = [(goal, 0)] + self.of_page.derive(name, wanted)
+                derived = [(goal, 0)] + self.of_page.derive(name, fixed + wanted)
             else:
                 derived = self.of_lines.derive(self.grammar.nonterminals[self.grammar.whole], wanted)
             tokens, levels = zip(*derived)
@@ -143,7 +158,8 @@ class Test:
         return "\n".join(lines + [f"  not `{text}`" for text in unused])
 
 
-# lines, terminals and nonterminals of wrong grammars, and words of what is to be said of each
+# lines, terminals and nonterminals of wrong grammars, and words of what is to be said of each; those with a `~` stand
+# where types and patterns do
 WRONG = [
     (["S = A", "A = 'a A", "A = A 'a", "A = 'a"], "'a $", "S A", "not LALR(1)"),
     (["S = A", "A = B", "A = C", "B = 'a", "C = 'a"], "'a $", "S A B C", "reduce  C = 'a ·"),
@@ -161,21 +177,34 @@ WRONG = [
     (["S = A 'a", "A = 'a"], "'a $", "S A", "one nonterminal"),
     (["S = A", "A = 'a A"], "'a $", "S A", "no tokens write"),
     (["S = A", "A = B", "A = 'a", "B = A"], "'a $", "S A B", "A = B = A"),
+    (["S = A", "A = 'a 'a 'a 'a 'a 'a 'a"], "'a $", "S A", "has 7 parts, and what it makes is of six"),
+    (["S = B", "B = A", "B = A'", "A~ = 'a"], "'a $", "S B A~", "reduce  A' = 'a ·"),
+    (["S = A", "A~ = 'a"], "'a $", "S A~", "A' is unused"),
+    (["S = A", "A~ = B~", "B = 'a"], "'a $", "S A~ B", "B' is neither"),
 ]
 
 
 def count(line):
-    return "One" if len(line.split()) == 3 else "Several"
+    """How many parts what a line makes is of: as many as the line has, as far as there is such a word."""
+    words = list(rules.COUNTS)
+    return words[min(max(len(line.split()) - 2, 1), len(words)) - 1]
+
+
+def listed(name, entries):
+    return f"{name} =\n    " + " ∷ ".join([*entries, "[]"]) + "\n"
+
+
+def placed(name):
+    """In which lists a line or a nonterminal of a wrong grammar stands."""
+    return "tree" if "~" in name else "start"
 
 
 def refused(lines, terminals, nonterminals):
     """What is said of a grammar, or None."""
-    def listed(name, entries):
-        return f"{name} =\n    " + " ∷ ".join([*entries, "[]"]) + "\n"
-
-    text = listed("lines", [f'"{line}" ⟼ {count(line)} That' for line in lines])
-    text += listed("terminals", [f'codes "{name}"' for name in terminals.split()])
-    text += listed("nonterminals", [f'codes "{name}"' for name in nonterminals.split()])
+    text = listed("terminals", [f'codes "{name}"' for name in terminals.split()])
+    for kind in ["start", "tree", "word", "pattern", "program"]:
+        text += listed(f"{kind}_lines", [f'"{line}" ⟼ {count(line)} That' for line in lines if placed(line) == kind])
+        text += listed(f"{kind}_names", [f'codes "{name}"' for name in nonterminals.split() if placed(name) == kind])
     try:
         lalr.Automaton(rules.read(text))
         return None
@@ -200,7 +229,7 @@ def run(words):
     print(test.depth(words.count))
     print(test.used())
     print(f"{len(test.differences)} differences")
-    problems = [f"{name} is not what {generate.RULES} gives" for name in stale]
+    problems = [f"{name} is not what the lines give" for name in stale]
     return problems + wrong_grammars() + test.differences[:SHOWN]
 
 
@@ -208,7 +237,8 @@ def main():
     parser = argparse.ArgumentParser(description=__doc__)
     parser.add_argument("--count", type=int, default=2000, help="how many token lists and derivations")
     parser.add_argument("--seed", type=int, default=1)
-    parser.add_argument("--length", type=int, default=12, help="the greatest length of a token list at random")
+    parser.add_argument("--length", type=int, default=12,
+                        help="the greatest length of a token list at random, without the tokens that are always the same")
     begin = time.monotonic()
     try:
         problems = run(parser.parse_args())

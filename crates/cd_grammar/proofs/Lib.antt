@@ -1,9 +1,16 @@
 mod Fits
+pub mod ListedFits
 pub mod Terminals
 pub mod Exact
 pub mod OneReading
 mod Sorts
+mod SortsOfMakes
 mod SortedParts
+mod SortsInSorts
+mod SortedOnes
+mod SortedTwos
+mod SortedThrees
+mod SortedMakes
 mod SortedRules
 mod SortedTokens
 mod SortedSymbols
@@ -11,10 +18,21 @@ mod SortedWholes
 pub mod WhatIsWritten
 mod Later
 mod TokenFaults
+mod SameForms
+mod ProgramForm
 mod TextAnswers
 pub mod FormsOfTexts
 mod SpelledTokens
+mod WellMadeFacts
+mod WellMadeTypes
+mod WellMadePatterns
+mod WellMadeExprs
 pub mod MadeWell
 mod WrittenDeeper
 mod Runs
 mod Examples
+mod ProgramRuns
+mod PatternTexts
+mod ExprTexts
+mod ProgramTexts
+mod ProgramFaults

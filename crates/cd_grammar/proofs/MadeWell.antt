@@ -1,77 +1,35 @@
 -- What the tokens of a text write is well made.
-use Rattle.std.proofs.Common.{◌≢◌, ℕ, false, List, [], ◌∷◌, map}
+use Rattle.std.proofs.Common.{sym, subst, ℕ, Bool, true, false, List, map}
 use Rattle.cd_syntax.specs.declared.tokens.Token.{Token}
 use Rattle.cd_syntax.specs.Tokens.{Spells}
-use Rattle.cd_syntax.specs.Name.{IsLabel}
-use Rattle.cd_syntax.specs.TypeTree.{Tree, Trees, NoTree, ATree as a_tree, Signed, Field, Declaration, Declarations}
-use Rattle.cd_syntax.specs.TypeTree.{Regular, trees_of, signs_of, fields_of, declarations_of, regulars_of}
-use Rattle.cd_syntax.specs.WellMade.{IsWellMade, AreWellMade, AreWellMadeSigns, AreWellMadeFields}
-use Rattle.cd_syntax.specs.WellMade.{AreWellMadeDeclarations, IsWellMadeRegular, AreWellMadeRegulars}
+use Rattle.cd_syntax.specs.TypeTree.{Tree, Declaration, Declarations, declarations_of}
+use Rattle.cd_syntax.specs.WellMade.{IsWellMade, AreWellMadeDeclarations}
+use Rattle.cd_program.specs.Expr.{FunctionTree, Program}
+use Rattle.cd_program.specs.WellMade.{IsWellMadeProgram, AreWellMadeFunctions}
 use Rattle.cd_grammar.specs.declared.goal.Goal.{Goal}
 use Rattle.cd_grammar.specs.declared.goal.Goal.TheVariants as goal
-use Rattle.cd_grammar.specs.Parts.{Part, ATree, AFile}
-use Rattle.cd_grammar.specs.Language.{Read, Writes, IsTree, AreDeclared}
-use Rattle.cd_grammar.proofs.Sorts.{OfTree, OfFile}
-use Rattle.cd_grammar.proofs.SortedParts.{Facts, AreKept, Fits, one_tree, one_file, OfSign, OfField, OfName, Each}
+use Rattle.cd_grammar.specs.Parts.{Part, ATree, AFile, AProgram}
+use Rattle.cd_grammar.specs.Language.{Read, Writes, IsTree, AreDeclared, IsProgram}
+use Rattle.cd_grammar.proofs.Sorts.{OfTree, OfFile, OfProgram}
+use Rattle.cd_grammar.proofs.SortedParts.{AreKept, TreesAreKept, Fits, one_tree, one_file, one_program}
 use Rattle.cd_grammar.proofs.SortedWholes.{sort_of_goal, whole_fits}
 use Rattle.cd_grammar.proofs.SpelledTokens.{tokens_are_proper}
-
--- a list that begins with a tree is not empty
-some_tree : (first : Tree) (rest : Trees) → a_tree first rest ≢ NoTree
-some_tree first rest same = cc
-
-trees_made : (all : List Tree) → Each IsWellMade all → AreWellMade (trees_of all)
-trees_made [] are = tt
-trees_made (first ∷ rest) are = (are.0, trees_made rest are.1)
-
-regulars_made : (all : List Regular) → Each IsWellMadeRegular all → AreWellMadeRegulars (regulars_of all)
-regulars_made [] are = tt
-regulars_made (first ∷ rest) are = (are.0, regulars_made rest are.1)
-
-signs_made : (all : List Signed) → Each (OfSign IsWellMade) all → AreWellMadeSigns (signs_of all)
-signs_made [] are = tt
-signs_made (first ∷ rest) are = (are.0, signs_made rest are.1)
-
-fields_made : (all : List Field) → Each (OfField IsWellMade IsLabel) all → AreWellMadeFields (fields_of all)
-fields_made [] are = tt
-fields_made (first ∷ rest) are = (are.0.0, are.0.1, fields_made rest are.1)
-
-declarations_made : (all : List Declaration) → Each (OfName IsWellMade) all
-    → AreWellMadeDeclarations (declarations_of all)
-declarations_made [] are = tt
-declarations_made (first ∷ rest) are = (are.0, declarations_made rest are.1)
-
-abbrev well_made : Facts
-well_made = record {
-  of_tree = IsWellMade;
-  of_regular = IsWellMadeRegular;
-  of_label = IsLabel;
-  of_file = AreWellMadeDeclarations;
-}
+use Rattle.cd_grammar.proofs.WellMadeFacts.{well_made}
+use Rattle.cd_grammar.proofs.WellMadeTypes.{types_kept, declarations_made}
+use Rattle.cd_grammar.proofs.WellMadePatterns.{pattern_trees_kept, patterns_kept}
+use Rattle.cd_grammar.proofs.WellMadeExprs.{exprs_kept, functions_made}
 
 -- rules keep it
+each_kept : (pattern : Bool) → TreesAreKept well_made pattern
+each_kept false = types_kept
+each_kept true = pattern_trees_kept
+
 well_made_kept : AreKept well_made
 well_made_kept = record {
-  built_in = λ here name. tt;
-  named = λ here name. tt;
-  ints = λ here low high. tt;
-  chars = λ here low high. tt;
-  text = λ here characters. tt;
-  atom = λ here name label. label;
-  tuple = λ here first rest is are. (some_tree first (trees_of rest), (is, trees_made rest are));
-  arrows = λ here first rest is are. (some_tree first (trees_of rest), (is, trees_made rest are));
-  union = λ here first rest is are. (is, trees_made rest are);
-  meet = λ here first rest is are. (is, signs_made rest are);
-  sequence = λ here one is. is;
-  fields = λ here all more are. fields_made all are;
-  xml = λ here tag attributes content is so too. (is, so, too);
-  where_names = λ here one all is are. (is, declarations_made all are);
-  nothing = λ here. tt;
-  item = λ here one is. is;
-  in_turn = λ here all are. regulars_made all are;
-  alternatives = λ here all are. regulars_made all are;
-  repeated = λ here one mark is. is;
-  file = λ all are. declarations_made all are;
+  trees_kept = each_kept;
+  patterns_kept = patterns_kept;
+  exprs_kept = exprs_kept;
+  file = declarations_made;
 }
 
 written_fits : (is : Goal) (source : List ℕ) (tokens : List Token) (depth : ℕ) (part : Part)
@@ -80,11 +38,17 @@ written_fits is source tokens depth part spells written =
     whole_fits well_made well_made_kept is depth (map Read tokens) (written.0, part)
     (tokens_are_proper false 0 source tokens spells) written.1
 
-well_made_tree : (is : Tree) → Fits well_made OfTree (ATree is) → IsWellMade is
+well_made_tree : (is : Tree) → Fits well_made (OfTree false) (ATree is) → IsWellMade is
 well_made_tree is (one_tree _ so) = so
 
 well_made_file : (is : Declarations) → Fits well_made OfFile (AFile is) → AreWellMadeDeclarations is
 well_made_file is (one_file _ so) = so
+
+well_made_program : (types : List Declaration) (functions : List FunctionTree)
+    → Fits well_made OfProgram (AProgram types functions)
+    → AreWellMadeDeclarations (declarations_of types) × AreWellMadeFunctions functions
+well_made_program types functions (one_program _ _ are so) =
+    (declarations_made types are, functions_made functions so)
 
 -- a type that the tokens of a text write is well made
 pub text_makes_type : (text : List ℕ) (tokens : List Token) (depth : ℕ) (is : Tree) → Spells false 0 text tokens
@@ -98,3 +62,12 @@ pub text_makes_declarations : (text : List ℕ) (tokens : List Token) (depth : �
     → AreDeclared depth tokens declarations → AreWellMadeDeclarations declarations
 text_makes_declarations text tokens depth declarations spells written =
     well_made_file declarations (written_fits goal.TypeFile text tokens depth (AFile declarations) spells written)
+
+-- and so is a program
+pub text_makes_program : (text : List ℕ) (tokens : List Token) (depth : ℕ) (program : Program)
+    → Spells false 0 text tokens → IsProgram depth tokens program → IsWellMadeProgram program
+text_makes_program text tokens depth program spells (types, same, written) =
+    let part = AProgram types program.functions in
+    let made = well_made_program types program.functions
+    (written_fits goal.ProgramText text tokens depth part spells written) in
+    (subst AreWellMadeDeclarations (sym same) made.0, made.1)

@@ -1,11 +1,12 @@
--- Tokens write one type at most, and one list of declarations.
-use Rattle.std.proofs.Common.{◌≡◌, ℕ, List, ◌∷◌, map, ap}
+-- Tokens write one type at most, one list of declarations, and one program's types and functions.
+use Rattle.std.proofs.Common.{◌≡◌, ℕ, List, ◌∷◌, map, ap, sym, ◌∙◌}
 use Rattle.cd_syntax.specs.declared.tokens.Token.{Token}
-use Rattle.cd_syntax.specs.TypeTree.{Tree, Declarations}
+use Rattle.cd_syntax.specs.TypeTree.{Tree, Declarations, declarations_of}
+use Rattle.cd_program.specs.Expr.{Program}
 use Rattle.cd_grammar.specs.declared.goal.Goal.{Goal}
 use Rattle.cd_grammar.specs.declared.goal.Goal.TheVariants as goal
-use Rattle.cd_grammar.specs.Parts.{Part, ATree, AFile}
-use Rattle.cd_grammar.specs.Language.{To, Read, Writes, IsTree, AreDeclared}
+use Rattle.cd_grammar.specs.Parts.{Part, ATree, AFile, AProgram}
+use Rattle.cd_grammar.specs.Language.{To, Read, Writes, IsTree, AreDeclared, IsProgram}
 use Rattle.cd_grammar.proofs.Exact.{one_part}
 
 -- for each goal they write one part at most
@@ -27,3 +28,12 @@ one_declared a b tokens first second one other =
     let same : AFile first ≡ AFile second =
     one_written goal.TypeFile a b tokens (AFile first) (AFile second) one other in
     cc
+
+pub one_program : (a b : ℕ) (tokens : List Token) (first second : Program) → IsProgram a tokens first
+    → IsProgram b tokens second → (first.types ≡ second.types) × (first.functions ≡ second.functions)
+one_program a b tokens first second (types, these, one) (others, those, other) =
+    let same : AProgram types first.functions ≡ AProgram others second.functions =
+    one_written goal.ProgramText a b tokens (AProgram types first.functions) (AProgram others second.functions) one
+    other in
+    let lists : types ≡ others = cc in
+    (these ∙ ap declarations_of lists ∙ sym those, cc)

@@ -16,7 +16,7 @@ use Rattle.cd_lr.proofs.Exactly.{exactly}
 use Rattle.cd_grammar.specs.declared.goal.Goal.{Goal}
 use Rattle.cd_grammar.specs.Tables.{tables}
 use Rattle.cd_grammar.specs.Parts.{Part}
-use Rattle.cd_grammar.specs.Language.{Entry, To, Read, Placed, type_grammar, Writes}
+use Rattle.cd_grammar.specs.Language.{Entry, To, Read, Placed, cduce_grammar, Writes}
 use Rattle.cd_grammar.proofs.Exact.{safe, full}
 use Rattle.cd_grammar.proofs.TokenFaults.{form, is_wrong, is_unfinished}
 use Rattle.cd_grammar.proofs.WrittenDeeper.{written_deeper}
@@ -28,7 +28,7 @@ abbrev entries : Goal → List Token → List Entry
 entries goal tokens = To goal ∷ map Read tokens
 
 abbrev start : Goal → (most : ℕ) → List Token → Config Entry Placed
-start goal most tokens = begin type_grammar reader most (entries goal tokens)
+start goal most tokens = begin cduce_grammar reader most (entries goal tokens)
 
 -- more steps than any text takes here
 abbrev steps : ℕ
@@ -36,7 +36,7 @@ steps = 1000
 
 -- how the run ends
 abbrev pub ending : Goal → (most : ℕ) → List Token → Next Entry Placed
-ending goal most tokens = run type_grammar reader most steps (start goal most tokens)
+ending goal most tokens = run cduce_grammar reader most steps (start goal most tokens)
 
 -- the part that it makes
 abbrev pub made : Next Entry Placed → Option Part
@@ -51,15 +51,15 @@ further _ c more = c
 
 abbrev last : (most : ℕ) → ℕ → Config Entry Placed → Config Entry Placed
 last most zero c = c
-last most (suc n) c = further (step type_grammar reader most c) c (λ d. last most n d)
+last most (suc n) c = further (step cduce_grammar reader most c) c (λ d. last most n d)
 
-comes_to : (most n : ℕ) (c : Config Entry Placed) → Reaches type_grammar reader most c (last most n c)
+comes_to : (most n : ℕ) (c : Config Entry Placed) → Reaches cduce_grammar reader most c (last most n c)
 comes_to most zero c = here c
-comes_to most (suc n) c = by (step type_grammar reader most c) refl (λ d. comes_to most n d)
+comes_to most (suc n) c = by (step cduce_grammar reader most c) refl (λ d. comes_to most n d)
   where
-    by : (next : Next Entry Placed) → step type_grammar reader most c ≡ next
-        → ((d : Config Entry Placed) → Reaches type_grammar reader most d (last most n d))
-        → Reaches type_grammar reader most c (further next c (λ d. last most n d))
+    by : (next : Next Entry Placed) → step cduce_grammar reader most c ≡ next
+        → ((d : Config Entry Placed) → Reaches cduce_grammar reader most d (last most n d))
+        → Reaches cduce_grammar reader most c (further next c (λ d. last most n d))
     by (On d) is more = on c d (last most n d) is (more d)
     by (Done v) is more = here c
     by Wrong is more = here c
@@ -67,7 +67,7 @@ comes_to most (suc n) c = by (step type_grammar reader most c) refl (λ d. comes
 
 -- the entries that are left there, and the last step
 abbrev left_and_next : (most : ℕ) → Config Entry Placed → List Entry × Next Entry Placed
-left_and_next most c = (c.rest, step type_grammar reader most c)
+left_and_next most c = (c.rest, step cduce_grammar reader most c)
 
 abbrev pub stop : Goal → (most : ℕ) → List Token → List Entry × Next Entry Placed
 stop goal most tokens = left_and_next most (last most steps (start goal most tokens))
@@ -77,7 +77,7 @@ apart index part same = cc
 
 module _ (goal : Goal) (most : ℕ) (tokens : List Token) where
   abbrev StopsBy : Next Entry Placed → Type 0
-  StopsBy = Stops type_grammar reader most (start goal most tokens)
+  StopsBy = Stops cduce_grammar reader most (start goal most tokens)
 
   -- what is made is written
   pub written : (part : Part) → made (ending goal most tokens) ≡ Some part → Writes goal most tokens part
@@ -86,7 +86,7 @@ module _ (goal : Goal) (most : ℕ) (tokens : List Token) where
       told : (found : Placed) → StopsBy (Done found) → Writes goal most tokens found.1
       told found (c, comes, ends) = (
         found.0,
-        sound type_grammar reader (Core tables) (ranks tables) safe most (entries goal tokens) c found comes ends,
+        sound cduce_grammar reader (Core tables) (ranks tables) safe most (entries goal tokens) c found comes ends,
       )
 
       by : (next : Next Entry Placed) → ending goal most tokens ≡ next → made next ≡ Some part
@@ -94,7 +94,7 @@ module _ (goal : Goal) (most : ℕ) (tokens : List Token) where
       by (Done found) was so =
           let same : found.1 ≡ part = cc in
           subst (Writes goal most tokens) same
-          (told found (by_run type_grammar reader most steps (start goal most tokens) (Done found) tt was))
+          (told found (by_run cduce_grammar reader most steps (start goal most tokens) (Done found) tt was))
       by (On c) was so = absurd cc
       by Wrong was so = absurd cc
       by NoRoom was so = absurd cc
@@ -102,18 +102,18 @@ module _ (goal : Goal) (most : ℕ) (tokens : List Token) where
   -- where there is no room nothing is written, and at smaller depths too
   too_deep : ending goal most tokens ≡ NoRoom → (part : Part) → Writes goal most tokens part → ⊥
   too_deep is part (place, writes) =
-      by (by_run type_grammar reader most steps (start goal most tokens) NoRoom tt is)
+      by (by_run cduce_grammar reader most steps (start goal most tokens) NoRoom tt is)
     where
       by : StopsBy NoRoom → ⊥
       by (c, comes, ends) =
-          let right = stood type_grammar reader (Core tables) (ranks tables) safe most (entries goal tokens) c comes in
+          let right = stood cduce_grammar reader (Core tables) (ranks tables) safe most (entries goal tokens) c comes in
           let index = length right.read in
           let rest = sym (ap (drop (length right.read)) right.all ∙ drop-append_seam right.read c.rest) in
           let answer =
-          at_too_deep type_grammar reader (Core tables) (Sure tables) (First tables) (ranks tables) safe full most
+          at_too_deep cduce_grammar reader (Core tables) (Sure tables) (First tables) (ranks tables) safe full most
           (entries goal tokens) c index comes ends rest in
           apart index (place, part)
-          (exactly type_grammar reader (Sure tables) (First tables) full most (entries goal tokens) (place, part)
+          (exactly cduce_grammar reader (Sure tables) (First tables) full most (entries goal tokens) (place, part)
           (TooDeep index) writes answer)
 
   pub not_written : ending goal most tokens ≡ NoRoom → (less : ℕ) (part : Part) → less ≤ most
@@ -124,9 +124,9 @@ module _ (goal : Goal) (most : ℕ) (tokens : List Token) where
   abbrev StopsAt : (index : ℕ) → Type 0
   StopsAt index = stop goal most tokens ≡ (drop index (entries goal tokens), Wrong)
 
-  refused : (index : ℕ) → StopsAt index → IsAnswer type_grammar most (entries goal tokens) (Syntax index)
+  refused : (index : ℕ) → StopsAt index → IsAnswer cduce_grammar most (entries goal tokens) (Syntax index)
   refused index is =
-      at_wrong type_grammar reader (Core tables) (Sure tables) (First tables) (ranks tables) safe full most
+      at_wrong cduce_grammar reader (Core tables) (Sure tables) (First tables) (ranks tables) safe full most
       (entries goal tokens) (last most steps (start goal most tokens)) index
       (comes_to most steps (start goal most tokens)) (ap (λ both. both.1) is) (ap (λ both. both.0) is)
 

@@ -9,12 +9,13 @@ use Rattle.cd_grammar.specs.declared.goal.Goal.{Goal}
 use Rattle.cd_grammar.specs.declared.goal.Goal.TheVariants as goal
 use Rattle.cd_grammar.specs.declared.make.Make.TheVariants as make
 use Rattle.cd_grammar.specs.declared.make.One.TheVariants as one
-use Rattle.cd_grammar.specs.declared.make.Several.TheVariants as several
+use Rattle.cd_grammar.specs.declared.make.Two.TheVariants as two
 use Rattle.cd_grammar.specs.Terminals.{terminal_of_goal}
-use Rattle.cd_grammar.specs.Language.{Entry, To, Placed, place_of, kind_of, value_of, is_free, build, type_grammar}
+use Rattle.cd_grammar.specs.Language.{Entry, To, Placed, place_of, kind_of, value_of, is_free, build, cduce_grammar}
 use Rattle.cd_grammar.specs.Tables.{tables}
-use Rattle.cd_grammar.proofs.Sorts.{Sort, OfTree, OfFile, sort_of, second, no_file, file}
-use Rattle.cd_grammar.proofs.SortedParts.{Facts, AreKept, Fits, AreFit, Each, made_fits}
+use Rattle.cd_grammar.proofs.Sorts.{Sort, OfTree, OfFile, OfProgram, sort_of}
+use Rattle.cd_grammar.proofs.SortedParts.{Facts, AreKept, Fits, AreFit, Each}
+use Rattle.cd_grammar.proofs.SortedMakes.{made_fits}
 use Rattle.cd_grammar.proofs.SortedRules.{of_rule, parts_of}
 use Rattle.cd_grammar.proofs.SortedTokens.{IsProper}
 use Rattle.cd_grammar.proofs.SortedSymbols.{row_fits}
@@ -24,24 +25,28 @@ data IsStart : ℕ → Type 0 where
   a_type : IsStart 1
   empty_file : IsStart 2
   a_file : IsStart 3
+  empty_program : IsStart 4
+  a_program : IsStart 5
 
 is_start : (p : ℕ) → left tables p ≡ tables.start → IsStart p
-is_start p same = by p same (below (of_rule (λ n r. either (not (nat_eq (left_of r) 1)) (nat_lt n 4)) refl p))
+is_start p same = by p same (below (of_rule (λ n r. either (not (nat_eq (left_of r) 1)) (nat_lt n 6)) refl p))
   where
-    below : (either (not (nat_eq (left tables p) 1)) (nat_lt p 4) ≡ true) ⊎ (left tables p ≡ 0) → p < 4
-    below (inl so) = ltb-true p 4 (subst (λ n. either (not (nat_eq n 1)) (nat_lt p 4) ≡ true) same so)
-    below (inr whole) = let no : suc zero ≡ zero = sym same ∙ whole in absurd cc
+    below : (either (not (nat_eq (left tables p) 1)) (nat_lt p 6) ≡ true) ⊎ (left tables p ≡ 0) → p < 6
+    below (inl so) = ltb-true p 6 (subst (λ n. either (not (nat_eq n 1)) (nat_lt p 6) ≡ true) same so)
+    below (inr whole) = let never : suc zero ≡ zero = sym same ∙ whole in absurd cc
 
-    by : (n : ℕ) → left tables n ≡ tables.start → n < 4 → IsStart n
-    by zero same below = let no : zero ≡ suc zero = same in absurd cc
+    by : (n : ℕ) → left tables n ≡ tables.start → n < 6 → IsStart n
+    by zero same below = let never : zero ≡ suc zero = same in absurd cc
     by (suc zero) same below = a_type
     by (suc (suc zero)) same below = empty_file
     by (suc (suc (suc zero))) same below = a_file
-    by (suc (suc (suc (suc n)))) same below = absurd (omega (arith, below))
+    by (suc (suc (suc (suc zero)))) same below = empty_program
+    by (suc (suc (suc (suc (suc zero))))) same below = a_program
+    by (suc (suc (suc (suc (suc (suc n)))))) same below = absurd (omega (arith, below))
 
 -- a row that begins with a terminal begins with a token of it
 first_token : (depth : ℕ) (xs : List Symbol) (entries : List Entry) (values : List Placed)
-    → Row type_grammar depth xs entries values → (opens k : ℕ) (more : List Symbol) → xs ≡ Terminal opens k ∷ more
+    → Row cduce_grammar depth xs entries values → (opens k : ℕ) (more : List Symbol) → xs ≡ Terminal opens k ∷ more
     → (first : Entry) (rest : List Entry) → entries ≡ first ∷ rest → kind_of first ≡ k
 first_token _ _ _ _ (nothing depth) opens k more is first rest same = absurd cc
 first_token _ _ _ _ (next depth _ xs _ b _ vs (one _ opens entry room) row) w k more is first rest same =
@@ -53,39 +58,58 @@ first_token _ _ _ _ (next depth _ xs _ b _ vs (made _ p entries values derived) 
 
 -- so no row of a goal begins with the terminal of another one
 other_goal : (is : Goal) (k : ℕ) → nat_eq (terminal_of_goal is) k ≡ false → (depth : ℕ) (more : List Symbol)
-    → (rest : List Entry) (values : List Placed) → Row type_grammar depth (Terminal 0 k ∷ more) (To is ∷ rest) values
+    → (rest : List Entry) (values : List Placed) → Row cduce_grammar depth (Terminal 0 k ∷ more) (To is ∷ rest) values
     → ⊥
 other_goal is k other depth more rest values row =
     let same : terminal_of_goal is ≡ k = first_token depth _ _ values row 0 k more refl (To is) rest refl in
     let no : false ≡ true = sym other ∙ eq-eqb (terminal_of_goal is) k same in
     absurd cc
 
--- a text is to be a tree or a file
+-- a text is to be a type, a file or a program
 abbrev pub sort_of_goal : Goal → Sort
-sort_of_goal goal.TypeText = OfTree
+sort_of_goal goal.TypeText = OfTree false
 sort_of_goal goal.TypeFile = OfFile
+sort_of_goal goal.ProgramText = OfProgram
 
 module _ (facts : Facts) (kept : AreKept facts) where
   start_fits : (is : Goal) (p : ℕ) → IsStart p → (depth : ℕ) (rest : List Entry) (values : List Placed)
-      → Row type_grammar depth (right tables p) (To is ∷ rest) values
+      → Row cduce_grammar depth (right tables p) (To is ∷ rest) values
       → AreFit facts (map sort_of (right tables p)) (parts_of values)
       → Fits facts (sort_of_goal is) (build p values).1
   start_fits goal.TypeText _ a_type depth rest values row are =
-      made_fits facts kept (make.Several several.Second) _ OfTree (place_of values) (parts_of values) second are
+      made_fits facts kept false (OfTree false) (make.Two two.Second) (place_of values) (parts_of values) are
   start_fits goal.TypeText _ empty_file depth rest values row are =
       absurd (other_goal goal.TypeText _ refl depth _ rest values row)
   start_fits goal.TypeText _ a_file depth rest values row are =
       absurd (other_goal goal.TypeText _ refl depth _ rest values row)
+  start_fits goal.TypeText _ empty_program depth rest values row are =
+      absurd (other_goal goal.TypeText _ refl depth _ rest values row)
+  start_fits goal.TypeText _ a_program depth rest values row are =
+      absurd (other_goal goal.TypeText _ refl depth _ rest values row)
   start_fits goal.TypeFile _ a_type depth rest values row are =
       absurd (other_goal goal.TypeFile _ refl depth _ rest values row)
   start_fits goal.TypeFile _ empty_file depth rest values row are =
-      made_fits facts kept (make.One one.NoFile) _ OfFile (place_of values) (parts_of values) no_file are
+      made_fits facts kept false OfFile (make.One one.NoFile) (place_of values) (parts_of values) are
   start_fits goal.TypeFile _ a_file depth rest values row are =
-      made_fits facts kept (make.Several several.File) _ OfFile (place_of values) (parts_of values) file are
+      made_fits facts kept false OfFile (make.Two two.File) (place_of values) (parts_of values) are
+  start_fits goal.TypeFile _ empty_program depth rest values row are =
+      absurd (other_goal goal.TypeFile _ refl depth _ rest values row)
+  start_fits goal.TypeFile _ a_program depth rest values row are =
+      absurd (other_goal goal.TypeFile _ refl depth _ rest values row)
+  start_fits goal.ProgramText _ a_type depth rest values row are =
+      absurd (other_goal goal.ProgramText _ refl depth _ rest values row)
+  start_fits goal.ProgramText _ empty_file depth rest values row are =
+      absurd (other_goal goal.ProgramText _ refl depth _ rest values row)
+  start_fits goal.ProgramText _ a_file depth rest values row are =
+      absurd (other_goal goal.ProgramText _ refl depth _ rest values row)
+  start_fits goal.ProgramText _ empty_program depth rest values row are =
+      made_fits facts kept false OfProgram (make.One one.NoProgram) (place_of values) (parts_of values) are
+  start_fits goal.ProgramText _ a_program depth rest values row are =
+      made_fits facts kept false OfProgram (make.Two two.Second) (place_of values) (parts_of values) are
 
   -- what it is as a whole
   pub whole_fits : (is : Goal) (depth : ℕ) (rest : List Entry) (v : Placed) → Each (IsProper facts.of_label) rest
-      → Whole type_grammar depth (To is ∷ rest) v → Fits facts (sort_of_goal is) v.1
+      → Whole cduce_grammar depth (To is ∷ rest) v → Fits facts (sort_of_goal is) v.1
   whole_fits is depth rest v are derived =
       let (p, same, values, row, made_so) =
       whole_by_text tables (terminal_of_goal goal.TypeText) tables.start refl kind_of value_of is_free build depth

@@ -1,24 +1,25 @@
--- The terminals of entries: none is the end, each other one is that of a free entry, and their numbers are below the
--- number of terminals.
-use Rattle.std.proofs.Common.{◌≡◌, ◌∙◌, sym, ap, refl, ℕ, zero, suc, List, [], ◌∷◌, Bool, true, false, arith, eqb-true, ltb-true, inl, inr}
-use Rattle.std.specs.Prelude.{◌≢◌, ◌<◌, ◌⊎◌, ◌&&◌, Some, None, pos, nat_eq, nat_lt, codes, length, bytes_eq, slice_get}
-use Rattle.std.proofs.lemmas.Bool.{or_cases}
+-- The terminals of entries: each stands before the end, and each that does is that of a free entry.
+use Rattle.std.proofs.Common.{◌≡◌, ap, refl, ℕ, zero, suc, List, [], ◌∷◌, Bool, true, false, arith, eqb-true, ltb-true, inl, inr}
+use Rattle.std.specs.Prelude.{◌≢◌, ◌<◌, ◌⊎◌, ◌&&◌, Option, Some, None, pos, nat_eq, codes, length, bytes_eq, slice_get}
 use Rattle.std.proofs.lemmas.Bool.Decides.{Decides-below_and}
 use Rattle.std.proofs.lemmas.Slice.Eq.{bytes_eq-Decides}
-use Rattle.std.specs.List.{list_any}
 use Rattle.cd_syntax.specs.declared.sign.Sign.{Sign}
 use Rattle.cd_syntax.specs.declared.sign.Sign.TheVariants as sign
 use Rattle.cd_syntax.specs.declared.tokens.TokenKind.{TokenKind}
 use Rattle.cd_syntax.specs.declared.tokens.TokenKind.TheVariants as token
 use Rattle.cd_syntax.specs.Signs.{characters}
 use Rattle.cd_syntax.specs.Name.{is_type_name}
+use Rattle.cd_tables.specs.declared.keyword.Keyword.{Keyword}
+use Rattle.cd_tables.specs.declared.keyword.Keyword.TheVariants as keyword
+use Rattle.cd_tables.specs.Rows.{row_of}
+use Rattle.cd_tables.specs.Words.{keywords}
 use Rattle.cd_lr.specs.Tables.{choose, also, given}
 use Rattle.cd_lr.proofs.Bools.{first_also, second_also}
 use Rattle.cd_grammar.specs.declared.goal.Goal.{Goal}
 use Rattle.cd_grammar.specs.declared.goal.Goal.TheVariants as goal
 use Rattle.cd_grammar.specs.Bnf.{number_of}
 use Rattle.cd_grammar.specs.Rules.{terminals}
-use Rattle.cd_grammar.specs.Terminals.{terminal, terminal_of, terminal_of_goal}
+use Rattle.cd_grammar.specs.Terminals.{terminal, terminal_of, terminal_of_keyword, terminal_by, terminal_of_goal}
 use Rattle.cd_grammar.specs.Tables.{tables}
 use Rattle.cd_grammar.specs.Language.{Entry, To, Read, Later, kind_of, is_free, nowhere}
 
@@ -35,50 +36,55 @@ has_number (first ∷ rest) name = by (bytes_eq first name) refl (has_number res
     by true same later = inl (ap Some ((bytes_eq-Decides first name).0 same))
     by false same later = later
 
--- the end is one of the terminals, and its name is `$`
-pub end_is_below : nat_lt tables.finish (length terminals) ≡ true
-end_is_below = refl
+-- a keyword, another word and a sign have terminals before that of the end
+keyword_before : (word : Keyword) → terminal_of_keyword word < tables.finish
+keyword_before keyword.And = ltb-true _ _ refl
+keyword_before _ = ltb-true _ _ refl
 
-other_name : (c : ℕ) (name : List ℕ) → 36 ≢ c → number_of terminals (c ∷ name) ≢ tables.finish
-other_name c name other is = by (has_number terminals (c ∷ name))
-  where
-    last : slice_get terminals (number_of terminals (c ∷ name)) ≡ Some (codes "$")
-    last = ap (slice_get terminals) is
+other_before : (underscore type_name : Bool)
+    → choose underscore (terminal (codes "'_"))
+    (choose type_name (terminal (codes "TypeName")) (terminal (codes "Variable"))) < tables.finish
+other_before true type_name = ltb-true _ _ refl
+other_before false true = ltb-true _ _ refl
+other_before false false = ltb-true _ _ refl
 
-    by : (slice_get terminals (number_of terminals (c ∷ name)) ≡ Some (c ∷ name))
-        ⊎ (slice_get terminals (number_of terminals (c ∷ name)) ≡ None) → ⊥
-    by (inl found) =
-        let same : Some (36 ∷ []) ≡ Some (c ∷ name) = sym last ∙ found in
-        let first : 36 ≡ c = cc in
-        other first
-    by (inr none) = let no : Some (codes "$") ≡ None = sym last ∙ none in cc
+word_before : (found : Option Keyword) (name : List ℕ) → terminal_by found name < tables.finish
+word_before (Some word) name = keyword_before word
+word_before None name = other_before (bytes_eq name (codes "_")) (is_type_name name)
 
--- no token has the terminal of the end, by the first characters of the names
-word_is_not_end : (keyword type_name : Bool) (name : List ℕ)
-    → choose keyword (terminal (39 ∷ name))
-    (choose type_name (terminal (codes "TypeName")) (terminal (codes "Variable"))) ≢ tables.finish
-word_is_not_end true type_name name = other_name 39 name (omega arith)
-word_is_not_end false true name = other_name 84 (codes "ypeName") (omega arith)
-word_is_not_end false false name = other_name 86 (codes "ariable") (omega arith)
+sign_before : (is : Sign) → terminal (39 ∷ characters is) < tables.finish
+sign_before sign.StarTo = ltb-true _ _ refl
+sign_before _ = ltb-true _ _ refl
 
-kind_is_not_end : (kind : TokenKind) → terminal_of kind ≢ tables.finish
-kind_is_not_end (token.Word name) = word_is_not_end (list_any (bytes_eq (39 ∷ name)) terminals) (is_type_name name) name
-kind_is_not_end (token.Int n) = other_name 73 (codes "nt") (omega arith)
-kind_is_not_end (token.Chars []) = other_name 67 (codes "harN") (omega arith)
-kind_is_not_end (token.Chars (c ∷ [])) = other_name 67 (codes "har1") (omega arith)
-kind_is_not_end (token.Chars (c ∷ d ∷ rest)) = other_name 67 (codes "harN") (omega arith)
-kind_is_not_end (token.Text text) = other_name 84 (codes "ext") (omega arith)
-kind_is_not_end (token.Atom name) = other_name 65 (codes "tom") (omega arith)
-kind_is_not_end (token.Sign is) = other_name 39 (characters is) (omega arith)
+-- so has each token, and what a text is to be
+token_before : (kind : TokenKind) → terminal_of kind < tables.finish
+token_before (token.Word name) = word_before (row_of keywords name) name
+token_before (token.Int n) = ltb-true _ _ refl
+token_before (token.Chars []) = ltb-true _ _ refl
+token_before (token.Chars (c ∷ [])) = ltb-true _ _ refl
+token_before (token.Chars (c ∷ d ∷ rest)) = ltb-true _ _ refl
+token_before (token.Text text) = ltb-true _ _ refl
+token_before (token.Atom name) = ltb-true _ _ refl
+token_before (token.Sign is) = sign_before is
 
-goal_is_not_end : (goal : Goal) → terminal_of_goal goal ≢ tables.finish
-goal_is_not_end goal.TypeText = other_name 84 (codes "ypeText") (omega arith)
-goal_is_not_end goal.TypeFile = other_name 84 (codes "ypeFile") (omega arith)
+goal_before : (goal : Goal) → terminal_of_goal goal < tables.finish
+goal_before goal.TypeText = ltb-true _ _ refl
+goal_before goal.TypeFile = ltb-true _ _ refl
+goal_before goal.ProgramText = ltb-true _ _ refl
+
+before_end : (e : Entry) → kind_of e < tables.finish
+before_end (To goal) = goal_before goal
+before_end (Read one) = token_before one.kind
+before_end (Later one) = token_before one.kind
 
 pub not_end : (e : Entry) → kind_of e ≢ tables.finish
-not_end (To goal) = goal_is_not_end goal
-not_end (Read one) = kind_is_not_end one.kind
-not_end (Later one) = kind_is_not_end one.kind
+not_end e is = let small = before_end e in omega (arith, small, is)
+
+pub kind_below : (e : Entry) → kind_of e < length terminals
+kind_below e =
+    let small = before_end e in
+    let end : tables.finish < length terminals = ltb-true _ _ refl in
+    omega (arith, small, end)
 
 -- a free entry of each terminal
 abbrev later : TokenKind → Entry
@@ -109,7 +115,7 @@ entries =
     later (token.Word (codes "string_of")) ∷ later (token.Word (codes "raise")) ∷ later (token.Int (pos 0)) ∷
     later (token.Chars (codes "a")) ∷ later (token.Chars []) ∷ later (token.Text []) ∷
     later (token.Atom (codes "a")) ∷ later (token.Word (codes "A")) ∷ later (token.Word (codes "a")) ∷
-    To goal.TypeText ∷ To goal.TypeFile ∷ []
+    To goal.TypeText ∷ To goal.TypeFile ∷ To goal.ProgramText ∷ []
 
 abbrev entry_at : ℕ → Entry
 entry_at k = given (later (token.Int (pos 0))) (slice_get entries k)
@@ -123,6 +129,7 @@ abbrev is_right : ℕ → Bool
 is_right k = also (nat_eq (kind_of (entry_at k)) k) (is_free (entry_at k))
 
 each_kind : below is_right tables.finish ≡ true
+unfolding row_of
 each_kind = refl
 
 -- each terminal but the end is that of a free entry
@@ -136,57 +143,3 @@ some k small =
       eqb-true _ _ (first_also (nat_eq (kind_of (entry_at k)) k) _ right),
       second_also (nat_eq (kind_of (entry_at k)) k) _ right,
     )
-
--- a name among others has a number below how many there are
-in_names : (names : List (List ℕ)) (name : List ℕ) → list_any (bytes_eq name) names ≡ true
-    → number_of names name < length names
-in_names [] name is = absurd cc
-in_names (first ∷ rest) name is = by (bytes_eq first name) refl (in_names rest name)
-  where
-    here_or_later : (bytes_eq name first ≡ true) ⊎ (list_any (bytes_eq name) rest ≡ true)
-    here_or_later = or_cases (bytes_eq name first) (list_any (bytes_eq name) rest) is
-
-    by : (same : Bool) → bytes_eq first name ≡ same
-        → (list_any (bytes_eq name) rest ≡ true → number_of rest name < length rest)
-        → choose same zero (suc (number_of rest name)) < length (first ∷ rest)
-    by true same later = omega arith
-    by false differ later = from here_or_later
-      where
-        from : (bytes_eq name first ≡ true) ⊎ (list_any (bytes_eq name) rest ≡ true)
-            → suc (number_of rest name) < length (first ∷ rest)
-        from (inl is) =
-            let same : bytes_eq first name ≡ true =
-            (bytes_eq-Decides first name).1 (sym ((bytes_eq-Decides name first).0 is)) in
-            let no : true ≡ false = sym same ∙ differ in absurd cc
-        from (inr found) = let less = later found in omega (arith, less)
-
--- the terminal of each entry has a number below how many there are
-word_below : (keyword type_name : Bool) (name : List ℕ) → list_any (bytes_eq (39 ∷ name)) terminals ≡ keyword
-    → choose keyword (terminal (39 ∷ name))
-    (choose type_name (terminal (codes "TypeName")) (terminal (codes "Variable"))) < length terminals
-word_below true type_name name is = in_names terminals (39 ∷ name) is
-word_below false true name is = ltb-true _ _ refl
-word_below false false name is = ltb-true _ _ refl
-
-sign_below : (is : Sign) → terminal (39 ∷ characters is) < length terminals
-sign_below sign.StarTo = ltb-true _ _ refl
-sign_below _ = ltb-true _ _ refl
-
-token_below : (kind : TokenKind) → terminal_of kind < length terminals
-token_below (token.Word name) = word_below (list_any (bytes_eq (39 ∷ name)) terminals) (is_type_name name) name refl
-token_below (token.Int n) = ltb-true _ _ refl
-token_below (token.Chars []) = ltb-true _ _ refl
-token_below (token.Chars (c ∷ [])) = ltb-true _ _ refl
-token_below (token.Chars (c ∷ d ∷ rest)) = ltb-true _ _ refl
-token_below (token.Text text) = ltb-true _ _ refl
-token_below (token.Atom name) = ltb-true _ _ refl
-token_below (token.Sign is) = sign_below is
-
-goal_below : (goal : Goal) → terminal_of_goal goal < length terminals
-goal_below goal.TypeText = ltb-true _ _ refl
-goal_below goal.TypeFile = ltb-true _ _ refl
-
-pub kind_below : (e : Entry) → kind_of e < length terminals
-kind_below (To goal) = goal_below goal
-kind_below (Read one) = token_below one.kind
-kind_below (Later one) = token_below one.kind

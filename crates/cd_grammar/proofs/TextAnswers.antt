@@ -8,7 +8,7 @@ use Rattle.cd_lr.specs.Grammar.{Whole}
 use Rattle.cd_lr.specs.Reading.{Answer, Read as Made, Syntax, TooDeep, IsAnswer, whole, wrong, unfinished, too_deep}
 use Rattle.cd_grammar.specs.declared.goal.Goal.{Goal}
 use Rattle.cd_grammar.specs.Parts.{Part}
-use Rattle.cd_grammar.specs.Language.{Entry, To, Read, Later, Placed, type_grammar}
+use Rattle.cd_grammar.specs.Language.{Entry, To, Read, Later, Placed, cduce_grammar}
 use Rattle.cd_grammar.proofs.Later.{shorter, begun, goes_on}
 use Rattle.cd_grammar.proofs.TokenFaults.{form, entries, begins, taken, is_wrong, is_unfinished}
 
@@ -19,13 +19,13 @@ past_end (one ∷ tokens) end (suc index) past = past_end tokens end index (omeg
 
 -- where each part that is written as this goal is one that `of` gives
 module _ {Written : Type 0} (of : Written → Part) (goal : Goal)
-    (written : (depth : ℕ) (rest : List Entry) (part : Placed) → Whole type_grammar depth (To goal ∷ rest) part
+    (written : (depth : ℕ) (rest : List Entry) (part : Placed) → Whole cduce_grammar depth (To goal ∷ rest) part
     → (is : Written) × (part.1 ≡ of is)) where
   as_written : (depth : ℕ) (tokens : List Token) (part : Placed)
-      → Whole type_grammar depth (To goal ∷ map Read tokens) part → (form of goal).Writes depth tokens
+      → Whole cduce_grammar depth (To goal ∷ map Read tokens) part → (form of goal).Writes depth tokens
   as_written depth tokens part is =
       let found = written depth (map Read tokens) part is in
-      let writes = subst (λ one. Whole type_grammar depth (To goal ∷ map Read tokens) (part.0, one)) found.1 is in
+      let writes = subst (λ one. Whole cduce_grammar depth (To goal ∷ map Read tokens) (part.0, one)) found.1 is in
       (found.0, (part.0, writes))
 
   -- the goal is a form
@@ -40,12 +40,12 @@ module _ {Written : Type 0} (of : Written → Part) (goal : Goal)
 
   module _ (most : ℕ) (tokens : List Token) where
     -- tokens that are read are written
-    pub is_written : (part : Placed) → IsAnswer type_grammar most (entries of goal most tokens) (Made part)
+    pub is_written : (part : Placed) → IsAnswer cduce_grammar most (entries of goal most tokens) (Made part)
         → (form of goal).Writes most tokens
     is_written part (whole _ is) = as_written most tokens part is
 
     -- the place of a fault of syntax: that of a token, or the end
-    pub syntax_at : (end index : ℕ) → IsAnswer type_grammar most (entries of goal most tokens) (Syntax (suc index))
+    pub syntax_at : (end index : ℕ) → IsAnswer cduce_grammar most (entries of goal most tokens) (Syntax (suc index))
         → IsSyntaxFault (form of goal) most tokens end (place_of tokens end index)
     syntax_at end index is = by (nat_lt index (length tokens)) refl
       where
@@ -58,8 +58,9 @@ module _ {Written : Type 0} (of : Written → Part) (goal : Goal)
             (at_end (is_unfinished of goal most tokens index is past))
 
     -- the place of a fault of depth: that of a token
-    deep_of : (end index : ℕ) (answer : Answer Placed) → IsAnswer type_grammar most (entries of goal most tokens) answer
-        → answer ≡ TooDeep (suc index) → IsDepthFault (form of goal) most tokens end (place_of tokens end index)
+    deep_of : (end index : ℕ) (answer : Answer Placed)
+        → IsAnswer cduce_grammar most (entries of goal most tokens) answer → answer ≡ TooDeep (suc index)
+        → IsDepthFault (form of goal) most tokens end (place_of tokens end index)
     deep_of end index _ (whole part is) same = absurd cc
     deep_of end index _ (wrong at small before never) same = absurd cc
     deep_of end index _ (unfinished at past before never) same = absurd cc
@@ -76,11 +77,11 @@ module _ {Written : Type 0} (of : Written → Part) (goal : Goal)
           before = begins of goal most tokens (take index tokens) (take at (entries of goal most tokens))
               (taken of goal most tokens at index number) before;
           none = λ begun. never (map Later begun.0) begun.1
-              (subst (λ all. Whole type_grammar most (all ++ map Later begun.0) begun.1) (sym some) begun.2);
+              (subst (λ all. Whole cduce_grammar most (all ++ map Later begun.0) begun.1) (sym some) begun.2);
           depth = on.0;
           deeper = (on.1, as_written on.0 (take (suc index) tokens ++ on.1) on.2 on.3);
         }
 
-    pub deep_at : (end index : ℕ) → IsAnswer type_grammar most (entries of goal most tokens) (TooDeep (suc index))
+    pub deep_at : (end index : ℕ) → IsAnswer cduce_grammar most (entries of goal most tokens) (TooDeep (suc index))
         → IsDepthFault (form of goal) most tokens end (place_of tokens end index)
     deep_at end index is = deep_of end index (TooDeep (suc index)) is refl

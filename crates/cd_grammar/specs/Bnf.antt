@@ -1,5 +1,5 @@
 -- Grammars as lines of text, each with what it makes.
-use Rattle.std.specs.Prelude.{ℕ, zero, suc, List, [], ◌∷◌, map, length}
+use Rattle.std.specs.Prelude.{ℕ, zero, suc, List, [], ◌∷◌, ◌++◌, map, length}
 use Rattle.std.specs.Prelude.{nat_eq, nat_lt, bytes_eq, codes}
 use Prim.Native.String.{String}
 use Rattle.cd_lr.specs.Grammar.{Symbol, Terminal, Nonterminal}
@@ -15,6 +15,15 @@ pub record Line : Type 0 where
 infix 75 ◌⟼◌
 abbrev pub ◌⟼◌ : String → Make → Line
 text ⟼ make = record { text = codes text; make = make }
+
+-- what stands in a text in the place of each `~`
+abbrev pub marked : (mark : List ℕ) → List ℕ → List ℕ
+marked mark [] = []
+marked mark (c ∷ rest) =
+    let more = marked mark rest in choose (nat_eq c 126) (mark ++ more) (c ∷ more)
+
+abbrev pub with_mark : (mark : List ℕ) → Line → Line
+with_mark mark line = record { text = marked mark line.text; make = line.make }
 
 -- the words between blanks: the first one and the others
 abbrev pub words : List ℕ → List ℕ × List (List ℕ)

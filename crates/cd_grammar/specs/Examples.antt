@@ -1,105 +1,21 @@
 -- Texts as their tokens, and the trees that they write.
-use Rattle.std.specs.Prelude.{ℕ, ◌+◌, ◌<◌, pos, true, false, List, [], ◌∷◌, ◌++◌, length, codes}
+use Rattle.std.specs.Prelude.{ℕ, ◌<◌, pos, true, false, List, [], ◌∷◌, ◌++◌, codes}
 use Rattle.std.specs.Prelude.{Some, None}
-use Prim.Native.String.{String}
-use Rattle.cd_syntax.specs.declared.sign.Sign.{Sign as ASign}
 use Rattle.cd_syntax.specs.declared.sign.Sign.TheVariants as sign
-use Rattle.cd_syntax.specs.declared.tokens.Span.{Span}
 use Rattle.cd_syntax.specs.declared.tokens.Token.{Token}
-use Rattle.cd_syntax.specs.declared.tokens.TokenKind.TheVariants as token
-use Rattle.cd_syntax.specs.declared.builtin.BuiltinName.{BuiltinName}
 use Rattle.cd_syntax.specs.declared.builtin.BuiltinName.TheVariants as builtin
 use Rattle.cd_syntax.specs.declared.type_tree.Post.TheVariants as post
-use Rattle.cd_syntax.specs.Signs.{characters}
-use Rattle.cd_syntax.specs.Tokens.{at}
-use Rattle.cd_syntax.specs.TypeTree.{Tree, tree, Kind, Builtin, Ints, Chars, Atom, Text, Tuple}
-use Rattle.cd_syntax.specs.TypeTree.{Arrows, Union, Meet, Sequence, Record, Xml, Named, Where}
-use Rattle.cd_syntax.specs.TypeTree.{Signed, Field, Declaration, Declarations}
-use Rattle.cd_syntax.specs.TypeTree.{Regular, regular, RegularKind, Nothing, Item, Seq, Alt, Repeat}
+use Rattle.cd_syntax.specs.TypeTree.{Tree, Ints, Chars, Atom, Text, Tuple}
+use Rattle.cd_syntax.specs.TypeTree.{Arrows, Union, Meet, Sequence, Record, Xml, Where}
+use Rattle.cd_syntax.specs.TypeTree.{Declarations}
+use Rattle.cd_syntax.specs.TypeTree.{Nothing, Seq, Alt, Repeat}
 use Rattle.cd_syntax.specs.TypeTree.{trees_of, signs_of, fields_of, declarations_of, regulars_of}
 use Rattle.cd_grammar.specs.Language.{IsTree}
-
-abbrev place : (from to : ℕ) → Span
-place from to = record { from = from; to = to }
-
--- tokens from a byte on
-abbrev sign_at : ASign → (from : ℕ) → Token
-sign_at is from = at (token.Sign is) (place from (from + length (characters is)))
-
-abbrev word_at : String → (from : ℕ) → Token
-word_at name from = at (token.Word (codes name)) (place from (from + length (codes name)))
-
-abbrev digit_at : (n from : ℕ) → Token
-digit_at n from = at (token.Int (pos n)) (place from (from + 1))
-
--- between quotes, and an atom after its backquote
-abbrev chars_at : String → (from : ℕ) → Token
-chars_at text from = at (token.Chars (codes text)) (place from (from + length (codes text) + 2))
-
-abbrev text_at : String → (from : ℕ) → Token
-text_at text from = at (token.Text (codes text)) (place from (from + length (codes text) + 2))
-
-abbrev atom_at : String → (from : ℕ) → Token
-atom_at name from = at (token.Atom (codes name)) (place from (from + length (codes name) + 1))
-
--- a tree, and an expression, from one byte to another
-abbrev tree_from : (from to : ℕ) → Kind → Tree
-tree_from from to kind = tree (place from to) kind
-
-abbrev regular_from : (from to : ℕ) → RegularKind → Regular
-regular_from from to kind = regular (place from to) kind
-
--- trees from a byte on: a digit, a type name and one that is built in, and `_`
-abbrev number_at : (n from : ℕ) → Tree
-number_at n from = tree_from from (from + 1) (Ints (Some (pos n)) (Some (pos n)))
-
-abbrev named_at : String → (from : ℕ) → Tree
-named_at name from = tree_from from (from + length (codes name)) (Named (codes name))
-
-abbrev built_in_at : String → BuiltinName → (from : ℕ) → Tree
-built_in_at name is from = tree_from from (from + length (codes name)) (Builtin is)
-
-abbrev ints_at : (from : ℕ) → Tree
-ints_at from = built_in_at "Int" builtin.Int from
-
-abbrev chars_type_at : (from : ℕ) → Tree
-chars_type_at from = built_in_at "Char" builtin.Char from
-
-abbrev any_at : (from : ℕ) → Tree
-any_at from = built_in_at "_" builtin.Any from
-
--- a tree after a sign
-abbrev kept : Tree → Signed
-kept is = record { kept = true; tree = is }
-
-abbrev taken_off : Tree → Signed
-taken_off is = record { kept = false; tree = is }
-
--- a field from a byte on, and one that may be absent
-abbrev field_at : String → (from : ℕ) → Tree → Field
-field_at label from is = record {
-  label = codes label;
-  at = from;
-  optional = false;
-  tree = is;
-}
-
-abbrev optional_at : String → (from : ℕ) → Tree → Field
-optional_at label from is = record { label = codes label; at = from; optional = true; tree = is }
-
-abbrev declared_at : String → (from : ℕ) → Tree → Declaration
-declared_at name from is = record { name = codes name; at = from; tree = is }
-
--- no attributes, before a `>` at this byte
-abbrev no_attributes_at : (from : ℕ) → Tree
-no_attributes_at from = tree_from from from (Record (fields_of []) false)
-
--- a type that is one item, and characters that each are one
-abbrev item : Tree → Regular
-item (tree span kind) = regular span (Item (tree span kind))
-
-abbrev letter_from : (from to c : ℕ) → Regular
-letter_from from to c = item (tree_from from to (Chars c c))
+use Rattle.cd_grammar.specs.TreesAt.{sign_at, word_at, digit_at, chars_at, text_at, atom_at}
+use Rattle.cd_grammar.specs.TreesAt.{tree_from, regular_from, number_at, named_at, built_in_at}
+use Rattle.cd_grammar.specs.TreesAt.{ints_at, chars_type_at, any_at, kept, taken_off, field_at}
+use Rattle.cd_grammar.specs.TreesAt.{optional_at, declared_at, no_attributes_at, item}
+use Rattle.cd_grammar.specs.TreesAt.{letter_from}
 
 -- `(1)`
 abbrev pub group_tokens : List Token

@@ -5,4 +5,6 @@ pub enum Goal {
     TypeText,
     /// A file of type declarations.
     TypeFile,
+    /// A program.
+    ProgramText,
 }

@@ -1,4 +1,4 @@
-//! Laws of the grammar of types. Each is the contract of a function that does nothing.
+//! Laws of the grammar. Each is the contract of a function that does nothing.
 ghost use Rattle.std.specs.Prelude.{◌≡◌, ◌≤◌, ◌++◌, ℕ, true, false, List, [], ◌∷◌};
 ghost use Rattle.cd_syntax.specs.declared.sign.Sign.TheVariants as sign;
 ghost use Rattle.cd_syntax.specs.declared.tokens.Span.{Span};
@@ -9,11 +9,13 @@ ghost use Rattle.cd_syntax.specs.SyntaxFaults.{IsUnfinished};
 ghost use Rattle.cd_syntax.specs.Tokens.{at, Spells};
 ghost use Rattle.cd_syntax.specs.WellMade.{IsWellMade, AreWellMadeDeclarations};
 ghost use Rattle.cd_syntax.specs.TypeTree.{Tree, Declarations, NoDeclaration};
+ghost use Rattle.cd_program.specs.Expr.{Program};
+ghost use Rattle.cd_program.specs.WellMade.{IsWellMadeProgram};
 ghost use Rattle.cd_lr.specs.Flat.{numbered};
 ghost use Rattle.cd_grammar.specs.Tables.{tables};
 ghost use Rattle.cd_grammar.specs.Ruled.{rules, in_order};
-ghost use Rattle.cd_grammar.specs.Language.{IsTree, AreDeclared};
-ghost use Rattle.cd_grammar.specs.Forms.{AType, SomeDeclarations};
+ghost use Rattle.cd_grammar.specs.Language.{IsTree, AreDeclared, IsProgram};
+ghost use Rattle.cd_grammar.specs.Forms.{AType, SomeDeclarations, AProgram};
 ghost use Rattle.cd_grammar.specs.Examples.{AreExamples, group_tokens, group_tree, tuple_tokens};
 ghost use Rattle.cd_grammar.specs.Examples.{tuple_tree, arrows_tokens, arrows_tree, arrow_tokens};
 ghost use Rattle.cd_grammar.specs.Examples.{record_tokens, record_tree, where_tokens, where_tree};
@@ -40,12 +42,15 @@ ghost use Rattle.cd_grammar.specs.Examples.{label_alone, two_types, where_again,
 ghost use Rattle.cd_grammar.specs.Examples.{no_keyword, no_type_name, semicolons_again};
 ghost use Rattle.cd_grammar.specs.Examples.{begun_declaration};
 
-/// Tokens write one type at most, and one list of declarations.
+/// Tokens write one type at most, one list of declarations, and one program's types and functions.
 pub fn tree_is_one()
     ensures tree { (depth other : ℕ) (tokens : List Token) (first second : Tree)
         → IsTree depth tokens first → IsTree other tokens second → first ≡ second }
     ensures declared { (depth other : ℕ) (tokens : List Token) (first second : Declarations)
         → AreDeclared depth tokens first → AreDeclared other tokens second → first ≡ second }
+    ensures program { (depth other : ℕ) (tokens : List Token) (first second : Program)
+        → IsProgram depth tokens first → IsProgram other tokens second
+        → (first.types ≡ second.types) × (first.functions ≡ second.functions) }
 {}
 
 /// What is written at a depth is written at each greater one.
@@ -55,6 +60,8 @@ pub fn depth_is_a_bound()
     ensures declared { (depth more : ℕ) (tokens : List Token) (declarations : Declarations)
         → depth ≤ more → AreDeclared depth tokens declarations
         → AreDeclared more tokens declarations }
+    ensures program { (depth more : ℕ) (tokens : List Token) (program : Program) → depth ≤ more
+        → IsProgram depth tokens program → IsProgram more tokens program }
 {}
 
 /// The rules of the tables are those of the lines, in their order and by their numbers.
@@ -63,7 +70,7 @@ pub fn tables_are_of_the_lines()
     ensures numbers { numbered tables.rules 0 ≡ true }
 {}
 
-/// What tokens of a text write is well made: a type, and type declarations.
+/// What tokens of a text write is well made: a type, type declarations, and a program.
 pub fn trees_are_well_made()
     ensures types { (text : List ℕ) (tokens : List Token) (depth : ℕ) (is : Tree)
         → Spells false 0 text tokens → IsTree depth tokens is → IsWellMade is }
@@ -71,13 +78,17 @@ pub fn trees_are_well_made()
         (declarations : Declarations)
         → Spells false 0 text tokens → AreDeclared depth tokens declarations
         → AreWellMadeDeclarations declarations }
+    ensures programs { (text : List ℕ) (tokens : List Token) (depth : ℕ) (program : Program)
+        → Spells false 0 text tokens → IsProgram depth tokens program
+        → IsWellMadeProgram program }
 {}
 
-/// Types and files of declarations are forms: what begins with tokens begins with fewer of them,
-/// what is written begins so, and what begins is written by more tokens.
+/// Types, files of declarations and programs are forms: what begins with tokens begins with fewer
+/// of them, what is written begins so, and what begins is written by more tokens.
 pub fn texts_have_forms()
     ensures types { IsForm AType }
     ensures declarations { IsForm SomeDeclarations }
+    ensures programs { IsForm AProgram }
 {}
 
 /// The grammar of types at some texts, each given as its tokens: the tree that they write, and

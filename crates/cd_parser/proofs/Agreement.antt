@@ -14,37 +14,37 @@ use Rattle.cd_lr.proofs.FlatMachine.{agrees}
 use Rattle.cd_lr.proofs.Answers.{at_done, at_wrong, at_too_deep}
 use Rattle.cd_grammar.specs.declared.goal.Goal.{Goal}
 use Rattle.cd_grammar.specs.Language.{Entry, Read, Placed, kind_of, value_of, is_free, build, nowhere}
-use Rattle.cd_grammar.specs.Language.{type_grammar}
+use Rattle.cd_grammar.specs.Language.{cduce_grammar}
 use Rattle.cd_grammar.specs.Tables.{tables}
 use Rattle.cd_grammar.proofs.Exact.{safe, full, step_falls}
 use Rattle.cd_grammar.proofs.Terminals.{kind_below}
-use Rattle.cd_parser.specs.Listed.{listed, automaton, the_grammar}
+use Rattle.cd_grammar.specs.Listed.{listed, automaton, the_grammar}
 use Rattle.cd_parser.specs.PlainParts.{plain_part}
 use Rattle.cd_parser.specs.PlainSteps.{accepted}
 use Rattle.cd_parser.specs.Reading.{entries, Comes, IsAccepted, IsRead}
 use Rattle.cd_parser.specs.declared.reading.Reading.{Reading}
 use Rattle.cd_parser.specs.declared.reading.Reading.TheVariants.{Whole, Wrong, TooDeep}
-use Rattle.cd_parser.proofs.ListedFits.{is_flat}
+use Rattle.cd_grammar.proofs.ListedFits.{is_flat}
 
 abbrev by_tables : machine.Automaton
 by_tables = tabled.machine tables
 
-agree : Agree the_grammar type_grammar automaton by_tables
+agree : Agree the_grammar cduce_grammar automaton by_tables
 unfolding listed
 agree = agrees tables listed is_flat kind_of value_of is_free build kind_below refl
 
 module _ (goal : Goal) (most : ℕ) (tokens : List Token) where
   runs : (c : Config Entry Placed) → Comes goal most tokens c
-      → Reaches type_grammar by_tables most
-      (machine.begin type_grammar by_tables most (entries goal tokens)) c
+      → Reaches cduce_grammar by_tables most
+      (machine.begin cduce_grammar by_tables most (entries goal tokens)) c
   runs c comes =
-      same_runs the_grammar type_grammar automaton by_tables agree most
+      same_runs the_grammar cduce_grammar automaton by_tables agree most
       (machine.begin the_grammar automaton most (entries goal tokens)) c comes
 
   steps : (c : Config Entry Placed) (next : machine.Next Entry Placed)
       → machine.step the_grammar automaton most c ≡ next
-      → machine.step type_grammar by_tables most c ≡ next
-  steps c next is = sym (same_step the_grammar type_grammar automaton by_tables agree most c) ∙ is
+      → machine.step cduce_grammar by_tables most c ≡ next
+  steps c next is = sym (same_step the_grammar cduce_grammar automaton by_tables agree most c) ∙ is
 
   -- each step makes a number smaller
   pub falls : (c d : Config Entry Placed) → Comes goal most tokens c
@@ -62,7 +62,7 @@ module _ (goal : Goal) (most : ℕ) (tokens : List Token) where
       → IsRead goal most tokens (Wrong index)
   wrong c index comes is place = (
     nowhere,
-    at_wrong type_grammar by_tables (Core tables) (Sure tables) (First tables) (ranks tables) safe full most
+    at_wrong cduce_grammar by_tables (Core tables) (Sure tables) (First tables) (ranks tables) safe full most
         (entries goal tokens) c (suc index) (runs c comes) (steps c machine.Wrong is) place,
   )
 
@@ -71,7 +71,7 @@ module _ (goal : Goal) (most : ℕ) (tokens : List Token) where
       → IsRead goal most tokens (TooDeep index)
   too_deep c index comes is place = (
     nowhere,
-    at_too_deep type_grammar by_tables (Core tables) (Sure tables) (First tables) (ranks tables) safe full most
+    at_too_deep cduce_grammar by_tables (Core tables) (Sure tables) (First tables) (ranks tables) safe full most
         (entries goal tokens) c (suc index) (runs c comes) (steps c machine.TooDeep is) place,
   )
 
@@ -82,7 +82,7 @@ module _ (goal : Goal) (most : ℕ) (tokens : List Token) where
       → IsRead goal most tokens reading
   all_read c index stack (Whole part) comes is place (at, so) = (
     at,
-    at_done type_grammar by_tables (Core tables) (Sure tables) (First tables) (ranks tables) safe full most
+    at_done cduce_grammar by_tables (Core tables) (Sure tables) (First tables) (ranks tables) safe full most
         (entries goal tokens) c (at, plain_part part) (runs c comes)
         (steps c (machine.Done (at, plain_part part)) (is ∙ so)),
   )

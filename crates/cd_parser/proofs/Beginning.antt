@@ -9,17 +9,18 @@ use Rattle.cd_grammar.specs.declared.goal.Goal.TheVariants as goals
 use Rattle.cd_grammar.specs.Parts.{Junk}
 use Rattle.cd_grammar.specs.Terminals.{terminal_of_goal}
 use Rattle.cd_grammar.specs.Language.{Entry, Read, Placed, nowhere}
-use Rattle.cd_parser.specs.Listed.{listed, automaton, the_grammar}
-use Rattle.cd_parser.specs.PlainActions.{plain_action}
+use Rattle.cd_grammar.specs.Listed.{listed, automaton, the_grammar}
+use Rattle.cd_grammar.specs.PlainActions.{plain_action}
 use Rattle.cd_parser.specs.Reading.{entries, Comes}
-use Rattle.cd_parser.specs.declared.table.Action.{Action}
-use Rattle.cd_parser.specs.declared.table.Action.TheVariants as action
+use Rattle.cd_grammar.specs.declared.table.Action.{Action}
+use Rattle.cd_grammar.specs.declared.table.Action.TheVariants as action
 
 -- it is a shift, and opens no level
 goal_shifts : (goal : Goal) → (to : ℕ) × (automaton.action 0 (terminal_of_goal goal) ≡ Shift 0 to)
 unfolding listed
 goal_shifts goals.TypeText = (_, refl)
 goal_shifts goals.TypeFile = (_, refl)
+goal_shifts goals.ProgramText = (_, refl)
 
 pub first_shift : (goal : Goal) (opens to : ℕ) → Shift opens to ≡ automaton.action 0 (terminal_of_goal goal)
     → automaton.action 0 (terminal_of_goal goal) ≡ Shift 0 to

@@ -1,13 +1,8 @@
-mod OfMany
+mod Letters
 mod TextsRead
 mod Places
-mod Taking
-mod FrontParts
-mod RowsGrow
-mod Letters
-mod BuiltInNames
-mod Words
-mod ListedFits
+mod Arities
+mod Popping
 mod Stacks
 mod Steps
 mod Agreement

@@ -1,7 +1,7 @@
 -- The last parts of a stack.
 use Rattle.std.proofs.Common.{◌≡◌, ◌∙◌, sym, ap, ap₂, refl, ℕ, zero, suc, ◌-◌, ◌≤◌, ◌<◌, List, [], ◌∷◌, ◌++◌, arith}
 use Rattle.std.proofs.Common.{◌+◌, ◌==◌, true, eqb-true, set, map, reverse, take, drop, length, get_or, slice_get}
-use Rattle.std.proofs.Common.{append_assoc, append-nil, inl, inr, ◌⊎◌}
+use Rattle.std.proofs.Common.{append_assoc, append-nil, inl, inr, ◌⊎◌, Option, Some, None, option_map}
 use Rattle.std.proofs.lemmas.List.{reverse-append, reverse-reverse, length-reverse, length-map, length-drop, map-append}
 use Rattle.std.proofs.lemmas.List.{take-append-drop, take_at, drop_at, take_all, drop_all, drop_more, take_more_set}
 use Rattle.std.proofs.lemmas.List.{length-set}
@@ -10,10 +10,13 @@ use Rattle.cd_lr.specs.Automaton as machine
 use Rattle.cd_lr.specs.Flat.{entry}
 use Rattle.cd_syntax.specs.declared.tokens.Span.{Span}
 use Rattle.cd_grammar.specs.Language.{Placed, place_of, end_of, build, made_by}
+use Rattle.cd_grammar.specs.Bnf.{Line}
 use Rattle.cd_grammar.specs.Parts.{Part}
+use Rattle.cd_grammar.specs.declared.make.Make.{Make}
 use Rattle.cd_grammar.specs.Rules.{lines}
-use Rattle.cd_parser.specs.Listed.{listed, automaton, the_grammar}
-use Rattle.cd_parser.specs.PlainParts.{plain_part, parts_in}
+use Rattle.cd_grammar.specs.Listed.{listed, automaton, the_grammar}
+use Rattle.cd_parser.specs.PlainParts.{plain_part}
+use Rattle.cd_parser.specs.Popped.{parts_in, made_if}
 use Rattle.cd_parser.specs.PlainStacks.{plain_value, plain_cell, plain_stack}
 use Rattle.cd_parser.specs.PlainSteps.{accepted}
 use Rattle.cd_parser.specs.declared.cell.Cell.{Cell}
@@ -95,10 +98,32 @@ parts_are : (cells : List Cell) → parts_in cells ≡ map (λ part. part.1) (ma
 parts_are [] = refl
 parts_are (cell ∷ cells) = ap (λ rest. plain_part cell.part ∷ rest) (parts_are cells)
 
-pub built : (rule : ℕ) (here : Span) (made : Part) (cells : List Cell) → here ≡ place_of (map plain_value cells)
-    → made ≡ made_by (slice_get lines rule) here (parts_in cells) → (here, made) ≡ build rule (map plain_value cells)
-built rule here made cells is so =
-    ap₂ (λ here made. (here, made)) is (so ∙ ap₂ (made_by (slice_get lines rule)) is (parts_are cells))
+by_line : (found : Option Line) (here : Span) (all : List Part)
+    → made_if (option_map (λ line. line.make) found) here all ≡ made_by found here all
+by_line None here all = refl
+by_line (Some line) here all = refl
+
+pub built : (rule : ℕ) (make : Option Make) (here : Span) (made : Part) (cells : List Cell)
+    → make ≡ option_map (λ line. line.make) (slice_get lines rule) → here ≡ place_of (map plain_value cells)
+    → made ≡ made_if make here (parts_in cells) → (here, made) ≡ build rule (map plain_value cells)
+built rule make here made cells of_rule is so =
+    ap₂ (λ here made. (here, made)) is
+    (so ∙ ap (λ one. made_if one here (parts_in cells)) of_rule ∙ by_line (slice_get lines rule) here (parts_in cells)
+    ∙ ap₂ (made_by (slice_get lines rule)) is (parts_are cells))
+
+-- those from one number on, up to the end
+pub to_end : (at : ℕ) (cells : List Cell) → take (length cells - at) (drop at cells) ≡ drop at cells
+to_end at cells =
+    let long : length (drop at cells) ≡ length cells - at = length-drop at cells in
+    take_all (length cells - at) (drop at cells) (omega (arith, long))
+
+-- what is left of cells that were put together, and what stands after
+pub left_is : (old new cells : List Cell) (at : ℕ) → old ≡ new ++ cells → length new ≡ at
+    → (take at old ≡ new) × (drop at old ≡ cells)
+left_is old new cells at is long = (
+  ap (take at) is ∙ take_at new cells at long,
+  ap (drop at) is ∙ drop_at new cells at long,
+)
 
 -- from the first's beginning to the last's end
 end_at : (to : ℕ) (cell other : Cell) (cells : List Cell)

@@ -6,9 +6,9 @@ use Rattle.cd_lr.specs.Automaton as machine
 use Rattle.cd_lr.specs.Automaton.{Reduce, Cell, Config, On, Reaches, here, on}
 use Rattle.cd_lr.specs.Flat.{entry}
 use Rattle.cd_grammar.specs.Language.{Entry, Read, Placed}
-use Rattle.cd_parser.specs.declared.terminal.TheConstants.{END}
+use Rattle.cd_grammar.specs.declared.table.TheConstants.{END}
 use Rattle.cd_parser.specs.Ahead.{terminal_ahead}
-use Rattle.cd_parser.specs.Listed.{listed, automaton, the_grammar}
+use Rattle.cd_grammar.specs.Listed.{listed, automaton, the_grammar}
 use Rattle.cd_lr.proofs.FlatMachine.{blanks_length}
 
 -- past the last token

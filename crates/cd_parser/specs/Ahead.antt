@@ -2,7 +2,7 @@
 use Rattle.std.specs.Prelude.{ℕ, List, [], ◌∷◌}
 use Rattle.cd_syntax.specs.declared.tokens.Token.{Token}
 use Rattle.cd_grammar.specs.Terminals.{terminal_of}
-use Rattle.cd_parser.specs.Listed.{automaton}
+use Rattle.cd_grammar.specs.Listed.{automaton}
 
 abbrev pub terminal_ahead : List Token → ℕ
 terminal_ahead [] = automaton.finish

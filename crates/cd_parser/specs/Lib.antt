@@ -1,13 +1,7 @@
 pub mod PlainParts
-pub mod Counted
-pub mod Taken
-pub mod Connectives
-pub mod Rows
-pub mod Intervals
-pub mod BuiltIn
-pub mod Reserved
-pub mod Listed
-pub mod PlainActions
+pub mod Letters
+pub mod OfPrograms
+pub mod Popped
 pub mod PlainStacks
 pub mod PlainSteps
 pub mod Ahead

@@ -3,7 +3,7 @@ use Rattle.std.specs.Prelude.{ℕ, List, ◌∷◌, map, reverse}
 use Rattle.cd_lr.specs.Automaton as machine
 use Rattle.cd_lr.specs.Automaton.{state_of, room_of}
 use Rattle.cd_grammar.specs.Language.{Placed}
-use Rattle.cd_parser.specs.Listed.{automaton, the_grammar}
+use Rattle.cd_grammar.specs.Listed.{automaton, the_grammar}
 use Rattle.cd_parser.specs.PlainParts.{plain_part}
 use Rattle.cd_parser.specs.declared.cell.Cell.{Cell}
 

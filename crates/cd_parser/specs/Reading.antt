@@ -7,8 +7,8 @@ use Rattle.cd_lr.specs.Automaton.{Config, Reaches}
 use Rattle.cd_lr.specs.Reading as answer
 use Rattle.cd_lr.specs.Reading.{Answer, IsAnswer}
 use Rattle.cd_grammar.specs.declared.goal.Goal.{Goal}
-use Rattle.cd_grammar.specs.Language.{Entry, To, Read, Placed, type_grammar}
-use Rattle.cd_parser.specs.Listed.{automaton, the_grammar}
+use Rattle.cd_grammar.specs.Language.{Entry, To, Read, Placed, cduce_grammar}
+use Rattle.cd_grammar.specs.Listed.{automaton, the_grammar}
 use Rattle.cd_parser.specs.PlainParts.{plain_part}
 use Rattle.cd_parser.specs.PlainSteps.{accepted}
 use Rattle.cd_parser.specs.declared.reading.Reading.{Reading}
@@ -39,4 +39,4 @@ plain_answer place (TooDeep index) = answer.TooDeep (suc index)
 -- the reading is what the grammar says of the tokens
 abbrev pub IsRead : Goal → (most : ℕ) → List Token → Reading → Type 0
 IsRead goal most tokens reading =
-    (place : Span) × IsAnswer type_grammar most (entries goal tokens) (plain_answer place reading)
+    (place : Span) × IsAnswer cduce_grammar most (entries goal tokens) (plain_answer place reading)

@@ -1,33 +1,35 @@
-//! The types and the files of declarations that tokens write.
+//! The types, the files of declarations and the programs that tokens write.
 #![tactic(auto)]
 
-mod built_in;
 mod cell;
-mod connective;
 mod constants;
 pub mod error;
+mod exprs;
+mod functions;
 mod machine;
 mod made;
 mod names;
+mod pairs;
 mod part;
-mod parts;
+mod patterns;
+mod popped;
+mod program_taken;
 mod reader;
 mod reading;
 mod records;
 mod regular;
 mod rows;
 mod sequences;
-mod signs;
 mod stack;
 mod state;
-mod table;
-mod tables;
 mod taken;
 mod terminal;
 mod tree_part;
 mod trees;
+mod triples;
 pub mod types;
-mod xml;
+mod values;
+mod words;
 
 pub use error::ParseError;
-pub use types::{parse_declarations, parse_type};
+pub use types::{parse_declarations, parse_program, parse_type};

@@ -2,7 +2,7 @@
 ghost use Rattle.std.specs.Prelude.{◌≡◌, [], drop, IfOk, OnOk};
 ghost use Rattle.cd_lr.specs.Automaton as machine;
 ghost use Rattle.cd_parser.specs.Ahead.{terminal_ahead};
-ghost use Rattle.cd_parser.specs.Listed.{automaton, the_grammar};
+ghost use Rattle.cd_grammar.specs.Listed.{automaton, the_grammar};
 ghost use Rattle.cd_parser.specs.PlainStacks.{plain_stack};
 ghost use Rattle.cd_parser.specs.PlainSteps.{rest_of, plain_state, plain_outcome};
 
@@ -10,8 +10,8 @@ use crate::cell::Cell;
 use crate::part::Part;
 use crate::stack::{reduce, room_of, state_of};
 use crate::state::State;
-use crate::table::{Action, action_at};
-use crate::terminal::{END, terminal_of};
+use crate::terminal::terminal_of;
+use cd_grammar::table::{Action, END, action_at};
 use cd_syntax::tokens::Token;
 use std::alloc::{AllocError, Global};
 

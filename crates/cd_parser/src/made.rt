@@ -1,28 +1,23 @@
 //! What rules make of their parts.
-ghost use Rattle.std.specs.Prelude.{◌≡◌, [], ◌∷◌, IfOk};
-ghost use Rattle.cd_grammar.specs.Actions as actions;
-ghost use Rattle.cd_parser.specs.PlainParts.{plain_part, parts_in};
+ghost use Rattle.std.specs.Prelude.{◌≡◌, IfOk};
+ghost use Rattle.cd_grammar.specs.Makes as makes;
+ghost use Rattle.cd_parser.specs.PlainParts.{plain_part};
 
-use crate::cell::Cell;
-use crate::constants::{
-    any, atom, character, characters, half_interval, interval, named, number, text,
+use crate::constants::{any, atom, character, named, number, text};
+use crate::exprs::{apply, chain, constant_expr, variable_expr};
+use crate::functions::{
+    declared_function, first_function, first_type, if_else, let_in, matching, named_function,
+    no_program,
 };
-use crate::names::{
-    declaration, file, first_name, next_declaration, next_name, no_file, where_names,
-};
+use crate::names::{name, no_file};
 use crate::part::Part;
-use crate::parts::take_one;
-use crate::records::{field, fields, next_field, no_fields, record, separate_field};
-use crate::regular::{
-    after_item, alternatives, first_regular, in_turn, items_or, next_regular, or_item, or_regular,
-};
-use crate::sequences::{empty_sequence, item, mark, repeated, repeated_item, run, sequence};
-use crate::signs::{first_sign, meet, next_sign};
-use crate::trees::{
-    arrows, before_trees, first_tree, longer_arrows, longer_tuple, next_tree, second, tuple, union,
-};
-use crate::xml::{attributes, label, xml, xml_with};
-use cd_grammar::make::{Make, One, Several};
+use crate::patterns::{constant, default, variable};
+use crate::records::{fields, label, others, xml, xml_with};
+use crate::regular::{alternatives, in_turn};
+use crate::sequences::{item, run};
+use crate::trees::{arrows, meet, union};
+use crate::values::{label_expr, one_item, record_expr, run_item, xml_expr, xml_expr_with};
+use cd_grammar::make::{Five, Four, One, Six};
 use cd_syntax::tokens::Span;
 use std::alloc::{AllocError, Global};
 
@@ -33,122 +28,150 @@ use std::alloc::{AllocError, Global};
 /// Want of memory.
 pub(crate) fn of_one<'t>(
     alloc: Global,
-    make: Make,
+    make: One,
     here: Span,
-    part: Part<'t>,
+    a: Part<'t>,
 ) -> Result<Part<'t>, AllocError>
     ensures { IfOk result (λ made.
-        plain_part made ≡ actions.made make here (plain_part part.entry ∷ [])) }
+        plain_part made ≡ makes.made_of_one make here (plain_part a.entry)) }
 {
     match make {
-        Make::One(make) => made_of_one(alloc, make, here, part),
-        Make::Several(_) => Ok(Part::Junk),
+        One::That => Ok(a),
+        One::Union => union(alloc, here, a),
+        One::Arrows => arrows(alloc, here, a),
+        One::Meet => meet(alloc, here, a),
+        One::Number => number(alloc, here, a),
+        One::Character => character(alloc, here, a),
+        One::Text => text(alloc, here, a),
+        One::Atom => atom(alloc, here, a),
+        One::Named => named(alloc, here, a),
+        One::Any => any(alloc, here),
+        One::Label => label(alloc, here, a),
+        One::Others => Ok(others(alloc)),
+        One::Attributes => fields(alloc, here, a),
+        One::Item => item(alloc, a),
+        One::Run => run(alloc, here, a),
+        One::Alternatives => alternatives(alloc, here, a),
+        One::InTurn => in_turn(alloc, here, a),
+        One::Mark(mark) => Ok(Part::Mark(mark)),
+        One::NoFile => Ok(no_file(alloc)),
+        One::Variable => variable(alloc, here, a),
+        One::Constant => constant(alloc, a),
+        One::NoProgram => Ok(no_program(alloc)),
+        One::FirstType => Ok(first_type(alloc, a)),
+        One::FirstFunction => first_function(alloc, a),
+        One::Chain => chain(alloc, here, a),
+        One::Apply => apply(alloc, here, a),
+        One::ConstantExpr => constant_expr(alloc, here, a),
+        One::VariableExpr => variable_expr(alloc, here, a),
+        One::LabelExpr => label_expr(alloc, here, a),
+        One::AttributesExpr => record_expr(alloc, here, a),
+        One::RunItem => run_item(alloc, a),
+        One::OneItem => one_item(alloc, a),
     }
 }
 
-/// What a rule makes of these parts.
+/// The same of four.
 ///
 /// # Errors
 ///
 /// Want of memory.
-pub(crate) fn of_several<'t>(
+pub(crate) fn of_four<'t>(
     alloc: Global,
-    make: Make,
+    make: Four,
     here: Span,
-    cells: Vec<Cell<'t>>,
+    a: Part<'t>,
+    b: Part<'t>,
+    c: Part<'t>,
+    d: Part<'t>,
 ) -> Result<Part<'t>, AllocError>
-    ensures { IfOk result (λ made.
-        plain_part made ≡ actions.made make here (parts_in cells.entry.items)) }
+    ensures { IfOk result (λ made. plain_part made ≡ makes.made_of_four make here
+        (plain_part a.entry) (plain_part b.entry) (plain_part c.entry) (plain_part d.entry)) }
 {
     match make {
-        Make::One(make) => match take_one(cells) {
-            Some(part) => made_of_one(alloc, make, here, part),
-            None => Ok(Part::Junk),
-        },
-        Make::Several(make) => match cells.as_slice() {
-            [] | [_] => Ok(Part::Junk),
-            [_, _, ..] => made_of_several(alloc, make, here, cells),
-        },
+        Four::Declaration => {
+            drop(a);
+            drop(c);
+            name(alloc, b, d)
+        }
+        Four::Xml => {
+            drop(a);
+            xml(alloc, here, b, c, d)
+        }
+        Four::Matching(form) => {
+            drop(a);
+            drop(c);
+            matching(alloc, form, here, b, d)
+        }
+        Four::NamedFunction => named_function(alloc, here, a, b, c, d),
+        Four::XmlExpr => {
+            drop(a);
+            xml_expr(alloc, here, b, c, d)
+        }
     }
 }
 
-fn made_of_one<'t>(
+/// The same of five.
+///
+/// # Errors
+///
+/// Want of memory.
+pub(crate) fn of_five<'t>(
     alloc: Global,
-    make: One,
+    make: Five,
     here: Span,
-    part: Part<'t>,
+    parts: (Part<'t>, Part<'t>, Part<'t>, Part<'t>, Part<'t>),
 ) -> Result<Part<'t>, AllocError>
-    ensures { IfOk result (λ made.
-        plain_part made ≡ actions.made_of_one make here (plain_part part.entry ∷ [])) }
+    ensures { IfOk result (λ made. plain_part made ≡ makes.made_of_five make here
+        (plain_part parts.entry.0) (plain_part parts.entry.1) (plain_part parts.entry.2)
+        (plain_part parts.entry.3) (plain_part parts.entry.4)) }
 {
+    let (a, b, c, d, e) = parts;
     match make {
-        One::That => Ok(part),
-        One::FirstTree => Ok(first_tree(part)),
-        One::Union => union(alloc, here, part),
-        One::Arrows => arrows(alloc, here, part),
-        One::FirstSign => Ok(first_sign(part)),
-        One::Meet => meet(alloc, here, part),
-        One::Number => number(alloc, here, part),
-        One::Character => character(alloc, here, part),
-        One::Text => text(alloc, here, part),
-        One::Atom => atom(alloc, here, part),
-        One::Named => named(alloc, here, part),
-        One::Any => any(alloc, here),
-        One::Label => label(alloc, here, part),
-        One::OnlyFields => record(alloc, false, here, part),
-        One::Others => no_fields(alloc, true, here),
-        One::Item => item(alloc, part),
-        One::Run => run(alloc, here, part),
-        One::FirstRegular => Ok(first_regular(part)),
-        One::Alternatives => alternatives(alloc, here, part),
-        One::InTurn => in_turn(alloc, here, part),
-        One::Mark(sign) => Ok(mark(sign)),
-        One::NoFile => Ok(no_file(alloc)),
+        Five::XmlWith => {
+            drop(a);
+            drop(d);
+            xml_with(alloc, here, b, c, e)
+        }
+        Five::Default => {
+            drop(a);
+            drop(c);
+            drop(e);
+            default(alloc, here, b, d)
+        }
+        Five::DeclaredFunction => {
+            drop(a);
+            declared_function(alloc, b, c, d, e)
+        }
+        Five::XmlExprWith => {
+            drop(a);
+            drop(d);
+            xml_expr_with(alloc, here, b, c, e)
+        }
     }
 }
 
-fn made_of_several<'t>(
+/// The same of six.
+///
+/// # Errors
+///
+/// Want of memory.
+pub(crate) fn of_six<'t>(
     alloc: Global,
-    make: Several,
+    make: Six,
     here: Span,
-    cells: Vec<Cell<'t>>,
+    parts: (Part<'t>, Part<'t>, Part<'t>, Part<'t>, Part<'t>, Part<'t>),
 ) -> Result<Part<'t>, AllocError>
-    ensures { IfOk result (λ made.
-        plain_part made ≡ actions.made_of_several make here (parts_in cells.entry.items)) }
+    ensures { IfOk result (λ made. plain_part made ≡ makes.made_of_six make here
+        (plain_part parts.entry.0) (plain_part parts.entry.1) (plain_part parts.entry.2)
+        (plain_part parts.entry.3) (plain_part parts.entry.4) (plain_part parts.entry.5)) }
 {
+    let (a, b, c, d, e, f) = parts;
+    drop(a);
+    drop(c);
+    drop(e);
     match make {
-        Several::Second => Ok(second(cells)),
-        Several::NextTree => next_tree(alloc, cells),
-        Several::BeforeTrees => before_trees(alloc, cells),
-        Several::LongerArrows => longer_arrows(alloc, here, cells),
-        Several::Tuple => tuple(alloc, here, cells),
-        Several::LongerTuple => longer_tuple(alloc, here, cells),
-        Several::NextSign(kept) => next_sign(alloc, kept, cells),
-        Several::Interval => interval(alloc, here, cells),
-        Several::HalfInterval => half_interval(alloc, here, cells),
-        Several::Characters => characters(alloc, here, cells),
-        Several::FirstName => first_name(alloc, cells),
-        Several::NextName => next_name(alloc, cells),
-        Several::Where => where_names(alloc, here, cells),
-        Several::Declaration => declaration(alloc, cells),
-        Several::NextDeclaration => next_declaration(cells),
-        Several::File => Ok(file(cells)),
-        Several::Field(optional) => field(alloc, optional, cells),
-        Several::NextField => next_field(cells),
-        Several::SeparateField => separate_field(cells),
-        Several::NoFields(more) => no_fields(alloc, more, here),
-        Several::Fields(more) => fields(alloc, more, here, cells),
-        Several::Attributes(more) => attributes(alloc, more, here, cells),
-        Several::Xml => xml(alloc, here, cells),
-        Several::XmlWith => xml_with(alloc, here, cells),
-        Several::EmptySequence => empty_sequence(alloc, here, cells),
-        Several::Sequence => sequence(alloc, here, cells),
-        Several::NextRegular => next_regular(alloc, cells),
-        Several::AfterItem => after_item(alloc, cells),
-        Several::OrRegular => or_regular(alloc, cells),
-        Several::OrItem => or_item(alloc, cells),
-        Several::ItemsOr => items_or(alloc, cells),
-        Several::Repeated => repeated(alloc, here, cells),
-        Several::RepeatedItem => repeated_item(alloc, here, cells),
+        Six::Let => let_in(alloc, here, b, d, f),
+        Six::If => if_else(alloc, here, b, d, f),
     }
 }

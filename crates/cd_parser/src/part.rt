@@ -1,36 +1,51 @@
+use cd_program::expr::{Branch, Expr, FieldExpr, FunctionTree, Item, Signature, Tail};
+use cd_syntax::constant::Constant;
 use cd_syntax::tokens::Token;
 use cd_syntax::type_tree::{Declaration, Declarations, FieldTree, Post, RegTree, SignedTree, Tree};
 
-/// What a rule of the grammar made. A row of one stands in its box, so that a chain of one takes no
-/// memory.
+/// What a rule of the grammar made.
 #[derive(Drop)]
 pub(crate) enum Part<'t> {
     /// A token.
     Token(&'t Token),
     /// A tree.
     Tree(Box<Tree>),
-    /// A row of one tree.
-    OneTree(Box<Tree>),
     /// A row of trees.
     Trees(Vec<Tree>),
-    /// A tree with no sign after it.
-    OneSign(Box<Tree>),
     /// A tree, and those after signs.
     Signs(Box<Tree>, Vec<SignedTree>),
-    /// Fields of a record.
-    Fields(Vec<FieldTree>),
+    /// Fields of a record, and whether others may stand beside them.
+    Fields(Vec<FieldTree>, bool),
     /// Declarations.
     Names(Vec<Declaration>),
     /// A file of declarations.
     File(Declarations),
     /// An expression of sequences.
     Regular(Box<RegTree>),
-    /// A row of one expression.
-    OneRegular(Box<RegTree>),
-    /// A row of expressions.
+    /// A row of expressions of sequences.
     Regulars(Vec<RegTree>),
-    /// The sign after an expression.
+    /// The sign after an expression of sequences.
     Mark(Post),
+    /// A constant of a pattern.
+    Constant(Box<Constant>),
+    /// An expression.
+    Expr(Box<Expr>),
+    /// A row of expressions.
+    Exprs(Vec<Expr>),
+    /// An expression, and operators after it.
+    Chain(Box<Expr>, Vec<Tail>),
+    /// Items of a sequence.
+    Items(Vec<Item>),
+    /// Fields of a record of expressions.
+    ExprFields(Vec<FieldExpr>),
+    /// Branches.
+    Branches(Vec<Branch>),
+    /// Arrows of a function.
+    Signatures(Vec<Signature>),
+    /// A function.
+    Function(Box<FunctionTree>),
+    /// A program: types and functions.
+    Program(Vec<Declaration>, Vec<FunctionTree>),
     /// Nothing of use.
     Junk,
 }

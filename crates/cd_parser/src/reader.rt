@@ -2,7 +2,7 @@
 ghost use Rattle.std.specs.Prelude.{◌≡◌, IfOk};
 ghost use Rattle.cd_lr.specs.Automaton as machine;
 ghost use Rattle.cd_grammar.specs.Terminals.{terminal_of_goal};
-ghost use Rattle.cd_parser.specs.Listed.{automaton};
+ghost use Rattle.cd_grammar.specs.Listed.{automaton};
 ghost use Rattle.cd_parser.specs.PlainStacks.{plain_stack};
 ghost use Rattle.cd_parser.specs.PlainSteps.{plain_state};
 ghost use Rattle.cd_parser.specs.Reading.{Comes, IsAccepted, IsRead};
@@ -12,9 +12,9 @@ use crate::machine::{Outcome, terminal_ahead};
 use crate::part::Part;
 use crate::reading::Reading;
 use crate::state::State;
-use crate::table::{Action, action_at};
 use crate::terminal::terminal_of_goal;
 use cd_grammar::goal::Goal;
+use cd_grammar::table::{Action, action_at};
 use cd_syntax::tokens::{Span, Token};
 use std::alloc::{AllocError, Global};
 

@@ -1,162 +1,144 @@
-//! Records and their fields.
-ghost use Rattle.std.specs.Prelude.{◌≡◌, [], ◌∷◌, IfOk};
-ghost use Rattle.cd_syntax.specs.PlainTree.{plain, plain_field};
-ghost use Rattle.cd_grammar.specs.Parts as parts;
+//! Records and XML types.
+ghost use Rattle.std.specs.Prelude.{◌≡◌, true, [], IfOk};
+ghost use Rattle.cd_syntax.specs.PlainTree.{plain};
+ghost use Rattle.cd_grammar.specs.Parts.{SomeFields};
 ghost use Rattle.cd_grammar.specs.Actions as actions;
-ghost use Rattle.cd_parser.specs.PlainParts.{plain_part, parts_in};
+ghost use Rattle.cd_parser.specs.PlainParts.{plain_part};
 
-use crate::cell::Cell;
-use crate::names::name_of;
 use crate::part::Part;
-use crate::parts::{take_three, take_two};
 use crate::rows::{joined, row_of};
 use crate::taken::{fields_of, token_of, tree_of};
-use cd_syntax::tokens::{Span, Token};
+use crate::tree_part::tree_part;
+use crate::words::name_of;
+use cd_syntax::tokens::Span;
 use cd_syntax::type_tree::{FieldTree, Tree, TreeKind};
 use std::alloc::{AllocError, Global};
 
-/// A field.
+/// A label with its tree; with true it may be absent.
 pub(crate) fn field<'t>(
     alloc: Global,
     optional: bool,
-    cells: Vec<Cell<'t>>,
-) -> Result<Part<'t>, AllocError>
-    ensures { IfOk result (λ made.
-        plain_part made ≡ actions.field optional (parts_in cells.entry.items)) }
-{
-    match take_three(cells) {
-        Some((word, equal, is)) => {
-            drop(equal);
-            one_field(alloc, optional, word, is)
-        }
-        None => Ok(Part::Junk),
-    }
-}
-
-fn one_field<'t>(
-    alloc: Global,
-    optional: bool,
-    word: Part<'t>,
+    label: Part<'t>,
     is: Part<'t>,
 ) -> Result<Part<'t>, AllocError>
     ensures { IfOk result (λ made.
-        plain_part made
-        ≡ actions.field optional
-        (plain_part word.entry ∷ parts.Junk ∷ plain_part is.entry ∷ [])) }
+        plain_part made ≡ actions.field optional (plain_part label.entry) (plain_part is.entry)) }
 {
-    match (token_of(word), tree_of(is)) {
-        (Some(word), Some(is)) => {
-            let one = field_by(alloc, optional, word, is)?;
-            Ok(Part::Fields(row_of(alloc, one)?))
+    match token_of(label).zip(tree_of(is)) {
+        Some((label, is)) => {
+            let name = name_of(alloc, label)?;
+            let field = FieldTree::new(name, label.span.from, optional, Box::into_inner(is));
+            Ok(Part::Fields(row_of(alloc, field)?, false))
         }
-        (_, is) => {
-            drop(is);
-            Ok(Part::Junk)
-        }
+        None => Ok(Part::Junk),
     }
-}
-
-fn field_by(
-    alloc: Global,
-    optional: bool,
-    word: &Token,
-    is: Box<Tree>,
-) -> Result<FieldTree, AllocError>
-    ensures { IfOk result (λ one.
-        plain_field one ≡ record {
-          label = actions.name_in word.now.kind;
-          at = word.now.span.from;
-          optional = optional;
-          tree = plain is.value;
-        }) }
-{
-    let name = name_of(alloc, word)?;
-    Ok(FieldTree::new(name, word.span.from, optional, Box::into_inner(is)))
 }
 
 /// Fields, and those after them.
-pub(crate) fn next_field<'t>(cells: Vec<Cell<'t>>) -> Result<Part<'t>, AllocError>
+pub(crate) fn next_fields<'t>(fields: Part<'t>, more: Part<'t>) -> Result<Part<'t>, AllocError>
     ensures { IfOk result (λ made.
-        plain_part made ≡ actions.next_field (parts_in cells.entry.items)) }
+        plain_part made ≡ actions.next_fields (plain_part fields.entry) (plain_part more.entry)) }
 {
-    match take_two(cells) {
-        Some((all, one)) => joined_fields(all, one),
+    match fields_of(fields).zip(fields_of(more)) {
+        Some((fields, more)) => Ok(Part::Fields(joined(fields.0, more.0)?, false)),
         None => Ok(Part::Junk),
     }
 }
 
-/// Fields, and those after them and a semicolon.
-pub(crate) fn separate_field<'t>(cells: Vec<Cell<'t>>) -> Result<Part<'t>, AllocError>
-    ensures { IfOk result (λ made.
-        plain_part made ≡ actions.separate_field (parts_in cells.entry.items)) }
+/// Fields beside which others may stand.
+pub(crate) fn and_others<'t>(fields: Part<'t>) -> Part<'t>
+    ensures { plain_part result ≡ actions.and_others (plain_part fields.entry) }
 {
-    match take_three(cells) {
-        Some((all, semicolon, one)) => {
-            drop(semicolon);
-            joined_fields(all, one)
+    match fields_of(fields) {
+        Some((all, _)) => Part::Fields(all, true),
+        None => Part::Junk,
+    }
+}
+
+/// No field, beside which others may stand.
+pub(crate) fn others<'t>(alloc: Global) -> Part<'t>
+    ensures { plain_part result ≡ SomeFields [] true }
+{
+    Part::Fields(Vec::new(alloc), true)
+}
+
+/// A record without fields.
+pub(crate) fn no_fields<'t>(alloc: Global, here: Span) -> Result<Part<'t>, AllocError>
+    ensures { IfOk result (λ made. plain_part made ≡ actions.no_fields here) }
+{
+    tree_part(alloc, here, TreeKind::record(Vec::new(alloc), false))
+}
+
+/// The record of fields.
+pub(crate) fn fields<'t>(alloc: Global, here: Span, is: Part<'t>) -> Result<Part<'t>, AllocError>
+    ensures { IfOk result (λ made. plain_part made ≡ actions.fields here (plain_part is.entry)) }
+{
+    match fields_of(is) {
+        Some(is) => {
+            let (all, more) = is;
+            tree_part(alloc, here, TreeKind::record(all, more))
         }
         None => Ok(Part::Junk),
     }
 }
 
-fn joined_fields<'t>(all: Part<'t>, one: Part<'t>) -> Result<Part<'t>, AllocError>
-    ensures { IfOk result (λ made.
-        plain_part made
-        ≡ actions.next_field (plain_part all.entry ∷ plain_part one.entry ∷ [])) }
+/// The atom of a label.
+pub(crate) fn label<'t>(alloc: Global, here: Span, word: Part<'t>) -> Result<Part<'t>, AllocError>
+    ensures { IfOk result (λ made. plain_part made ≡ actions.label here (plain_part word.entry)) }
 {
-    match (fields_of(all), fields_of(one)) {
-        (Some(all), Some(one)) => Ok(Part::Fields(joined(all, one)?)),
-        (all, one) => {
-            drop(all);
-            drop(one);
-            Ok(Part::Junk)
-        }
+    match token_of(word) {
+        Some(word) => tree_part(alloc, here, TreeKind::atom(name_of(alloc, word)?)),
+        None => Ok(Part::Junk),
     }
 }
 
-/// The records with no fields, or with true all records.
-pub(crate) fn no_fields<'t>(alloc: Global, more: bool, here: Span) -> Result<Part<'t>, AllocError>
-    ensures { IfOk result (λ made. plain_part made ≡ actions.no_fields more here) }
-{
-    let tree = Tree::new(here, TreeKind::record(Vec::new(alloc), more));
-    Ok(Part::Tree(Box::new(alloc, tree)?))
-}
-
-/// The records with fields, which stand after the left brace.
-pub(crate) fn fields<'t>(
+/// An XML type without attributes, which stand at the `>`.
+pub(crate) fn xml<'t>(
     alloc: Global,
-    more: bool,
     here: Span,
-    mut cells: Vec<Cell<'t>>,
+    tag: Part<'t>,
+    close: Part<'t>,
+    content: Part<'t>,
 ) -> Result<Part<'t>, AllocError>
     ensures { IfOk result (λ made.
-        plain_part made ≡ actions.fields more here (parts_in cells.entry.items)) }
+        plain_part made ≡ actions.xml here (plain_part tag.entry) (plain_part close.entry)
+        (plain_part content.entry)) }
 {
-    cells.truncate(2);
-    match take_two(cells) {
-        Some((left, all)) => {
-            drop(left);
-            record(alloc, more, here, all)
+    match tree_of(tag).zip(token_of(close)).zip(tree_of(content)) {
+        Some(((tag, close), content)) => {
+            let attributes = no_attributes(alloc, close.span.from)?;
+            tree_part(alloc, here, TreeKind::xml(tag, attributes, content))
         }
         None => Ok(Part::Junk),
     }
 }
 
-/// The records with the fields that a part is.
-pub(crate) fn record<'t>(
+fn no_attributes(alloc: Global, at: usize) -> Result<Box<Tree>, AllocError>
+    ensures { IfOk result (λ is. plain is.value ≡ actions.no_attributes at) }
+{
+    let span = Span { from: at, to: at };
+    let none = TreeKind::record(Vec::new(alloc), false);
+    Ok(Box::new(alloc, Tree::new(span, none))?)
+}
+
+/// An XML type with attributes.
+pub(crate) fn xml_with<'t>(
     alloc: Global,
-    more: bool,
     here: Span,
-    all: Part<'t>,
+    tag: Part<'t>,
+    attributes: Part<'t>,
+    content: Part<'t>,
 ) -> Result<Part<'t>, AllocError>
     ensures { IfOk result (λ made.
-        plain_part made ≡ actions.attributes more here (plain_part all.entry ∷ [])) }
+        plain_part made ≡ actions.xml_with here (plain_part tag.entry)
+        (plain_part attributes.entry) (plain_part content.entry)) }
 {
-    match fields_of(all) {
-        Some(all) => {
-            let tree = Tree::new(here, TreeKind::record(all, more));
-            Ok(Part::Tree(Box::new(alloc, tree)?))
-        }
+    match tree_of(tag).zip(tree_of(attributes)).zip(tree_of(content)) {
+        Some(((tag, attributes), content)) => tree_part(
+            alloc,
+            here,
+            TreeKind::xml(tag, attributes, content),
+        ),
         None => Ok(Part::Junk),
     }
 }

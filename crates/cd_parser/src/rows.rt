@@ -12,6 +12,28 @@ pub(crate) fn row_of<T: Drop>(alloc: Global, one: T) -> Result<Vec<T>, AllocErro
     Ok(all)
 }
 
+/// A row of two.
+pub(crate) fn row_of_two<T: Drop>(
+    alloc: Global,
+    one: Box<T>,
+    other: Box<T>,
+) -> Result<Vec<T>, AllocError>
+    ensures { IfOk result (λ all. all.items ≡ one.value ∷ other.value ∷ []) }
+{
+    let mut all = Vec::new(alloc);
+    all.push(Box::into_inner(one))?;
+    all.push(Box::into_inner(other))?;
+    Ok(all)
+}
+
+/// One, and a row after it.
+pub(crate) fn in_front<T: Drop>(one: T, mut all: Vec<T>) -> Result<Vec<T>, AllocError>
+    ensures { IfOk result (λ longer. longer.items ≡ one ∷ all.items) }
+{
+    all.insert(0, one)?;
+    Ok(all)
+}
+
 /// A row, and one after it.
 pub(crate) fn added<T: Drop>(mut all: Vec<T>, last: T) -> Result<Vec<T>, AllocError>
     ensures { IfOk result (λ longer. longer.items ≡ all.items ++ last ∷ []) }

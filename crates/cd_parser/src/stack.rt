@@ -1,19 +1,20 @@
 //! What was read, the last part on top.
-ghost use Rattle.std.specs.Prelude.{◌≡◌, ◌+◌, [], ◌∷◌, map, take, drop, length, slice_get};
-ghost use Rattle.std.specs.Prelude.{IfOk, OnOk};
+ghost use Rattle.std.specs.Prelude.{◌≡◌, ◌≤◌, ◌+◌, ◌-◌, [], ◌∷◌, map, take, drop, length};
+ghost use Rattle.std.specs.Prelude.{slice_get, IfOk, OnOk, option_map};
 ghost use Rattle.cd_lr.specs.Automaton as machine;
 ghost use Rattle.cd_lr.specs.Flat.{entry};
-ghost use Rattle.cd_grammar.specs.Language.{place_of, made_by, build};
-ghost use Rattle.cd_grammar.specs.Rules.{lines};
-ghost use Rattle.cd_parser.specs.Listed.{automaton, the_grammar, listed};
-ghost use Rattle.cd_parser.specs.PlainParts.{plain_part, parts_in};
+ghost use Rattle.cd_grammar.specs.Language.{place_of, build};
+ghost use Rattle.cd_grammar.specs.Listed.{automaton, the_grammar, listed};
+ghost use Rattle.cd_parser.specs.PlainParts.{plain_part};
 ghost use Rattle.cd_parser.specs.PlainStacks.{plain_value, plain_stack, put};
+ghost use Rattle.cd_parser.specs.Popped.{IsMade};
 
 use crate::cell::Cell;
-use crate::made::{of_one, of_several};
+use crate::made::of_one;
 use crate::part::Part;
-use crate::table::{goto_at, left_of, length_of, make_of};
+use crate::popped::of_last;
 use cd_grammar::make::{Make, One};
+use cd_grammar::table::{goto_at, left_of, length_of, make_of};
 use cd_syntax::tokens::Span;
 use std::alloc::{AllocError, Global};
 use std::mem;
@@ -57,8 +58,7 @@ pub(crate) fn reduce<'t>(
     if stack.len() - at == 1 {
         return reduce_top(alloc, most, rule, at, stack);
     }
-    let cells = stack.split_off(at)?;
-    reduce_several(alloc, most, rule, cells, stack)
+    reduce_several(alloc, most, rule, at, stack)
 }
 
 // The one part is the top, which is changed in its place.
@@ -90,47 +90,34 @@ fn remake<'t>(alloc: Global, rule: u16, cell: &mut Cell<'t>) -> Result<(), Alloc
 {
     match make_of(rule) {
         Some(Make::One(One::That)) => Ok(()),
-        Some(make) => {
+        Some(Make::One(make)) => {
             let part = mem::replace(&mut cell.part, Part::Junk);
             cell.part = of_one(alloc, make, cell.span, part)?;
             Ok(())
         }
-        None => {
+        _ => {
             cell.part = Part::Junk;
             Ok(())
         }
     }
 }
 
+// The parts are those from one on, two or more, or none.
 fn reduce_several<'t>(
     alloc: Global,
     most: usize,
     rule: u16,
-    cells: Vec<Cell<'t>>,
+    at: usize,
     stack: &mut Vec<Cell<'t>>,
 ) -> Result<(), AllocError>
+    requires { at ≤ length stack.old.items }
     ensures { OnOk result (plain_stack stack.new.items
         ≡ machine.pushed the_grammar automaton most rule
-        (map plain_value cells.entry.items, plain_stack stack.old.items)) }
+        (map plain_value (drop at stack.old.items), plain_stack (take at stack.old.items))) }
 {
-    let span = place_of(&cells);
-    let made = made_of_several(alloc, rule, span, cells)?;
+    let span = place_of(&stack[at..]);
+    let made = of_last(alloc, make_of(rule), span, at, stack)?;
     push(most, rule, span, made, stack)
-}
-
-fn made_of_several<'t>(
-    alloc: Global,
-    rule: u16,
-    here: Span,
-    cells: Vec<Cell<'t>>,
-) -> Result<Part<'t>, AllocError>
-    ensures { IfOk result (λ made. plain_part made
-        ≡ made_by (slice_get lines rule) here (parts_in cells.entry.items)) }
-{
-    match make_of(rule) {
-        Some(make) => of_several(alloc, make, here, cells),
-        None => Ok(Part::Junk),
-    }
 }
 
 // What a rule made is put where its left side leads.

@@ -1,37 +1,27 @@
-//! What a part is, where it is of one kind.
-ghost use Rattle.std.specs.Prelude.{◌≡◌, map, IfOk};
+//! What a part of a type or a pattern is, where it is of one kind.
+ghost use Rattle.std.specs.Prelude.{◌≡◌, map};
 ghost use Rattle.std.specs.Option.{option_map};
-ghost use Rattle.cd_syntax.specs.PlainTree.{plain, plain_field, plain_declaration, plain_regular};
+ghost use Rattle.cd_syntax.specs.PlainTree.{plain, plain_signed, plain_field, plain_declaration};
+ghost use Rattle.cd_syntax.specs.PlainTree.{plain_regular};
+ghost use Rattle.cd_grammar.specs.Parts.{token_in, tree_in, trees_in, signs_in, fields_in};
+ghost use Rattle.cd_grammar.specs.Parts.{names_in, regular_in, regulars_in, mark_in, constant_in};
 ghost use Rattle.cd_parser.specs.PlainParts.{plain_part};
-ghost use Rattle.cd_parser.specs.Taken.{token_in, tree_in, fields_in, names_in, regular_in};
-ghost use Rattle.cd_parser.specs.Taken.{regulars_in, mark_in};
 
 use crate::part::Part;
-use crate::rows::row_of;
+use cd_syntax::constant::Constant;
 use cd_syntax::tokens::Token;
-use cd_syntax::type_tree::{Declaration, FieldTree, Post, RegTree, Tree};
-use std::alloc::{AllocError, Global};
+use cd_syntax::type_tree::{Declaration, FieldTree, Post, RegTree, SignedTree, Tree};
 
 /// The token that a part is.
 pub(crate) fn token_of<'t>(part: Part<'t>) -> Option<&'t Token>
-    ensures { option_map (λ token. token.now) result ≡ token_in (plain_part part.entry) }
+    ensures { option_map (λ is. is.now) result ≡ token_in (plain_part part.entry) }
 {
     match part {
-        Part::Token(token) => Some(token),
+        Part::Token(is) => Some(is),
         other => {
             drop(other);
             None
         }
-    }
-}
-
-/// The token that a part is, which stays.
-pub(crate) fn token_at<'t>(part: &Part<'t>) -> Option<&'t Token>
-    ensures { option_map (λ token. token.now) result ≡ token_in (plain_part part.entry.now) }
-{
-    match part {
-        Part::Token(token) => Some(*token),
-        _ => None,
     }
 }
 
@@ -48,13 +38,40 @@ pub(crate) fn tree_of<'t>(part: Part<'t>) -> Option<Box<Tree>>
     }
 }
 
-/// The fields that a part is.
-pub(crate) fn fields_of<'t>(part: Part<'t>) -> Option<Vec<FieldTree>>
-    ensures { option_map (λ all. map plain_field all.items) result
+/// The trees that a part is.
+pub(crate) fn trees_of<'t>(part: Part<'t>) -> Option<Vec<Tree>>
+    ensures { option_map (λ all. map plain all.items) result ≡ trees_in (plain_part part.entry) }
+{
+    match part {
+        Part::Trees(all) => Some(all),
+        other => {
+            drop(other);
+            None
+        }
+    }
+}
+
+/// The tree and those after signs that a part is.
+pub(crate) fn signs_of<'t>(part: Part<'t>) -> Option<(Box<Tree>, Vec<SignedTree>)>
+    ensures { option_map (λ all. (plain all.0.value, map plain_signed all.1.items)) result
+        ≡ signs_in (plain_part part.entry) }
+{
+    match part {
+        Part::Signs(first, rest) => Some((first, rest)),
+        other => {
+            drop(other);
+            None
+        }
+    }
+}
+
+/// The fields that a part is, and whether others may stand beside them.
+pub(crate) fn fields_of<'t>(part: Part<'t>) -> Option<(Vec<FieldTree>, bool)>
+    ensures { option_map (λ all. (map plain_field all.0.items, all.1)) result
         ≡ fields_in (plain_part part.entry) }
 {
     match part {
-        Part::Fields(all) => Some(all),
+        Part::Fields(all, more) => Some((all, more)),
         other => {
             drop(other);
             None
@@ -76,7 +93,7 @@ pub(crate) fn names_of<'t>(part: Part<'t>) -> Option<Vec<Declaration>>
     }
 }
 
-/// The expression that a part is.
+/// The expression of sequences that a part is.
 pub(crate) fn regular_of<'t>(part: Part<'t>) -> Option<Box<RegTree>>
     ensures { option_map (λ is. plain_regular is.value) result
         ≡ regular_in (plain_part part.entry) }
@@ -90,31 +107,39 @@ pub(crate) fn regular_of<'t>(part: Part<'t>) -> Option<Box<RegTree>>
     }
 }
 
-/// The row of expressions that a part is.
-pub(crate) fn regulars_of<'t>(
-    alloc: Global,
-    part: Part<'t>,
-) -> Result<Option<Vec<RegTree>>, AllocError>
-    ensures { IfOk result (λ found.
-        option_map (λ all. map plain_regular all.items) found
-        ≡ regulars_in (plain_part part.entry)) }
+/// The row of expressions of sequences that a part is.
+pub(crate) fn regulars_of<'t>(part: Part<'t>) -> Option<Vec<RegTree>>
+    ensures { option_map (λ all. map plain_regular all.items) result
+        ≡ regulars_in (plain_part part.entry) }
 {
     match part {
-        Part::OneRegular(is) => Ok(Some(row_of(alloc, Box::into_inner(is))?)),
-        Part::Regulars(all) => Ok(Some(all)),
+        Part::Regulars(all) => Some(all),
         other => {
             drop(other);
-            Ok(None)
+            None
         }
     }
 }
 
-/// The sign after an expression that a part is.
+/// The sign after an expression of sequences that a part is.
 pub(crate) fn mark_of<'t>(part: Part<'t>) -> Option<Post>
     ensures { result ≡ mark_in (plain_part part.entry) }
 {
     match part {
         Part::Mark(mark) => Some(mark),
+        other => {
+            drop(other);
+            None
+        }
+    }
+}
+
+/// The constant that a part is.
+pub(crate) fn constant_in<'t>(part: Part<'t>) -> Option<Box<Constant>>
+    ensures { option_map (λ is. is.value) result ≡ constant_in (plain_part part.entry) }
+{
+    match part {
+        Part::Constant(is) => Some(is),
         other => {
             drop(other);
             None

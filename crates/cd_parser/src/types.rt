@@ -1,10 +1,13 @@
-//! The types and the files of declarations that tokens write.
-ghost use Rattle.std.specs.Prelude.{◌≡◌, ℕ, IfOk, IfErr};
+//! The types, the files of declarations and the programs that tokens write.
+ghost use Rattle.std.specs.Prelude.{◌≡◌, ℕ, List, IfOk, IfErr};
 ghost use Rattle.cd_syntax.specs.TypeTree.{Tree as PlainTree, Declarations as PlainDeclarations};
+ghost use Rattle.cd_syntax.specs.TypeTree.{Declaration as PlainDeclaration, declarations_of};
+ghost use Rattle.cd_program.specs.Expr.{FunctionTree as PlainFunction};
+ghost use Rattle.cd_program.specs.PlainProgram.{plain_functions, plain_program};
 ghost use Rattle.cd_syntax.specs.PlainTree.{plain, plain_declarations};
-ghost use Rattle.cd_grammar.specs.Parts.{ATree, AFile};
-ghost use Rattle.cd_grammar.specs.Language.{IsTree, AreDeclared};
-ghost use Rattle.cd_grammar.specs.Forms.{AType, SomeDeclarations};
+ghost use Rattle.cd_grammar.specs.Parts.{ATree, AFile, AProgram as ProgramPart};
+ghost use Rattle.cd_grammar.specs.Language.{IsTree, AreDeclared, IsProgram};
+ghost use Rattle.cd_grammar.specs.Forms.{AType, SomeDeclarations, AProgram};
 ghost use Rattle.cd_parser.specs.Parsed.{IsFault};
 ghost use Rattle.cd_parser.specs.PlainParts.{plain_part};
 
@@ -13,6 +16,7 @@ use crate::part::Part;
 use crate::reader::read;
 use crate::reading::Reading;
 use cd_grammar::goal::Goal;
+use cd_program::program::{FunctionTrees, Program};
 use cd_syntax::tokens::Token;
 use cd_syntax::type_tree::{Declarations, Tree};
 use std::alloc::Global;
@@ -63,6 +67,27 @@ pub fn parse_declarations(
     }
 }
 
+/// The program that tokens write, all of them; `end` is the place of the end of their text.
+///
+/// # Errors
+///
+/// The first fault of syntax or the first place that is more than 1,000 deep, or want of memory.
+pub fn parse_program(alloc: Global, tokens: &[Token], end: usize) -> Result<Program, ParseError>
+    ensures program { IfOk result (λ is. IsProgram 1000 tokens.now (plain_program is)) }
+    ensures end { IfOk result (λ is. is.end ≡ end) }
+    ensures fault { IfErr result (λ error. IsFault AProgram 1000 tokens.now end error) }
+{
+    let reading = match read(alloc, Goal::ProgramText, tokens, MOST_OPEN) {
+        Ok(reading) => reading,
+        Err(_) => return Err(ParseError::Memory),
+    };
+    match reading {
+        Reading::Whole(part) => Ok(program_in(part, end)),
+        Reading::Wrong(index) => Err(ParseError::Syntax(place_of(tokens, end, index))),
+        Reading::TooDeep(index) => Err(ParseError::TooDeep(place_of(tokens, end, index))),
+    }
+}
+
 // The tree of a part that is one.
 fn tree_in(part: Part<'_>) -> Tree
     requires { (is : PlainTree) × (plain_part part ≡ ATree is) }
@@ -81,6 +106,25 @@ fn file_in(part: Part<'_>) -> Declarations
 {
     match part {
         Part::File(declarations) => declarations,
+        _ => unreachable!(),
+    }
+}
+
+// The program of a part that is one.
+fn program_in(part: Part<'_>, end: usize) -> Program
+    requires { (types : List PlainDeclaration) × (functions : List PlainFunction)
+        × (plain_part part ≡ ProgramPart types functions) }
+    ensures program { (types : List PlainDeclaration)
+        × (plain_declarations result.types ≡ declarations_of types)
+        × (plain_part part.entry ≡ ProgramPart types (plain_functions result.functions)) }
+    ensures end { result.end ≡ end }
+{
+    match part {
+        Part::Program(types, functions) => Program {
+            types: Declarations::of(types),
+            functions: FunctionTrees::of(functions),
+            end,
+        },
         _ => unreachable!(),
     }
 }

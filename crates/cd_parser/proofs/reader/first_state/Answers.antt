@@ -1,5 +1,5 @@
 use Rattle.std.proofs.Common.{◌∙◌, ap}
-use Rattle.cd_parser.specs.Listed.{automaton}
+use Rattle.cd_grammar.specs.Listed.{automaton}
 use Rattle.cd_parser.proofs.Beginning.{first_shift, no_other}
 use Rattle.cd_parser.proofs.reader.first_state.Goals as goal
 

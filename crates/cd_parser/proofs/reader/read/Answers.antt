@@ -1,6 +1,6 @@
 use Rattle.std.proofs.Common.{◌∙◌, sym, ap}
 use Rattle.cd_lr.specs.Automaton as machine
-use Rattle.cd_parser.specs.Listed.{automaton, the_grammar}
+use Rattle.cd_grammar.specs.Listed.{automaton, the_grammar}
 use Rattle.cd_parser.specs.PlainStacks.{plain_stack}
 use Rattle.cd_parser.specs.PlainSteps.{plain_state, plain_outcome}
 use Rattle.cd_parser.specs.Reading.{entries}

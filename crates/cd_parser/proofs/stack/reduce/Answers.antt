@@ -17,7 +17,6 @@ returns c =
     let items = c.args.stack.now.items in
     let at : c.saturating_sub-at.result ≡ length items - c.from.result =
     c.saturating_sub-at.ensures ∙ ap (λ n. n - c.from.result) (c.len.ensures ∙ c.args.stack.now.ok.0) in
-    let cells = c.in_ok-cells.ensures in
     IfOk-equal c.reduce_several.result _ _ _ c.reduce_several.ensures
-    (reduced c.args.most c.args.rule c.from.result c.saturating_sub-at.result items c.split_off.new.self.items
-    c.in_ok-cells.cells.items (c.from.ensures ∙ c.length_of.ensures) at cells.items cells.tail)
+    (reduced c.args.most c.args.rule c.from.result c.saturating_sub-at.result items _ _
+    (c.from.ensures ∙ c.length_of.ensures) at refl refl)

@@ -1,16 +1,26 @@
-use Rattle.std.proofs.Common.{◌∙◌, ap, map}
+use Rattle.std.proofs.Common.{◌≡◌, ◌∙◌, sym, ap, ap₂, map, drop}
 use Rattle.std.proofs.lemmas.Result.{IfOk-equal}
+use Rattle.cd_lr.specs.Automaton as machine
 use Rattle.cd_grammar.specs.Language.{place_of}
+use Rattle.cd_grammar.specs.Listed.{automaton, the_grammar}
 use Rattle.cd_parser.specs.PlainParts.{plain_part}
 use Rattle.cd_parser.specs.PlainStacks.{plain_value, plain_stack, put}
-use Rattle.cd_parser.proofs.Stacks.{built}
+use Rattle.cd_parser.proofs.Stacks.{built, left_is, to_end}
 use Rattle.cd_parser.proofs.stack.reduce_several.Goals as goal
 
 pub returns : goal.returns
 returns c =
-    let here = c.place_of-span.ensures ∙ ap (λ items. place_of (map plain_value items)) c.deref.ensures.value in
+    let old = c.args.stack.now.items in
+    let new = c.of_last.new.stack.items in
+    let (cells, is, long, so) = c.in_ok-made.ensures in
+    let parts = left_is old new cells c.args.at is long in
+    let here : c.place_of-span.result ≡ place_of (map plain_value cells) =
+    c.place_of-span.ensures
+    ∙ ap (λ items. place_of (map plain_value items))
+    (to_end c.args.at c.deref.result.now ∙ ap (drop c.args.at) c.deref.ensures.value ∙ parts.1) in
     let value =
-    built c.args.rule c.place_of-span.result (plain_part c.in_ok-made.made) c.args.cells.items here
-    c.in_ok-made.ensures in
+    built c.args.rule c.make_of.result c.place_of-span.result (plain_part c.in_ok-made.made) cells c.make_of.ensures here so in
     IfOk-equal c.push.result _ _ _ c.push.ensures
-    (ap (λ value. put c.args.most c.args.rule value (plain_stack c.args.stack.now.items)) value)
+    (ap (λ value. put c.args.most c.args.rule value (plain_stack new)) value
+    ∙ ap₂ (λ all below. machine.pushed the_grammar automaton c.args.most c.args.rule (map plain_value all, plain_stack below))
+    (sym parts.1) (sym parts.0))

@@ -1,6 +1,6 @@
 use Rattle.std.proofs.Common.{◌∙◌, ap, ap₂, take}
 use Rattle.cd_lr.specs.Automaton as machine
-use Rattle.cd_parser.specs.Listed.{automaton}
+use Rattle.cd_grammar.specs.Listed.{automaton}
 use Rattle.cd_parser.specs.PlainStacks.{plain_stack}
 use Rattle.cd_parser.proofs.Stacks.{changed}
 use Rattle.cd_parser.proofs.stack.reduce_top.Goals as goal

@@ -1,8 +1,0 @@
-use Rattle.std.proofs.Common.{◌∙◌, ap}
-use Rattle.cd_lr.specs.Flat.{entry}
-use Rattle.cd_parser.specs.Listed.{listed}
-use Rattle.cd_parser.proofs.table.left_of.Goals as goal
-
-pub returns : goal.returns
-unfolding listed
-returns c = c.entry.ensures ∙ ap (entry listed.lefts) c.from.ensures

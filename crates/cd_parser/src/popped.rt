@@ -1,0 +1,185 @@
+//! What a rule makes of the last parts, which are taken off the stack.
+ghost use Rattle.std.specs.Prelude.{◌≡◌, ◌≤◌, [], ◌∷◌, length, IfOk, Some};
+ghost use Rattle.cd_grammar.specs.declared.make.Make.TheVariants as makes;
+ghost use Rattle.cd_grammar.specs.Parts.{Junk};
+ghost use Rattle.cd_parser.specs.PlainParts.{plain_part};
+ghost use Rattle.cd_parser.specs.Popped.{AreLast, IsCut, IsMade};
+
+use crate::cell::Cell;
+use crate::made::{of_five, of_four, of_one, of_six};
+use crate::pairs::of_two;
+use crate::part::Part;
+use crate::triples::of_three;
+use cd_grammar::make::{Five, Four, Make, One, Six, Three, Two};
+use cd_syntax::tokens::Span;
+use std::alloc::{AllocError, Global};
+
+/// What a rule makes of the parts from one on.
+///
+/// # Errors
+///
+/// Want of memory.
+pub(crate) fn of_last<'t>(
+    alloc: Global,
+    make: Option<Make>,
+    here: Span,
+    at: usize,
+    stack: &mut Vec<Cell<'t>>,
+) -> Result<Part<'t>, AllocError>
+    requires { at ≤ length stack.old.items }
+    ensures { IfOk result (λ part. IsMade make here at stack.old.items stack.new.items part) }
+{
+    match make {
+        Some(Make::One(make)) => one(alloc, make, here, at, stack),
+        Some(Make::Two(make)) => two(alloc, make, here, at, stack),
+        Some(Make::Three(make)) => three(alloc, make, here, at, stack),
+        Some(Make::Four(make)) => four(alloc, make, here, at, stack),
+        Some(Make::Five(make)) => five(alloc, make, here, at, stack),
+        Some(Make::Six(make)) => six(alloc, make, here, at, stack),
+        None => Ok(cut(at, stack)),
+    }
+}
+
+// Nothing of use, in the place of the parts from one on.
+fn cut<'t>(at: usize, stack: &mut Vec<Cell<'t>>) -> Part<'t>
+    requires { at ≤ length stack.old.items }
+    ensures cut { IsCut at stack.old.items stack.new.items }
+    ensures junk { plain_part result ≡ Junk }
+{
+    stack.truncate(at);
+    Part::Junk
+}
+
+// The last part.
+fn take_part<'t>(stack: &mut Vec<Cell<'t>>) -> Part<'t>
+    requires { 1 ≤ length stack.old.items }
+    ensures { AreLast stack.old.items stack.new.items (plain_part result ∷ []) }
+{
+    match stack.pop() {
+        Some(cell) => cell.part,
+        None => unreachable!(),
+    }
+}
+
+fn one<'t>(
+    alloc: Global,
+    make: One,
+    here: Span,
+    at: usize,
+    stack: &mut Vec<Cell<'t>>,
+) -> Result<Part<'t>, AllocError>
+    requires { at ≤ length stack.old.items }
+    ensures { IfOk result (λ part.
+        IsMade (Some (makes.One make)) here at stack.old.items stack.new.items part) }
+{
+    if stack.len() - at != 1 {
+        return Ok(cut(at, stack));
+    }
+    let a = take_part(stack);
+    of_one(alloc, make, here, a)
+}
+
+fn two<'t>(
+    alloc: Global,
+    make: Two,
+    here: Span,
+    at: usize,
+    stack: &mut Vec<Cell<'t>>,
+) -> Result<Part<'t>, AllocError>
+    requires { at ≤ length stack.old.items }
+    ensures { IfOk result (λ part.
+        IsMade (Some (makes.Two make)) here at stack.old.items stack.new.items part) }
+{
+    if stack.len() - at != 2 {
+        return Ok(cut(at, stack));
+    }
+    let b = take_part(stack);
+    let a = take_part(stack);
+    of_two(alloc, make, here, a, b)
+}
+
+fn three<'t>(
+    alloc: Global,
+    make: Three,
+    here: Span,
+    at: usize,
+    stack: &mut Vec<Cell<'t>>,
+) -> Result<Part<'t>, AllocError>
+    requires { at ≤ length stack.old.items }
+    ensures { IfOk result (λ part.
+        IsMade (Some (makes.Three make)) here at stack.old.items stack.new.items part) }
+{
+    if stack.len() - at != 3 {
+        return Ok(cut(at, stack));
+    }
+    let c = take_part(stack);
+    let b = take_part(stack);
+    let a = take_part(stack);
+    of_three(alloc, make, here, a, b, c)
+}
+
+fn four<'t>(
+    alloc: Global,
+    make: Four,
+    here: Span,
+    at: usize,
+    stack: &mut Vec<Cell<'t>>,
+) -> Result<Part<'t>, AllocError>
+    requires { at ≤ length stack.old.items }
+    ensures { IfOk result (λ part.
+        IsMade (Some (makes.Four make)) here at stack.old.items stack.new.items part) }
+{
+    if stack.len() - at != 4 {
+        return Ok(cut(at, stack));
+    }
+    let d = take_part(stack);
+    let c = take_part(stack);
+    let b = take_part(stack);
+    let a = take_part(stack);
+    of_four(alloc, make, here, a, b, c, d)
+}
+
+fn five<'t>(
+    alloc: Global,
+    make: Five,
+    here: Span,
+    at: usize,
+    stack: &mut Vec<Cell<'t>>,
+) -> Result<Part<'t>, AllocError>
+    requires { at ≤ length stack.old.items }
+    ensures { IfOk result (λ part.
+        IsMade (Some (makes.Five make)) here at stack.old.items stack.new.items part) }
+{
+    if stack.len() - at != 5 {
+        return Ok(cut(at, stack));
+    }
+    let e = take_part(stack);
+    let d = take_part(stack);
+    let c = take_part(stack);
+    let b = take_part(stack);
+    let a = take_part(stack);
+    of_five(alloc, make, here, (a, b, c, d, e))
+}
+
+fn six<'t>(
+    alloc: Global,
+    make: Six,
+    here: Span,
+    at: usize,
+    stack: &mut Vec<Cell<'t>>,
+) -> Result<Part<'t>, AllocError>
+    requires { at ≤ length stack.old.items }
+    ensures { IfOk result (λ part.
+        IsMade (Some (makes.Six make)) here at stack.old.items stack.new.items part) }
+{
+    if stack.len() - at != 6 {
+        return Ok(cut(at, stack));
+    }
+    let f = take_part(stack);
+    let e = take_part(stack);
+    let d = take_part(stack);
+    let c = take_part(stack);
+    let b = take_part(stack);
+    let a = take_part(stack);
+    of_six(alloc, make, here, (a, b, c, d, e, f))
+}
