@@ -16,6 +16,7 @@ use Rattle.cd_resolve.specs.declared.fault.NameFault.TheVariants.{Unknown, Twice
 use Rattle.cd_resolve.specs.Faults.{Fault, IsField, LabelAgain, IsDeclared, DeclaredAgain, IsFirst, IsFault}
 use Rattle.cd_resolve.specs.Faults.{IsFaultOfList}
 use Rattle.cd_resolve.specs.Faults as fault
+use Rattle.cd_tables.specs.Rows.{row_of}
 use Rattle.cd_resolve.specs.Inner.BuiltinNames.{is_among, is_builtin}
 use Rattle.cd_resolve.specs.Inner.Finding.{Frames, innermost, Id, Place, State, told_if, entered, met, place_of}
 use Rattle.cd_resolve.specs.Inner.Finding.{labelled, start_of, found_in, found_in_declared}
@@ -60,7 +61,7 @@ or_right true b is = refl
 or_right false b is = is
 
 pub builtin_is : (name : Name) (is : _) → IsBuiltin name is → is_builtin name ≡ true
-unfolding is_builtin
+unfolding is_builtin row_of
 builtin_is _ _ grammar.any = refl
 builtin_is _ _ grammar.any_name = refl
 builtin_is _ _ grammar.empty = refl
