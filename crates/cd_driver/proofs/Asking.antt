@@ -24,24 +24,28 @@ parse_number word r parses are short =
     let small = digits_value_short digits_model word 6 are.0 short in
     parse_gives digits_model 32 word r parses are.0 (not_empty word are.1) (omega (arith, small))
 
--- words that give a command that isn't built
-pub asks_check : (name a : Bytes) → name ≡ codes "check" → GiveNotBuilt (name ∷ a ∷ []) (codes "check")
-asks_check name a is = (Check a, rw is refl, λ disk reply says. says)
-
-pub asks_work : (name a : Bytes) → name ≡ codes "work" → WritesSize a → GiveNotBuilt (name ∷ a ∷ []) (codes "work")
-asks_work name a is size = (Work size.0, (a, rw is refl, size.1), λ disk reply says. says)
-
-pub asks_run : (name a b : Bytes) → name ≡ codes "run" → GiveNotBuilt (name ∷ a ∷ b ∷ []) (codes "run")
-asks_run name a b is = (Run a b, rw is refl, λ disk reply says. says)
+-- words that give a command that is built
+pub asks_sub_types : (name option a b c : Bytes) → name ≡ codes "sub" → option ≡ codes "--types"
+    → Give (name ∷ option ∷ a ∷ b ∷ c ∷ []) (SubTypes a b c)
+asks_sub_types name option a b c is types = rw (is, types) refl
 
 pub asks_member : (name a b c : Bytes) → name ≡ codes "member" → Give (name ∷ a ∷ b ∷ c ∷ []) (Member a b c)
 asks_member name a b c is = rw is refl
 
-pub asks_sub_types : (name option a b c : Bytes) → name ≡ codes "sub" → option ≡ codes "--types" → Give (name ∷ option ∷ a ∷ b ∷ c ∷ []) (SubTypes a b c)
-asks_sub_types name option a b c is types = rw (is, types) refl
+pub asks_check : (name a : Bytes) → name ≡ codes "check" → Give (name ∷ a ∷ []) (Check a)
+asks_check name a is = rw is refl
 
-pub asks_run_steps : (name option a b c : Bytes) → name ≡ codes "run" → option ≡ codes "--steps" → WritesUnits a → GiveNotBuilt (name ∷ option ∷ a ∷ b ∷ c ∷ []) (codes "run")
-asks_run_steps name option a b c is steps units = (RunSteps units.0 b c, (a, rw (is, steps) refl, units.1), λ disk reply says. says)
+-- and one that isn't
+pub asks_run : (name a b : Bytes) → name ≡ codes "run" → GiveNotBuilt (name ∷ a ∷ b ∷ []) (codes "run")
+asks_run name a b is = (Run a b, rw is refl, λ disk reply says. says)
+
+pub asks_run_steps : (name option a b c : Bytes) → name ≡ codes "run" → option ≡ codes "--steps" → WritesUnits a
+    → GiveNotBuilt (name ∷ option ∷ a ∷ b ∷ c ∷ []) (codes "run")
+asks_run_steps name option a b c is steps units =
+    (RunSteps units.0 b c, (a, rw (is, steps) refl, units.1), λ disk reply says. says)
+
+pub asks_work : (name a : Bytes) → name ≡ codes "work" → WritesSize a → GiveNotBuilt (name ∷ a ∷ []) (codes "work")
+asks_work name a is size = (Work size.0, (a, rw is refl, size.1), λ disk reply says. says)
 
 -- the texts of four words, and of five
 pub texts_four : (words : List (String Global)) (a b c d : String Global) (p q r s : Bytes) → 4 ≤ length words → length words < 5

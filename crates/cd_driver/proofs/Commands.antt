@@ -1,10 +1,10 @@
 -- What is said to a command is said to the words that give it.
-use Rattle.std.proofs.Common.{◌≡◌, List, Result, Ok, Err, refl, inl, inr}
+use Rattle.std.proofs.Common.{◌≡◌, List, [], ◌∷◌, Result, Ok, Err, refl, inl, inr}
 use Rattle.std.specs.Prelude.{IfOk}
 use Rattle.std.specs.declared.alloc.AllocError.{AllocError}
 use Rattle.cd_base.specs.FilesState.{FilesState}
 use Rattle.cd_replies.specs.Bytes.{Bytes}
-use Rattle.cd_driver.specs.Command.{Command, SubTypes, Give, HaveNoForm, files_of}
+use Rattle.cd_driver.specs.Command.{Command, Give, HaveNoForm, files_of}
 use Rattle.cd_replies.specs.Reply.{usage, not_built}
 use Rattle.cd_replies.specs.Disk.{unmarked, told_disk}
 use Rattle.cd_driver.specs.Answer.{Answer, AnswerOf}
@@ -35,11 +35,10 @@ pub answers_command : (words : List Bytes) (old new : FilesState) (command : Com
 answers_command words old new command give (Ok message) answers = (answers.0, answers.1, inr (command, give, answers.2))
 answers_command words old new command give (Err error) answers = (answers.0, answers.1, tt)
 
--- a read of the file that a command names, and of one of several
-pub reads_file : (words : List Bytes) (old new : FilesState) (file text1 text2 : Bytes) → Give words (SubTypes file text1 text2) → ReadsThere old new file
-    → ReadsFilesOf words old new
-reads_file words old new file text1 text2 give (inl same) = inl same
-reads_file words old new file text1 text2 give (inr fails) = inr (SubTypes file text1 text2, give, inl fails)
+-- a read of one file, and of those that a command names
+pub among_one : (old new : FilesState) (file : Bytes) → ReadsThere old new file → ReadsAmong old new (file ∷ [])
+among_one old new file (inl same) = inl same
+among_one old new file (inr fails) = inr (inl fails)
 
 pub reads_files : (words : List Bytes) (old new : FilesState) (command : Command) → Give words command → ReadsAmong old new (files_of command)
     → ReadsFilesOf words old new

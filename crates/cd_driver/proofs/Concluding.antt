@@ -8,7 +8,7 @@ use Rattle.cd_base.specs.FilesState.{FilesState}
 use Rattle.cd_base.specs.SinkState.{SinkState, Puts}
 use Rattle.cd_syntax.specs.TypeTree.{NoDeclaration}
 use Rattle.cd_replies.specs.Bytes.{Bytes}
-use Rattle.cd_driver.specs.Command.{Command, Sub, SubTypes, Member, name_of}
+use Rattle.cd_driver.specs.Command.{Command, Sub, SubTypes, Member, Check, name_of}
 use Rattle.cd_replies.specs.Reply.{Reply, not_built}
 use Rattle.cd_driver.specs.World.{World, world}
 use Rattle.cd_replies.specs.Disk.{Disk, Met, unmarked, marked}
@@ -18,7 +18,9 @@ use Rattle.cd_driver.specs.Headline.{NothingFailed, IsAnswered, Headline, told_f
 use Rattle.cd_driver.specs.Inner.Telling.{Put, whole as put_whole, refused as put_refused, cut as put_cut}
 use Rattle.cd_replies.specs.declared.message.Message.{Message}
 use Rattle.cd_replies.specs.Message.{reply_of}
-use Rattle.cd_replies.proofs.Replies.{IsReply, line_some}
+use Rattle.cd_replies.specs.Texts.{RefusesProgram}
+use Rattle.cd_replies.proofs.Replies.{IsReply, line_some, file_is_reply}
+use Rattle.cd_checking.specs.CheckAnswer.{CheckAnswer, file_refused, unbuilt}
 use Rattle.cd_member.proofs.MemberReplies.{member_is_reply}
 use Rattle.cd_sub.proofs.SubReplies.{sub_is_reply, sub_types_is_reply}
 
@@ -26,10 +28,15 @@ use Rattle.cd_sub.proofs.SubReplies.{sub_is_reply, sub_types_is_reply}
 not_built_is_reply : (name : Bytes) (reply : Reply) → reply ≡ not_built name → IsReply reply
 not_built_is_reply name reply is = subst IsReply (sym is) (record { text = λ out err. line_some (name ++ codes ": not built") err; status = λ failed. cc })
 
+check_is_reply : (disk : Disk) (file : Bytes) (reply : Reply) → CheckAnswer disk file reply → IsReply reply
+check_is_reply disk file _ (file_refused reply refusal) = file_is_reply RefusesProgram disk file reply refusal
+check_is_reply disk file _ (unbuilt program writes) = not_built_is_reply file (not_built file) refl
+
 command_is_reply : (disk : Disk) (command : Command) (reply : Reply) → AnswerOf command disk reply → IsReply reply
 command_is_reply disk (Sub text1 text2) reply answers = sub_is_reply NoDeclaration text1 text2 reply answers
 command_is_reply disk (SubTypes file text1 text2) reply answers = sub_types_is_reply disk file text1 text2 reply answers
 command_is_reply disk (Member file document text) reply answers = member_is_reply disk file document text reply answers
+command_is_reply disk (Check file) reply answers = check_is_reply disk file reply answers
 command_is_reply disk command reply is = not_built_is_reply (name_of command) reply is
 
 pub answer_is_reply : (words : List Bytes) (disk : Disk) (reply : Reply) → Answer words disk reply → IsReply reply

@@ -3,10 +3,11 @@ use Rattle.std.proofs.Common.{◌≡◌, List, length, refl, sym, ap, subst, ◌
 use Rattle.std.specs.Str.{chars}
 use Rattle.cd_syntax.specs.declared.tokens.Token.{Token}
 use Rattle.cd_syntax.specs.TypeTree.{Declarations}
+use Rattle.cd_program.specs.Expr.{Program}
 use Rattle.cd_syntax.specs.SyntaxFaults.{Form, IsForm, IsSyntaxFault, IsDepthFault}
 use Rattle.cd_grammar.specs.Language.{IsTree, AreDeclared}
-use Rattle.cd_grammar.specs.Forms.{AType, SomeDeclarations}
-use Rattle.cd_grammar.proofs.FormsOfTexts.{type_form, declarations_form}
+use Rattle.cd_grammar.specs.Forms.{AType, SomeDeclarations, AProgram}
+use Rattle.cd_grammar.proofs.FormsOfTexts.{type_form, declarations_form, program_form}
 use Rattle.cd_grammar.proofs.OneReading.{one_tree, one_declared}
 use Rattle.cd_model.specs.Written.{Written}
 use Rattle.cd_resolve.specs.Faults.{Fault, IsFaultOfType, IsFaultOfDeclarations}
@@ -15,6 +16,7 @@ use Rattle.cd_replies.specs.Bytes.{Bytes}
 use Rattle.cd_replies.specs.Reply.{refusal}
 use Rattle.cd_replies.specs.Texts.{Against, Lexical, Syntax, TooDeep, Naming, HasTokens, Refuses, lexical, syntax, too_deep, naming}
 use Rattle.cd_replies.specs.Texts.{ReadsAs, Declares, RefusesType, RefusesDeclarations, IsToldOfType, IsToldOfDeclarations, type_of}
+use Rattle.cd_replies.specs.Texts.{WritesProgram, RefusesProgram, NoFaultIsTold}
 use Rattle.cd_driver.proofs.OneFault.{syntax_one, depth_one, not_both, written_no_syntax, written_no_depth}
 
 -- the same thing stands against a text, or a naming fault in each case
@@ -93,6 +95,9 @@ writes_type declared tokens fault is = (is.0, is.1)
 writes_declarations : (tokens : List Token) (fault : Fault) → IsToldOfDeclarations tokens fault → SomeDeclarations.Writes 1000 tokens
 writes_declarations tokens fault is = (is.0, is.1)
 
+writes_program : (tokens : List Token) (fault : Fault) → NoFaultIsTold tokens fault → AProgram.Writes 1000 tokens
+writes_program tokens fault none = absurd none
+
 -- what is said of what stands against a text has one status
 pub one_type_refusal : (declared : Declarations) (origin text : Bytes) (a b : Against) → RefusesType declared text a → RefusesType declared text b
     → (refusal origin text a).status ≡ (refusal origin text b).status
@@ -104,7 +109,13 @@ pub one_declarations_refusal : (origin text : Bytes) (a b : Against) → Refuses
 one_declarations_refusal origin text a b first second = one_status origin text a b
     (one_refusal SomeDeclarations declarations_form IsToldOfDeclarations writes_declarations text a b first second)
 
--- a text that reads as a type is not refused, nor is one that reads as declarations
+pub one_program_refusal : (origin text : Bytes) (a b : Against) → RefusesProgram text a → RefusesProgram text b
+    → (refusal origin text a).status ≡ (refusal origin text b).status
+one_program_refusal origin text a b first second = one_status origin text a b
+    (one_refusal AProgram program_form NoFaultIsTold writes_program text a b first second)
+
+-- a text that reads as a type is not refused, nor is one that reads as declarations, nor one that is written as a
+-- program
 pub reads_unrefused : (declared : Declarations) (text : Bytes) (is : Written) → ReadsAs declared text is
     → (against : Against) → RefusesType declared text against → ⊥
 reads_unrefused declared text is reads against refuses =
@@ -122,6 +133,12 @@ declares_unrefused text declared declares against refuses =
     let same = one_declared 1000 1000 declares.tokens told.0 declared told.1 declares.written in
     declares.sound fault (subst (λ list. IsFaultOfDeclarations list fault) same told.2.is))
     against refuses
+
+pub program_unrefused : (text : Bytes) (program : Program) → WritesProgram text program
+    → (against : Against) → RefusesProgram text against → ⊥
+program_unrefused text program writes against refuses =
+    stands_not AProgram program_form NoFaultIsTold writes_program text writes.tokens writes.spelled
+    (program, writes.written) (λ fault none. none) against refuses
 
 -- a text reads as one type at most, and as one list of declarations
 pub reads_one : (declared : Declarations) (text : Bytes) (first second : Written) → ReadsAs declared text first → ReadsAs declared text second

@@ -3,13 +3,14 @@ use Rattle.std.proofs.Common.{◌≡◌, ◌<◌, ◌≤◌, List, Some, length,
 use Rattle.std.specs.Prelude.{codes}
 use Rattle.std.specs.Str.{IsUtf8, chars}
 use Rattle.cd_syntax.specs.TypeTree.{Declarations, NoDeclaration}
+use Rattle.cd_program.specs.Expr.{Program}
 use Rattle.cd_model.specs.AllOf.{AllOf}
 use Rattle.cd_model.specs.Thing.{Thing, IsElement}
 use Rattle.cd_model.specs.Written.{Written}
 use Rattle.cd_model.proofs.ApartAtWritten.{not_both}
 use Rattle.cd_replies.specs.Bytes.{Bytes}
-use Rattle.cd_driver.specs.Command.{Command, Sub, SubTypes, Member, files_of}
-use Rattle.cd_replies.specs.Texts.{Against, ReadsAs, Declares, RefusesType, RefusesDeclarations}
+use Rattle.cd_driver.specs.Command.{Command, Sub, SubTypes, Member, Check, files_of}
+use Rattle.cd_replies.specs.Texts.{Against, ReadsAs, Declares, RefusesType, RefusesDeclarations, RefusesProgram}
 use Rattle.cd_replies.specs.Within.{IsIn, IsOutside, IsWithin}
 use Rattle.cd_replies.specs.Reply.{Reply, refusal}
 use Rattle.cd_replies.specs.Disk.{Disk, Has, HasText, LARGEST, FileRefusal, unread, large, encoding, refused}
@@ -20,8 +21,11 @@ use Rattle.cd_documents.specs.Reading.{WritesValue}
 use Rattle.cd_member.specs.DocumentTexts.{RefusesDocument, FileWrites, IsValueIn, IsValueOutside}
 use Rattle.cd_member.specs.MemberAnswer as member
 use Rattle.cd_member.specs.MemberAnswer.{FileDeclares, DocumentAnswer, MemberAnswer}
+use Rattle.cd_checking.specs.CheckAnswer as checking
+use Rattle.cd_checking.specs.CheckAnswer.{CheckAnswer, FileWritesProgram}
 use Rattle.cd_driver.proofs.OneCommand.{one_command}
 use Rattle.cd_driver.proofs.OneRefusal.{one_type_refusal, one_declarations_refusal, reads_unrefused, declares_unrefused, reads_one, declares_one}
+use Rattle.cd_driver.proofs.OneRefusal.{one_program_refusal, program_unrefused}
 use Rattle.cd_driver.proofs.OneDocument.{one_document_refusal, writes_unrefused, writes_one, value_not_both}
 
 -- no types are within each other and separated by an element
@@ -173,6 +177,21 @@ module _ (disk : Disk) (file : Bytes) (known : IsKnown disk file) where
   document_one type _ _ (member.no v writes outside) (member.yes v' writes' inside) = one_answer type v' v writes' writes inside outside
   document_one type _ _ (member.no v writes outside) (member.no v' writes' outside') = refl
 
+  -- a file that writes a program is not refused
+  unrefused : {A : Type 0} (reply : Reply) (program : Program) → FileRefusal RefusesProgram disk file reply
+      → FileWritesProgram disk file program → A
+  unrefused reply program refusal writes =
+      absurd (refused_or_not RefusesProgram reply writes.text refusal writes.has
+      (program_unrefused writes.text program writes.writes))
+
+  check_one : (r s : Reply) → CheckAnswer disk file r → CheckAnswer disk file s → r.status ≡ s.status
+  check_one _ _ (checking.file_refused r refusal) (checking.file_refused s refusal') =
+      file_one RefusesProgram (λ text a b first second. one_program_refusal file text a b first second) r s
+      refusal refusal'
+  check_one _ _ (checking.file_refused r refusal) (checking.unbuilt program writes) = unrefused r program refusal writes
+  check_one _ _ (checking.unbuilt program writes) (checking.file_refused s refusal) = unrefused s program refusal writes
+  check_one _ _ (checking.unbuilt program writes) (checking.unbuilt program' writes') = refl
+
 -- the file, the type text and the document decide the status of what `member` answers
 module _ (disk : Disk) (file document text : Bytes) (known : IsKnown disk file) (document_known : IsKnown disk document) where
   declared_one : (first second : Declarations) → FileDeclares disk file first → FileDeclares disk file second → second ≡ first
@@ -212,6 +231,7 @@ command_decides : (disk : Disk) (command : Command) → AllOf (IsKnown disk) (fi
 command_decides disk (Sub text1 text2) known r s answers answers' = sub_one NoDeclaration text1 text2 r s answers answers'
 command_decides disk (SubTypes file text1 text2) known r s answers answers' = sub_types_one disk file known.0 text1 text2 r s answers answers'
 command_decides disk (Member file document text) known r s answers answers' = member_one disk file document text known.0 known.1.0 r s answers answers'
+command_decides disk (Check file) known r s answers answers' = check_one disk file known.0 r s answers answers'
 command_decides disk command known r s is is' = ap (λ reply. reply.status) (is ∙ sym is')
 
 pub one_status : (words : List Bytes) (disk : Disk) → FileIsKnown words disk

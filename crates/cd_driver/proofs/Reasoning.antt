@@ -9,8 +9,8 @@ use Rattle.cd_syntax.specs.declared.tokens.LexError.TheVariants.{Memory}
 use Rattle.cd_syntax.specs.TypeTree.{Declarations, NoDeclaration}
 use Rattle.cd_model.specs.Written.{Written}
 use Rattle.cd_replies.specs.Bytes.{Bytes}
-use Rattle.cd_driver.specs.Command.{Command, Sub, SubTypes, Member, Give, name_of}
-use Rattle.cd_replies.specs.Texts.{Against, Lexical, ReadsAs, RefusesDeclarations}
+use Rattle.cd_driver.specs.Command.{Command, Sub, SubTypes, Member, Check, Give, name_of}
+use Rattle.cd_replies.specs.Texts.{Against, Lexical, ReadsAs, RefusesDeclarations, RefusesProgram}
 use Rattle.cd_replies.specs.Reply.{Reply, refusal, not_built}
 use Rattle.cd_driver.specs.World.{World}
 use Rattle.cd_replies.specs.Disk.{Disk, Met, HasText, unmarked, marked, FileRefusal, unread, large, encoding, refused}
@@ -19,10 +19,12 @@ use Rattle.cd_sub.specs.SubAnswer.{SubTypesAnswer, file_refused, on_texts}
 use Rattle.cd_member.specs.DocumentTexts.{RefusesDocument}
 use Rattle.cd_member.specs.MemberAnswer as member
 use Rattle.cd_member.specs.MemberAnswer.{FileDeclares, DocumentAnswer, MemberAnswer}
+use Rattle.cd_checking.specs.CheckAnswer as checking
+use Rattle.cd_checking.specs.CheckAnswer.{CheckAnswer}
 use Rattle.cd_driver.specs.Answer.{Answer, AnswerOf}
 use Rattle.cd_driver.specs.Causes.{IsCause, Cause}
 use Rattle.cd_driver.specs.Reasons.{GiveTexts, alone, with_file, StandsAgainst, in_file, in_first, in_second, CommandIsNotBuilt, Reason}
-use Rattle.cd_driver.specs.Reasons.{NamesFile, in_declarations, in_type, in_document}
+use Rattle.cd_driver.specs.Reasons.{NamesFile, in_declarations, in_type, in_document, in_program}
 
 -- a file that is marked is the latest whose read failed
 read_failed : (before after : FilesState) (disk : Disk) (name : Bytes) → Met before after disk → disk.marked ≡ Some name
@@ -105,14 +107,25 @@ module _ (words : List Bytes) (disk : Disk) (before after : World) (met : Met be
   member_reason file document text give _ (member.on_document declared declares type reads reply answers) =
       document_reason file document text give declared declares type reads reply answers
 
+  check_reason : (file : Bytes) → Give words (Check file) → (reply : Reply) → CheckAnswer disk file reply
+      → Reason words before after reply.status
+  check_reason file give _ (checking.file_refused reply refusal) =
+      file_reason RefusesProgram file (record { command = Check file; give = give; is = inl refl })
+      (λ text has against stands. in_program file give text has stands) reply refusal
+  check_reason file give _ (checking.unbuilt program writes) =
+      inr (record { disk = disk; met = met; file = file; give = give; program = program; writes = writes })
+
   unbuilt_reason : (command : Command) → Give words command → CommandIsNotBuilt command → (reply : Reply) → reply ≡ not_built (name_of command)
       → Reason words before after reply.status
-  unbuilt_reason command give unbuilt reply is = subst (λ reply. Reason words before after reply.status) (sym is) (record { command = command; give = give; unbuilt = unbuilt })
+  unbuilt_reason command give unbuilt reply is =
+      subst (λ reply. Reason words before after reply.status) (sym is)
+      (inl (record { command = command; give = give; unbuilt = unbuilt }))
 
   command_reason : (command : Command) → Give words command → (reply : Reply) → AnswerOf command disk reply → Reason words before after reply.status
   command_reason (Sub text1 text2) give reply answers = sub_reason NoDeclaration text1 text2 (alone text1 text2 give) reply answers
   command_reason (SubTypes file text1 text2) give reply answers = sub_types_reason file text1 text2 give reply answers
   command_reason (Member file document text) give reply answers = member_reason file document text give reply answers
+  command_reason (Check file) give reply answers = check_reason file give reply answers
   command_reason command give reply is = unbuilt_reason command give tt reply is
 
   answer_reason : (reply : Reply) → Answer words disk reply → Reason words before after reply.status

@@ -3,10 +3,11 @@ use Rattle.std.specs.Prelude.{◌≡◌, List, Some, ◌⊎◌}
 use Rattle.cd_syntax.specs.TypeTree.{NoDeclaration}
 use Rattle.cd_model.specs.AllOf.{AllOf}
 use Rattle.cd_replies.specs.Bytes.{Bytes}
-use Rattle.cd_driver.specs.Command.{Command, Sub, SubTypes, Member, Give, HaveNoForm}
+use Rattle.cd_driver.specs.Command.{Command, Sub, SubTypes, Member, Check, Give, HaveNoForm}
 use Rattle.cd_driver.specs.Command.{name_of, files_of}
 use Rattle.cd_replies.specs.Reply.{Reply, usage, not_built}
 use Rattle.cd_replies.specs.Disk.{Disk}
+use Rattle.cd_checking.specs.CheckAnswer.{CheckAnswer}
 use Rattle.cd_member.specs.MemberAnswer.{MemberAnswer}
 use Rattle.cd_sub.specs.SubAnswer.{SubAnswer, SubTypesAnswer}
 
@@ -15,6 +16,7 @@ abbrev pub AnswerOf : Command → Disk → Reply → Type 0
 AnswerOf (Sub text1 text2) disk reply = SubAnswer NoDeclaration text1 text2 reply
 AnswerOf (SubTypes file text1 text2) disk reply = SubTypesAnswer disk file text1 text2 reply
 AnswerOf (Member file document text) disk reply = MemberAnswer disk file document text reply
+AnswerOf (Check file) disk reply = CheckAnswer disk file reply
 AnswerOf command disk reply = reply ≡ not_built (name_of command)
 
 -- the answers to words: those that have no listed form get the usage line

@@ -68,4 +68,5 @@ name_of (Work size) = codes "work"
 abbrev pub files_of : Command → List Bytes
 files_of (SubTypes file first second) = file ∷ []
 files_of (Member file document type) = file ∷ document ∷ []
+files_of (Check file) = file ∷ []
 files_of command = []

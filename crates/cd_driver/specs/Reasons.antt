@@ -7,19 +7,22 @@ use Rattle.cd_base.specs.Faults.{Rose}
 use Rattle.cd_syntax.specs.declared.tokens.LexError.{LexError}
 use Rattle.cd_model.specs.Thing.{Thing, IsElement}
 use Rattle.cd_syntax.specs.TypeTree.{Declarations, NoDeclaration}
+use Rattle.cd_program.specs.Expr.{Program}
 use Rattle.cd_model.specs.Written.{Written}
 use Rattle.cd_resolve.specs.Faults.{Fault}
 use Rattle.cd_replies.specs.Bytes.{Bytes}
 use Rattle.cd_model.specs.AllOf.{AnyOf}
-use Rattle.cd_driver.specs.Command.{Command, Sub, SubTypes, Member, Give, HaveNoForm, files_of}
+use Rattle.cd_driver.specs.Command.{Command, Sub, SubTypes, Member, Check, Give, HaveNoForm}
+use Rattle.cd_driver.specs.Command.{files_of}
 use Rattle.cd_replies.specs.Texts.{Against, Lexical, Syntax, TooDeep, Naming, ReadsAs, Declares}
-use Rattle.cd_replies.specs.Texts.{RefusesType, RefusesDeclarations}
+use Rattle.cd_replies.specs.Texts.{RefusesType, RefusesDeclarations, RefusesProgram}
 use Rattle.cd_replies.specs.Within.{IsIn, IsOutside, IsWithin}
 use Rattle.cd_driver.specs.World.{World}
 use Rattle.cd_replies.specs.Disk.{Disk, Met, Has, HasText, LARGEST}
 use Rattle.cd_driver.specs.Causes.{SinkFailed}
 use Rattle.cd_member.specs.DocumentTexts.{RefusesDocument, FileWrites, IsValueIn, IsValueOutside}
 use Rattle.cd_member.specs.MemberAnswer.{FileDeclares}
+use Rattle.cd_checking.specs.CheckAnswer.{FileWritesProgram}
 
 -- the words ask about two type texts, which see these declarations: none, or those of a file
 pub data GiveTexts (words : List Bytes) (disk : Disk) : Declarations → (text1 text2 : Bytes)
@@ -109,6 +112,8 @@ pub data StandsAgainst (words : List Bytes) (disk : Disk) (against : Against) : 
       → (declared : Declarations) → FileDeclares disk file declared → (type : Written)
       → ReadsAs declared text type → (notation : Bytes) → HasText disk document notation
       → RefusesDocument notation against → StandsAgainst words disk against
+  in_program : (file : Bytes) → Give words (Check file) → (text : Bytes) → HasText disk file text
+      → RefusesProgram text against → StandsAgainst words disk against
 
 -- and it is of this kind
 pub record IsRefused (words : List Bytes) (before after : World)
@@ -165,6 +170,7 @@ abbrev pub CommandIsNotBuilt : Command → Type 0
 CommandIsNotBuilt (Sub text1 text2) = ⊥
 CommandIsNotBuilt (SubTypes file text1 text2) = ⊥
 CommandIsNotBuilt (Member file document type) = ⊥
+CommandIsNotBuilt (Check file) = ⊥
 CommandIsNotBuilt command = Unit {0}
 
 -- the words give a command that isn't built
@@ -172,6 +178,16 @@ pub record IsNotBuilt (words : List Bytes) : Type 0 where
   pub command : Command
   pub give : Give words command
   pub unbuilt : CommandIsNotBuilt command
+
+-- the words ask whether the program of a file is well typed, and the file, of those that were met,
+-- writes one: it is read, and no check is built
+pub record IsUnchecked (words : List Bytes) (before after : World) : Type 0 where
+  pub disk : Disk
+  pub met : Met before.files after.files disk
+  pub file : Bytes
+  pub give : Give words (Check file)
+  pub program : Program
+  pub writes : FileWritesProgram disk file program
 
 -- the reason for each status; want of memory is free, and the others don't come
 abbrev pub Reason : List Bytes → World → World → Status → Type 0
@@ -187,5 +203,5 @@ Reason words before after status.Lexical = IsRefused words before after IsLexica
 Reason words before after status.Syntax = IsRefused words before after IsSyntax
 Reason words before after status.TooDeep = IsRefused words before after IsTooDeep
 Reason words before after status.Naming = IsRefused words before after IsNaming
-Reason words before after status.NotBuilt = IsNotBuilt words
+Reason words before after status.NotBuilt = IsNotBuilt words ⊎ IsUnchecked words before after
 Reason words before after other = ⊥

@@ -6,6 +6,7 @@ ghost use Rattle.std.specs.Prelude.{◌≡◌};
 
 use crate::request::{Request, request_of};
 use cd_base::files::Files;
+use cd_checking::check;
 use cd_member::member;
 use cd_replies::message::{Message, not_built, usage};
 use cd_sub::{sub, sub_types};
@@ -29,6 +30,7 @@ pub(crate) fn answer<F: Files>(
             sub_types(alloc, files, file, first, second)
         }
         Some(Request::Member(file, document, text)) => member(alloc, files, file, document, text),
+        Some(Request::Check(file)) => check(alloc, files, file),
         Some(Request::NotBuilt(name)) => not_built(alloc, name),
     }
 }

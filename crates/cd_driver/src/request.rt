@@ -15,6 +15,8 @@ pub(crate) enum Request<'a> {
     /// Whether the value of a document is in a type, with the type declarations of a file: the names
     /// of the file and of the document, and the type text.
     Member(&'a str, &'a str, &'a str),
+    /// Whether the program of the file of this name is well typed.
+    Check(&'a str),
     /// A command with this first word, that is not built.
     NotBuilt(&'static str),
 }
@@ -39,12 +41,12 @@ pub(crate) fn request_of(words: &[String]) -> Option<Request<'_>>
     }
 }
 
-fn of_two(name: &str, word: &str) -> Option<Request<'static>>
+fn of_two<'a>(name: &str, word: &'a str) -> Option<Request<'a>>
     ensures { MatchOption result (HaveNoForm (name.now ∷ word.now ∷ []))
         (λ request. StandsFor (name.now ∷ word.now ∷ []) request) }
 {
     match name {
-        "check" => Some(Request::NotBuilt("check")),
+        "check" => Some(Request::Check(word)),
         "work" if is_size(word) => Some(Request::NotBuilt("work")),
         _ => None,
     }

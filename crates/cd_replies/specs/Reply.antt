@@ -40,7 +40,8 @@ usage = complains Usage
     (codes "usage: cduce sub [--types FILE] T1 T2, member FILE DOC T, check FILE, "
     ++ codes "run [--steps N] FILE DOC, work N")
 
--- a command that isn't built, by its first word
+-- what isn't built, by its name: the first word of a command, or a file whose program isn't
+-- checked yet
 abbrev pub not_built : Bytes → Reply
 not_built name = complains IsNotBuilt (name ++ codes ": not built")
 

@@ -1,4 +1,5 @@
--- What a text says, and what stands against it: a type text, or a file of type declarations.
+-- What a text says, and what stands against it: a type text, a file of type declarations, or a
+-- program.
 use Rattle.std.specs.Prelude.{◌≡◌, ℕ, false, List, [], ◌∷◌, length}
 use Rattle.std.specs.Str.{chars}
 use Rattle.cd_syntax.specs.declared.tokens.Token.{Token}
@@ -7,8 +8,9 @@ use Rattle.cd_syntax.specs.Tokens.{Spells}
 use Rattle.cd_syntax.specs.Faults.{Fails}
 use Rattle.cd_syntax.specs.TypeTree.{Tree, Declarations}
 use Rattle.cd_syntax.specs.SyntaxFaults.{Form, IsSyntaxFault, IsDepthFault}
-use Rattle.cd_grammar.specs.Language.{IsTree, AreDeclared}
-use Rattle.cd_grammar.specs.Forms.{AType, SomeDeclarations}
+use Rattle.cd_program.specs.Expr.{Program}
+use Rattle.cd_grammar.specs.Language.{IsTree, AreDeclared, IsProgram}
+use Rattle.cd_grammar.specs.Forms.{AType, SomeDeclarations, AProgram}
 use Rattle.cd_model.specs.Written.{Written}
 use Rattle.cd_resolve.specs.Faults.{Fault, IsFaultOfType, IsFaultOfDeclarations, IsTold}
 use Rattle.cd_replies.specs.Bytes.{Bytes}
@@ -36,6 +38,13 @@ pub record Declares (text : Bytes) (declared : Declarations) : Type 0 where
   pub spelled : HasTokens text tokens
   pub written : AreDeclared 1000 tokens declared
   pub sound : (fault : Fault) → IsFaultOfDeclarations declared fault → ⊥
+
+-- the text is written as this program, with whatever names, and ends where the program says
+pub record WritesProgram (text : Bytes) (program : Program) : Type 0 where
+  pub tokens : List Token
+  pub spelled : HasTokens text tokens
+  pub written : IsProgram 1000 tokens program
+  pub ends : program.end ≡ length text
 
 -- what stands against a text, whose tokens are to be of a form: its first lexical fault, the place
 -- of its fault of syntax, or that of a form too deep, or the naming fault that is told of it
@@ -76,3 +85,10 @@ RefusesType declared text against = Refuses AType (IsToldOfType declared) text a
 
 abbrev pub RefusesDeclarations : Bytes → Against → Type 0
 RefusesDeclarations text against = Refuses SomeDeclarations IsToldOfDeclarations text against
+
+-- what stands against a program, its names and types aside
+abbrev pub NoFaultIsTold : List Token → Fault → Type 0
+NoFaultIsTold tokens fault = ⊥
+
+abbrev pub RefusesProgram : Bytes → Against → Type 0
+RefusesProgram text against = Refuses AProgram NoFaultIsTold text against

@@ -51,7 +51,8 @@ pub fn usage(alloc: Global) -> Result<Message, AllocError>
     Ok(complaint(Status::Usage, String::from_str(alloc, USAGE)?))
 }
 
-/// What is said of a command that is not built, by its first word.
+/// What is said of what is not built, by its name: the first word of a command, or a file whose
+/// program is not checked yet.
 ///
 /// # Errors
 ///

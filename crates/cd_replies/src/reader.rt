@@ -4,6 +4,8 @@ ghost use Rattle.std.specs.Str.{chars};
 ghost use Rattle.cd_syntax.specs.Faults.{Fails};
 ghost use Rattle.cd_syntax.specs.PlainTree.{plain_declarations};
 ghost use Rattle.cd_syntax.specs.WellMade.{AreWellMadeDeclarations};
+ghost use Rattle.cd_program.specs.PlainProgram.{plain_program};
+ghost use Rattle.cd_program.specs.WellMade.{IsWellMadeProgram};
 ghost use Rattle.cd_model.specs.AllOf.{AllOf};
 ghost use Rattle.cd_model.specs.BuiltIns.{built_ins};
 ghost use Rattle.cd_model.specs.Formula.{Graph as PlainGraph, IsFormula};
@@ -14,11 +16,13 @@ ghost use Rattle.cd_replies.specs.Message.{against};
 ghost use Rattle.cd_replies.specs.Naming.{Writes, AreNamedWell, RefusesNames, StandsForText};
 ghost use Rattle.cd_replies.specs.Inner.Refusal.{IsOfFault, IsOfNames};
 ghost use Rattle.cd_replies.specs.Texts.{HasTokens, RefusesType, RefusesDeclarations};
+ghost use Rattle.cd_replies.specs.Texts.{WritesProgram, RefusesProgram};
 
 use crate::refusal::Refusal;
 use cd_graph::Graph;
 use cd_lex::lex;
-use cd_parser::{ParseError, parse_declarations, parse_type};
+use cd_parser::{ParseError, parse_declarations, parse_program, parse_type};
+use cd_program::program::Program;
 use cd_resolve::error::NameError;
 use cd_resolve::{Batch, Names, TypeBatch, resolve, resolve_type};
 use cd_syntax::tokens::{LexError, Token};
@@ -46,6 +50,28 @@ pub fn read_declarations(
     };
     match parse_declarations(alloc, tokens.as_slice(), text.len()) {
         Ok(declared) => Ok(Ok(declared)),
+        Err(error) => Ok(Err(refusal_of(error)?)),
+    }
+}
+
+/// The program that a text is written as, or what stands against it, its names and types aside.
+///
+/// # Errors
+///
+/// Want of memory.
+pub fn read_program(alloc: Global, text: &str) -> Result<Result<Program, Refusal>, AllocError>
+    ensures read { IfOk result (λ read. MatchResult read
+        (λ program. WritesProgram text.now (plain_program program))
+        (λ refusal. RefusesProgram text.now (against refusal))) }
+    ensures well_made { IfOk result (λ read. IfOk read
+        (λ program. IsWellMadeProgram (plain_program program))) }
+{
+    let tokens = match tokens(alloc, text)? {
+        Ok(tokens) => tokens,
+        Err(fault) => return Ok(Err(Refusal::Lexical(fault))),
+    };
+    match parse_program(alloc, tokens.as_slice(), text.len()) {
+        Ok(program) => Ok(Ok(program)),
         Err(error) => Ok(Err(refusal_of(error)?)),
     }
 }

@@ -4,9 +4,10 @@ use Rattle.cd_driver.specs.declared.request.Request.{Request}
 use Rattle.cd_driver.specs.declared.request.Request.TheVariants.{Sub as AsksSub}
 use Rattle.cd_driver.specs.declared.request.Request.TheVariants.{SubTypes as AsksSubTypes}
 use Rattle.cd_driver.specs.declared.request.Request.TheVariants.{Member as AsksMember}
+use Rattle.cd_driver.specs.declared.request.Request.TheVariants.{Check as AsksCheck}
 use Rattle.cd_driver.specs.declared.request.Request.TheVariants.{NotBuilt as AsksNotBuilt}
 use Rattle.cd_replies.specs.Bytes.{Bytes}
-use Rattle.cd_driver.specs.Command.{Command, Sub, SubTypes, Member, IsNumeral, IsSize, Give}
+use Rattle.cd_driver.specs.Command.{Command, Sub, SubTypes, Member, Check, IsNumeral, IsSize, Give}
 use Rattle.cd_replies.specs.Reply.{Reply, not_built}
 use Rattle.cd_replies.specs.Disk.{Disk}
 use Rattle.cd_driver.specs.Answer.{AnswerOf}
@@ -23,6 +24,7 @@ StandsFor words (AsksSubTypes file first second) =
     Give words (SubTypes file.now first.now second.now)
 StandsFor words (AsksMember file document type) =
     Give words (Member file.now document.now type.now)
+StandsFor words (AsksCheck file) = Give words (Check file.now)
 StandsFor words (AsksNotBuilt name) = GiveNotBuilt words name.now
 
 -- the word is a number of units, or a size

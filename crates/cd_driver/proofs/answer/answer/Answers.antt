@@ -1,5 +1,6 @@
-use Rattle.cd_driver.specs.Command.{texts, Sub, SubTypes, Member}
-use Rattle.cd_driver.proofs.Commands.{answers_usage, answers_at_once, answers_command, answers_not_built, reads_file, reads_files}
+use Rattle.cd_driver.specs.Command.{texts, Sub, SubTypes, Member, Check}
+use Rattle.cd_driver.proofs.Commands.{answers_usage, answers_at_once, answers_command, answers_not_built}
+use Rattle.cd_driver.proofs.Commands.{among_one, reads_files}
 use Rattle.cd_driver.proofs.answer.answer.Goals as goal
 
 pub returns-in-None-clause-answer : goal.returns-in-None-clause-answer
@@ -17,8 +18,10 @@ returns-in-Some-SubTypes-clause-answer g c =
 
 pub returns-in-Some-SubTypes-clause-files : goal.returns-in-Some-SubTypes-clause-files
 returns-in-Some-SubTypes-clause-files g c =
-    reads_file (texts c.args.words.now) _ _ c.in-Some-SubTypes.file.now c.in-Some-SubTypes.first.now c.in-Some-SubTypes.second.now
-    (rw c.in-Some-SubTypes.field-0-is at c.in-Some-SubTypes.ensures) c.sub_types.ensures.read
+    reads_files (texts c.args.words.now) _ _
+    (SubTypes c.in-Some-SubTypes.file.now c.in-Some-SubTypes.first.now c.in-Some-SubTypes.second.now)
+    (rw c.in-Some-SubTypes.field-0-is at c.in-Some-SubTypes.ensures)
+    (among_one _ _ c.in-Some-SubTypes.file.now c.sub_types.ensures.read)
 
 pub returns-in-Some-Member-clause-answer : goal.returns-in-Some-Member-clause-answer
 returns-in-Some-Member-clause-answer g c =
@@ -29,6 +32,17 @@ pub returns-in-Some-Member-clause-files : goal.returns-in-Some-Member-clause-fil
 returns-in-Some-Member-clause-files g c =
     reads_files (texts c.args.words.now) _ _ (Member c.in-Some-Member.file.now c.in-Some-Member.document.now c.in-Some-Member.text.now)
     (rw c.in-Some-Member.field-0-is at c.in-Some-Member.ensures) c.member.ensures.read
+
+pub returns-in-Some-Check-clause-answer : goal.returns-in-Some-Check-clause-answer
+returns-in-Some-Check-clause-answer g c =
+    answers_command (texts c.args.words.now) _ _ (Check c.in-Some-Check.file.now)
+    (rw c.in-Some-Check.field-0-is at c.in-Some-Check.ensures) c.check.result c.check.ensures.answer
+
+pub returns-in-Some-Check-clause-files : goal.returns-in-Some-Check-clause-files
+returns-in-Some-Check-clause-files g c =
+    reads_files (texts c.args.words.now) _ _ (Check c.in-Some-Check.file.now)
+    (rw c.in-Some-Check.field-0-is at c.in-Some-Check.ensures)
+    (among_one _ _ c.in-Some-Check.file.now c.check.ensures.read)
 
 pub returns-in-Some-NotBuilt-clause-answer : goal.returns-in-Some-NotBuilt-clause-answer
 returns-in-Some-NotBuilt-clause-answer g c =

@@ -1,0 +1,2 @@
+pub mod CheckReplies
+mod Answering
