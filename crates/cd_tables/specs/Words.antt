@@ -3,6 +3,10 @@ use Rattle.std.specs.Prelude.{List, [], ◌∷◌, codes}
 use Rattle.cd_syntax.specs.Name.{Name}
 use Rattle.cd_syntax.specs.declared.builtin.BuiltinName.{BuiltinName}
 use Rattle.cd_syntax.specs.declared.builtin.BuiltinName.TheVariants as builtin
+use Rattle.cd_program.specs.declared.operator.Op.{Op}
+use Rattle.cd_program.specs.declared.operator.Op.TheVariants as op
+use Rattle.cd_program.specs.declared.operator.BuiltIn.{BuiltIn}
+use Rattle.cd_program.specs.declared.operator.BuiltIn.TheVariants as built_in
 use Rattle.cd_tables.specs.declared.keyword.Keyword.{Keyword}
 use Rattle.cd_tables.specs.declared.keyword.Keyword.TheVariants as keyword
 
@@ -47,4 +51,31 @@ type_names = (codes "Any", builtin.Any)
     ∷ (codes "Record", builtin.Record)
     ∷ (codes "String", builtin.String)
     ∷ (codes "_", builtin.Any)
+    ∷ []
+
+-- the operators between two operands
+abbrev pub operators : List (Name × Op)
+operators = (codes "!=", op.Unequal)
+    ∷ (codes "&&", op.And)
+    ∷ (codes "*", op.Times)
+    ∷ (codes "+", op.Plus)
+    ∷ (codes "-", op.Minus)
+    ∷ (codes "<", op.Less)
+    ∷ (codes "<=", op.AtMost)
+    ∷ (codes "=", op.Equal)
+    ∷ (codes ">", op.Greater)
+    ∷ (codes ">=", op.AtLeast)
+    ∷ (codes "@", op.Concat)
+    ∷ (codes "div", op.Div)
+    ∷ (codes "mod", op.Mod)
+    ∷ (codes "||", op.Or)
+    ∷ []
+
+-- the words that stand before an operand
+abbrev pub built_ins : List (Name × BuiltIn)
+built_ins = (codes "flatten", built_in.Flatten)
+    ∷ (codes "int_of", built_in.IntOf)
+    ∷ (codes "not", built_in.Not)
+    ∷ (codes "raise", built_in.Raise)
+    ∷ (codes "string_of", built_in.StringOf)
     ∷ []

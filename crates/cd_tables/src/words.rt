@@ -3,10 +3,12 @@ ghost use Rattle.std.specs.Str.{chars};
 ghost use Rattle.cd_tables.specs.Spelling.{rises};
 ghost use Rattle.cd_tables.specs.Rows.{row_of, rows_of, fields_of};
 ghost use Rattle.cd_tables.specs.Words.{keywords as all_keywords, type_names as all_type_names};
+ghost use Rattle.cd_tables.specs.Words.{operators as all_operators, built_ins as all_built_ins};
 
 use crate::keyword::Keyword;
 use crate::row::TableRow;
 use crate::table::Table;
+use cd_program::operator::{BuiltIn, Op};
 use cd_syntax::builtin::BuiltinName;
 
 // The byte of a word at a place, and 0 past its end.
@@ -72,6 +74,31 @@ static TYPE_NAMES: [TableRow<BuiltinName>; 14] = [
     row!(b"_", BuiltinName::Any),
 ];
 
+static OPERATORS: [TableRow<Op>; 14] = [
+    row!(b"!=", Op::Unequal),
+    row!(b"&&", Op::And),
+    row!(b"*", Op::Times),
+    row!(b"+", Op::Plus),
+    row!(b"-", Op::Minus),
+    row!(b"<", Op::Less),
+    row!(b"<=", Op::AtMost),
+    row!(b"=", Op::Equal),
+    row!(b">", Op::Greater),
+    row!(b">=", Op::AtLeast),
+    row!(b"@", Op::Concat),
+    row!(b"div", Op::Div),
+    row!(b"mod", Op::Mod),
+    row!(b"||", Op::Or),
+];
+
+static BUILT_INS: [TableRow<BuiltIn>; 5] = [
+    row!(b"flatten", BuiltIn::Flatten),
+    row!(b"int_of", BuiltIn::IntOf),
+    row!(b"not", BuiltIn::Not),
+    row!(b"raise", BuiltIn::Raise),
+    row!(b"string_of", BuiltIn::StringOf),
+];
+
 /// The keyword with this spelling, if there is one.
 pub fn keyword(spelling: &str) -> Option<Keyword>
     ensures { result ≡ row_of all_keywords (chars spelling.now) }
@@ -86,6 +113,20 @@ pub fn type_name(spelling: &str) -> Option<BuiltinName>
     Table::new(type_names()).find(spelling)
 }
 
+/// The operator between two operands with this spelling, if there is one.
+pub fn operator(spelling: &str) -> Option<Op>
+    ensures { result ≡ row_of all_operators (chars spelling.now) }
+{
+    Table::new(operators()).find(spelling)
+}
+
+/// The word before an operand with this spelling, if there is one.
+pub fn built_in(spelling: &str) -> Option<BuiltIn>
+    ensures { result ≡ row_of all_built_ins (chars spelling.now) }
+{
+    Table::new(built_ins()).find(spelling)
+}
+
 fn keywords() -> &'static [TableRow<Keyword>; 21]
     ensures rows { rows_of result.now ≡ all_keywords }
     ensures rising { IsTrue (rises (fields_of result.now)) }
@@ -98,4 +139,18 @@ fn type_names() -> &'static [TableRow<BuiltinName>; 14]
     ensures rising { IsTrue (rises (fields_of result.now)) }
 {
     &TYPE_NAMES
+}
+
+fn operators() -> &'static [TableRow<Op>; 14]
+    ensures rows { rows_of result.now ≡ all_operators }
+    ensures rising { IsTrue (rises (fields_of result.now)) }
+{
+    &OPERATORS
+}
+
+fn built_ins() -> &'static [TableRow<BuiltIn>; 5]
+    ensures rows { rows_of result.now ≡ all_built_ins }
+    ensures rising { IsTrue (rises (fields_of result.now)) }
+{
+    &BUILT_INS
 }
