@@ -18,14 +18,14 @@ module _ (facts : Facts) (kept : AreKept facts) where
     pub derived_fits : (depth : ℕ) (x : Symbol) (entries : List Entry) (v : Placed)
         → Derives cduce_grammar depth x entries v → Each (IsProper facts.of_label) entries → Fits facts (sort_of x) v.1
     derived_fits _ _ _ _ (one depth opens entry room) are = entry_fits facts entry are.0
-    derived_fits _ _ _ _ (made depth p entries values row) are =
-        rule_fits facts kept p values (row_fits depth (right tables p) entries values row are)
+    derived_fits _ _ _ _ (made depth p entries values row_is) are =
+        rule_fits facts kept p values (row_fits depth (right tables p) entries values row_is are)
 
     pub row_fits : (depth : ℕ) (xs : List Symbol) (entries : List Entry) (values : List Placed)
         → Row cduce_grammar depth xs entries values → Each (IsProper facts.of_label) entries
         → AreFit facts (map sort_of xs) (map (λ part. part.1) values)
     row_fits _ _ _ _ (nothing depth) are = none
-    row_fits _ _ _ _ (next depth x rest a b v vs derives row) are =
+    row_fits _ _ _ _ (next depth x rest a b v vs derives row_is) are =
         let parts = parted (IsProper facts.of_label) a b are in
         and (derived_fits depth x a v derives parts.0)
-        (row_fits (within cduce_grammar depth x) rest b vs row parts.1)
+        (row_fits (within cduce_grammar depth x) rest b vs row_is parts.1)

@@ -1,6 +1,7 @@
 mod Letters
 mod TextsRead
 mod Places
+mod TypeNames
 mod Arities
 mod Popping
 mod Stacks

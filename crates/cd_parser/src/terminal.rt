@@ -40,6 +40,9 @@ pub(crate) fn terminal_of_goal(goal: Goal) -> u8
 fn terminal_of_word(name: &Name) -> u8
     ensures { result ≡ terminal_of_word name.now }
 {
+    if name.is_type_name() {
+        return 65;
+    }
     match keyword(name.as_str()) {
         Some(word) => terminal_of_keyword(word),
         None => terminal_of_other(name),
