@@ -18,7 +18,8 @@ use Rattle.cd_checking.specs.CheckAnswer.{CheckAnswer, file_refused}
 
 -- what is said of a file that has no text is an answer
 answers_met : (old new : FilesState) (name : Bytes) (reply : Reply) → FaultMet RefusesProgram old new name reply
-    → (r : Result Message AllocError) → IfOk r (λ message. reply_of message ≡ reply) → IsAnswer (λ disk. CheckAnswer disk name) old new r
+    → (r : Result Message AllocError) → IfOk r (λ message. reply_of message ≡ reply)
+    → IsAnswer (λ disk. CheckAnswer disk name) old new r
 answers_met old new name _ (failed is refusal) r said = (
   marked_disk old name,
   marked name is.rose is.last,
@@ -31,13 +32,16 @@ answers_met old new name _ (granted same reply refusal) r said = (
 )
 
 pub answers_fault : (old new : FilesState) (name : Bytes) (fault : FileFault) → IsFileRead old new name (Ok (Err fault))
-    → (r : Result Message AllocError) → IfOk r (λ message. reply_of message ≡ said_of name fault) → IsAnswer (λ disk. CheckAnswer disk name) old new r
+    → (r : Result Message AllocError) → IfOk r (λ message. reply_of message ≡ said_of name fault)
+    → IsAnswer (λ disk. CheckAnswer disk name) old new r
 answers_fault old new name fault is r said =
     answers_met old new name (said_of name fault) (fault_met RefusesProgram old new name fault is) r said
 
 -- and so is what is said where it has one
 pub answers_text : (old new : FilesState) (name : Bytes) (text : String Global) → IsFileRead old new name (Ok (Ok text))
-    → (r : Result Message AllocError) → IfOk r (λ message. (disk : Disk) → HasText disk name (string_bytes text) → CheckAnswer disk name (reply_of message))
+    → (r : Result Message AllocError)
+    → IfOk r
+    (λ message. (disk : Disk) → HasText disk name (string_bytes text) → CheckAnswer disk name (reply_of message))
     → IsAnswer (λ disk. CheckAnswer disk name) old new r
 answers_text old new name text is (Ok message) said = (
   told_disk old,

@@ -9,4 +9,7 @@ use Rattle.cd_replies.proofs.Replies.{IsReply, line_some, file_is_reply}
 
 pub check_is_reply : (disk : Disk) (file : Bytes) (reply : Reply) → CheckAnswer disk file reply → IsReply reply
 check_is_reply disk file _ (file_refused reply refusal) = file_is_reply RefusesProgram disk file reply refusal
-check_is_reply disk file _ (unbuilt program writes) = record { text = λ out err. line_some (file ++ codes ": not built") err; status = λ is. cc }
+check_is_reply disk file _ (unbuilt program writes) = record {
+  text = λ out err. line_some (file ++ codes ": not built") err;
+  status = λ is. cc;
+}

@@ -12,7 +12,8 @@ returns-in-Ok c =
     let file = c.args.file.now in
     let text = c.args.text.now in
     let writes = rw c.in-Ok.is at c.in_ok-program.ensures.read in
-    replies c.not_built.result (not_built file) (λ reply. (disk : Disk) → HasText disk file text → CheckAnswer disk file reply) c.not_built.ensures
+    replies c.not_built.result (not_built file)
+    (λ reply. (disk : Disk) → HasText disk file text → CheckAnswer disk file reply) c.not_built.ensures
     (λ disk has. unbuilt (plain_program c.in-Ok.program) (record { text = text; has = has; writes = writes }))
 
 -- or this stands against it
@@ -22,5 +23,6 @@ returns-in-Err c =
     let text = c.args.text.now in
     let stands = rw c.in-Err.is at c.in_ok-program.ensures.read in
     let said = refusal file text (against c.in-Err.refusal) in
-    replies c.refused.result said (λ reply. (disk : Disk) → HasText disk file text → CheckAnswer disk file reply) c.refused.ensures
+    replies c.refused.result said
+    (λ reply. (disk : Disk) → HasText disk file text → CheckAnswer disk file reply) c.refused.ensures
     (λ disk has. file_refused said (refused text has (against c.in-Err.refusal) stands))

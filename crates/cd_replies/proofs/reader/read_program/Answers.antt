@@ -14,7 +14,8 @@ pub returns-in-Ok-parse_program-clause-well_made : goal.returns-in-Ok-parse_prog
 returns-in-Ok-parse_program-clause-well_made c =
     let spelled = rw c.in-Ok.is at c.in_ok-tokens.ensures in
     let written = rw c.as_slice.ensures.value at c.in-Ok-parse_program.ensures.program in
-    text_makes_program (chars c.args.text.now) c.in-Ok.tokens.items 1000 (plain_program c.in-Ok-parse_program.program) spelled written
+    let program = plain_program c.in-Ok-parse_program.program in
+    text_makes_program (chars c.args.text.now) c.in-Ok.tokens.items 1000 program spelled written
 
 pub returns-clause-read : goal.returns-clause-read
 returns-clause-read c =
