@@ -86,9 +86,10 @@ RefusesType declared text against = Refuses AType (IsToldOfType declared) text a
 abbrev pub RefusesDeclarations : Bytes → Against → Type 0
 RefusesDeclarations text against = Refuses SomeDeclarations IsToldOfDeclarations text against
 
--- what stands against a program, its names and types aside
+-- of the names of a program no fault is told yet
 abbrev pub NoFaultIsTold : List Token → Fault → Type 0
 NoFaultIsTold tokens fault = ⊥
 
+-- what stands against a program, its names and types aside
 abbrev pub RefusesProgram : Bytes → Against → Type 0
 RefusesProgram text against = Refuses AProgram NoFaultIsTold text against

@@ -57,10 +57,10 @@ pub fn usage(alloc: Global) -> Result<Message, AllocError>
 /// # Errors
 ///
 /// Want of memory.
-pub fn not_built(alloc: Global, command: &str) -> Result<Message, AllocError>
-    ensures { IfOk result (λ message. reply_of message ≡ reply.not_built command.now) }
+pub fn not_built(alloc: Global, name: &str) -> Result<Message, AllocError>
+    ensures { IfOk result (λ message. reply_of message ≡ reply.not_built name.now) }
 {
-    let text = format!(in alloc; "{command}: not built\n")?;
+    let text = format!(in alloc; "{name}: not built\n")?;
     Ok(complaint(Status::NotBuilt, text))
 }
 
