@@ -602,6 +602,63 @@ group_texts =
     ∷ item (named_at "C" 8) ∷ []))))))
     ∷ []
 
+-- chains of three in types and in sequences, and attributes of which none is named
+abbrev pub longer_texts : List Example
+longer_texts =
+    -- `1\2&3`
+    example 0 (digit_at 1 0 ∷ sign_at sign.Backslash 1 ∷ digit_at 2 2 ∷ sign_at sign.And 3
+    ∷ digit_at 3 4 ∷ [])
+    (tree_from 0 5 (Meet (number_at 1 0)
+    (signs_of (taken_off (number_at 2 2) ∷ kept (number_at 3 4) ∷ []))))
+    -- `(1,2,3)`
+    ∷ example 1 (sign_at sign.OpenParenthesis 0 ∷ digit_at 1 1 ∷ sign_at sign.Comma 2
+    ∷ digit_at 2 3 ∷ sign_at sign.Comma 4 ∷ digit_at 3 5 ∷ sign_at sign.CloseParenthesis 6 ∷ [])
+    (tree_from 0 7 (Tuple (trees_of (number_at 1 1 ∷ number_at 2 3 ∷ number_at 3 5 ∷ []))))
+    -- `<a ..>_`
+    ∷ example 1 (sign_at sign.Less 0 ∷ word_at "a" 1 ∷ sign_at sign.Dots 3
+    ∷ sign_at sign.Greater 5 ∷ word_at "_" 6 ∷ [])
+    (tree_from 0 7 (Xml (tree_from 1 2 (Atom (codes "a")))
+    (tree_from 3 5 (Record (fields_of []) true)) (any_at 6)))
+    -- `[1|2|3]`
+    ∷ example 1 (sign_at sign.OpenBracket 0 ∷ digit_at 1 1 ∷ sign_at sign.Or 2 ∷ digit_at 2 3
+    ∷ sign_at sign.Or 4 ∷ digit_at 3 5 ∷ sign_at sign.CloseBracket 6 ∷ [])
+    (tree_from 0 7 (Sequence (regular_from 1 6 (Alt (regulars_of
+    (item (number_at 1 1) ∷ item (number_at 2 3) ∷ item (number_at 3 5) ∷ []))))))
+    -- `[(1*|2*|3*)]`
+    ∷ example 2 (sign_at sign.OpenBracket 0 ∷ sign_at sign.OpenParenthesis 1 ∷ digit_at 1 2
+    ∷ sign_at sign.Star 3 ∷ sign_at sign.Or 4 ∷ digit_at 2 5 ∷ sign_at sign.Star 6
+    ∷ sign_at sign.Or 7 ∷ digit_at 3 8 ∷ sign_at sign.Star 9 ∷ sign_at sign.CloseParenthesis 10
+    ∷ sign_at sign.CloseBracket 11 ∷ [])
+    (tree_from 0 12 (Sequence (regular_from 2 10 (Alt (regulars_of
+    (regular_from 2 4 (Repeat (item (number_at 1 2)) post.Star)
+    ∷ regular_from 5 7 (Repeat (item (number_at 2 5)) post.Star)
+    ∷ regular_from 8 10 (Repeat (item (number_at 3 8)) post.Star) ∷ []))))))
+    -- `[1&2&3\4]`
+    ∷ example 1 (sign_at sign.OpenBracket 0 ∷ digit_at 1 1 ∷ sign_at sign.And 2 ∷ digit_at 2 3
+    ∷ sign_at sign.And 4 ∷ digit_at 3 5 ∷ sign_at sign.Backslash 6 ∷ digit_at 4 7
+    ∷ sign_at sign.CloseBracket 8 ∷ [])
+    (tree_from 0 9 (Sequence (item (tree_from 1 8 (Meet (number_at 1 1)
+    (signs_of (kept (number_at 2 3) ∷ kept (number_at 3 5) ∷ taken_off (number_at 4 7) ∷ [])))))))
+    -- `[(1,2,3)]`
+    ∷ example 2 (sign_at sign.OpenBracket 0 ∷ sign_at sign.OpenParenthesis 1 ∷ digit_at 1 2
+    ∷ sign_at sign.Comma 3 ∷ digit_at 2 4 ∷ sign_at sign.Comma 5 ∷ digit_at 3 6
+    ∷ sign_at sign.CloseParenthesis 7 ∷ sign_at sign.CloseBracket 8 ∷ [])
+    (tree_from 0 9 (Sequence (item (tree_from 1 8 (Tuple
+    (trees_of (number_at 1 2 ∷ number_at 2 4 ∷ number_at 3 6 ∷ [])))))))
+    -- `[(1->2->3)]`
+    ∷ example 4 (sign_at sign.OpenBracket 0 ∷ sign_at sign.OpenParenthesis 1 ∷ digit_at 1 2
+    ∷ sign_at sign.Arrow 3 ∷ digit_at 2 5 ∷ sign_at sign.Arrow 6 ∷ digit_at 3 8
+    ∷ sign_at sign.CloseParenthesis 9 ∷ sign_at sign.CloseBracket 10 ∷ [])
+    (tree_from 0 11 (Sequence (item (tree_from 2 9 (Arrows
+    (trees_of (number_at 1 2 ∷ number_at 2 5 ∷ number_at 3 8 ∷ [])))))))
+    -- `[(1|2|3)]`
+    ∷ example 2 (sign_at sign.OpenBracket 0 ∷ sign_at sign.OpenParenthesis 1 ∷ digit_at 1 2
+    ∷ sign_at sign.Or 3 ∷ digit_at 2 4 ∷ sign_at sign.Or 5 ∷ digit_at 3 6
+    ∷ sign_at sign.CloseParenthesis 7 ∷ sign_at sign.CloseBracket 8 ∷ [])
+    (tree_from 0 9 (Sequence (item (tree_from 2 7 (Union
+    (trees_of (number_at 1 2 ∷ number_at 2 4 ∷ number_at 3 6 ∷ [])))))))
+    ∷ []
+
 -- `type A=Int type B=A;;`
 abbrev pub declared_alone_tokens : List Token
 declared_alone_tokens = word_at "type" 0 ∷ word_at "A" 5 ∷ sign_at sign.Equal 6 ∷ word_at "Int" 7

@@ -35,6 +35,7 @@ ghost use Rattle.cd_grammar.specs.Examples.{typed_xml_tokens, typed_xml_tree, co
 ghost use Rattle.cd_grammar.specs.Examples.{attributes_tokens, keyword_tokens, keyword_tree};
 ghost use Rattle.cd_grammar.specs.Examples.{constant_texts, chain_texts, record_texts, xml_texts};
 ghost use Rattle.cd_grammar.specs.Examples.{keyword_texts, sequence_texts, item_texts, group_texts};
+ghost use Rattle.cd_grammar.specs.Examples.{longer_texts};
 ghost use Rattle.cd_grammar.specs.Examples.{comma_after_group, and_after_group, and_after_letters};
 ghost use Rattle.cd_grammar.specs.Examples.{two_postfixes, two_letters, no_semicolon, no_label};
 ghost use Rattle.cd_grammar.specs.Examples.{union_of_attribute, no_part, keyword_alone};
@@ -157,6 +158,7 @@ pub fn further_examples()
     ensures sequences { AreExamples sequence_texts }
     ensures items { AreExamples item_texts }
     ensures groups { AreExamples group_texts }
+    ensures longer { AreExamples longer_texts }
     ensures declared { AreDeclared 0 declared_alone_tokens declared_alone_declarations }
     ensures no_declaration { AreDeclared 0 [] NoDeclaration }
 {}

@@ -1,4 +1,4 @@
-use Rattle.cd_grammar.proofs.Examples.{constants_are, chains_are, records_are, xml_types_are, keywords_are, sequences_are, items_are, groups_are, declared_alone_are, none_are}
+use Rattle.cd_grammar.proofs.Examples.{constants_are, chains_are, records_are, xml_types_are, keywords_are, sequences_are, items_are, groups_are, longer_are, declared_alone_are, none_are}
 use Rattle.cd_grammar.proofs.laws.further_examples.Goals as goal
 
 pub returns-clause-constants : goal.returns-clause-constants
@@ -24,6 +24,9 @@ returns-clause-items c = items_are
 
 pub returns-clause-groups : goal.returns-clause-groups
 returns-clause-groups c = groups_are
+
+pub returns-clause-longer : goal.returns-clause-longer
+returns-clause-longer c = longer_are
 
 pub returns-clause-declared : goal.returns-clause-declared
 returns-clause-declared c = declared_alone_are
