@@ -7,7 +7,8 @@ use Rattle.cd_program.specs.declared.operator.Form.TheVariants as form
 use Rattle.cd_program.specs.Expr.{Expr, exprs_of, Item, items_of, One, Splice, Run, Field, fields_of, Tail}
 use Rattle.cd_program.specs.Expr.{Tails, NoTail, ATail, Operand, Without, Select, tails_of, Branch, Branches, NoBranch}
 use Rattle.cd_program.specs.Expr.{ABranch, branches_of, Signature, FunctionTree, function, of_form}
-use Rattle.cd_program.specs.WellMade.{IsWellMadePattern, AreWellMadeSignatures, IsWellMadeName, IsWellMadeExpr}
+use Rattle.cd_program.specs.WellMade.{AreWellMadeSignatures, IsWellMadeName, IsWellMadeExpr}
+use Rattle.cd_syntax.specs.WellMadePattern.{IsWellMadePattern}
 use Rattle.cd_program.specs.WellMade.{IsWellMadeExprKind, AreWellMadeExprs, AreWellMadeItems, AreWellMadeExprFields}
 use Rattle.cd_program.specs.WellMade.{AreWellMadeTails, AreWellMadeBranches, IsWellMadeFunction, HasName}
 use Rattle.cd_program.specs.WellMade.{AreWellMadeFunctions}

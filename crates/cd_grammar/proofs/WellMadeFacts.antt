@@ -3,7 +3,8 @@ use Rattle.std.proofs.Common.{Bool, true, false}
 use Rattle.cd_syntax.specs.Name.{IsLabel}
 use Rattle.cd_syntax.specs.TypeTree.{Tree, Regular}
 use Rattle.cd_syntax.specs.WellMade.{IsWellMade, IsWellMadeRegular, AreWellMadeDeclarations}
-use Rattle.cd_program.specs.WellMade.{IsWellMadePattern, IsWellMadePatternRegular, IsWellMadeExpr, IsWellMadeFunction}
+use Rattle.cd_program.specs.WellMade.{IsWellMadeExpr, IsWellMadeFunction}
+use Rattle.cd_syntax.specs.WellMadePattern.{IsWellMadePattern, IsWellMadePatternRegular}
 use Rattle.cd_program.specs.WellMade.{HasName}
 use Rattle.cd_grammar.proofs.SortedParts.{Facts}
 

@@ -5,12 +5,11 @@ use Rattle.cd_syntax.specs.declared.constant.Constant.TheVariants as constants
 use Rattle.cd_syntax.specs.Name.{IsLabel}
 use Rattle.cd_syntax.specs.TypeTree.{Tree, Signed, Field, Declaration, Regular, trees_of, signs_of, fields_of}
 use Rattle.cd_syntax.specs.TypeTree.{declarations_of, regulars_of}
-use Rattle.cd_program.specs.WellMade.{IsWellMadePattern, AreWellMadePatterns, AreWellMadePatternSigns}
-use Rattle.cd_program.specs.WellMade.{AreWellMadePatternFields, AreWellMadePatternDeclarations}
-use Rattle.cd_program.specs.WellMade.{IsWellMadePatternRegular, AreWellMadePatternRegulars, IsWellMadeConstant}
+use Rattle.cd_syntax.specs.WellMadePattern.{IsWellMadePattern, AreWellMadePatterns, AreWellMadePatternSigns}
+use Rattle.cd_syntax.specs.WellMadePattern.{AreWellMadePatternFields, AreWellMadePatternDeclarations}
+use Rattle.cd_syntax.specs.WellMadePattern.{IsWellMadePatternRegular, AreWellMadePatternRegulars, IsWellMadeConstant}
 use Rattle.cd_grammar.proofs.SortedParts.{TreesAreKept, PatternsAreKept, OfSign, OfField, OfName, OfValue, Each}
 use Rattle.cd_grammar.proofs.WellMadeFacts.{well_made}
-use Rattle.cd_grammar.proofs.WellMadeTypes.{some_tree}
 
 trees_made : (all : List Tree) → Each IsWellMadePattern all → AreWellMadePatterns (trees_of all)
 trees_made [] are = tt
@@ -42,8 +41,8 @@ pattern_trees_kept = record {
   chars = λ here low high. tt;
   letters = λ here characters. tt;
   atom = λ here name label. label;
-  tuple = λ here first second rest are. (some_tree first _, trees_made (first ∷ second ∷ rest) are);
-  arrows = λ here first second rest are. (some_tree first _, trees_made (first ∷ second ∷ rest) are);
+  tuple = λ here first second rest are. (tt, trees_made (first ∷ second ∷ rest) are);
+  arrows = λ here first second rest are. (tt, trees_made (first ∷ second ∷ rest) are);
   union = λ here first second rest are. trees_made (first ∷ second ∷ rest) are;
   meet = λ here first rest is are. (is, signs_made rest are);
   sequence = λ here one is. is;

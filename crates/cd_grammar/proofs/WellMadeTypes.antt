@@ -1,16 +1,12 @@
 -- What rules make of well made types is well made.
-use Rattle.std.proofs.Common.{◌≢◌, false, List, [], ◌∷◌}
+use Rattle.std.proofs.Common.{false, List, [], ◌∷◌}
 use Rattle.cd_syntax.specs.Name.{IsLabel}
-use Rattle.cd_syntax.specs.TypeTree.{Tree, Trees, NoTree, ATree, Signed, Field, Declaration, Regular, trees_of}
+use Rattle.cd_syntax.specs.TypeTree.{Tree, Signed, Field, Declaration, Regular, trees_of}
 use Rattle.cd_syntax.specs.TypeTree.{signs_of, fields_of, declarations_of, regulars_of}
 use Rattle.cd_syntax.specs.WellMade.{IsWellMade, AreWellMade, AreWellMadeSigns, AreWellMadeFields}
 use Rattle.cd_syntax.specs.WellMade.{AreWellMadeDeclarations, IsWellMadeRegular, AreWellMadeRegulars}
 use Rattle.cd_grammar.proofs.SortedParts.{TreesAreKept, OfSign, OfField, OfName, Each}
 use Rattle.cd_grammar.proofs.WellMadeFacts.{well_made}
-
--- a list that begins with a tree is not empty
-pub some_tree : (first : Tree) (rest : Trees) → ATree first rest ≢ NoTree
-some_tree first rest same = cc
 
 trees_made : (all : List Tree) → Each IsWellMade all → AreWellMade (trees_of all)
 trees_made [] are = tt
@@ -41,8 +37,8 @@ types_kept = record {
   chars = λ here low high. tt;
   letters = λ here characters. tt;
   atom = λ here name label. label;
-  tuple = λ here first second rest are. (some_tree first _, trees_made (first ∷ second ∷ rest) are);
-  arrows = λ here first second rest are. (some_tree first _, trees_made (first ∷ second ∷ rest) are);
+  tuple = λ here first second rest are. (tt, trees_made (first ∷ second ∷ rest) are);
+  arrows = λ here first second rest are. (tt, trees_made (first ∷ second ∷ rest) are);
   union = λ here first second rest are. trees_made (first ∷ second ∷ rest) are;
   meet = λ here first rest is are. (is, signs_made rest are);
   sequence = λ here one is. is;

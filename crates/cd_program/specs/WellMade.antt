@@ -1,82 +1,16 @@
--- Well made patterns, expressions and programs. Atoms, labels and variables are words. A tuple and
+-- Well made expressions and programs. Atoms, labels and variables are words. A tuple and
 -- an application of expressions have two members at least, a chain has an operator, and a function
 -- has an arrow and a branch.
 use Rattle.std.specs.Prelude.{◌≢◌, List, [], ◌∷◌, Option, Some, None}
-use Rattle.cd_syntax.specs.declared.constant.Constant.{Constant as AConstant}
-use Rattle.cd_syntax.specs.declared.constant.Constant.TheVariants as constants
 use Rattle.cd_syntax.specs.Name.{Name, IsLabel}
-use Rattle.cd_syntax.specs.TypeTree as trees
-use Rattle.cd_syntax.specs.TypeTree.{Tree, Regular}
 use Rattle.cd_syntax.specs.WellMade.{IsWellMade, AreWellMadeDeclarations}
+use Rattle.cd_syntax.specs.WellMadePattern.{IsWellMadePattern, IsWellMadeConstant}
 use Rattle.cd_program.specs.Expr.{Expr, expr, Kind, Constant, Variable, Tuple, Sequence, Record}
 use Rattle.cd_program.specs.Expr.{Xml, Function, Apply, Match, Try, Map, Transform, Let, If, Chain}
 use Rattle.cd_program.specs.Expr.{Call, Exprs, NoExpr, AnExpr, Items, NoItem, AnItem, Item, One}
 use Rattle.cd_program.specs.Expr.{Splice, Run, Fields, NoField, AField, Tails, NoTail, ATail, Tail}
 use Rattle.cd_program.specs.Expr.{Operand, Without, Select, Branches, NoBranch, ABranch, FunctionTree}
 use Rattle.cd_program.specs.Expr.{function, Signature, Program}
-
-abbrev pub IsWellMadeConstant : AConstant → Type 0
-IsWellMadeConstant (constants.Atom name) = IsLabel name
-IsWellMadeConstant constant = Unit {0}
-
--- a pattern is as a type is, and has variables
-abbrev mutual
-  pub IsWellMadePattern : Tree → Type 0
-  IsWellMadePattern (trees.tree span kind) = IsWellMadePatternKind kind
-
-  pub IsWellMadePatternKind : trees.Kind → Type 0
-  IsWellMadePatternKind (trees.Atom name) = IsLabel name
-  IsWellMadePatternKind (trees.Tuple all) = (all ≢ trees.NoTree) × AreWellMadePatterns all
-  IsWellMadePatternKind (trees.Arrows all) = (all ≢ trees.NoTree) × AreWellMadePatterns all
-  IsWellMadePatternKind (trees.Union all) = AreWellMadePatterns all
-  IsWellMadePatternKind (trees.Meet first signs) = IsWellMadePattern first
-      × AreWellMadePatternSigns signs
-  IsWellMadePatternKind (trees.Sequence is) = IsWellMadePatternRegular is
-  IsWellMadePatternKind (trees.Record fields more) = AreWellMadePatternFields fields
-  IsWellMadePatternKind (trees.Xml tag attributes content) = IsWellMadePattern tag
-      × IsWellMadePattern attributes × IsWellMadePattern content
-  IsWellMadePatternKind (trees.Where is declarations) = IsWellMadePattern is
-      × AreWellMadePatternDeclarations declarations
-  IsWellMadePatternKind (trees.Variable name) = IsLabel name
-  IsWellMadePatternKind (trees.Default name constant) = IsLabel name × IsWellMadeConstant constant
-  IsWellMadePatternKind kind = Unit {0}
-
-  pub AreWellMadePatterns : trees.Trees → Type 0
-  AreWellMadePatterns trees.NoTree = Unit {0}
-  AreWellMadePatterns (trees.ATree first rest) = IsWellMadePattern first
-      × AreWellMadePatterns rest
-
-  pub AreWellMadePatternSigns : trees.Signs → Type 0
-  AreWellMadePatternSigns trees.NoSign = Unit {0}
-  AreWellMadePatternSigns (trees.ASign kept is rest) = IsWellMadePattern is
-      × AreWellMadePatternSigns rest
-
-  pub AreWellMadePatternFields : trees.Fields → Type 0
-  AreWellMadePatternFields trees.NoField = Unit {0}
-  AreWellMadePatternFields (trees.AField label at optional is rest) = IsLabel label
-      × IsWellMadePattern is × AreWellMadePatternFields rest
-
-  pub AreWellMadePatternDeclarations : trees.Declarations → Type 0
-  AreWellMadePatternDeclarations trees.NoDeclaration = Unit {0}
-  AreWellMadePatternDeclarations (trees.ADeclaration name at is rest) = IsWellMadePattern is
-      × AreWellMadePatternDeclarations rest
-
-  pub IsWellMadePatternRegular : Regular → Type 0
-  IsWellMadePatternRegular (trees.regular span kind) = IsWellMadePatternRegularKind kind
-
-  pub IsWellMadePatternRegularKind : trees.RegularKind → Type 0
-  IsWellMadePatternRegularKind trees.Nothing = Unit {0}
-  IsWellMadePatternRegularKind (trees.Item is) = IsWellMadePattern is
-  IsWellMadePatternRegularKind (trees.Seq all) = AreWellMadePatternRegulars all
-  IsWellMadePatternRegularKind (trees.Alt all) = AreWellMadePatternRegulars all
-  IsWellMadePatternRegularKind (trees.Repeat is post) = IsWellMadePatternRegular is
-  IsWellMadePatternRegularKind (trees.Capture name is) = IsLabel name
-      × IsWellMadePatternRegular is
-
-  pub AreWellMadePatternRegulars : trees.Regulars → Type 0
-  AreWellMadePatternRegulars trees.NoRegular = Unit {0}
-  AreWellMadePatternRegulars (trees.ARegular first rest) = IsWellMadePatternRegular first
-      × AreWellMadePatternRegulars rest
 
 -- arrows of a function are between types
 abbrev pub AreWellMadeSignatures : List Signature → Type 0

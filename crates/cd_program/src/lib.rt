@@ -2,6 +2,7 @@
 #![tactic(auto)]
 
 pub mod expr;
+mod lists;
 mod make;
 pub mod operator;
 pub mod pattern;

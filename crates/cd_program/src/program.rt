@@ -29,4 +29,11 @@ impl FunctionTrees {
     {
         FunctionTrees { items }
     }
+
+    /// Its functions.
+    pub fn items(&self) -> &[FunctionTree]
+        ensures { map plain_function result.now ≡ plain_functions self.now }
+    {
+        self.items.as_slice()
+    }
 }

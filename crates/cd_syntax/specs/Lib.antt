@@ -11,4 +11,5 @@ pub mod Digits
 pub mod TypeTree
 pub mod PlainTree
 pub mod WellMade
+pub mod WellMadePattern
 pub mod SyntaxFaults

@@ -1,6 +1,5 @@
 -- Trees that are well made types: their atoms and labels are words, a tuple and a chain of arrows
--- have a part, and nothing in them is a form of patterns alone.
-use Rattle.std.specs.Prelude.{◌≢◌}
+-- have two parts at least, and nothing in them is a form of patterns alone.
 use Rattle.cd_syntax.specs.Name.{IsLabel}
 use Rattle.cd_syntax.specs.TypeTree.{Tree, tree, Kind, Atom, Tuple, Arrows, Union, Meet, Sequence}
 use Rattle.cd_syntax.specs.TypeTree.{Record, Xml, Where, Variable, Default, Trees, NoTree, ATree}
@@ -9,14 +8,18 @@ use Rattle.cd_syntax.specs.TypeTree.{NoDeclaration, ADeclaration, Regular, regul
 use Rattle.cd_syntax.specs.TypeTree.{Nothing, Item, Seq, Alt, Repeat, Capture, Regulars, NoRegular}
 use Rattle.cd_syntax.specs.TypeTree.{ARegular}
 
+abbrev pub HaveTwoTrees : Trees → Type 0
+HaveTwoTrees (ATree first (ATree second rest)) = Unit {0}
+HaveTwoTrees trees = ⊥
+
 abbrev mutual
   pub IsWellMade : Tree → Type 0
   IsWellMade (tree span kind) = IsWellMadeKind kind
 
   pub IsWellMadeKind : Kind → Type 0
   IsWellMadeKind (Atom name) = IsLabel name
-  IsWellMadeKind (Tuple trees) = (trees ≢ NoTree) × AreWellMade trees
-  IsWellMadeKind (Arrows trees) = (trees ≢ NoTree) × AreWellMade trees
+  IsWellMadeKind (Tuple trees) = HaveTwoTrees trees × AreWellMade trees
+  IsWellMadeKind (Arrows trees) = HaveTwoTrees trees × AreWellMade trees
   IsWellMadeKind (Union trees) = AreWellMade trees
   IsWellMadeKind (Meet first signs) = IsWellMade first × AreWellMadeSigns signs
   IsWellMadeKind (Sequence is) = IsWellMadeRegular is
