@@ -1,0 +1,14 @@
+pub mod Pattern
+pub mod PlainPattern
+pub mod Sequences
+pub mod Captures
+pub mod Ways
+pub mod Variables
+pub mod Take
+pub mod WrittenPattern
+pub mod Naming
+pub mod PatternsAlike
+pub mod Takes
+pub mod Kernel
+pub mod PlainKernel
+pub mod Examples
