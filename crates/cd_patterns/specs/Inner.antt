@@ -1,0 +1,2 @@
+-- What serves proofs. No public clause speaks of it.
+pub mod WaysIn
