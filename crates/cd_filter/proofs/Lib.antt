@@ -1,0 +1,14 @@
+pub mod Combined
+pub mod NamedFields
+pub mod AcceptsNodes
+pub mod AcceptsRecords
+pub mod Accepts
+pub mod Steps
+pub mod TakenParts
+pub mod Catching
+pub mod Giving
+pub mod Capturing
+pub mod Holding
+pub mod FormulasHold
+pub mod ExactCapture
+pub mod CapturedSound

@@ -1,0 +1,5 @@
+pub mod Appending
+pub mod Decided
+pub mod Pieces
+pub mod QuestionPieces
+pub mod Products

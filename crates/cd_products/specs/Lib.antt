@@ -1,0 +1,4 @@
+pub mod Boxes
+pub mod InBoxes
+pub mod QuestionBoxes
+pub mod Products

@@ -1,0 +1,56 @@
+-- Products of a question of pairs, and triples of one of XML things.
+use Rattle.std.specs.Prelude.{true, List}
+use Rattle.cd_sets.specs.declared.node_id.NodeId.{NodeId}
+use Rattle.cd_sets.specs.declared.question.Question.{Question}
+use Rattle.cd_model.specs.AllOf.{AllOf, AnyOf}
+use Rattle.cd_model.specs.Formula.{asked}
+use Rattle.cd_model.specs.Thing.{Thing, Pair, Xml}
+use Rattle.cd_model.specs.Types.{Answers}
+use Rattle.cd_products.specs.QuestionBoxes.{IsInhabited}
+
+module _ (answers : Thing → Answers NodeId) where
+  abbrev pub InProduct : (first second : Thing) → Question × Question → Type 0
+  InProduct first second product =
+      asked (answers first) product.0 true × asked (answers second) product.1 true
+
+  abbrev pub InTriple : (tag attributes content : Thing) → Question × Question × Question → Type 0
+  InTriple tag attributes content triple = asked (answers tag) triple.0 true
+      × asked (answers attributes) triple.1 true × asked (answers content) triple.2 true
+
+  -- of the things of a sort
+  module _ (Sort : Thing → Type 0) where
+    -- each pair of the question is in a product
+    abbrev pub Cover : Question → List (Question × Question) → Type 0
+    Cover question products = (first second : Thing) → Sort (Pair first second)
+        → asked (answers (Pair first second)) question true
+        → AnyOf (InProduct first second) products
+
+    -- and the products hold no other pairs, and both questions of each are inhabited
+    pub record AreProducts (question : Question) (products : List (Question × Question))
+        : Type 0 where
+      pub covers : Cover question products
+      pub only : (first second : Thing) → Sort (Pair first second)
+          → AnyOf (InProduct first second) products
+          → asked (answers (Pair first second)) question true
+      pub inhabited : AllOf
+          (λ product. IsInhabited answers Sort product.0 × IsInhabited answers Sort product.1)
+          products
+
+    abbrev pub CoverTriples : Question → List (Question × Question × Question) → Type 0
+    CoverTriples question triples = (tag attributes content : Thing)
+        → Sort (Xml tag attributes content)
+        → asked (answers (Xml tag attributes content)) question true
+        → AnyOf (InTriple tag attributes content) triples
+
+    -- any three parts of a triple make an XML thing of the question
+    pub record AreTriples (question : Question) (triples : List (Question × Question × Question))
+        : Type 0 where
+      pub covers : CoverTriples question triples
+      pub makes : (tag attributes content : Thing) → Sort tag → Sort attributes → Sort content
+          → AnyOf (InTriple tag attributes content) triples
+          → Sort (Xml tag attributes content)
+          × asked (answers (Xml tag attributes content)) question true
+      pub inhabited : AllOf
+          (λ triple. IsInhabited answers Sort triple.0 × IsInhabited answers Sort triple.1
+          × IsInhabited answers Sort triple.2)
+          triples
