@@ -1,4 +1,4 @@
--- The equations that a walk over a well made tree makes are over first nodes and over nodes of those equations.
+-- The equations that a walk over a well made pattern makes are over first nodes and over nodes of those equations.
 use Rattle.std.proofs.Common.{ℕ, ◌+◌, ◌≤◌, true, List, [], ◌∷◌, map, length, Some, arith}
 use Rattle.std.proofs.lemmas.List.{length-append}
 use Rattle.cd_sets.specs.declared.node_id.NodeId.{NodeId}
@@ -6,9 +6,10 @@ use Rattle.cd_syntax.specs.Name.{Name, IsLabel}
 use Rattle.cd_syntax.specs.TypeTree as type
 use Rattle.cd_syntax.specs.TypeTree.{Tree, tree, Kind, Trees, NoTree, ATree, Signs, NoSign, ASign, Fields, NoField}
 use Rattle.cd_syntax.specs.TypeTree.{AField, Declarations, NoDeclaration, ADeclaration}
-use Rattle.cd_syntax.specs.WellMade.{IsWellMade, IsWellMadeKind, AreWellMade, AreWellMadeSigns, AreWellMadeFields}
-use Rattle.cd_syntax.specs.WellMade.{AreWellMadeDeclarations, IsWellMadeRegular, IsWellMadeRegularKind}
-use Rattle.cd_syntax.specs.WellMade.{AreWellMadeRegulars}
+use Rattle.cd_syntax.specs.WellMadePattern.{IsWellMadePattern, IsWellMadePatternKind, AreWellMadePatterns}
+use Rattle.cd_syntax.specs.WellMadePattern.{AreWellMadePatternSigns, AreWellMadePatternFields}
+use Rattle.cd_syntax.specs.WellMadePattern.{AreWellMadePatternDeclarations, IsWellMadePatternRegular}
+use Rattle.cd_syntax.specs.WellMadePattern.{IsWellMadePatternRegularKind, AreWellMadePatternRegulars}
 use Rattle.cd_model.specs.AllOf.{AllOf}
 use Rattle.cd_model.specs.BuiltIns.{node_named}
 use Rattle.cd_model.specs.Formula.{Formula, Field, Xml, Record}
@@ -63,7 +64,7 @@ module _ (nodes first : ℕ) (names : List (Name × NodeId))
 
   -- fields have the labels that are written
   labels_are : (frames : Frames) (fields : Fields) (made : List (Name × Field)) (s : Equations)
-      → AreWellMadeFields fields → AllOf (λ field. IsLabel field.0) made
+      → AreWellMadePatternFields fields → AllOf (λ field. IsLabel field.0) made
       → AllOf (λ field. IsLabel field.0) (walked_fields first names frames fields made s).0
   labels_are frames NoField made s well labels = labels
   labels_are frames (AField label at optional is rest) made s well labels =
@@ -74,11 +75,11 @@ module _ (nodes first : ℕ) (names : List (Name × NodeId))
 
   mutual
     -- a tree, and what trees are made of
-    pub tree_bounded : (frames : Frames) (is : Tree) (s : Equations) → IsWellMade is → Have (length s) frames
+    pub tree_bounded : (frames : Frames) (is : Tree) (s : Equations) → IsWellMadePattern is → Have (length s) frames
         → length (walked first names frames is s).1 ≤ count → Bounded s → Bounded (walked first names frames is s).1
     tree_bounded frames (tree span kind) s well have long bounded = kind_bounded frames kind s well have long bounded
 
-    kind_bounded : (frames : Frames) (kind : Kind) (s : Equations) → IsWellMadeKind kind → Have (length s) frames
+    kind_bounded : (frames : Frames) (kind : Kind) (s : Equations) → IsWellMadePatternKind kind → Have (length s) frames
         → length (walked_kind first names frames kind s).1 ≤ count → Bounded s
         → Bounded (walked_kind first names frames kind s).1
     kind_bounded frames (type.Builtin name) s well have long bounded = bounded
@@ -182,7 +183,7 @@ module _ (nodes first : ℕ) (names : List (Name × NodeId))
     kind_bounded frames (type.Variable name) s well have long bounded = bounded
     kind_bounded frames (type.Default name constant) s well have long bounded = bounded
 
-    trees_bounded : (frames : Frames) (trees : Trees) (made : List NodeId) (s : Equations) → AreWellMade trees
+    pub trees_bounded : (frames : Frames) (trees : Trees) (made : List NodeId) (s : Equations) → AreWellMadePatterns trees
         → Have (length s) frames → length (walked_trees first names frames trees made s).1 ≤ count → Bounded s
         → Bounded (walked_trees first names frames trees made s).1
     trees_bounded frames NoTree made s well have long bounded = bounded
@@ -194,7 +195,7 @@ module _ (nodes first : ℕ) (names : List (Name × NodeId))
         (later (length s) (length one.1) frames before have) long
         (tree_bounded frames is s well.0 have (omega arith) bounded)
 
-    signed_bounded : (frames : Frames) (signs : Signs) (made : List Sign) (s : Equations) → AreWellMadeSigns signs
+    signed_bounded : (frames : Frames) (signs : Signs) (made : List Sign) (s : Equations) → AreWellMadePatternSigns signs
         → Have (length s) frames → length (walked_signs first names frames signs made s).1 ≤ count → Bounded s
         → Bounded (walked_signs first names frames signs made s).1
     signed_bounded frames NoSign made s well have long bounded = bounded
@@ -208,7 +209,7 @@ module _ (nodes first : ℕ) (names : List (Name × NodeId))
         (tree_bounded frames is s well.0 have (omega arith) bounded)
 
     fields_bounded : (frames : Frames) (fields : Fields) (made : List (Name × Field)) (s : Equations)
-        → AreWellMadeFields fields
+        → AreWellMadePatternFields fields
         → Have (length s) frames → length (walked_fields first names frames fields made s).1 ≤ count → Bounded s
         → Bounded (walked_fields first names frames fields made s).1
     fields_bounded frames NoField made s well have long bounded = bounded
@@ -221,13 +222,13 @@ module _ (nodes first : ℕ) (names : List (Name × NodeId))
         (later (length s) (length one.1) frames before have) long
         (tree_bounded frames is s well.1 have (omega arith) bounded)
 
-    regular_bounded : (frames : Frames) (is : type.Regular) (s : Equations) → IsWellMadeRegular is
+    regular_bounded : (frames : Frames) (is : type.Regular) (s : Equations) → IsWellMadePatternRegular is
         → Have (length s) frames → length (walked_regular first names frames is s).1 ≤ count → Bounded s
         → Bounded (walked_regular first names frames is s).1
     regular_bounded frames (type.regular span kind) s well have long bounded =
         regular_kind_bounded frames kind s well have long bounded
 
-    regular_kind_bounded : (frames : Frames) (kind : type.RegularKind) (s : Equations) → IsWellMadeRegularKind kind
+    regular_kind_bounded : (frames : Frames) (kind : type.RegularKind) (s : Equations) → IsWellMadePatternRegularKind kind
         → Have (length s) frames → length (walked_regular_kind first names frames kind s).1 ≤ count → Bounded s
         → Bounded (walked_regular_kind first names frames kind s).1
     regular_kind_bounded frames type.Nothing s well have long bounded = bounded
@@ -242,7 +243,7 @@ module _ (nodes first : ℕ) (names : List (Name × NodeId))
     regular_kind_bounded frames (type.Capture name is) s well have long bounded = bounded
 
     regulars_bounded : (frames : Frames) (all : type.Regulars) (made : List Regular) (s : Equations)
-        → AreWellMadeRegulars all
+        → AreWellMadePatternRegulars all
         → Have (length s) frames → length (walked_regulars first names frames all made s).1 ≤ count → Bounded s
         → Bounded (walked_regulars first names frames all made s).1
     regulars_bounded frames type.NoRegular made s well have long bounded = bounded
@@ -256,7 +257,7 @@ module _ (nodes first : ℕ) (names : List (Name × NodeId))
 
     -- the trees of a list of declarations
     pub declared_bounded : (frames : Frames) (number : ℕ) (declarations : Declarations) (s : Equations)
-        → AreWellMadeDeclarations declarations → Have (length s) frames
+        → AreWellMadePatternDeclarations declarations → Have (length s) frames
         → length (walked_declared first names frames number declarations s) ≤ count → Bounded s
         → Bounded (walked_declared first names frames number declarations s)
     declared_bounded frames number NoDeclaration s well have long bounded = bounded
@@ -274,20 +275,22 @@ module _ (nodes first : ℕ) (names : List (Name × NodeId))
 
 module _ (nodes first : ℕ) (names : List (Name × NodeId)) (enough : 14 ≤ nodes) (fits : nodes ≤ first)
     (named : AreBelow nodes names) where
-  -- the equations of a tree that sees no declarations, and its node
-  pub tree_bounds : (is : Tree) → IsWellMade is → AreEquations nodes first (walked first names [] is []).1
-      × IsNode nodes first (length (walked first names [] is []).1) (walked first names [] is []).0
-  tree_bounds is well =
+  -- the equations of trees that see no declarations, and their nodes
+  pub trees_bounds : (trees : Trees) → AreWellMadePatterns trees
+      → AreEquations nodes first (walked_trees first names [] trees [] []).1
+      × AllOf (IsNode nodes first (length (walked_trees first names [] trees [] []).1))
+      (walked_trees first names [] trees [] []).0
+  trees_bounds trees well =
       let facts = are_nodes nodes first names enough fits named in
-      let one = walked first names [] is [] in
-      let bounded = tree_bounded nodes first names facts (length one.1) [] is [] well tt (omega arith)
-      (none_bounded nodes first (length one.1)) in (
+      let all = walked_trees first names [] trees [] [] in
+      let bounded = trees_bounded nodes first names facts (length all.1) [] trees [] [] well tt (omega arith)
+      (none_bounded nodes first (length all.1)) in (
         record { each = bounded.each },
-        tree_has first names (IsNode nodes first) facts [] is [] tt,
+        trees_have first names (IsNode nodes first) facts [] trees [] [] tt tt,
       )
 
   -- and those of a list that sees no others
-  pub list_bounds : (declarations : Declarations) → AreWellMadeDeclarations declarations
+  pub list_bounds : (declarations : Declarations) → AreWellMadePatternDeclarations declarations
       → AreEquations nodes first (walked_list first names [] declarations [])
   list_bounds declarations well =
       let facts = are_nodes nodes first names enough fits named in

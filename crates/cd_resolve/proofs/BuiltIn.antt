@@ -1,5 +1,5 @@
 -- The names that types cannot be declared with are those of the grammar.
-use Rattle.std.proofs.Common.{◌≡◌, sym, refl, subst, List, [], ◌∷◌, Bool, true, false, Some, None, is_some, bytes_eq}
+use Rattle.std.proofs.Common.{◌≡◌, sym, refl, subst, List, [], ◌∷◌, Bool, true, false, Some, is_some, bytes_eq}
 use Rattle.std.specs.Prelude.{if◌then◌else◌}
 use Rattle.std.proofs.lemmas.Slice.Eq.{bytes_eq-Decides}
 use Rattle.cd_syntax.specs.Name.{Name}

@@ -3,7 +3,7 @@ use Rattle.std.proofs.Common.{ℕ, List}
 use Rattle.cd_sets.specs.declared.node_id.NodeId.{NodeId}
 use Rattle.cd_syntax.specs.Name.{Name, IsLabel}
 use Rattle.cd_syntax.specs.TypeTree.{Fields, NoField, AField}
-use Rattle.cd_syntax.specs.WellMade.{AreWellMadeFields}
+use Rattle.cd_syntax.specs.WellMadePattern.{AreWellMadePatternFields}
 use Rattle.cd_model.specs.Formula.{Field}
 use Rattle.cd_resolve.specs.Inner.Equation.{Equations}
 use Rattle.cd_resolve.specs.Inner.Frames.{Frames}
@@ -12,7 +12,8 @@ use Rattle.cd_resolve.specs.Inner.Walk.{walked, walked_fields, one_more}
 use Rattle.cd_resolve.proofs.MembersKept.{each_more}
 
 pub walked_labels : (first : ℕ) (names : List (Name × NodeId)) (frames : Frames) (fields : Fields)
-    (made : List (Name × Field)) (s : Equations) → AreWellMadeFields fields → HaveLabels made
+    (made : List (Name × Field)) (s : Equations) → AreWellMadePatternFields fields
+    → HaveLabels made
     → HaveLabels (walked_fields first names frames fields made s).0
 walked_labels first names frames NoField made s well labels = labels
 walked_labels first names frames (AField label at optional is rest) made s well labels =

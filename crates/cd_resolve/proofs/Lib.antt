@@ -51,11 +51,11 @@ pub mod Counting
 pub mod Entering
 pub mod Sizes
 pub mod Views
+pub mod TypesArePatterns
 pub mod WellMadeItems
 pub mod Labelled
 pub mod Steps
 pub mod Inserted
-pub mod FirstPlaces
 pub mod Declaring
 pub mod InLists
 pub mod Placing
@@ -76,3 +76,4 @@ pub mod OuterNames
 pub mod GuardedNames
 pub mod NodesNamed
 pub mod Resolving
+pub mod Wanting

@@ -52,7 +52,7 @@ abbrev mutual
   size_regular_kind (Seq all) = suc (size_regulars all)
   size_regular_kind (Alt all) = suc (size_regulars all)
   size_regular_kind (Repeat is post) = suc (size_regular is)
-  size_regular_kind (Capture name is) = suc (size_regular is)
+  size_regular_kind (Capture name is) = suc (suc (size_regular is))
 
   pub size_regulars : Regulars → ℕ
   size_regulars NoRegular = zero

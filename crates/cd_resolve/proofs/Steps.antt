@@ -1,13 +1,11 @@
 -- One step of a walk over a list of trees.
-use Rattle.std.proofs.Common.{◌≡◌, refl, ◌∙◌, sym, ap, ap₂, ℕ, ◌+◌, ◌<◌, ◌≤◌, Bool, List, [], ◌∷◌, ◌++◌, map, length}
-use Rattle.std.proofs.Common.{arith}
+use Rattle.std.proofs.Common.{◌≡◌, refl, ◌∙◌, ap, ap₂, ℕ, ◌+◌, Bool, List, [], ◌∷◌, ◌++◌}
 use Rattle.std.proofs.lemmas.List.{map_push}
 use Rattle.cd_sets.specs.declared.node_id.NodeId.{NodeId}
 use Rattle.cd_syntax.specs.Name.{Name}
-use Rattle.cd_syntax.specs.TypeTree.{Tree, Trees, Signs, ASign, Fields, AField, Declarations, ADeclaration, trees_of}
-use Rattle.cd_syntax.specs.PlainTree.{plain}
-use Rattle.cd_syntax.specs.declared.type_tree.Tree.{Tree as CodeTree}
-use Rattle.cd_model.specs.BuiltIns.{EMPTY}
+use Rattle.cd_syntax.specs.TypeTree.{Tree, Trees, NoTree, ATree, Signs, ASign, Fields, AField}
+use Rattle.cd_syntax.specs.TypeTree.{Declarations, ADeclaration}
+use Rattle.cd_syntax.specs.WellMade.{HaveTwoTrees}
 use Rattle.cd_graph.specs.PlainFormula.{plain_named}
 use Rattle.cd_graph.specs.declared.fields.Field.{Field as CodeField}
 use Rattle.cd_resolve.specs.declared.state.Joint.{Joint as CodeJoint}
@@ -53,35 +51,11 @@ module _ (first : ℕ) (names : List (Name × NodeId)) (frames : Frames) where
       ap₂ (λ (at : ℕ) (all : Equations). walked_declared first names frames at rest all) after
       (same ∙ ap (settled number) one)
 
-  -- a chain of fewer than two trees holds nothing
-  short_of : (joint : CodeJoint) (items : List Tree) (s : Equations) → length items < 2
-      → (EMPTY, s) ≡ walked_kind first names frames (chain_of joint (trees_of items)) s
-  short_of joint.Pairs [] s few = refl
-  short_of joint.Arrows [] s few = refl
-  short_of joint.Pairs (one ∷ []) s few = refl
-  short_of joint.Arrows (one ∷ []) s few = refl
-  short_of joint (one ∷ other ∷ rest) s few = absurd (omega (arith, few))
-
-  -- and one of two or more is that of their places
-  long_of : (joint : CodeJoint) (items : List Tree) (s : Equations) → 2 ≤ length items
-      → chained_all first (plain_joint joint) (walked_trees first names frames (trees_of items) [] s)
-      ≡ walked_kind first names frames (chain_of joint (trees_of items)) s
-  long_of joint [] s many = absurd (omega (arith, many))
-  long_of joint (one ∷ []) s many = absurd (omega (arith, many))
-  long_of joint.Pairs (one ∷ other ∷ rest) s many = refl
-  long_of joint.Arrows (one ∷ other ∷ rest) s many = refl
-
-  pub short_chain : (joint : CodeJoint) (items : List CodeTree) (trees : Trees) (s : Equations)
-      → trees_of (map plain items) ≡ trees → length (map plain items) < 2
-      → (EMPTY, s) ≡ walked_kind first names frames (chain_of joint trees) s
-  short_chain joint items trees s are few = short_of joint (map plain items) s few
-      ∙ ap (λ all. walked_kind first names frames (chain_of joint all) s) are
-
-  pub long_chain : (joint : CodeJoint) (items : List CodeTree) (trees : Trees) (s : Equations)
-      → trees_of (map plain items) ≡ trees → 2 ≤ length (map plain items)
+  -- a chain of two trees or more is that of their nodes
+  pub chain_is : (joint : CodeJoint) (trees : Trees) (s : Equations) → HaveTwoTrees trees
       → chained_all first (plain_joint joint) (walked_trees first names frames trees [] s)
       ≡ walked_kind first names frames (chain_of joint trees) s
-  long_chain joint items trees s are many =
-      ap (λ all. chained_all first (plain_joint joint) (walked_trees first names frames all [] s)) (sym are)
-      ∙ long_of joint (map plain items) s many
-      ∙ ap (λ all. walked_kind first names frames (chain_of joint all) s) are
+  chain_is joint NoTree s two = absurd two
+  chain_is joint (ATree one NoTree) s two = absurd two
+  chain_is joint.Pairs (ATree one (ATree next rest)) s two = refl
+  chain_is joint.Arrows (ATree one (ATree next rest)) s two = refl

@@ -146,7 +146,7 @@ module _ (first : ℕ) (names : List (Name × NodeId)) (enough : 14 ≤ first) (
     kind_equates frames (type.Variable name) s final before grows = refl
     kind_equates frames (type.Default name constant) s final before grows = refl
 
-    trees_equate : (frames : Frames) (trees : Trees) (made : List NodeId) (s final : Equations)
+    pub trees_equate : (frames : Frames) (trees : Trees) (made : List NodeId) (s final : Equations)
         → AreBefore first s frames
         → Grows (walked_trees first names frames trees made s).1 final
         → TreesAt first final names frames trees made (walked_trees first names frames trees made s).0

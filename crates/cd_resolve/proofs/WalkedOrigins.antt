@@ -282,14 +282,14 @@ module _ (first : ℕ) (names : List (Name × NodeId)) (base : Scope) (Fact : De
 
 module _ (first : ℕ) (names : List (Name × NodeId)) (enough : 14 ≤ first) (named : AreBelow first names)
     (base : Scope) (Fact : Declared → Type 0) where
-  -- the walk over a tree
-  pub tree_origins : (frames : Frames) (is : Tree) (s final : Equations) → AreBefore first s frames
-      → Grows (walked first names frames is s).1 final → AllEquated first final names frames
-      → Covered Fact (scope_of base frames) (kind_of is)
+  -- the walk over trees
+  pub trees_origins : (frames : Frames) (trees : Trees) (s final : Equations) → AreBefore first s frames
+      → Grows (walked_trees first names frames trees [] s).1 final → AllEquated first final names frames
+      → AllOf Fact (names_in_trees (scope_of base frames) trees) → AllOf Fact (names_over (scope_of base frames))
       → ((n : ℕ) → n < length s → HasOrigin first final names base Fact n)
-      → (n : ℕ) → n < length (walked first names frames is s).1 → HasOrigin first final names base Fact n
-  tree_origins frames is s final before grows all covered have =
-      tree_have first names base Fact final enough named frames is s before grows all covered have
+      → (n : ℕ) → n < length (walked_trees first names frames trees [] s).1 → HasOrigin first final names base Fact n
+  trees_origins frames trees s final before grows all within over have =
+      trees_have first names base Fact final enough named frames trees [] s before grows all within over have
 
   -- and that over a list of declarations
   pub list_origins : (frames : Frames) (declarations : Declarations) (s final : Equations) → AreBefore first s frames

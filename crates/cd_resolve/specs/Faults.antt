@@ -9,6 +9,9 @@ use Rattle.cd_syntax.specs.TypeTree.{Capture, Regulars, ARegular}
 use Rattle.cd_syntax.specs.declared.tokens.Span.{Span}
 use Rattle.cd_resolve.specs.declared.fault.NameFault.{NameFault}
 use Rattle.cd_resolve.specs.declared.fault.NameFault.TheVariants.{Unknown, Twice, Unguarded}
+use Rattle.cd_resolve.specs.declared.fault.NameFault.TheVariants.{VariablesDiffer, VariableTwice}
+use Rattle.cd_resolve.specs.declared.fault.NameFault.TheVariants.{VariableRepeats}
+use Rattle.cd_resolve.specs.declared.fault.NameFault.TheVariants.{VariableMisplaced, NoMain}
 use Rattle.cd_model.specs.Scope.{Scope, declared_as}
 use Rattle.cd_model.specs.Guarded.{IsOneOf, IsSigned, LeadsTo}
 use Rattle.cd_model.specs.Written.{kind_of}
@@ -149,12 +152,16 @@ IsFaultOfType declared is fault = IsFault (declared ∷ []) (declared ∷ []) is
 abbrev pub IsFaultOfDeclarations : Declarations → Fault → Type 0
 IsFaultOfDeclarations declared fault = IsFaultOfList [] (declared ∷ []) declared fault
 
--- of two faults the one with the lesser place is told, and at one place in the order unknown,
--- twice, unguarded
+-- of two faults the one with the lesser place is told, and at one place that of the lesser rank
 abbrev pub rank : NameFault → ℕ
 rank Unknown = 0
 rank Twice = 1
 rank Unguarded = 2
+rank VariablesDiffer = 3
+rank VariableTwice = 4
+rank VariableRepeats = 5
+rank VariableMisplaced = 6
+rank NoMain = 7
 
 abbrev pub IsBefore : Fault → Fault → Type 0
 IsBefore one other = (one.at < other.at)

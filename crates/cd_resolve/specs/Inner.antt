@@ -1,6 +1,4 @@
 -- What serves private functions. No public clause speaks of it.
-pub mod Keys
-pub mod Places
 pub mod NamesDeclared
 pub mod BuiltinNames
 pub mod Finding

@@ -1,4 +1,5 @@
 pub mod Faults
 pub mod Errors
 pub mod Named
+pub mod Wanted
 pub mod Inner

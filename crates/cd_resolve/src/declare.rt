@@ -2,7 +2,8 @@
 ghost use Rattle.std.specs.Prelude.{◌≡◌, ◌∷◌, [], IfOk, OnOk};
 ghost use Rattle.cd_syntax.specs.TypeTree.{Where};
 ghost use Rattle.cd_syntax.specs.PlainTree.{plain, plain_declarations};
-ghost use Rattle.cd_syntax.specs.WellMade.{IsWellMade, AreWellMadeDeclarations};
+ghost use Rattle.cd_syntax.specs.WellMadePattern.{IsWellMadePattern};
+ghost use Rattle.cd_syntax.specs.WellMadePattern.{AreWellMadePatternDeclarations};
 ghost use Rattle.cd_resolve.specs.Inner.Equation.{plain_equations};
 ghost use Rattle.cd_resolve.specs.Inner.Finding.{innermost, found_in_kind, found_in_declared};
 ghost use Rattle.cd_resolve.specs.Inner.Finding.{found_in_list, entered as entered_list};
@@ -32,7 +33,7 @@ pub(crate) fn walk_list<'t>(
     state: &mut State,
     found: &mut Found<'t>,
 ) -> Result<Frame<'t>, AllocError>
-    requires { AreWellMadeDeclarations (plain_declarations declarations.now) }
+    requires { AreWellMadePatternDeclarations (plain_declarations declarations.now) }
     ensures nodes { IfOk result (λ frame. plain_frame frame
         ≡ frame_after base.now.first (plain_declarations declarations.now)
         (plain_equations state.old.equations.items)) }
@@ -63,8 +64,8 @@ pub(crate) fn walk_where<'t>(
     state: &mut State,
     found: &mut Found<'t>,
 ) -> Result<NodeId, AllocError>
-    requires body { IsWellMade (plain body.now) }
-    requires declarations { AreWellMadeDeclarations (plain_declarations declarations.now) }
+    requires body { IsWellMadePattern (plain body.now) }
+    requires declarations { AreWellMadePatternDeclarations (plain_declarations declarations.now) }
     ensures found { IfOk result (λ _. plain_found found.new
         ≡ found_in_kind innermost (lists_seen base.now outer.now) (plain_start start.entry) 0
         (Where (plain body.now) (plain_declarations declarations.now)) (plain_found found.old)) }
@@ -86,7 +87,7 @@ fn walk_under<'t>(
     state: &mut State,
     found: &mut Found<'t>,
 ) -> Result<Vec<Frame<'t>>, AllocError>
-    requires { AreWellMadeDeclarations (plain_declarations declarations.now) }
+    requires { AreWellMadePatternDeclarations (plain_declarations declarations.now) }
     ensures nodes { IfOk result (λ frames. plain_frames frames.items
         ≡ frame_after base.now.first (plain_declarations declarations.now)
         (plain_equations state.old.equations.items) ∷ plain_frames outer.now) }
@@ -142,7 +143,7 @@ fn walk_declared<'t>(
     state: &mut State,
     found: &mut Found<'t>,
 ) -> Result<(), AllocError>
-    requires { AreWellMadeDeclarations (plain_declarations frame.now.declarations.now) }
+    requires { AreWellMadePatternDeclarations (plain_declarations frame.now.declarations.now) }
     ensures found { IfOk result (λ _. plain_found found.new
         ≡ found_in_declared innermost (lists_seen base.now frames.now) frame.now.list []
         (plain_declarations frame.now.declarations.now) (plain_found found.old)) }

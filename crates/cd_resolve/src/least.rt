@@ -46,5 +46,10 @@ fn rank(fault: NameFault) -> usize
         NameFault::Unknown => 0,
         NameFault::Twice => 1,
         NameFault::Unguarded => 2,
+        NameFault::VariablesDiffer => 3,
+        NameFault::VariableTwice => 4,
+        NameFault::VariableRepeats => 5,
+        NameFault::VariableMisplaced => 6,
+        NameFault::NoMain => 7,
     }
 }

@@ -1,7 +1,8 @@
-//! Nodes that stand for written types, or the naming fault of a type.
+//! Nodes that stand for written types, or the naming fault of what is written.
 #![tactic(auto)]
 
 mod base;
+mod check;
 mod compare;
 mod cycle;
 mod declarations;
@@ -11,14 +12,12 @@ pub mod error;
 pub mod fault;
 mod found;
 mod frame;
-mod key;
 pub mod laws;
 mod least;
 mod leaves;
 mod links;
 mod lookup;
 mod members;
-mod name_index;
 mod names;
 mod order;
 mod ordering;
@@ -34,6 +33,9 @@ mod state;
 mod taken;
 mod types;
 mod walk;
+mod wanted;
 
+pub use check::{check_declarations, check_tree, names_of};
 pub use names::Names;
 pub use types::{Batch, TypeBatch, resolve, resolve_type, resolve_type_from};
+pub use wanted::{TypesBatch, WantedType, resolve_types};

@@ -1,17 +1,21 @@
 //! What is written, read by one walk: its equations, or the least of its faults.
 ghost use Rattle.std.specs.Prelude.{◌≡◌, IfOk, OnOk, IfErr, map, None, Some, [], ◌∷◌};
 ghost use Rattle.cd_syntax.specs.PlainTree.{plain, plain_declarations};
-ghost use Rattle.cd_syntax.specs.WellMade.{IsWellMade, AreWellMadeDeclarations};
+ghost use Rattle.cd_syntax.specs.TypeTree.{trees_of};
+ghost use Rattle.cd_syntax.specs.WellMade.{AreWellMadeDeclarations};
+ghost use Rattle.cd_syntax.specs.WellMadePattern.{IsWellMadePattern};
+ghost use Rattle.cd_model.specs.AllOf.{AllOf};
 ghost use Rattle.cd_resolve.specs.Errors.{IsToldError};
 ghost use Rattle.cd_resolve.specs.Faults.{Fault, IsFaultOfType, IsFaultOfDeclarations};
 ghost use Rattle.cd_resolve.specs.Named.{plain_names, declared_by};
+ghost use Rattle.cd_resolve.specs.Wanted.{wanted_tree};
 ghost use Rattle.cd_resolve.specs.Inner.Check.{found_in_type, all_faults, IsLeast};
 ghost use Rattle.cd_resolve.specs.Inner.Cycles.{least_from};
 ghost use Rattle.cd_resolve.specs.Inner.Equation.{plain_equations};
 ghost use Rattle.cd_resolve.specs.Inner.Names.{numbered};
 ghost use Rattle.cd_resolve.specs.Inner.PlainBase.{names_outside, lists_outside};
 ghost use Rattle.cd_resolve.specs.Inner.PlainFound.{plain_told, plain_found};
-ghost use Rattle.cd_resolve.specs.Inner.Walk.{walked, walked_list};
+ghost use Rattle.cd_resolve.specs.Inner.Walk.{walked, walked_list, walked_trees};
 
 use crate::base::Base;
 use crate::cycle::tell_cycles;
@@ -23,6 +27,8 @@ use crate::least::least;
 use crate::names::Names;
 use crate::state::State;
 use crate::walk::walk;
+use crate::wanted::WantedType;
+use cd_graph::built_in::ANY;
 use cd_sets::node_id::NodeId;
 use cd_syntax::type_tree::{Declarations, Tree};
 use std::alloc::{AllocError, Global};
@@ -64,7 +70,8 @@ pub(crate) fn read_declarations<'t>(
 }
 
 /// The equations of a type, which sees these names beside those of its own `where`, from the node
-/// of this number on, and the type's node.
+/// of this number on, and the type's node. A pattern is read as a type is, and of its variables,
+/// defaults and captures no equations are made.
 ///
 /// # Errors
 ///
@@ -76,7 +83,7 @@ pub(crate) fn read_type(
     names: &Names<'_>,
     tree: &Tree,
 ) -> Result<(Vec<Option<Equation>>, NodeId), NameError>
-    requires { IsWellMade (plain tree.now) }
+    requires { IsWellMadePattern (plain tree.now) }
     ensures sound { OnOk result ((fault : Fault)
         → IsFaultOfType (declared_by names.now) (plain tree.now) fault → ⊥) }
     ensures fault { IfErr result
@@ -98,6 +105,68 @@ pub(crate) fn read_type(
     }
 }
 
+/// The equations of types, which see these names beside those of their own `where`, from the node
+/// of this number on, and the nodes of the types. Their faults are not told.
+pub(crate) fn read_types(
+    alloc: Global,
+    first: usize,
+    names: &Names<'_>,
+    wanted: &[WantedType<'_>],
+) -> Result<(Vec<Option<Equation>>, Vec<NodeId>), AllocError>
+    requires { AllOf (λ one. IsWellMadePattern (wanted_tree one)) wanted.now }
+    ensures { IfOk result (λ read. (read.1.items, plain_equations read.0.items)
+        ≡ walked_trees first (numbered (plain_names names.now).first (declared_by names.now)) []
+        (trees_of (map wanted_tree wanted.now)) [] []) }
+{
+    let mut state = State::new(alloc);
+    let base = Base {
+        alloc,
+        first,
+        outer: Some(&names.frame),
+    };
+    let roots = walk_types(&base, wanted, &mut state)?;
+    Ok((state.equations, roots))
+}
+
+// The nodes of types, which are walked over in turn.
+fn walk_types<'t>(
+    base: &Base<'_, '_>,
+    wanted: &[WantedType<'t>],
+    state: &mut State,
+) -> Result<Vec<NodeId>, AllocError>
+    requires { AllOf (λ one. IsWellMadePattern (wanted_tree one)) wanted.now }
+    ensures { IfOk result (λ roots. (roots.items, plain_equations state.new.equations.items)
+        ≡ walked_trees base.now.first (names_outside base.now) []
+        (trees_of (map wanted_tree wanted.now)) [] (plain_equations state.old.equations.items)) }
+{
+    let mut found = Found::new(base.alloc);
+    let mut roots = Vec::new(base.alloc);
+    for one in wanted {
+        roots.push(walk_wanted(base, *one, state, &mut found)?)?;
+    }
+    Ok(roots)
+}
+
+// The node of a type, or of what is outside it: this is everything but the type.
+fn walk_wanted<'t>(
+    base: &Base<'_, '_>,
+    wanted: WantedType<'t>,
+    state: &mut State,
+    found: &mut Found<'t>,
+) -> Result<NodeId, AllocError>
+    requires { IsWellMadePattern (wanted_tree wanted) }
+    ensures { IfOk result (λ id. (id, plain_equations state.new.equations.items)
+        ≡ walked base.now.first (names_outside base.now) [] (wanted_tree wanted.entry)
+        (plain_equations state.old.equations.items)) }
+{
+    let id = walk(base, wanted.tree, &[], None, state, found)?;
+    if wanted.outside {
+        state.meet(base, &[(true, ANY), (false, id)])
+    } else {
+        Ok(id)
+    }
+}
+
 // Walks over a type that sees this list of declarations beside those of its own `where`.
 fn walk_type<'t>(
     base: &Base<'_, '_>,
@@ -105,7 +174,7 @@ fn walk_type<'t>(
     tree: &'t Tree,
     state: &mut State,
 ) -> Result<(NodeId, Found<'t>), AllocError>
-    requires well_made { IsWellMade (plain tree.now) }
+    requires well_made { IsWellMadePattern (plain tree.now) }
     requires seen { lists_outside base.now
         ≡ record { declarations = plain_declarations declared.now; list = 0 } ∷ [] }
     ensures found { IfOk result (λ read. plain_found read.1

@@ -2,7 +2,7 @@
 ghost use Rattle.std.specs.Prelude.{◌≡◌, IfOk, [], None};
 ghost use Rattle.cd_syntax.specs.TypeTree.{Record};
 ghost use Rattle.cd_syntax.specs.PlainTree.{plain_fields};
-ghost use Rattle.cd_syntax.specs.WellMade.{AreWellMadeFields};
+ghost use Rattle.cd_syntax.specs.WellMadePattern.{AreWellMadePatternFields};
 ghost use Rattle.cd_graph.specs.PlainFormula.{plain_named};
 ghost use Rattle.cd_resolve.specs.Inner.Equation.{plain_equations};
 ghost use Rattle.cd_resolve.specs.Inner.Finding.{innermost, labelled, found_in_kind};
@@ -15,10 +15,10 @@ ghost use Rattle.cd_resolve.specs.Inner.Walk.{walked_kind, walked_fields};
 use crate::base::Base;
 use crate::found::Found;
 use crate::frame::Frame;
-use crate::name_index::NameIndex;
 use crate::state::State;
 use crate::walk::walk;
 use cd_graph::fields::Field;
+use cd_name_index::NameIndex;
 use cd_sets::node_id::NodeId;
 use cd_syntax::name::Name;
 use cd_syntax::type_tree::FieldTrees;
@@ -35,7 +35,7 @@ pub(crate) fn walk_record<'t>(
     state: &mut State,
     found: &mut Found<'t>,
 ) -> Result<NodeId, AllocError>
-    requires { AreWellMadeFields (plain_fields fields.now) }
+    requires { AreWellMadePatternFields (plain_fields fields.now) }
     ensures found { IfOk result (λ _. plain_found found.new
         ≡ found_in_kind innermost (lists_seen base.now frames.now) None 0
         (Record (plain_fields fields.now) more) (plain_found found.old)) }
@@ -58,7 +58,7 @@ fn walk_fields<'t>(
     state: &mut State,
     found: &mut Found<'t>,
 ) -> Result<Vec<(Name, Field)>, AllocError>
-    requires { AreWellMadeFields (plain_fields fields.now) }
+    requires { AreWellMadePatternFields (plain_fields fields.now) }
     ensures found { IfOk result (λ _. plain_found found.new
         ≡ found_in_fields innermost (lists_seen base.now frames.now)
         (plain_fields fields.now) (plain_found found.old)) }

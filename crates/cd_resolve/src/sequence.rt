@@ -2,9 +2,11 @@
 ghost use Rattle.std.specs.Prelude.{◌≡◌, IfOk, []};
 ghost use Rattle.cd_syntax.specs.TypeTree.{Sequence};
 ghost use Rattle.cd_syntax.specs.PlainTree.{plain_regular, plain_regular_kind, plain_regulars};
-ghost use Rattle.cd_syntax.specs.WellMade.{IsWellMadeRegular, IsWellMadeRegularKind};
-ghost use Rattle.cd_syntax.specs.WellMade.{AreWellMadeRegulars};
+ghost use Rattle.cd_syntax.specs.WellMadePattern.{IsWellMadePatternRegular};
+ghost use Rattle.cd_syntax.specs.WellMadePattern.{IsWellMadePatternRegularKind};
+ghost use Rattle.cd_syntax.specs.WellMadePattern.{AreWellMadePatternRegulars};
 ghost use Rattle.cd_regex.specs.PlainRegular.{plain as plain_reg, plain_list as plain_regs};
+ghost use Rattle.cd_regex.specs.Regular.{Alt, NoRegular};
 ghost use Rattle.cd_resolve.specs.Inner.Equation.{plain_equations};
 ghost use Rattle.cd_resolve.specs.Inner.Finding.{innermost, found_in_regular};
 ghost use Rattle.cd_resolve.specs.Inner.Finding.{found_in_regular_kind, found_in_regulars};
@@ -34,7 +36,7 @@ pub(crate) fn walk_sequence<'t>(
     state: &mut State,
     found: &mut Found<'t>,
 ) -> Result<NodeId, AllocError>
-    requires { IsWellMadeRegular (plain_regular expression.now) }
+    requires { IsWellMadePatternRegular (plain_regular expression.now) }
     ensures found { IfOk result (λ _. plain_found found.new
         ≡ found_in_regular innermost (lists_seen base.now frames.now)
         (plain_regular expression.now) (plain_found found.old)) }
@@ -55,7 +57,7 @@ fn walk_regular<'t>(
     state: &mut State,
     found: &mut Found<'t>,
 ) -> Result<Reg, AllocError>
-    requires { IsWellMadeRegular (plain_regular expression.now) }
+    requires { IsWellMadePatternRegular (plain_regular expression.now) }
     ensures found { IfOk result (λ _. plain_found found.new
         ≡ found_in_regular innermost (lists_seen base.now frames.now)
         (plain_regular expression.now) (plain_found found.old)) }
@@ -76,7 +78,7 @@ fn walk_regular_kind<'t>(
     state: &mut State,
     found: &mut Found<'t>,
 ) -> Result<Reg, AllocError>
-    requires { IsWellMadeRegularKind (plain_regular_kind kind.now) }
+    requires { IsWellMadePatternRegularKind (plain_regular_kind kind.now) }
     ensures found { IfOk result (λ _. plain_found found.new
         ≡ found_in_regular_kind innermost (lists_seen base.now frames.now)
         (plain_regular_kind kind.now) (plain_found found.old)) }
@@ -103,9 +105,27 @@ fn walk_regular_kind<'t>(
             let part = walk_regular(base, inner, frames, state, found)?;
             repeated(base.alloc, part, *post)
         }
-        // A form of patterns, which stands in no type.
-        RegKind::Capture(_, _) => Ok(Reg::alt(Regs::of(Vec::new(base.alloc)))),
+        RegKind::Capture(_, inner) => walk_capture(base, inner, frames, found),
     }
+}
+
+// A capture, of which no equations are made: it is walked over for the faults in it alone.
+#[cycle(walk)]
+fn walk_capture<'t>(
+    base: &Base<'_, '_>,
+    inner: &'t RegTree,
+    frames: &[Frame<'t>],
+    found: &mut Found<'t>,
+) -> Result<Reg, AllocError>
+    requires { IsWellMadePatternRegular (plain_regular inner.now) }
+    ensures found { IfOk result (λ _. plain_found found.new
+        ≡ found_in_regular innermost (lists_seen base.now frames.now)
+        (plain_regular inner.now) (plain_found found.old)) }
+    ensures nothing { IfOk result (λ regular. plain_reg regular ≡ Alt NoRegular) }
+{
+    let mut aside = State::new(base.alloc);
+    walk_regular(base, inner, frames, &mut aside, found)?;
+    Ok(Reg::alt(Regs::of(Vec::new(base.alloc))))
 }
 
 // Expressions, which are walked over in turn.
@@ -117,7 +137,7 @@ fn walk_regulars<'t>(
     state: &mut State,
     found: &mut Found<'t>,
 ) -> Result<Regs, AllocError>
-    requires { AreWellMadeRegulars (plain_regulars all.now) }
+    requires { AreWellMadePatternRegulars (plain_regulars all.now) }
     ensures found { IfOk result (λ _. plain_found found.new
         ≡ found_in_regulars innermost (lists_seen base.now frames.now)
         (plain_regulars all.now) (plain_found found.old)) }

@@ -2,8 +2,9 @@
 ghost use Rattle.std.specs.Prelude.{◌≡◌, IfOk, [], ◌∷◌, true, None};
 ghost use Rattle.cd_syntax.specs.TypeTree.{Union, Meet, Xml};
 ghost use Rattle.cd_syntax.specs.PlainTree.{plain, plain_kind, plain_trees, plain_signs};
-ghost use Rattle.cd_syntax.specs.WellMade.{IsWellMade, IsWellMadeKind, AreWellMade};
-ghost use Rattle.cd_syntax.specs.WellMade.{AreWellMadeSigns};
+ghost use Rattle.cd_syntax.specs.WellMade.{HaveTwoTrees};
+ghost use Rattle.cd_syntax.specs.WellMadePattern.{IsWellMadePattern, IsWellMadePatternKind};
+ghost use Rattle.cd_syntax.specs.WellMadePattern.{AreWellMadePatterns, AreWellMadePatternSigns};
 ghost use Rattle.cd_resolve.specs.Inner.Equation.{plain_equations};
 ghost use Rattle.cd_resolve.specs.Inner.Finding.{innermost, met, place_of};
 ghost use Rattle.cd_resolve.specs.Inner.Finding.{found_in, found_in_kind, found_in_trees};
@@ -42,7 +43,7 @@ pub(crate) fn walk<'t>(
     state: &mut State,
     found: &mut Found<'t>,
 ) -> Result<NodeId, AllocError>
-    requires { IsWellMade (plain tree.now) }
+    requires { IsWellMadePattern (plain tree.now) }
     ensures found { IfOk result (λ _. plain_found found.new
         ≡ found_in innermost (lists_seen base.now frames.now) (plain_start start.entry)
         (plain tree.now) (plain_found found.old)) }
@@ -65,7 +66,7 @@ fn walk_kind<'t>(
     state: &mut State,
     found: &mut Found<'t>,
 ) -> Result<NodeId, AllocError>
-    requires { IsWellMadeKind (plain_kind kind.now) }
+    requires { IsWellMadePatternKind (plain_kind kind.now) }
     ensures found { IfOk result (λ _. plain_found found.new
         ≡ found_in_kind innermost (lists_seen base.now frames.now) (plain_start start.entry) at
         (plain_kind kind.now) (plain_found found.old)) }
@@ -92,7 +93,7 @@ fn walk_kind<'t>(
             walk_where(base, body, declarations, frames, start, state, found)
         }
         TreeKind::Sequence(expression) => walk_sequence(base, expression, frames, state, found),
-        // These two are forms of patterns, which stand in no type.
+        // Forms of patterns, of which no equations are made.
         TreeKind::Variable(_) | TreeKind::Default(_, _) => Ok(EMPTY),
     }
 }
@@ -124,8 +125,7 @@ fn walk_named<'t>(
     }
 }
 
-// A tuple, or a chain of arrows. One of fewer than two trees holds nothing: it is walked over for
-// the faults in it alone.
+// A tuple, or a chain of arrows, of two trees or more.
 #[cycle(walk)]
 fn walk_chain<'t>(
     base: &Base<'_, '_>,
@@ -135,7 +135,8 @@ fn walk_chain<'t>(
     state: &mut State,
     found: &mut Found<'t>,
 ) -> Result<NodeId, AllocError>
-    requires { AreWellMade (plain_trees trees.now) }
+    requires two { HaveTwoTrees (plain_trees trees.now) }
+    requires parts { AreWellMadePatterns (plain_trees trees.now) }
     ensures found { IfOk result (λ _. plain_found found.new
         ≡ found_in_trees innermost (lists_seen base.now frames.now) None
         (plain_trees trees.now) (plain_found found.old)) }
@@ -143,11 +144,6 @@ fn walk_chain<'t>(
         ≡ walked_kind base.now.first (names_outside base.now) (plain_frames frames.now)
         (chain_of joint (plain_trees trees.now)) (plain_equations state.old.equations.items)) }
 {
-    if trees.items().len() < 2 {
-        let mut aside = State::new(base.alloc);
-        walk_trees(base, trees, frames, None, &mut aside, found)?;
-        return Ok(EMPTY);
-    }
     let ids = walk_trees(base, trees, frames, None, state, found)?;
     Ok(state.chain(base, joint, ids.as_slice())?)
 }
@@ -162,7 +158,7 @@ fn walk_union<'t>(
     state: &mut State,
     found: &mut Found<'t>,
 ) -> Result<NodeId, AllocError>
-    requires { AreWellMade (plain_trees trees.now) }
+    requires { AreWellMadePatterns (plain_trees trees.now) }
     ensures found { IfOk result (λ _. plain_found found.new
         ≡ found_in_trees innermost (lists_seen base.now frames.now) (plain_start start.entry)
         (plain_trees trees.now) (plain_found found.old)) }
@@ -184,7 +180,7 @@ fn walk_trees<'t>(
     state: &mut State,
     found: &mut Found<'t>,
 ) -> Result<Vec<NodeId>, AllocError>
-    requires { AreWellMade (plain_trees trees.now) }
+    requires { AreWellMadePatterns (plain_trees trees.now) }
     ensures found { IfOk result (λ _. plain_found found.new
         ≡ found_in_trees innermost (lists_seen base.now frames.now) (plain_start start.entry)
         (plain_trees trees.now) (plain_found found.old)) }
@@ -211,8 +207,8 @@ fn walk_meet<'t>(
     state: &mut State,
     found: &mut Found<'t>,
 ) -> Result<NodeId, AllocError>
-    requires first { IsWellMade (plain first.now) }
-    requires signs { AreWellMadeSigns (plain_signs signs.now) }
+    requires first { IsWellMadePattern (plain first.now) }
+    requires signs { AreWellMadePatternSigns (plain_signs signs.now) }
     ensures found { IfOk result (λ _. plain_found found.new
         ≡ found_in_signs innermost (lists_seen base.now frames.now) (plain_start start.entry)
         (plain_signs signs.now)
@@ -239,7 +235,7 @@ fn walk_signs<'t>(
     state: &mut State,
     found: &mut Found<'t>,
 ) -> Result<Vec<(bool, NodeId)>, AllocError>
-    requires { AreWellMadeSigns (plain_signs signs.now) }
+    requires { AreWellMadePatternSigns (plain_signs signs.now) }
     ensures found { IfOk result (λ _. plain_found found.new
         ≡ found_in_signs innermost (lists_seen base.now frames.now) (plain_start start.entry)
         (plain_signs signs.now) (plain_found found.old)) }
@@ -270,9 +266,9 @@ fn walk_xml<'t>(
     state: &mut State,
     found: &mut Found<'t>,
 ) -> Result<NodeId, AllocError>
-    requires tag { IsWellMade (plain tag.now) }
-    requires attributes { IsWellMade (plain attributes.now) }
-    requires content { IsWellMade (plain content.now) }
+    requires tag { IsWellMadePattern (plain tag.now) }
+    requires attributes { IsWellMadePattern (plain attributes.now) }
+    requires content { IsWellMadePattern (plain content.now) }
     ensures found { IfOk result (λ _. plain_found found.new
         ≡ found_in innermost (lists_seen base.now frames.now) None (plain content.now)
         (found_in innermost (lists_seen base.now frames.now) None (plain attributes.now)

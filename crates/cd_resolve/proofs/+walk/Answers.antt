@@ -1,10 +1,11 @@
-use Rattle.std.proofs.Common.{List, [], ◌+◌, map, take, drop, ap, sym, subst, ◌∙◌, rules, arith}
-use Rattle.std.proofs.lemmas.List.{length-map}
+use Rattle.std.proofs.Common.{List, [], ◌+◌, map, take, drop, ap, sym, subst, ◌∙◌, rules}
 use Rattle.cd_syntax.specs.TypeTree.{signs_of, fields_of, declarations_of}
-use Rattle.cd_syntax.specs.PlainTree.{plain, plain_fields, plain_signed, plain_field, plain_declaration}
-use Rattle.cd_syntax.specs.PlainTree.{plain_declarations}
-use Rattle.cd_syntax.specs.WellMade.{AreWellMade, AreWellMadeSigns, AreWellMadeFields, AreWellMadeDeclarations}
-use Rattle.cd_syntax.specs.WellMade.{AreWellMadeRegulars}
+use Rattle.cd_syntax.specs.PlainTree.{plain, plain_trees, plain_fields, plain_signed, plain_field}
+use Rattle.cd_syntax.specs.PlainTree.{plain_declaration, plain_declarations}
+use Rattle.cd_syntax.specs.WellMadePattern.{AreWellMadePatterns, AreWellMadePatternSigns}
+use Rattle.cd_syntax.specs.WellMadePattern.{AreWellMadePatternFields}
+use Rattle.cd_syntax.specs.WellMadePattern.{AreWellMadePatternDeclarations}
+use Rattle.cd_syntax.specs.WellMadePattern.{AreWellMadePatternRegulars}
 use Rattle.cd_syntax.specs.Name.{Name}
 use Rattle.cd_model.specs.Formula.{Field}
 use Rattle.cd_graph.specs.PlainFormula.{plain_named}
@@ -18,30 +19,20 @@ use Rattle.cd_resolve.specs.Inner.PlainState.{plain_frames, plain_joint, HaveLab
 use Rattle.cd_resolve.proofs.Declaring.{one_name_more, declared_more as found_more}
 use Rattle.cd_resolve.proofs.Labelled.{walked_labels}
 use Rattle.cd_resolve.proofs.Sizes.{trees_fall, signs_fall, fields_fall, declarations_fall, regulars_fall}
-use Rattle.cd_resolve.proofs.Steps.{short_chain, long_chain, signs_more, fields_more, declared_more}
+use Rattle.cd_resolve.proofs.Steps.{chain_is, signs_more, fields_more, declared_more}
 use Rattle.cd_resolve.proofs.Views.{signed_is, field_is, declaration_is, at_item}
 use Rattle.cd_resolve.proofs.WellMadeItems.{tree_made, sign_made, field_made, declaration_made, regular_made}
 use Rattle.cd_resolve.proofs.+walk.Goals as goal
 
--- a chain of fewer than two trees holds nothing
-pub walk::walk_chain-returns-then-items-lt2-clause-equations :
-    goal.walk::walk_chain-returns-then-items-lt2-clause-equations
-walk::walk_chain-returns-then-items-lt2-clause-equations t c =
-    let count = length-map c.items.result.now plain in
-    short_chain c.args.base.now.first (names_outside c.args.base.now) (plain_frames c.args.frames.now) c.args.joint
-    c.items.result.now _ (plain_equations c.args.state.now.equations.items) c.items.ensures
-    (omega (arith, count, c.if-items-lt2.true))
-
 pub walk::walk_chain-returns-clause-equations : goal.walk::walk_chain-returns-clause-equations
 walk::walk_chain-returns-clause-equations t c =
-    let count = length-map c.items.result.now plain in
     c.in_ok-chain.ensures
     ∙ ap (λ ids. chained c.args.base.now.first (plain_joint c.args.joint) ids
-    (plain_equations c.walk_trees-2.new.state.equations.items)) c.as_slice.ensures.value
+    (plain_equations c.walk_trees.new.state.equations.items)) c.as_slice.ensures.value
     ∙ ap (chained_all c.args.base.now.first (plain_joint c.args.joint)) c.in_ok-ids.ensures.equations
-    ∙ long_chain c.args.base.now.first (names_outside c.args.base.now) (plain_frames c.args.frames.now) c.args.joint
-    c.items.result.now _ (plain_equations c.args.state.now.equations.items) c.items.ensures
-    (omega (arith, count, c.if-items-lt2.false))
+    ∙ chain_is c.args.base.now.first (names_outside c.args.base.now) (plain_frames c.args.frames.now)
+    c.args.joint (plain_trees c.args.trees.now) (plain_equations c.args.state.now.equations.items)
+    c.requires.two
 
 -- each item of a list is smaller than the list, and well made
 pub walk::walk_trees-walk-requires : goal.walk::walk_trees-walk-requires
@@ -49,7 +40,8 @@ walk::walk_trees-walk-requires t c =
     let fall = rw c.items-tree-items.ensures at (trees_fall c.items-tree-items.result.now c.loop-tree.tree-index
     c.tree-item.result c.tree-item.is c.loop-tree-test.true) in
     let made = tree_made c.items-tree-items.result.now c.loop-tree.tree-index c.tree-item.result c.tree-item.is
-    c.loop-tree-test.true (subst AreWellMade (sym c.items-tree-items.ensures) c.requires) in
+    c.loop-tree-test.true
+    (subst AreWellMadePatterns (sym c.items-tree-items.ensures) c.requires) in
     (search (rules, fall, c.decreases), made)
 
 pub walk::walk_signs-walk-requires : goal.walk::walk_signs-walk-requires
@@ -59,7 +51,8 @@ walk::walk_signs-walk-requires t c =
     c.loop-sign-test.true) in
     let made = rw (ap (λ one. one.tree) (signed_is c.sign-item.result)) at
     (sign_made c.items-sign-items.result.now c.loop-sign.sign-index c.sign-item.result c.sign-item.is
-    c.loop-sign-test.true (subst AreWellMadeSigns (sym c.items-sign-items.ensures) c.requires)) in
+    c.loop-sign-test.true
+    (subst AreWellMadePatternSigns (sym c.items-sign-items.ensures) c.requires)) in
     (search (rules, fall, c.decreases), made)
 
 pub record::walk_fields-walk-requires : goal.record::walk_fields-walk-requires
@@ -69,7 +62,8 @@ record::walk_fields-walk-requires t c =
     c.loop-field-test.true) in
     let made = rw (ap (λ one. one.tree) (field_is c.field-item.result)) at
     (field_made c.items-field-items.result.now c.loop-field.field-index c.field-item.result c.field-item.is
-    c.loop-field-test.true (subst AreWellMadeFields (sym c.items-field-items.ensures) c.requires)) in
+    c.loop-field-test.true
+    (subst AreWellMadePatternFields (sym c.items-field-items.ensures) c.requires)) in
     (search (rules, fall, c.decreases), made)
 
 pub sequence::walk_regulars-walk_regular-requires : goal.sequence::walk_regulars-walk_regular-requires
@@ -78,7 +72,7 @@ sequence::walk_regulars-walk_regular-requires t c =
     c.loop-expression.expression-index c.expression-item.result c.expression-item.is c.loop-expression-test.true) in
     let made = regular_made c.items-expression-items.result.now c.loop-expression.expression-index
     c.expression-item.result c.expression-item.is c.loop-expression-test.true
-    (subst AreWellMadeRegulars (sym c.items-expression-items.ensures) c.requires) in
+    (subst AreWellMadePatternRegulars (sym c.items-expression-items.ensures) c.requires) in
     (search (rules, fall, c.decreases), made)
 
 pub declare::walk_declared-walk-requires : goal.declare::walk_declared-walk-requires
@@ -88,7 +82,8 @@ declare::walk_declared-walk-requires t c =
     c.loop-place-test.true) in
     let made = rw (ap (λ one. one.tree) (declaration_is c.index-items-place.result)) at
     (declaration_made c.items-items.result.now c.loop-place.place c.index-items-place.result c.index-items-place.is
-    c.loop-place-test.true (subst AreWellMadeDeclarations (sym c.items-items.ensures) c.requires)) in
+    c.loop-place-test.true
+    (subst AreWellMadePatternDeclarations (sym c.items-items.ensures) c.requires)) in
     (search (rules, fall, c.decreases), made)
 
 -- the fields of a well made list have labels

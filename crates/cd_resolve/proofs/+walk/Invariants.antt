@@ -66,6 +66,9 @@ decreases-sequence::walk_regular l = size_regular (plain_regular l.expression.no
 abbrev pub decreases-sequence::walk_regular_kind : goal.decreases-sequence::walk_regular_kind
 decreases-sequence::walk_regular_kind l = size_regular_kind (plain_regular_kind l.kind.now)
 
+abbrev pub decreases-sequence::walk_capture : goal.decreases-sequence::walk_capture
+decreases-sequence::walk_capture l = suc (size_regular (plain_regular l.inner.now))
+
 abbrev pub decreases-sequence::walk_regulars : goal.decreases-sequence::walk_regulars
 decreases-sequence::walk_regulars l = size_regulars (plain_regulars l.all.now)
 

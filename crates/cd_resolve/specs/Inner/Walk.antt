@@ -191,7 +191,7 @@ module _ (first : ℕ) where
       walked_regular_kind frames (type.Alt all) s = one_of (walked_regulars frames all [] s)
       walked_regular_kind frames (type.Repeat is post) s =
           repeats post (walked_regular frames is s)
-      -- a form of patterns, which stands in no type
+      -- a form of patterns, of which no equations are made
       walked_regular_kind frames (type.Capture name is) s = (Alt NoRegular, s)
 
       pub walked_regulars : Frames → type.Regulars → List Regular → Equations

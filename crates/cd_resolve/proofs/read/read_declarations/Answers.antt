@@ -4,7 +4,11 @@ use Rattle.cd_resolve.specs.Inner.Check.{all_faults, IsLeast}
 use Rattle.cd_resolve.specs.Inner.Cycles.{least_from}
 use Rattle.cd_resolve.specs.Inner.Finding.{innermost, found_in_list}
 use Rattle.cd_resolve.proofs.Checking.{declared_sound, declared_told}
+use Rattle.cd_resolve.proofs.TypesArePatterns.{declarations_are_patterns}
 use Rattle.cd_resolve.proofs.read.read_declarations.Goals as goal
+
+pub walk_list-requires : goal.walk_list-requires
+walk_list-requires c = declarations_are_patterns (plain_declarations c.args.declared.now) c.requires
 
 -- where no fault is told there is none, and one that is told is the least
 pub returns-in-Ok-clause-sound : goal.returns-in-Ok-clause-sound

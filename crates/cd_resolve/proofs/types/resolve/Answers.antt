@@ -11,6 +11,7 @@ use Rattle.cd_resolve.specs.Inner.Links.{links}
 use Rattle.cd_resolve.specs.Inner.Order.{Ends}
 use Rattle.cd_resolve.specs.Inner.Solves.{AreEquations, AgreesWith, Solves}
 use Rattle.cd_resolve.proofs.Resolving.{declarations_bounds, declarations_end, declarations_stand, begins_agree}
+use Rattle.cd_resolve.proofs.TypesArePatterns.{declarations_are_patterns}
 use Rattle.cd_resolve.proofs.types.resolve.Goals as goal
 
 pub solve-requires-clause-sound : goal.solve-requires-clause-sound
@@ -19,7 +20,7 @@ solve-requires-clause-sound c =
     (sym c.in_ok-new.ensures)
     (subst (λ (equations : Equations). AreEquations 14 c.args.first equations) (sym c.in_ok-equations.ensures.equations)
     (declarations_bounds (plain_declarations c.args.declared.now) c.in_ok-equations.ensures.sound c.args.first
-    c.requires.built_ins c.requires.well_made))
+    c.requires.built_ins (declarations_are_patterns (plain_declarations c.args.declared.now) c.requires.well_made)))
 
 pub solve-requires-clause-ends : goal.solve-requires-clause-ends
 solve-requires-clause-ends c = λ number less.

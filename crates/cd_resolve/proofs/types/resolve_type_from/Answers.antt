@@ -1,7 +1,8 @@
-use Rattle.std.proofs.Common.{◌++◌, [], ◌∷◌, length, refl, sym, subst, ap, arith}
+use Rattle.std.proofs.Common.{List, ◌++◌, [], ◌∷◌, length, refl, sym, subst, ap, arith}
 use Rattle.std.proofs.lemmas.List.{length-map}
 use Rattle.std.specs.Option.{option_map}
 use Rattle.cd_syntax.specs.PlainTree.{plain}
+use Rattle.cd_syntax.specs.TypeTree.{Tree}
 use Rattle.cd_graph.specs.PlainFormula.{plain_list}
 use Rattle.cd_graph.specs.Nodes.{nodes}
 use Rattle.cd_model.specs.StandsFor.{StandsFor}
@@ -12,20 +13,30 @@ use Rattle.cd_resolve.specs.Inner.Order.{Ends}
 use Rattle.cd_resolve.specs.Inner.Solves.{AreEquations, Solves, IsNode}
 use Rattle.cd_resolve.specs.Inner.Walk.{Read, walked}
 use Rattle.cd_resolve.proofs.NodesNamed.{list_of}
-use Rattle.cd_resolve.proofs.Resolving.{type_bounds, type_ends, type_stands, begins_agree}
+use Rattle.cd_resolve.proofs.Resolving.{types_bounds, types_end, types_stand, begins_agree}
+use Rattle.cd_resolve.proofs.TypesArePatterns.{type_is_pattern}
 use Rattle.cd_resolve.proofs.types.resolve_type_from.Goals as goal
 use Rattle.cd_resolve.proofs.types.resolve_type_from.Goals.{In_ok-equations}
 
 abbrev read : In_ok-equations → Read
 read c = walked c.args.first (list_of (plain_names c.args.names.now)) [] (plain c.args.tree.now) []
 
+-- the type is the only one of a list
+abbrev alone : In_ok-equations → List Tree
+alone c = plain c.args.tree.now ∷ []
+
 -- the equations are bounded, and the type's node is one of them
 bounds : (c : In_ok-equations) → AreEquations (length (nodes c.args.graph.now)) c.args.first (read c).1
     × IsNode (length (nodes c.args.graph.now)) c.args.first (length (read c).1) (read c).0
-bounds c = type_bounds (plain_names c.args.names.now) c.requires.names_sound (plain c.args.tree.now)
-    c.in_ok-equations.ensures.sound
+bounds c =
+    let all = types_bounds (plain_names c.args.names.now) c.requires.names_sound (alone c)
+    (c.in_ok-equations.ensures.sound, tt)
     (nodes c.args.graph.now) c.knows.ensures.sound c.knows.ensures.built_in c.requires.named
-    c.args.first c.requires.first c.requires.well_made
+    c.args.first c.requires.first (type_is_pattern (plain c.args.tree.now) c.requires.well_made, tt) in
+    (all.0, all.1.0)
+
+pub read_type-requires : goal.read_type-requires
+read_type-requires c = type_is_pattern (plain c.args.tree.now) c.requires.well_made
 
 pub solve-requires-clause-sound : goal.solve-requires-clause-sound
 solve-requires-clause-sound c =
@@ -36,8 +47,8 @@ solve-requires-clause-sound c =
 pub solve-requires-clause-ends : goal.solve-requires-clause-ends
 solve-requires-clause-ends c = λ number less.
     subst (λ (read : Read). Ends (links c.args.first read.1) number) (sym c.in_ok-equations.ensures.equations)
-    (type_ends (plain_names c.args.names.now) c.requires.names_sound (plain c.args.tree.now)
-    c.in_ok-equations.ensures.sound
+    (types_end (plain_names c.args.names.now) c.requires.names_sound (plain c.args.tree.now ∷ [])
+    (c.in_ok-equations.ensures.sound, tt)
     (nodes c.args.graph.now) c.knows.ensures.sound c.knows.ensures.built_in c.requires.named
     c.args.first c.requires.first number
     (omega (
@@ -54,8 +65,8 @@ returns-clause-stands c = λ more long.
     subst (λ (read : Read). StandsFor all read.0
     (record { scope = declared_by c.args.names.now ∷ []; tree = plain c.args.tree.now }))
     (sym c.in_ok-equations.ensures.equations)
-    (type_stands (plain_names c.args.names.now) c.requires.names_sound (plain c.args.tree.now)
-    c.in_ok-equations.ensures.sound
+    (types_stand (plain_names c.args.names.now) c.requires.names_sound (plain c.args.tree.now ∷ [])
+    (c.in_ok-equations.ensures.sound, tt)
     (nodes c.args.graph.now) c.knows.ensures.sound c.knows.ensures.built_in c.requires.named
     c.args.first c.requires.first more batch long
     (omega (
@@ -67,4 +78,4 @@ returns-clause-stands c = λ more long.
     (subst (λ (read : Read). Solves all c.args.first read.1) c.in_ok-equations.ensures.equations
     (c.in_ok-formulas.ensures.solves (nodes c.args.graph.now ++ more) long
     (begins_agree (nodes c.args.graph.now) (nodes c.args.graph.now ++ more) more refl)))
-    (bounds (goal.at.returns-clause-stands c).In_ok-equations).1)
+    ((bounds (goal.at.returns-clause-stands c).In_ok-equations).1, tt)).0

@@ -9,9 +9,8 @@ use Rattle.std.specs.Option.{option_map, option_or}
 use Rattle.std.specs.Cmp.Lexicographic.{nat_list_eq_equiv, bytes_decides}
 use Rattle.indexmap.specs.IndexMap.{IndexMap}
 use Rattle.cd_syntax.specs.Name.{Name}
-use Rattle.cd_resolve.specs.declared.key.Key.{Key}
-use Rattle.cd_resolve.specs.Inner.BuiltinNames.{is_among}
-use Rattle.cd_resolve.specs.Inner.Places.{first_place, AreFirstPlaces, Enters}
+use Rattle.cd_name_index.specs.declared.key.Key.{Key}
+use Rattle.cd_name_index.specs.FirstPlaces.{first_place, AreFirstPlaces, Enters}
 
 -- a name that is added has its first place at the end, unless it is there
 at_end : (names : List Name) (name other : Name) → first_place (names ++ name ∷ []) other
@@ -71,23 +70,23 @@ one_later place count = by (nat_lt place count) (ltb-true place count) (ltb-fals
 
 -- the first place of a name is one of them where the name is one of the first so many
 among_first : (names : List Name) (name : Name) (count : ℕ)
-    → is_before count (first_place names name) ≡ is_among (take count names) name
+    → is_before count (first_place names name) ≡ list_any (bytes_eq name) (take count names)
 among_first names name zero = none_before (first_place names name)
 among_first [] name (suc count) = refl
 among_first (other ∷ names) name (suc count) =
     by (bytes_eq other name) (first_place names name) (among_first names name count)
-    ∙ ap (λ same. same || is_among (take count names) name) (nat_list_eq_equiv.symm other name)
+    ∙ ap (λ same. same || list_any (bytes_eq name) (take count names)) (nat_list_eq_equiv.symm other name)
   where
-    by : (same : Bool) (x : Option ℕ) → is_before count x ≡ is_among (take count names) name
+    by : (same : Bool) (x : Option ℕ) → is_before count x ≡ list_any (bytes_eq name) (take count names)
         → is_before (suc count) (cond same (Some 0) (option_map (λ place. place + 1) x))
-        ≡ (same || is_among (take count names) name)
+        ≡ (same || list_any (bytes_eq name) (take count names))
     by true x on = lt-ltb 0 (suc count) (omega arith)
     by false None on = on
     by false (Some place) on = one_later place count ∙ on
 
 -- the same of the place that is found in names that are these
 pub found_before : (place : Option ℕ) (found_in names : List Name) (name : Name) (count : ℕ)
-    → place ≡ first_place found_in name → found_in ≡ names → is_before count place ≡ is_among (take count names) name
+    → place ≡ first_place found_in name → found_in ≡ names → is_before count place ≡ list_any (bytes_eq name) (take count names)
 found_before place found_in names name count found same =
     ap (is_before count) (found ∙ ap (λ names. first_place names name) same) ∙ among_first names name count
 

@@ -1,6 +1,6 @@
 ghost use Rattle.std.specs.Prelude.{◌≡◌, ◌∷◌, ◌++◌, [], bytes_eq, is_some, IfOk, OnOk, OnErr};
 ghost use Rattle.std.specs.List.{list_any};
-ghost use Rattle.cd_resolve.specs.Inner.Places.{first_place, place_of, Enters};
+ghost use Rattle.cd_name_index.specs.FirstPlaces.{first_place, place_of, Enters};
 ghost use Rattle.indexmap.specs.IndexMap.{IsUnchanged};
 
 use crate::key::Key;
@@ -12,7 +12,7 @@ use std::marker::Model;
 /// Names in the order in which they were added, a name as often as it was. A contract sees them in
 /// a list.
 #[derive(Drop)]
-pub(crate) struct NameIndex<'t> {
+pub struct NameIndex<'t> {
     names: Vec<&'t Name>,
     places: IndexMap<Key<'t>, usize>,
 }
@@ -20,7 +20,7 @@ pub(crate) struct NameIndex<'t> {
 impl<'t> Model for NameIndex<'t> {
     ghost use Rattle.std.specs.Prelude.{List, map};
     ghost use Rattle.cd_syntax.specs.Name.{Name as AName};
-    ghost use Rattle.cd_resolve.specs.Inner.Places.{AreFirstPlaces};
+    ghost use Rattle.cd_name_index.specs.FirstPlaces.{AreFirstPlaces};
 
     ghost Value = { List AName };
 
@@ -32,7 +32,7 @@ impl<'t> Model for NameIndex<'t> {
 
 impl<'t> NameIndex<'t> {
     /// No names.
-    pub(crate) fn new(alloc: Global) -> NameIndex<'t>
+    pub fn new(alloc: Global) -> NameIndex<'t>
         ensures { result ≡ [] }
     {
         NameIndex {
@@ -43,7 +43,7 @@ impl<'t> NameIndex<'t> {
 
     /// Adds a name after those that are there, and says whether it is one of them. Where memory
     /// runs out none is added.
-    pub(crate) fn add(&mut self, name: &'t Name) -> Result<bool, AllocError>
+    pub fn add(&mut self, name: &'t Name) -> Result<bool, AllocError>
         ensures again { IfOk result (λ again. again ≡ list_any (bytes_eq name.now) self.old) }
         ensures added { OnOk result (self.new ≡ self.old ++ name.now ∷ []) }
         ensures kept { OnErr result (self.new ≡ self.old) }
@@ -60,7 +60,7 @@ impl<'t> NameIndex<'t> {
     }
 
     /// The first place of a name, counted from zero, if it is one of the names.
-    pub(crate) fn find(&self, name: &Name) -> Option<usize>
+    pub fn find(&self, name: &Name) -> Option<usize>
         ensures { result ≡ first_place self.now name.now }
     {
         self.places.get(&Key { name }).copied()
