@@ -1,0 +1,11 @@
+use Rattle.std.proofs.Common.{◌≡◌, map, drop, None}
+use Rattle.std.specs.Option.{option_map}
+use Rattle.cd_names.specs.Inner.Least.{least_from}
+use Rattle.cd_names.specs.Inner.PlainTold.{plain_told}
+use Rattle.cd_names.proofs.least.least.Given as goal
+
+-- to go on from here gives what the whole gives from the start
+abbrev pub invariant-loop-fault : goal.invariant-loop-fault
+invariant-loop-fault l =
+    least_from (option_map plain_told l.least) (map plain_told (drop l.fault-index l.faults))
+    ≡ least_from None (map plain_told l.faults)

@@ -1,0 +1,4 @@
+pub mod Occurrences
+pub mod VariableFaults
+pub mod ProgramFaults
+pub mod Inner

@@ -1,0 +1,35 @@
+//! The faults of the types in trees.
+ghost use Rattle.std.specs.Prelude.{OnOk, IfErr, map};
+ghost use Rattle.cd_syntax.specs.PlainTree.{plain};
+ghost use Rattle.cd_syntax.specs.WellMadePattern.{IsWellMadePattern};
+ghost use Rattle.cd_model.specs.AllOf.{AllOf};
+ghost use Rattle.cd_resolve.specs.Errors.{IsToldError};
+ghost use Rattle.cd_resolve.specs.Faults.{Fault};
+ghost use Rattle.cd_resolve.specs.Named.{declared_by};
+ghost use Rattle.cd_names.specs.Inner.PlainFound.{plain_trees};
+ghost use Rattle.cd_names.specs.Inner.Faults.{IsFaultOfOne};
+
+use crate::least::first_of;
+use cd_resolve::error::NameError;
+use cd_resolve::{Names, check_tree};
+use cd_syntax::type_tree::Tree;
+use std::alloc::Global;
+
+/// Tells the least fault of the types in trees that see declared names.
+pub(crate) fn check_trees(
+    alloc: Global,
+    names: &Names<'_>,
+    trees: &[&Tree],
+) -> Result<(), NameError>
+    requires { AllOf IsWellMadePattern (plain_trees trees.now) }
+    ensures sound { OnOk result ((fault : Fault)
+        → IsFaultOfOne (declared_by names.now) (plain_trees trees.now) fault → ⊥) }
+    ensures fault { IfErr result (λ error.
+        IsToldError (IsFaultOfOne (declared_by names.now) (plain_trees trees.now)) error) }
+{
+    let mut told = Ok(());
+    for tree in trees {
+        told = first_of(told, check_tree(alloc, names, tree));
+    }
+    told
+}
