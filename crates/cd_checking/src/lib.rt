@@ -1,4 +1,5 @@
-//! The command `check`: whether a program is well typed. So far it is read, and no more.
+//! The command `check`: whether a program is well typed. So far it is read, with its names, and no
+//! more.
 #![tactic(auto)]
 
 ghost use Rattle.std.specs.Prelude.{◌≡◌, IfOk};

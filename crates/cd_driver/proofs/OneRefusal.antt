@@ -1,22 +1,23 @@
 -- At most one thing stands against a text, but for the name that is told of a naming fault, and none against a text that reads.
-use Rattle.std.proofs.Common.{◌≡◌, List, length, refl, sym, ap, subst, ◌∙◌}
+use Rattle.std.proofs.Common.{◌≡◌, ℕ, List, length, refl, sym, ap, subst, ◌∙◌}
 use Rattle.std.specs.Str.{chars}
 use Rattle.cd_syntax.specs.declared.tokens.Token.{Token}
 use Rattle.cd_syntax.specs.TypeTree.{Declarations}
-use Rattle.cd_program.specs.Expr.{Program}
+use Rattle.cd_program.specs.Expr.{Program, FunctionTree}
 use Rattle.cd_syntax.specs.SyntaxFaults.{Form, IsForm, IsSyntaxFault, IsDepthFault}
-use Rattle.cd_grammar.specs.Language.{IsTree, AreDeclared}
+use Rattle.cd_grammar.specs.Language.{IsTree, AreDeclared, IsProgram}
 use Rattle.cd_grammar.specs.Forms.{AType, SomeDeclarations, AProgram}
 use Rattle.cd_grammar.proofs.FormsOfTexts.{type_form, declarations_form, program_form}
-use Rattle.cd_grammar.proofs.OneReading.{one_tree, one_declared}
+use Rattle.cd_grammar.proofs.OneReading.{one_tree, one_declared, one_program}
 use Rattle.cd_model.specs.Written.{Written}
 use Rattle.cd_resolve.specs.Faults.{Fault, IsFaultOfType, IsFaultOfDeclarations}
+use Rattle.cd_names.specs.ProgramFaults.{IsFaultOfProgram}
 use Rattle.cd_lex.proofs.ReadingIsOne.{one_list, one_fault, not_both as spelled_or_not}
 use Rattle.cd_replies.specs.Bytes.{Bytes}
 use Rattle.cd_replies.specs.Reply.{refusal}
 use Rattle.cd_replies.specs.Texts.{Against, Lexical, Syntax, TooDeep, Naming, HasTokens, Refuses, lexical, syntax, too_deep, naming}
 use Rattle.cd_replies.specs.Texts.{ReadsAs, Declares, RefusesType, RefusesDeclarations, IsToldOfType, IsToldOfDeclarations, type_of}
-use Rattle.cd_replies.specs.Texts.{WritesProgram, RefusesProgram, NoFaultIsTold}
+use Rattle.cd_replies.specs.Texts.{ReadsAsProgram, RefusesProgram, IsToldOfProgram}
 use Rattle.cd_driver.proofs.OneFault.{syntax_one, depth_one, not_both, written_no_syntax, written_no_depth}
 
 -- the same thing stands against a text, or a naming fault in each case
@@ -95,8 +96,20 @@ writes_type declared tokens fault is = (is.0, is.1)
 writes_declarations : (tokens : List Token) (fault : Fault) → IsToldOfDeclarations tokens fault → SomeDeclarations.Writes 1000 tokens
 writes_declarations tokens fault is = (is.0, is.1)
 
-writes_program : (tokens : List Token) (fault : Fault) → NoFaultIsTold tokens fault → AProgram.Writes 1000 tokens
-writes_program tokens fault none = absurd none
+writes_program : (end : ℕ) (tokens : List Token) (fault : Fault) → IsToldOfProgram end tokens fault → AProgram.Writes 1000 tokens
+writes_program end tokens fault is = (is.0, is.1)
+
+-- tokens write one program, whose text ends there
+abbrev program_of : Declarations → List FunctionTree → ℕ → Program
+program_of types functions end = record { types = types; functions = functions; end = end }
+
+same_program : (tokens : List Token) (first second : Program) → IsProgram 1000 tokens first → IsProgram 1000 tokens second
+    → first.end ≡ second.end → first ≡ second
+same_program tokens first second one other ends =
+    let same = one_program 1000 1000 tokens first second one other in
+    ap (λ types. program_of types first.functions first.end) same.0
+    ∙ ap (λ functions. program_of second.types functions first.end) same.1
+    ∙ ap (program_of second.types second.functions) ends
 
 -- what is said of what stands against a text has one status
 pub one_type_refusal : (declared : Declarations) (origin text : Bytes) (a b : Against) → RefusesType declared text a → RefusesType declared text b
@@ -112,9 +125,9 @@ one_declarations_refusal origin text a b first second = one_status origin text a
 pub one_program_refusal : (origin text : Bytes) (a b : Against) → RefusesProgram text a → RefusesProgram text b
     → (refusal origin text a).status ≡ (refusal origin text b).status
 one_program_refusal origin text a b first second = one_status origin text a b
-    (one_refusal AProgram program_form NoFaultIsTold writes_program text a b first second)
+    (one_refusal AProgram program_form (IsToldOfProgram (length text)) (writes_program (length text)) text a b first second)
 
--- a text that reads as a type is not refused, nor is one that reads as declarations, nor one that is written as a
+-- a text that reads as a type is not refused, nor is one that reads as declarations, nor one that reads as a
 -- program
 pub reads_unrefused : (declared : Declarations) (text : Bytes) (is : Written) → ReadsAs declared text is
     → (against : Against) → RefusesType declared text against → ⊥
@@ -134,11 +147,15 @@ declares_unrefused text declared declares against refuses =
     declares.sound fault (subst (λ list. IsFaultOfDeclarations list fault) same told.2.is))
     against refuses
 
-pub program_unrefused : (text : Bytes) (program : Program) → WritesProgram text program
+pub program_unrefused : (text : Bytes) (program : Program) → ReadsAsProgram text program
     → (against : Against) → RefusesProgram text against → ⊥
-program_unrefused text program writes against refuses =
-    stands_not AProgram program_form NoFaultIsTold writes_program text writes.tokens writes.spelled
-    (program, writes.written) (λ fault none. none) against refuses
+program_unrefused text program reads against refuses =
+    stands_not AProgram program_form (IsToldOfProgram (length text)) (writes_program (length text)) text reads.tokens reads.spelled
+    (program, reads.written)
+    (λ fault told.
+    let same = same_program reads.tokens told.0 program told.1 reads.written (told.2 ∙ sym reads.ends) in
+    reads.sound fault (subst (λ is. IsFaultOfProgram is fault) same told.3.is))
+    against refuses
 
 -- a text reads as one type at most, and as one list of declarations
 pub reads_one : (declared : Declarations) (text : Bytes) (first second : Written) → ReadsAs declared text first → ReadsAs declared text second

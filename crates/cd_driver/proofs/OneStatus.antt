@@ -22,7 +22,7 @@ use Rattle.cd_member.specs.DocumentTexts.{RefusesDocument, FileWrites, IsValueIn
 use Rattle.cd_member.specs.MemberAnswer as member
 use Rattle.cd_member.specs.MemberAnswer.{FileDeclares, DocumentAnswer, MemberAnswer}
 use Rattle.cd_checking.specs.CheckAnswer as checking
-use Rattle.cd_checking.specs.CheckAnswer.{CheckAnswer, FileWritesProgram}
+use Rattle.cd_checking.specs.CheckAnswer.{CheckAnswer, FileHasProgram}
 use Rattle.cd_driver.proofs.OneCommand.{one_command}
 use Rattle.cd_driver.proofs.OneRefusal.{one_type_refusal, one_declarations_refusal, reads_unrefused, declares_unrefused, reads_one, declares_one}
 use Rattle.cd_driver.proofs.OneRefusal.{one_program_refusal, program_unrefused}
@@ -177,12 +177,12 @@ module _ (disk : Disk) (file : Bytes) (known : IsKnown disk file) where
   document_one type _ _ (member.no v writes outside) (member.yes v' writes' inside) = one_answer type v' v writes' writes inside outside
   document_one type _ _ (member.no v writes outside) (member.no v' writes' outside') = refl
 
-  -- a file that writes a program is not refused
+  -- a file that has a program is not refused
   unrefused : {A : Type 0} (reply : Reply) (program : Program) → FileRefusal RefusesProgram disk file reply
-      → FileWritesProgram disk file program → A
+      → FileHasProgram disk file program → A
   unrefused reply program refusal writes =
       absurd (refused_or_not RefusesProgram reply writes.text refusal writes.has
-      (program_unrefused writes.text program writes.writes))
+      (program_unrefused writes.text program writes.reads))
 
   check_one : (r s : Reply) → CheckAnswer disk file r → CheckAnswer disk file s → r.status ≡ s.status
   check_one _ _ (checking.file_refused r refusal) (checking.file_refused s refusal') =

@@ -113,7 +113,7 @@ module _ (words : List Bytes) (disk : Disk) (before after : World) (met : Met be
       file_reason RefusesProgram file (record { command = Check file; give = give; is = inl refl })
       (λ text has against stands. in_program file give text has stands) reply refusal
   check_reason file give _ (checking.unbuilt program writes) =
-      inr (record { disk = disk; met = met; file = file; give = give; program = program; writes = writes })
+      inr (record { disk = disk; met = met; file = file; give = give; program = program; has = writes })
 
   unbuilt_reason : (command : Command) → Give words command → CommandIsNotBuilt command → (reply : Reply) → reply ≡ not_built (name_of command)
       → Reason words before after reply.status

@@ -22,7 +22,7 @@ use Rattle.cd_replies.specs.Disk.{Disk, Met, Has, HasText, LARGEST}
 use Rattle.cd_driver.specs.Causes.{SinkFailed}
 use Rattle.cd_member.specs.DocumentTexts.{RefusesDocument, FileWrites, IsValueIn, IsValueOutside}
 use Rattle.cd_member.specs.MemberAnswer.{FileDeclares}
-use Rattle.cd_checking.specs.CheckAnswer.{FileWritesProgram}
+use Rattle.cd_checking.specs.CheckAnswer.{FileHasProgram}
 
 -- the words ask about two type texts, which see these declarations: none, or those of a file
 pub data GiveTexts (words : List Bytes) (disk : Disk) : Declarations → (text1 text2 : Bytes)
@@ -180,14 +180,14 @@ pub record IsNotBuilt (words : List Bytes) : Type 0 where
   pub unbuilt : CommandIsNotBuilt command
 
 -- the words ask whether the program of a file is well typed, and the file, of those that were met,
--- writes one: it is read, and no check is built
+-- has one, whose names are sound: no check of its types is built
 pub record IsUnchecked (words : List Bytes) (before after : World) : Type 0 where
   pub disk : Disk
   pub met : Met before.files after.files disk
   pub file : Bytes
   pub give : Give words (Check file)
   pub program : Program
-  pub writes : FileWritesProgram disk file program
+  pub has : FileHasProgram disk file program
 
 -- the reason for each status; want of memory is free, and the others don't come
 abbrev pub Reason : List Bytes → World → World → Status → Type 0

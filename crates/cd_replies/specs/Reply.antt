@@ -16,6 +16,9 @@ use Rattle.cd_replies.specs.Position.{position}
 use Rattle.cd_resolve.specs.Faults.{Fault}
 use Rattle.cd_resolve.specs.declared.fault.NameFault.{NameFault}
 use Rattle.cd_resolve.specs.declared.fault.NameFault.TheVariants.{Unknown, Twice, Unguarded}
+use Rattle.cd_resolve.specs.declared.fault.NameFault.TheVariants.{VariablesDiffer, VariableTwice}
+use Rattle.cd_resolve.specs.declared.fault.NameFault.TheVariants.{VariableRepeats}
+use Rattle.cd_resolve.specs.declared.fault.NameFault.TheVariants.{VariableMisplaced, NoMain}
 use Rattle.cd_replies.specs.Texts.{Against, Lexical, Syntax, TooDeep, Naming}
 
 pub record Reply : Type 0 where
@@ -75,6 +78,11 @@ abbrev pub naming_message : NameFault → Bytes → Bytes
 naming_message Unknown name = codes "unknown name " ++ name
 naming_message Twice name = codes "name " ++ name ++ codes " twice"
 naming_message Unguarded name = codes "type " ++ name ++ codes " is not guarded"
+naming_message VariablesDiffer name = codes "sides of | bind different variables"
+naming_message VariableTwice name = codes "variable " ++ name ++ codes " twice"
+naming_message VariableRepeats name = codes "variable " ++ name ++ codes " repeats"
+naming_message VariableMisplaced name = codes "variable " ++ name ++ codes " misplaced"
+naming_message NoMain name = codes "no main"
 
 abbrev pub naming : (origin text : Bytes) → Fault → Reply
 naming origin text fault =

@@ -13,6 +13,7 @@ use Rattle.cd_grammar.specs.Language.{IsTree, AreDeclared, IsProgram}
 use Rattle.cd_grammar.specs.Forms.{AType, SomeDeclarations, AProgram}
 use Rattle.cd_model.specs.Written.{Written}
 use Rattle.cd_resolve.specs.Faults.{Fault, IsFaultOfType, IsFaultOfDeclarations, IsTold}
+use Rattle.cd_names.specs.ProgramFaults.{IsFaultOfProgram}
 use Rattle.cd_replies.specs.Bytes.{Bytes}
 
 -- the text is spelled by these tokens
@@ -39,12 +40,13 @@ pub record Declares (text : Bytes) (declared : Declarations) : Type 0 where
   pub written : AreDeclared 1000 tokens declared
   pub sound : (fault : Fault) → IsFaultOfDeclarations declared fault → ⊥
 
--- the text is written as this program, with whatever names, and ends where the program says
-pub record WritesProgram (text : Bytes) (program : Program) : Type 0 where
+-- the text reads as this program, which ends where the text does, and its names are sound
+pub record ReadsAsProgram (text : Bytes) (program : Program) : Type 0 where
   pub tokens : List Token
   pub spelled : HasTokens text tokens
   pub written : IsProgram 1000 tokens program
   pub ends : program.end ≡ length text
+  pub sound : (fault : Fault) → IsFaultOfProgram program fault → ⊥
 
 -- what stands against a text, whose tokens are to be of a form: its first lexical fault, the place
 -- of its fault of syntax, or that of a form too deep, or the naming fault that is told of it
@@ -69,7 +71,8 @@ pub data Refuses (form : Form) (told : List Token → Fault → Type 0) (text : 
   naming : (tokens : List Token) → HasTokens text tokens → (fault : Fault) → told tokens fault
       → Refuses form told text (Naming fault)
 
--- the fault is told of the type that the tokens write, and of the declarations
+-- the fault is told of the type that the tokens write, of the declarations, and of the program,
+-- whose text ends there
 abbrev pub IsToldOfType : Declarations → List Token → Fault → Type 0
 IsToldOfType declared tokens fault = (is : Tree) × IsTree 1000 tokens is
     × IsTold (IsFaultOfType declared is) fault
@@ -79,17 +82,18 @@ IsToldOfDeclarations tokens fault =
     (declared : Declarations) × AreDeclared 1000 tokens declared
     × IsTold (IsFaultOfDeclarations declared) fault
 
--- what stands against a type text that sees these declarations, and against a file of declarations
+abbrev pub IsToldOfProgram : (end : ℕ) → List Token → Fault → Type 0
+IsToldOfProgram end tokens fault =
+    (program : Program) × IsProgram 1000 tokens program × (program.end ≡ end)
+    × IsTold (IsFaultOfProgram program) fault
+
+-- what stands against a type text that sees these declarations, against a file of declarations, and
+-- against a program, its types aside
 abbrev pub RefusesType : Declarations → Bytes → Against → Type 0
 RefusesType declared text against = Refuses AType (IsToldOfType declared) text against
 
 abbrev pub RefusesDeclarations : Bytes → Against → Type 0
 RefusesDeclarations text against = Refuses SomeDeclarations IsToldOfDeclarations text against
 
--- of the names of a program no fault is told yet
-abbrev pub NoFaultIsTold : List Token → Fault → Type 0
-NoFaultIsTold tokens fault = ⊥
-
--- what stands against a program, its names and types aside
 abbrev pub RefusesProgram : Bytes → Against → Type 0
-RefusesProgram text against = Refuses AProgram NoFaultIsTold text against
+RefusesProgram text against = Refuses AProgram (IsToldOfProgram (length text)) text against

@@ -147,6 +147,13 @@ fn naming_message(alloc: Global, fault: NameFault, name: &str) -> Result<String,
         NameFault::Unknown => format!(in alloc; "unknown name {name}"),
         NameFault::Twice => format!(in alloc; "name {name} twice"),
         NameFault::Unguarded => format!(in alloc; "type {name} is not guarded"),
+        NameFault::VariablesDiffer => {
+            String::from_str(alloc, "sides of | bind different variables")
+        }
+        NameFault::VariableTwice => format!(in alloc; "variable {name} twice"),
+        NameFault::VariableRepeats => format!(in alloc; "variable {name} repeats"),
+        NameFault::VariableMisplaced => format!(in alloc; "variable {name} misplaced"),
+        NameFault::NoMain => String::from_str(alloc, "no main"),
     }
 }
 

@@ -16,11 +16,12 @@ ghost use Rattle.cd_replies.specs.Message.{against};
 ghost use Rattle.cd_replies.specs.Naming.{Writes, AreNamedWell, RefusesNames, StandsForText};
 ghost use Rattle.cd_replies.specs.Inner.Refusal.{IsOfFault, IsOfNames};
 ghost use Rattle.cd_replies.specs.Texts.{HasTokens, RefusesType, RefusesDeclarations};
-ghost use Rattle.cd_replies.specs.Texts.{WritesProgram, RefusesProgram};
+ghost use Rattle.cd_replies.specs.Texts.{ReadsAsProgram, RefusesProgram};
 
 use crate::refusal::Refusal;
 use cd_graph::Graph;
 use cd_lex::lex;
+use cd_names::check_program;
 use cd_parser::{ParseError, parse_declarations, parse_program, parse_type};
 use cd_program::program::Program;
 use cd_resolve::error::NameError;
@@ -54,14 +55,14 @@ pub fn read_declarations(
     }
 }
 
-/// The program that a text is written as, or what stands against it, its names and types aside.
+/// The program that a text reads as, or what stands against it, its types aside.
 ///
 /// # Errors
 ///
 /// Want of memory.
 pub fn read_program(alloc: Global, text: &str) -> Result<Result<Program, Refusal>, AllocError>
     ensures read { IfOk result (λ read. MatchResult read
-        (λ program. WritesProgram text.now (plain_program program))
+        (λ program. ReadsAsProgram text.now (plain_program program))
         (λ refusal. RefusesProgram text.now (against refusal))) }
     ensures well_made { IfOk result (λ read. IfOk read
         (λ program. IsWellMadeProgram (plain_program program))) }
@@ -70,9 +71,13 @@ pub fn read_program(alloc: Global, text: &str) -> Result<Result<Program, Refusal
         Ok(tokens) => tokens,
         Err(fault) => return Ok(Err(Refusal::Lexical(fault))),
     };
-    match parse_program(alloc, tokens.as_slice(), text.len()) {
-        Ok(program) => Ok(Ok(program)),
-        Err(error) => Ok(Err(refusal_of(error)?)),
+    let program = match parse_program(alloc, tokens.as_slice(), text.len()) {
+        Ok(program) => program,
+        Err(error) => return Ok(Err(refusal_of(error)?)),
+    };
+    match check_program(alloc, &program) {
+        Ok(()) => Ok(Ok(program)),
+        Err(error) => Ok(Err(refusal_of_names(error)?)),
     }
 }
 

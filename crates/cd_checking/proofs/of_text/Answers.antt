@@ -6,15 +6,15 @@ use Rattle.cd_replies.proofs.Messages.{replies}
 use Rattle.cd_checking.specs.CheckAnswer.{CheckAnswer, file_refused, unbuilt}
 use Rattle.cd_checking.proofs.of_text.Goals as goal
 
--- the text is written as a program
+-- the text reads as a program
 pub returns-in-Ok : goal.returns-in-Ok
 returns-in-Ok c =
     let file = c.args.file.now in
     let text = c.args.text.now in
-    let writes = rw c.in-Ok.is at c.in_ok-program.ensures.read in
+    let reads = rw c.in-Ok.is at c.in_ok-program.ensures.read in
     replies c.not_built.result (not_built file)
     (λ reply. (disk : Disk) → HasText disk file text → CheckAnswer disk file reply) c.not_built.ensures
-    (λ disk has. unbuilt (plain_program c.in-Ok.program) (record { text = text; has = has; writes = writes }))
+    (λ disk has. unbuilt (plain_program c.in-Ok.program) (record { text = text; has = has; reads = reads }))
 
 -- or this stands against it
 pub returns-in-Err : goal.returns-in-Err
