@@ -28,3 +28,8 @@ pub mod BindsNoMore
 pub mod PiecesBind
 pub mod MadeIsSound
 pub mod MadeExample
+pub mod TypesInTurn
+pub mod Filling
+pub mod AlikeFilled
+pub mod TypesSound
+pub mod PatternsResolved
