@@ -1,3 +1,10 @@
--- What serves proofs. No public clause speaks of it.
+-- What serves proofs and private functions. No public clause speaks of it.
 pub mod WaysIn
 pub mod Types
+pub mod Rows
+pub mod Gathering
+pub mod Building
+pub mod PlainGroups
+pub mod PlainSteps
+pub mod PlainJoint
+pub mod Plans

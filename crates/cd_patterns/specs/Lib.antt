@@ -1,3 +1,4 @@
+pub mod Labelled
 pub mod Automaton
 pub mod Inner
 pub mod Examples

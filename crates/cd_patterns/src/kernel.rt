@@ -1,0 +1,50 @@
+//! The kernel of a pattern.
+ghost use Rattle.std.specs.Prelude.{◌≡◌, IfOk};
+ghost use Rattle.cd_patterns.specs.Labelled.{HasLabels};
+ghost use Rattle.cd_matching.specs.Naming.{IsNamed};
+ghost use Rattle.cd_matching.specs.PlainKernel.{plain_kernel};
+ghost use Rattle.cd_matching.specs.PlainPattern.{plain};
+ghost use Rattle.cd_patterns.specs.Inner.Building.{kernel_of};
+ghost use Rattle.cd_patterns.specs.Making.{IsMade, TakesAlike};
+
+use crate::names::variables;
+use crate::nodes::put_pattern;
+use cd_matching::kernel::Kernel;
+use cd_matching::pattern::Pat;
+use std::alloc::{AllocError, Global};
+
+/// The kernel of a pattern, which takes what the pattern takes, with the same captures. No variable
+/// of the pattern is at fault, and its labels are labels.
+///
+/// # Errors
+///
+/// Want of memory, also where the number of a node would be no word.
+pub fn kernel(alloc: Global, pattern: &Pat) -> Result<Kernel, AllocError>
+    requires named { IsNamed (plain pattern.now) }
+    requires labels { HasLabels (plain pattern.now) }
+    ensures { IfOk result (λ kernel. TakesAlike (plain pattern.now) (plain_kernel kernel)) }
+{
+    Ok(kernel_made(alloc, pattern)?)
+}
+
+// The kernel that is made of a pattern.
+fn kernel_made(alloc: Global, pattern: &Pat) -> Result<Kernel, AllocError>
+    requires named { IsNamed (plain pattern.now) }
+    requires labels { HasLabels (plain pattern.now) }
+    ensures { IfOk result (λ kernel. IsMade (plain pattern.now) (plain_kernel kernel)) }
+{
+    Ok(make(alloc, pattern)?)
+}
+
+fn make(alloc: Global, pattern: &Pat) -> Result<Kernel, AllocError>
+    ensures { IfOk result (λ kernel. plain_kernel kernel ≡ kernel_of (plain pattern.now)) }
+{
+    let variables = variables(alloc, pattern)?;
+    let mut nodes = Vec::new(alloc);
+    let root = put_pattern(alloc, variables.as_slice(), true, pattern, &mut nodes)?;
+    Ok(Kernel {
+        nodes,
+        root,
+        variables,
+    })
+}
