@@ -26,7 +26,7 @@ module _ (X C R : Type 0) (Sort : X → Type 0) (inside : X → C → Type 0)
   IsIn = InClause X C R inside has
 
   abbrev less : List R → List C → List (List C)
-  less = refining.less C R within without inhabited
+  less = refining.less C R within without
 
   abbrev keep_if : Bool → List C → List (List C) → List (List C)
   keep_if = refining.keep_if C R within without inhabited

@@ -9,6 +9,7 @@ use Rattle.cd_products.specs.QuestionBoxes.{within_node, without_node, QuestionC
 use Rattle.cd_products.specs.QuestionBoxes.{question_pieces_of, question_pieces, InQuestion}
 use Rattle.cd_products.specs.QuestionBoxes.{InQuestions, InOneQuestionsAtMost, InClauses}
 use Rattle.cd_products.specs.QuestionBoxes.{AreDecided, DropsEmpty}
+use Rattle.cd_products.proofs.OneMore.{each_with, each_without}
 use Rattle.cd_products.proofs.Pieces.{pieces_only, pieces_inhabited, pieces_cover, pieces_once}
 
 module _ (answers : Thing → Answers NodeId) (Sort : Thing → Type 0)
@@ -21,11 +22,19 @@ module _ (answers : Thing → Answers NodeId) (Sort : Thing → Type 0)
 
   within_is : (d : Thing) (id : NodeId) (question : Question)
       → InIt d (within_node id question) ↔ (InIt d question × answers d id true)
-  within_is d id question = (λ h. ((h.0.1, h.1), h.0.0), λ h. ((h.1, h.0.0), h.0.1))
+  within_is d id question = (
+    λ h. let both = each_without (λ id. answers d id true) id question.pos h.0 in
+        ((both.1, h.1), both.0),
+    λ h. (each_with (λ id. answers d id true) id question.pos h.1 h.0.0, h.0.1),
+  )
 
   without_is : (d : Thing) (id : NodeId) (question : Question)
       → InIt d (without_node id question) ↔ (InIt d question × answers d id false)
-  without_is d id question = (λ h. ((h.0, h.1.1), h.1.0), λ h. (h.0.0, (h.1, h.0.1)))
+  without_is d id question = (
+    λ h. let both = each_without (λ id. answers d id false) id question.neg h.1 in
+        ((h.0, both.1), both.0),
+    λ h. (h.0.0, each_with (λ id. answers d id false) id question.neg h.1 h.0.1),
+  )
 
   pub only : (things : List Thing) (clauses : List QuestionClause)
       → InBoxes things (question_pieces inhabited clauses)

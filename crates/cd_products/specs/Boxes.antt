@@ -7,7 +7,7 @@ pub record Clause (C R : Type 0) : Type 0 where
   pub box : List C
   pub refused : List (List R)
 
-module _ (C R : Type 0) (within without : R → C → C) (inhabited : List C → Bool) where
+module _ (C R : Type 0) (within without : R → C → C) where
   -- A box less one row: outside the row in the first cell, or within it there and outside it
   -- further on
   abbrev pub less : List R → List C → List (List C)
@@ -16,27 +16,29 @@ module _ (C R : Type 0) (within without : R → C → C) (inhabited : List C →
   less (r ∷ row) (c ∷ cells) =
       (without r c ∷ cells) ∷ map (λ box. within r c ∷ box) (less row cells)
 
-  abbrev pub keep_if : Bool → List C → List (List C) → List (List C)
-  keep_if true box boxes = box ∷ boxes
-  keep_if false box boxes = boxes
+  -- where a test says which boxes are inhabited
+  module _ (inhabited : List C → Bool) where
+    abbrev pub keep_if : Bool → List C → List (List C) → List (List C)
+    keep_if true box boxes = box ∷ boxes
+    keep_if false box boxes = boxes
 
-  -- the inhabited ones
-  abbrev pub keep : List (List C) → List (List C)
-  keep [] = []
-  keep (box ∷ boxes) = keep_if (inhabited box) box (keep boxes)
+    -- the inhabited ones
+    abbrev pub keep : List (List C) → List (List C)
+    keep [] = []
+    keep (box ∷ boxes) = keep_if (inhabited box) box (keep boxes)
 
-  -- boxes less one row, and less each of these
-  abbrev pub refuse : List R → List (List C) → List (List C)
-  refuse row [] = []
-  refuse row (box ∷ boxes) = keep (less row box) ++ refuse row boxes
+    -- boxes less one row, and less each of these
+    abbrev pub refuse : List R → List (List C) → List (List C)
+    refuse row [] = []
+    refuse row (box ∷ boxes) = keep (less row box) ++ refuse row boxes
 
-  abbrev pub refuse_all : List (List R) → List (List C) → List (List C)
-  refuse_all [] boxes = boxes
-  refuse_all (row ∷ refused) boxes = refuse_all refused (refuse row boxes)
+    abbrev pub refuse_all : List (List R) → List (List C) → List (List C)
+    refuse_all [] boxes = boxes
+    refuse_all (row ∷ refused) boxes = refuse_all refused (refuse row boxes)
 
-  abbrev pub pieces_of : Clause C R → List (List C)
-  pieces_of clause = refuse_all clause.refused (keep (clause.box ∷ []))
+    abbrev pub pieces_of : Clause C R → List (List C)
+    pieces_of clause = refuse_all clause.refused (keep (clause.box ∷ []))
 
-  abbrev pub pieces : List (Clause C R) → List (List C)
-  pieces [] = []
-  pieces (clause ∷ clauses) = pieces_of clause ++ pieces clauses
+    abbrev pub pieces : List (Clause C R) → List (List C)
+    pieces [] = []
+    pieces (clause ∷ clauses) = pieces_of clause ++ pieces clauses

@@ -2,3 +2,4 @@ pub mod Boxes
 pub mod InBoxes
 pub mod QuestionBoxes
 pub mod Products
+pub mod Inner

@@ -6,14 +6,16 @@ use Rattle.cd_model.specs.AllOf.{AllOf, AnyOf}
 use Rattle.cd_model.specs.Formula.{asked}
 use Rattle.cd_model.specs.Thing.{Thing, Pair, Xml}
 use Rattle.cd_model.specs.Types.{Answers}
+use Rattle.cd_rules.specs.Needs.{with_id}
 use Rattle.cd_products.specs.Boxes.{Clause, pieces, pieces_of}
 use Rattle.cd_products.specs.InBoxes.{InBox, InClause, InOneAtMost}
 
+-- what of a question is in a node too, and what is outside it
 abbrev pub within_node : NodeId → Question → Question
-within_node id question = record { pos = id ∷ question.pos; neg = question.neg }
+within_node id question = record { pos = with_id id question.pos; neg = question.neg }
 
 abbrev pub without_node : NodeId → Question → Question
-without_node id question = record { pos = question.pos; neg = id ∷ question.neg }
+without_node id question = record { pos = question.pos; neg = with_id id question.neg }
 
 abbrev pub QuestionClause : Type 0
 QuestionClause = Clause Question NodeId

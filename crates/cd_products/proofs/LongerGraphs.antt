@@ -1,0 +1,109 @@
+-- A longer graph has the same clauses of old questions, and the same right tests of their boxes.
+use Rattle.std.proofs.Common.{◌≡◌, ℕ, zero, suc, ◌<◌, Bool, true, false, List, [], ◌∷◌, ◌++◌, inl}
+use Rattle.std.proofs.Common.{inr}
+use Rattle.std.proofs.Common.{length, refl, sym, ap, subst, arith}
+use Rattle.std.proofs.Math.Path.{ap₂}
+use Rattle.cd_sets.specs.declared.node_id.NodeId.{NodeId}
+use Rattle.cd_sets.specs.declared.question.Question.{Question}
+use Rattle.cd_model.specs.AllOf.{AllOf, AnyOf}
+use Rattle.cd_model.specs.BuiltIns.{node}
+use Rattle.cd_model.specs.Formula.{Graph, IsGraph, formula_at}
+use Rattle.cd_model.specs.Membership.{answers}
+use Rattle.cd_model.proofs.Extending.{kept_elements}
+use Rattle.cd_rules.specs.Choices.{Choice, choices, joined, choices_at, choices_of}
+use Rattle.cd_rules.specs.Clauses.{Clause, IsClauseOf}
+use Rattle.cd_rules.specs.Family.{AsksNodes}
+use Rattle.cd_rules.specs.Members.{HasElement}
+use Rattle.cd_rules.proofs.Ones.{each_of_two}
+use Rattle.cd_products.specs.Inner.ClauseBoxes.{AreClauses}
+use Rattle.cd_products.specs.Inner.Tests.{IsTested, IsTest}
+
+formula_kept : (graph more : Graph) (id : ℕ) → id < length graph
+    → formula_at graph (node id) ≡ formula_at (graph ++ more) (node id)
+formula_kept [] more id below = absurd (omega arith)
+formula_kept (is ∷ graph) more zero below = refl
+formula_kept (is ∷ graph) more (suc id) below = formula_kept graph more id (omega arith)
+
+at_kept : (graph more : Graph) (ids : List NodeId) (wanted : Bool)
+    → AllOf (λ id. id.0 < length graph) ids
+    → choices_at graph ids wanted ≡ choices_at (graph ++ more) ids wanted
+at_kept graph more [] wanted below = refl
+at_kept graph more (id ∷ ids) wanted below = ap₂ joined
+    (ap (λ is. choices is wanted) (formula_kept graph more id.0 below.0))
+    (at_kept graph more ids wanted below.1)
+
+choices_kept : (graph more : Graph) (question : Question) → AsksNodes (length graph) question
+    → choices_of graph question ≡ choices_of (graph ++ more) question
+choices_kept graph more question below = ap₂ joined (at_kept graph more question.pos true below.0)
+    (at_kept graph more question.neg false below.1)
+
+-- all clauses by the conjuncts
+abbrev AreAll : List Clause → List Choice → Type 0
+AreAll all choices = AllOf (λ is. AnyOf (λ choice. IsClauseOf choice is) choices) all
+
+pub clauses_kept : (graph more : Graph) (question : Question) → AsksNodes (length graph) question
+    → (all : List Clause) → AreClauses graph question all → AreClauses (graph ++ more) question all
+clauses_kept graph more question below all are = (
+  subst (AreAll all) (choices_kept graph more question below) are.0,
+  λ is of. are.1 is (subst (AnyOf (λ choice. IsClauseOf choice is))
+      (sym (choices_kept graph more question below)) of),
+)
+
+module _ (graph more : Graph) (sound : IsGraph graph) where
+  -- the same elements are in a question
+  has_more : (question : Question) → AsksNodes (length graph) question → HasElement graph question
+      → HasElement (graph ++ more) question
+  has_more question asks (e, is, inside) = (
+    e,
+    is,
+    (
+      each_of_two (λ id. id.0 < length graph) (λ id. answers graph e id true)
+          (λ id. answers (graph ++ more) e id true)
+          (λ id below there. (kept_elements graph more sound e id true below).0 there)
+          question.pos asks.0 inside.0,
+      each_of_two (λ id. id.0 < length graph) (λ id. answers graph e id false)
+          (λ id. answers (graph ++ more) e id false)
+          (λ id below there. (kept_elements graph more sound e id false below).0 there)
+          question.neg asks.1 inside.1,
+    ),
+  )
+
+  has_less : (question : Question) → AsksNodes (length graph) question
+      → HasElement (graph ++ more) question → HasElement graph question
+  has_less question asks (e, is, inside) = (
+    e,
+    is,
+    (
+      each_of_two (λ id. id.0 < length graph) (λ id. answers (graph ++ more) e id true)
+          (λ id. answers graph e id true)
+          (λ id below there. (kept_elements graph more sound e id true below).1 there)
+          question.pos asks.0 inside.0,
+      each_of_two (λ id. id.0 < length graph) (λ id. answers (graph ++ more) e id false)
+          (λ id. answers graph e id false)
+          (λ id below there. (kept_elements graph more sound e id false below).1 there)
+          question.neg asks.1 inside.1,
+    ),
+  )
+
+  each_less : (box : List Question) → AllOf (AsksNodes (length graph)) box
+      → AllOf (HasElement (graph ++ more)) box → AllOf (HasElement graph) box
+  each_less [] asks each = tt
+  each_less (question ∷ box) asks each =
+      (has_less question asks.0 each.0, each_less box asks.1 each.1)
+
+  one_less : (box : List Question) → AllOf (AsksNodes (length graph)) box
+      → AnyOf (λ question. HasElement (graph ++ more) question → ⊥) box
+      → AnyOf (λ question. HasElement graph question → ⊥) box
+  one_less [] asks one = one
+  one_less (question ∷ box) asks (inl none) = inl (λ has. none (has_more question asks.0 has))
+  one_less (question ∷ box) asks (inr later) = inr (one_less box asks.1 later)
+
+  tested_less : (box : List Question) → AllOf (AsksNodes (length graph)) box → (b : Bool)
+      → IsTested (graph ++ more) box b → IsTested graph box b
+  tested_less box asks true each = each_less box asks each
+  tested_less box asks false one = one_less box asks one
+
+  -- so a test that is right of the longer graph is right of this one
+  pub test_of_longer : (test : List Question → Bool)
+      → ((box : List Question) → IsTested (graph ++ more) box (test box)) → IsTest graph test
+  test_of_longer test right box asks = tested_less box asks (test box) (right box)

@@ -1,0 +1,5 @@
+-- What serves private functions. No public clause speaks of it.
+pub mod Tests
+pub mod ClauseBoxes
+pub mod PlainBoxes
+pub mod After
