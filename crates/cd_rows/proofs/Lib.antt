@@ -1,0 +1,13 @@
+pub mod Narrowing
+pub mod LessRows
+pub mod RefinedRows
+pub mod FirstRows
+pub mod ClausesOfRecords
+pub mod OwnLabels
+pub mod LivingRows
+pub mod RecordsOfRows
+pub mod RowsAfter
+pub mod RowsOfGraphs
+pub mod MadeRows
+pub mod KeptRows
+pub mod RowsOfClauses

@@ -1,0 +1,13 @@
+//! The records of questions as rows of questions.
+#![tactic(auto)]
+
+mod copied;
+mod cut;
+pub mod laws;
+mod living;
+mod narrowed;
+mod of_records;
+mod refused;
+mod row_clause;
+
+pub use of_records::record_rows;
