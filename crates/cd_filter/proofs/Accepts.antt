@@ -1,11 +1,9 @@
 -- The node of each kernel node holds exactly the things that it takes: elements, and values.
-use Rattle.std.proofs.Common.{◌≡◌, ℕ, ◌<◌, Bool, true, false, List, length, Option, Some, None}
+use Rattle.std.proofs.Common.{◌≡◌, ℕ, Bool, true, false, List, length, Option, Some, None}
 use Rattle.std.proofs.Common.{is_some, option_map, ◌⊎◌, refl, sym, subst}
 use Rattle.cd_syntax.specs.Name.{Name}
 use Rattle.cd_sets.specs.declared.node_id.NodeId.{NodeId}
-use Rattle.cd_model.specs.AllOf.{AllOf}
-use Rattle.cd_model.specs.BuiltIns.{ANY, EMPTY}
-use Rattle.cd_model.specs.Formula as formula
+use Rattle.cd_model.specs.BuiltIns.{EMPTY}
 use Rattle.cd_model.specs.Formula.{Graph, Field, formula_at, at_formula, holds, in_node}
 use Rattle.cd_model.specs.Formula.{nodes as at_node}
 use Rattle.cd_model.specs.Interfaces.{Interfaces, admits, value_in_node}
@@ -18,25 +16,24 @@ use Rattle.cd_model.proofs.Sorts.{Sort}
 use Rattle.cd_matching.specs.Captures.{Captures, both}
 use Rattle.cd_matching.specs.Kernel.{Kernel, KernelNode, Taken, no_parts, by_name, in_a_row}
 use Rattle.cd_matching.specs.Kernel.{apart_of, taken}
-use Rattle.cd_filter.specs.Accepting.{IsFit, AreInRange, IsAcceptedFrom, AreRight, HoldsTaken}
-use Rattle.cd_filter.specs.Accepting.{AreAccepting, place_if, place_of}
+use Rattle.cd_filter.specs.Accepting.{IsAcceptedFrom, AreRight, HoldsTaken, AreAccepting}
+use Rattle.cd_filter.specs.Accepting.{place, place_if, place_of, fields_of, rest_of}
 use Rattle.std.specs.List.{slice_get}
 use Rattle.std.proofs.lemmas.Option.{slice_get_within}
 use Rattle.std.proofs.Common.{zero, suc, ap, ◌∙◌}
 use Rattle.cd_matching.specs.Kernel.{by_node}
-use Rattle.cd_filter.specs.Accepting.{place, fields_of, rest_of, accepting}
+use Rattle.cd_matching.proofs.Unfolding.{unfolds}
 use Rattle.cd_filter.proofs.Combined.{both_answer, gathered_answer, named_answer}
 use Rattle.cd_filter.proofs.AcceptsNodes.{ReadsApart, accepts_in}
 use Rattle.cd_filter.proofs.AcceptsRecords.{IsAccepted, AreAccepted, records}
 
 module _ (graph : Graph) (closed : ℕ → Mapping NodeId) (sort : Sort)
-    (nodes : List (KernelNode NodeId)) (first : ℕ) (test : NodeId → Thing → Bool)
-    (right : AreRight (answers (at_node graph) closed) sort.Of (length graph) test)
-    (everything : formula_at graph ANY ≡ formula.Everything)
-    (nothing_is : formula_at graph EMPTY ≡ formula.Nothing)
-    (in_range : AreInRange nodes) (fit : AllOf (IsFit (length graph)) nodes)
-    (stands : (number : ℕ) → number < length nodes → formula_at graph (place first number)
-    ≡ accepting graph nodes first (length nodes) number) where
+    (kernel : Kernel NodeId) (first : ℕ) (test : NodeId → Thing → Bool)
+    (right : AreRight (answers (at_node graph) closed) sort.Of first test)
+    (is : IsAcceptedFrom graph kernel first) where
+  abbrev nodes : List (KernelNode NodeId)
+  nodes = kernel.nodes
+
   abbrev in_it : Thing → NodeId → Bool → Type 0
   in_it = answers (at_node graph) closed
 
@@ -44,13 +41,13 @@ module _ (graph : Graph) (closed : ℕ → Mapping NodeId) (sort : Sort)
   takes = taken NodeId test nodes
 
   abbrev Accepted : Thing → Type 0
-  Accepted = IsAccepted graph closed sort nodes first test right everything nothing_is
+  Accepted = IsAccepted graph closed sort nodes first test right is.everything is.nothing
 
   abbrev AllAccepted : thing.Fields → Type 0
-  AllAccepted = AreAccepted graph closed sort nodes first test right everything nothing_is
+  AllAccepted = AreAccepted graph closed sort nodes first test right is.everything is.nothing
 
   abbrev Reads : Thing → Type 0
-  Reads d = ReadsApart graph nodes first test in_range fit (reader (at_node graph) closed d)
+  Reads d = ReadsApart graph kernel first test is.sound (reader (at_node graph) closed d)
       (apart_of NodeId test nodes d)
 
   -- what is in both parts, and what is in three
@@ -94,15 +91,15 @@ module _ (graph : Graph) (closed : ℕ → Mapping NodeId) (sort : Sort)
     pairs = λ p q a b. refl;
     gathers = λ by p q a b. refl;
     xmls = λ p q r a b c. refl;
-    records = λ named more within fits. records graph closed sort nodes first test right everything
-        nothing_is fields sound all named more within fits.0 fits.1;
+    records = λ named more within fits. records graph closed sort nodes first test right
+        is.everything is.nothing fields sound all named more within fits.0 fits.2;
   }
 
   -- a thing that has no parts
   of_leaf : (read : Reader NodeId) → ((p q : NodeId) → read (Products p q) false)
       → ((p q r : NodeId) → read (Xmls p q r) false)
       → ((named : List (Name × Field)) (rest : NodeId) → read (Records named rest) false)
-      → ReadsApart graph nodes first test in_range fit read no_parts
+      → ReadsApart graph kernel first test is.sound read no_parts
   of_leaf read products xmls records = record {
     pairs = λ p q a b. products (place first p) (place first q);
     gathers = λ by p q a b. products (place first p) (place first q);
@@ -122,15 +119,12 @@ module _ (graph : Graph) (closed : ℕ → Mapping NodeId) (sort : Sort)
   taken_is (thing.Closure function environment) number = refl
 
   accepts_by : (d : Thing) → sort.Of d → Reads d → Accepted d
-  accepts_by d sound reads number within = subst
-      (λ (o : Option (Captures ℕ)). in_it d (place first number) (is_some o))
-      (sym (taken_is d number))
-      (subst (λ f. holds (at_formula (reader (at_node graph) closed d)) f
-      (is_some (in_a_row NodeId test nodes d (apart_of NodeId test nodes d) (length nodes) number)))
-      (sym (stands number within))
-      (accepts_in graph nodes first test in_range fit (reader (at_node graph) closed d) d
-      (apart_of NodeId test nodes d) (λ id range. right id range d sound) reads (length nodes)
-      number))
+  accepts_by d sound reads number within =
+      accepts_in graph kernel first test is.sound (reader (at_node graph) closed d) d (takes d)
+      (apart_of NodeId test nodes d)
+      (λ other here. unfolds NodeId test nodes d other (is.sound.ends other here))
+      (λ id range. right id range d sound) reads number (formula_at graph (place first number))
+      (is.formulas number within)
 
   mutual
     pub accepts : (d : Thing) → sort.Of d → Accepted d
@@ -177,7 +171,7 @@ module _ (graph : Graph) (closed : ℕ → Mapping NodeId) (sort : Sort)
 
   not_in_empty : (d : Thing) → in_it d EMPTY false
   not_in_empty d = subst (λ f. holds (at_formula (reader (at_node graph) closed d)) f false)
-      (sym nothing_is) refl
+      (sym is.nothing) refl
 
   accepts_if : (d : Thing) → sort.Of d → (number : ℕ) (node : Option (KernelNode NodeId))
       → slice_get nodes number ≡ node
@@ -192,42 +186,38 @@ module _ (graph : Graph) (closed : ℕ → Mapping NodeId) (sort : Sort)
       → in_it d (place_of nodes first number) (is_some (takes d number))
   accepting_all d number sound = accepts_if d sound number (slice_get nodes number) refl
 
-  root_holds : (kernel_variables : List Name) (root : ℕ) → root < length nodes → (d : Thing)
-      → sort.Of d
-      → in_it d (place first root) (is_some (option_map (by_name kernel_variables) (takes d root)))
-  root_holds variables root within d sound = subst (in_it d (place first root))
-      (sym (named_answer variables (takes d root))) (accepts d sound root within)
+  root_holds : (d : Thing) → sort.Of d → in_it d (place first kernel.root)
+      (is_some (option_map (by_name kernel.variables) (takes d kernel.root)))
+  root_holds d sound = subst (in_it d (place first kernel.root))
+      (sym (named_answer kernel.variables (takes d kernel.root)))
+      (accepts d sound kernel.root is.sound.root)
 
 -- of elements, and of values
 pub elements_accepted : (graph : Graph) (kernel : Kernel NodeId) (first : ℕ)
     → IsAcceptedFrom graph kernel first
-    → HoldsTaken (in_node graph) IsElement (length graph) kernel (place first kernel.root)
+    → HoldsTaken (in_node graph) IsElement first kernel (place first kernel.root)
 elements_accepted graph kernel first is test d right sound =
-    root_holds graph no_closure sorts.elements kernel.nodes first test right is.everything
-    is.nothing is.parts is.fit is.stands kernel.variables kernel.root is.root d sound
+    root_holds graph no_closure sorts.elements kernel first test right is d sound
 
 pub values_accepted : (graph : Graph) (interfaces : Interfaces) (kernel : Kernel NodeId)
     (first : ℕ) → IsAcceptedFrom graph kernel first
-    → HoldsTaken (value_in_node graph interfaces) IsValue (length graph) kernel
-    (place first kernel.root)
+    → HoldsTaken (value_in_node graph interfaces) IsValue first kernel (place first kernel.root)
 values_accepted graph interfaces kernel first is test d right sound =
-    root_holds graph (closure_maps (at_node graph) (admits interfaces)) sorts.values kernel.nodes
-    first test right is.everything is.nothing is.parts is.fit is.stands kernel.variables
-    kernel.root is.root d sound
+    root_holds graph (closure_maps (at_node graph) (admits interfaces)) sorts.values kernel first
+    test right is d sound
 
 pub elements_accepting : (graph : Graph) (kernel : Kernel NodeId) (first : ℕ)
     (test : NodeId → Thing → Bool) → IsAcceptedFrom graph kernel first
-    → AreRight (in_node graph) IsElement (length graph) test
+    → AreRight (in_node graph) IsElement first test
     → AreAccepting (in_node graph) IsElement test kernel.nodes (place_of kernel.nodes first)
 elements_accepting graph kernel first test is right =
-    accepting_all graph no_closure sorts.elements kernel.nodes first test right is.everything
-    is.nothing is.parts is.fit is.stands
+    accepting_all graph no_closure sorts.elements kernel first test right is
 
 pub values_accepting : (graph : Graph) (interfaces : Interfaces) (kernel : Kernel NodeId)
     (first : ℕ) (test : NodeId → Thing → Bool) → IsAcceptedFrom graph kernel first
-    → AreRight (value_in_node graph interfaces) IsValue (length graph) test
+    → AreRight (value_in_node graph interfaces) IsValue first test
     → AreAccepting (value_in_node graph interfaces) IsValue test kernel.nodes
     (place_of kernel.nodes first)
 values_accepting graph interfaces kernel first test is right =
-    accepting_all graph (closure_maps (at_node graph) (admits interfaces)) sorts.values
-    kernel.nodes first test right is.everything is.nothing is.parts is.fit is.stands
+    accepting_all graph (closure_maps (at_node graph) (admits interfaces)) sorts.values kernel
+    first test right is

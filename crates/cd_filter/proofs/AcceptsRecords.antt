@@ -30,7 +30,7 @@ use Rattle.cd_filter.proofs.NamedFields.{at_named}
 -- by the things of any sort
 module _ (graph : Graph) (closed : ℕ → Mapping NodeId) (sort : Sort)
     (nodes : List (KernelNode NodeId)) (first : ℕ) (test : NodeId → Thing → Bool)
-    (right : AreRight (answers (at_node graph) closed) sort.Of (length graph) test)
+    (right : AreRight (answers (at_node graph) closed) sort.Of first test)
     (everything : formula_at graph ANY ≡ formula.Everything)
     (nothing_is : formula_at graph EMPTY ≡ formula.Nothing) where
   abbrev in_it : Thing → NodeId → Bool → Type 0
@@ -91,7 +91,7 @@ module _ (graph : Graph) (closed : ℕ → Mapping NodeId) (sort : Sort)
   field_answer : (fields : thing.Fields) (label : Name) (o : Option (Thing × Taken))
       → AnswersAt fields label o → (field : KernelField NodeId)
       → AllOf (λ number. number < length nodes) (field_nodes ((label, field) ∷ []))
-      → AllOf (λ id. id.0 < length graph) (optional_types ((label, field) ∷ []))
+      → AllOf (λ id. id.0 < first) (optional_types ((label, field) ∷ []))
       → at_it fields label (field_of first field) (is_some (on_field NodeId test nodes o field))
   field_answer fields label None on (Present number) within typed = on _ false refl
   field_answer fields label None on (Optional id) within typed = on _ true refl
@@ -113,12 +113,12 @@ module _ (graph : Graph) (closed : ℕ → Mapping NodeId) (sort : Sort)
 
     fields_answer : (named : List (Name × KernelField NodeId))
         → AllOf (λ number. number < length nodes) (field_nodes named)
-        → AllOf (λ id. id.0 < length graph) (optional_types named)
+        → AllOf (λ id. id.0 < first) (optional_types named)
         → AllOrAny named (is_some (on_fields NodeId test nodes (takes_at fields) named))
     fields_answer [] within typed = tt
     fields_answer ((label, field) ∷ named) within typed =
         let parts = split_nodes label field named (λ number. number < length nodes) within in
-        let types = split_types label field named (λ id. id.0 < length graph) typed in
+        let types = split_types label field named (λ id. id.0 < first) typed in
         both_answer (λ answer. FieldAnswers answer (label, field)) (AllOrAny named)
         (AllOrAny ((label, field) ∷ named))
         (on_field NodeId test nodes (takes_at fields label) field)
@@ -230,7 +230,7 @@ module _ (graph : Graph) (closed : ℕ → Mapping NodeId) (sort : Sort)
   pub records : (fields : thing.Fields) → sort.OfFields fields → AreAccepted fields
       → (named : List (Name × KernelField NodeId)) (more : Bool)
       → AllOf (λ number. number < length nodes) (field_nodes named)
-      → AreRisingLabels None named → AllOf (λ id. id.0 < length graph) (optional_types named)
+      → AreRisingLabels None named → AllOf (λ id. id.0 < first) (optional_types named)
       → Reads fields named more
       (is_some (apart_of NodeId test nodes (thing.Record fields) (Record named more)))
   records fields sound all named more within rises typed =

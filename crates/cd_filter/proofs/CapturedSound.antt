@@ -5,24 +5,41 @@ use Rattle.std.proofs.Common.{bytes_eq, eqb, if◌then◌else◌}
 use Rattle.std.specs.List.{slice_get}
 use Rattle.std.proofs.lemmas.Option.{none-some, same_Some}
 use Rattle.cd_syntax.specs.Name.{Name}
+use Rattle.cd_syntax.specs.declared.constant.Constant.{Constant}
+use Rattle.cd_syntax.specs.declared.constant.Constant.TheVariants as constant
+use Rattle.cd_model.specs.AllOf.{AllOf}
 use Rattle.cd_model.specs.Thing as thing
-use Rattle.cd_model.specs.Thing.{Thing}
+use Rattle.cd_model.specs.Thing.{Thing, IsElement, IsValue}
+use Rattle.cd_model.proofs.Sorts as sorts
 use Rattle.cd_model.proofs.Sorts.{Sort}
 use Rattle.cd_matching.specs.Captures.{Captures, both, or_else, if_so}
 use Rattle.cd_matching.specs.Kernel.{KernelNode, KernelField, Present, Optional, Test, Bind, Put}
 use Rattle.cd_matching.specs.Kernel.{Pair, Xml, Record, Both, First, Gather, Taken, Apart, no_parts}
 use Rattle.cd_matching.specs.Kernel.{on_pair, on_xml, on_record, on_field, on_fields, just, before}
 use Rattle.cd_matching.specs.Kernel.{gathered, by_node, in_a_row, all_named, taken, taken_at}
-use Rattle.cd_matching.specs.Sequences.{thing_of}
+use Rattle.cd_matching.specs.Kernel.{IsSoundNode}
+use Rattle.cd_matching.specs.Sequences.{thing_of, text_of}
 use Rattle.cd_matching.proofs.AllOf.{all_at}
 use Rattle.cd_matching.proofs.TakenCaptures.{both_some, or_else_some, if_some, just_some}
 use Rattle.cd_matching.proofs.TakenCaptures.{if_so_nothing, option_map_some, gathered_some}
-use Rattle.cd_filter.specs.Putting.{PutsOf, PutOf}
+
+-- a constant is data
+text_value : (text : List ℕ) → IsElement (text_of text) → IsValue (text_of text)
+text_value [] is = is
+text_value (c ∷ text) is = (is.0, text_value text is.1)
+
+pub constant_value : (of : Constant) → IsElement (thing_of of) → IsValue (thing_of of)
+constant_value (constant.Int n) is = is
+constant_value (constant.Char c) is = is
+constant_value (constant.Atom name) is = is
+constant_value (constant.Text text) is = text_value text is
+constant_value constant.Nil is = is
 
 module _ (sort : Sort)
-    (makes_pair : (d e : Thing) → sort.Of d → sort.Of e → sort.Of (thing.Pair d e)) (T : Type 0)
-    (test : T → Thing → Bool) (nodes : List (KernelNode T)) (puts : PutOf sort.Of nodes)
-    (variable : ℕ) where
+    (makes_pair : (d e : Thing) → sort.Of d → sort.Of e → sort.Of (thing.Pair d e))
+    (of_constant : (of : Constant) → IsElement (thing_of of) → sort.Of (thing_of of)) (T : Type 0)
+    (test : T → Thing → Bool) (nodes : List (KernelNode T)) (variables : ℕ) (IsType : T → Type 0)
+    (sound_nodes : AllOf (IsSoundNode nodes variables IsType) nodes) (variable : ℕ) where
   -- what the variable captures, where this is answered
   abbrev IsSound : Option (Captures ℕ) → Type 0
   IsSound o = (captures : Captures ℕ) (what : Thing) → o ≡ Some captures
@@ -127,19 +144,20 @@ module _ (sort : Sort)
   -- each node
   node_sound : (d : Thing) → sort.Of d → (apart : Apart T) → ((node : KernelNode T)
       → IsSound (apart node)) → (others : Taken) → AreSound others → (node : KernelNode T)
-      → PutsOf sort.Of node → IsSound (by_node T test nodes d apart others (Some node))
-  node_sound d sound apart parts others sound_others (Test type) put = so_sound (test type d)
-  node_sound d sound apart parts others sound_others (Bind by) put = just_sound by d sound
-  node_sound d sound apart parts others sound_others (Put by constant) put =
-      just_sound by (thing_of constant) put
-  node_sound d sound apart parts others sound_others (Both p q) put =
+      → IsSoundNode nodes variables IsType node
+      → IsSound (by_node T test nodes d apart others (Some node))
+  node_sound d sound apart parts others sound_others (Test type) is = so_sound (test type d)
+  node_sound d sound apart parts others sound_others (Bind by) is = just_sound by d sound
+  node_sound d sound apart parts others sound_others (Put by constant) is =
+      just_sound by (thing_of constant) (of_constant constant is.1)
+  node_sound d sound apart parts others sound_others (Both p q) is =
       both_sound (others p) (others q) (sound_others p) (sound_others q)
-  node_sound d sound apart parts others sound_others (First p q) put =
+  node_sound d sound apart parts others sound_others (First p q) is =
       or_sound (others p) (others q) (sound_others p) (sound_others q)
-  node_sound d sound apart parts others sound_others (Pair p q) put = parts (Pair p q)
-  node_sound d sound apart parts others sound_others (Gather by p q) put = parts (Gather by p q)
-  node_sound d sound apart parts others sound_others (Xml p q r) put = parts (Xml p q r)
-  node_sound d sound apart parts others sound_others (Record named more) put =
+  node_sound d sound apart parts others sound_others (Pair p q) is = parts (Pair p q)
+  node_sound d sound apart parts others sound_others (Gather by p q) is = parts (Gather by p q)
+  node_sound d sound apart parts others sound_others (Xml p q r) is = parts (Xml p q r)
+  node_sound d sound apart parts others sound_others (Record named more) is =
       parts (Record named more)
 
   some_sound : (d : Thing) → sort.Of d → (apart : Apart T)
@@ -149,7 +167,7 @@ module _ (sort : Sort)
   some_sound d sound apart parts others sound_others number None there = none_sound
   some_sound d sound apart parts others sound_others number (Some node) there =
       node_sound d sound apart parts others sound_others node
-      (all_at (PutsOf sort.Of) nodes number node puts there)
+      (all_at (IsSoundNode nodes variables IsType) nodes number node sound_nodes there)
 
   row_sound : (d : Thing) → sort.Of d → (apart : Apart T)
       → ((node : KernelNode T) → IsSound (apart node)) → (steps : ℕ)
@@ -201,3 +219,19 @@ module _ (sort : Sort)
         let parts = sort.field name d rest sound in
         at_or (bytes_eq name label) (d, taken T test nodes d) (taken_at T test nodes rest label)
         (captured_sound d parts.0) (fields_captured rest parts.1 label)
+
+-- of elements, and of values
+module _ (T : Type 0) (test : T → Thing → Bool) (nodes : List (KernelNode T)) (variables : ℕ)
+    (IsType : T → Type 0) (sound_nodes : AllOf (IsSoundNode nodes variables IsType) nodes)
+    (variable : ℕ) where
+  pub elements_captured : (e : Thing) → IsElement e → (number : ℕ) (captures : Captures ℕ)
+      (what : Thing) → taken T test nodes e number ≡ Some captures
+      → captures variable ≡ Some what → IsElement what
+  elements_captured = captured_sound sorts.elements (λ d e one other. (one, other))
+      (λ of is. is) T test nodes variables IsType sound_nodes variable
+
+  pub values_captured : (v : Thing) → IsValue v → (number : ℕ) (captures : Captures ℕ)
+      (what : Thing) → taken T test nodes v number ≡ Some captures
+      → captures variable ≡ Some what → IsValue what
+  values_captured = captured_sound sorts.values (λ d e one other. (one, other))
+      constant_value T test nodes variables IsType sound_nodes variable

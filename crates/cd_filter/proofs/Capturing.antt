@@ -30,7 +30,7 @@ use Rattle.cd_matching.proofs.Unfolding.{unfolds}
 use Rattle.cd_products.specs.QuestionBoxes.{IsInhabited}
 use Rattle.cd_products.specs.Products.{InProduct, InTriple, AreProducts, AreTriples}
 use Rattle.cd_filter.specs.Capturing.{Captured, IsAccepted, AreSteps, IsSettled, IsInhabitedPlace}
-use Rattle.cd_filter.specs.Capturing.{IsWhole, AreSoundAndAccepted}
+use Rattle.cd_filter.specs.Capturing.{IsWhole, AreAccepted, AreSoundAndAccepted}
 use Rattle.cd_filter.specs.Caught.{Caught, CaughtIsCaptured, takes_it, puts_it, leads_on}
 use Rattle.cd_filter.specs.Caught.{gathers_it}
 use Rattle.cd_filter.specs.Table.{Place, Step, Takes, Puts, Leads, Gathers, Table, HasStep, IsAmong}
@@ -50,13 +50,13 @@ is_some_has : {A : Type 0} (o : Option A) → is_some o ≡ true → (x : A) × 
 is_some_has None h = absurd (true≢false (sym h))
 is_some_has (Some x) h = (x, refl)
 
-both_has : {K : Type 0} (one other : Option (Captures K)) → is_some (both one other) ≡ true
+pub both_has : {K : Type 0} (one other : Option (Captures K)) → is_some (both one other) ≡ true
     → (first second : Captures K) × (one ≡ Some first) × (other ≡ Some second)
 both_has (Some first) (Some second) h = (first, second, refl, refl)
 both_has (Some first) None h = absurd (true≢false (sym h))
 both_has None other h = absurd (true≢false (sym h))
 
-gathered_has : (by : ℕ) (d : Thing) (one other : Option (Captures ℕ))
+pub gathered_has : (by : ℕ) (d : Thing) (one other : Option (Captures ℕ))
     → is_some (gathered by d one other) ≡ true
     → (first second : Captures ℕ) × (one ≡ Some first) × (other ≡ Some second)
 gathered_has by d (Some first) (Some second) h = (first, second, refl, refl)
@@ -100,7 +100,7 @@ among P [] x one fact = one
 among P (y ∷ xs) x (inl same) fact = inl (subst P (sym same) fact)
 among P (y ∷ xs) x (inr later) fact = inr (among P xs x later fact)
 
-all_among : {A : Type 0} (P : A → Type 0) (xs : List A) (x : A) → AllOf P xs
+pub all_among : {A : Type 0} (P : A → Type 0) (xs : List A) (x : A) → AllOf P xs
     → AnyOf (λ y. y ≡ x) xs → P x
 all_among P [] x all one = absurd one
 all_among P (y ∷ xs) x all (inl same) = subst P same all.0
@@ -532,19 +532,20 @@ module _ (answers : Thing → Answers NodeId) (Sort : Thing → Type 0)
       (row_gives answers Sort test nodes variable place.question named of_node.0 what
       of_node.1.picks (subst (AnyOf (GivesIt place.question what)) of_node.2 given))
 
-  module _ (table : Table) (whole : IsWhole answers Sort test nodes true accepts table)
+  module _ (table : Table) (whole : IsWhole answers Sort nodes true accepts table)
+      (accepted : AreAccepted answers Sort test nodes table)
       (inhabited : AllOf (IsInhabitedPlace answers Sort) table) where
     abbrev Fact : Place × List Step → Type 0
-    Fact entry = IsSettled answers Sort test nodes true accepts entry
+    Fact entry = IsSettled answers Sort nodes true accepts entry
         × (IsAcceptedPlace entry.0 × IsInhabitedPlace answers Sort entry)
 
     facts : AllOf Fact table
-    facts = both_of_all (IsSettled answers Sort test nodes true accepts)
+    facts = both_of_all (IsSettled answers Sort nodes true accepts)
         (λ entry. IsAcceptedPlace entry.0 × IsInhabitedPlace answers Sort entry) Fact
         (λ entry one other. (one, other)) table whole.settled
         (both_of_all (λ entry. IsAcceptedPlace entry.0) (IsInhabitedPlace answers Sort)
         (λ entry. IsAcceptedPlace entry.0 × IsInhabitedPlace answers Sort entry)
-        (λ entry one other. (one, other)) table whole.accepted inhabited)
+        (λ entry one other. (one, other)) table accepted inhabited)
 
     given_by : (place : Place) (what : Thing) (step : Step) → HasStep table place step
         → (Has place.question → GivesIt place.question what step) → CapturedAt place what
@@ -582,6 +583,6 @@ pub caught_is_captured : (answers : Thing → Answers NodeId) (Sort : Thing → 
     → AreSoundAndAccepted answers Sort test nodes accepts variables IsType
     → CaughtIsCaptured answers Sort test nodes accepts
 caught_is_captured answers Sort makes_pair apart test nodes accepts variables IsType are table
-    variable place what whole inhabited caught =
+    variable place what whole accepted inhabited caught =
     caught_captured answers Sort makes_pair apart test nodes accepts variables IsType are variable
-    table whole inhabited place what caught
+    table whole accepted inhabited place what caught

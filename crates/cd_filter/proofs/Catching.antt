@@ -52,7 +52,7 @@ of_two variable one other all what same has = or_else_some (one variable) (other
 module _ (answers : Thing → Answers NodeId) (sort : Sort) (test : NodeId → Thing → Bool)
     (nodes : List (KernelNode NodeId)) (accepts : ℕ → NodeId)
     (accepting : AreAccepting answers sort.Of test nodes accepts) (table : Table)
-    (whole : IsWhole answers sort.Of test nodes false accepts table) (variable : ℕ) where
+    (whole : IsWhole answers sort.Of nodes false accepts table) (variable : ℕ) where
   abbrev IsCaught : Place → Thing → Type 0
   IsCaught = Caught answers sort.Of table variable
 
@@ -372,11 +372,11 @@ module _ (answers : Thing → Answers NodeId) (sort : Sort) (test : NodeId → T
       at_node _ sound comes parts again _ ends are takes_d = absurd (none-some captures takes_d)
 
   abbrev Fact : Place × List Step → Type 0
-  Fact entry = IsSettled answers sort.Of test nodes false accepts entry
+  Fact entry = IsSettled answers sort.Of nodes false accepts entry
       × Ends nodes (length nodes) entry.0.number
 
   facts : AllOf Fact table
-  facts = both_of_all (IsSettled answers sort.Of test nodes false accepts)
+  facts = both_of_all (IsSettled answers sort.Of nodes false accepts)
       (λ entry. Ends nodes (length nodes) entry.0.number) Fact (λ entry one other. (one, other))
       table whole.settled whole.ends
 

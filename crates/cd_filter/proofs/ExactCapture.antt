@@ -1,7 +1,7 @@
 -- The node of a variable holds exactly what the variable captures: of elements; and of values at
 -- least that.
-use Rattle.std.proofs.Common.{◌≡◌, ◌↔◌, inl, inr, ℕ, ◌<◌, Bool, true, false, List, length, Option}
-use Rattle.std.proofs.Common.{Some, None, is_some, subst}
+use Rattle.std.proofs.Common.{◌≡◌, ◌↔◌, inl, inr, ℕ, ◌<◌, Bool, true, false, List, [], ◌∷◌, length}
+use Rattle.std.proofs.Common.{Option, Some, None, is_some, subst}
 use Rattle.std.specs.List.{slice_get}
 use Rattle.cd_sets.specs.declared.node_id.NodeId.{NodeId}
 use Rattle.cd_sets.specs.declared.question.Question.{Question}
@@ -16,20 +16,21 @@ use Rattle.cd_matching.specs.Kernel.{KernelNode, Kernel, Test, Bind, Put, Pair, 
 use Rattle.cd_matching.specs.Kernel.{First, Gather, taken}
 use Rattle.cd_matching.proofs.AllOf.{all_weaker}
 use Rattle.cd_products.proofs.Decided.{elements_apart}
+use Rattle.cd_products.proofs.OneMore.{each_with, each_without}
 use Rattle.cd_filter.specs.Accepting.{AreRight}
 use Rattle.cd_filter.specs.Capturing.{AreSteps, IsSettled, IsWhole}
 use Rattle.cd_filter.specs.Caught.{Caught}
 use Rattle.cd_filter.specs.CapturedNodes.{IsSolved, IsSolvedForElements, IsSolvedForValues}
 use Rattle.cd_filter.specs.CapturedNodes.{IsExactCapture, IsWideCapture}
 use Rattle.cd_filter.specs.Table.{Place, Step, Table, first_place}
+use Rattle.cd_filter.proofs.CapturedSound.{values_captured}
 use Rattle.cd_filter.proofs.Capturing.{caught_is_captured}
 use Rattle.cd_filter.proofs.Catching.{captured_is_caught}
 use Rattle.cd_filter.proofs.Holding.{nodes_hold}
 
 -- what is exact covers
 module _ (answers : Thing → Answers NodeId) (Sort : Thing → Type 0)
-    (test : NodeId → Thing → Bool) (nodes : List (KernelNode NodeId))
-    (accepts : ℕ → NodeId) where
+    (nodes : List (KernelNode NodeId)) (accepts : ℕ → NodeId) where
   steps_cover : (question : Question) (node : Option (KernelNode NodeId)) (steps : List Step)
       → AreSteps answers Sort true accepts question node steps
       → AreSteps answers Sort false accepts question node steps
@@ -45,18 +46,17 @@ module _ (answers : Thing → Answers NodeId) (Sort : Thing → Type 0)
   steps_cover question (Some (Record named more)) steps are = (are.0, are.1.covers, are.2)
 
   settled_covers : (entry : Place × List Step)
-      → IsSettled answers Sort test nodes true accepts entry
-      → IsSettled answers Sort test nodes false accepts entry
+      → IsSettled answers Sort nodes true accepts entry
+      → IsSettled answers Sort nodes false accepts entry
   settled_covers entry (inl are) =
       inl (steps_cover entry.0.question (slice_get nodes entry.0.number) entry.1 are)
   settled_covers entry (inr none) = inr none
 
-  pub whole_covers : (table : Table) → IsWhole answers Sort test nodes true accepts table
-      → IsWhole answers Sort test nodes false accepts table
+  pub whole_covers : (table : Table) → IsWhole answers Sort nodes true accepts table
+      → IsWhole answers Sort nodes false accepts table
   whole_covers table whole = record {
-    settled = all_weaker (IsSettled answers Sort test nodes true accepts)
-        (IsSettled answers Sort test nodes false accepts) settled_covers table whole.settled;
-    accepted = whole.accepted;
+    settled = all_weaker (IsSettled answers Sort nodes true accepts)
+        (IsSettled answers Sort nodes false accepts) settled_covers table whole.settled;
     ends = whole.ends;
     leads = whole.leads;
     gathers = whole.gathers;
@@ -77,14 +77,9 @@ module _ (answers : Thing → Answers NodeId) (sort : Sort) (test : NodeId → T
   comes_first : (d : Thing) (captures : Captures ℕ) → sort.Of d → answers d matched true
       → takes d ≡ Some captures → asked (answers d) root_place.question true
   comes_first d captures sound inside takes_d = (
-    (
-      inside,
-      (
-        subst (λ (o : Option (Captures ℕ)). answers d (accepts kernel.root) (is_some o)) takes_d
-            (solved.kernel_is.accepting d kernel.root sound),
-        tt,
-      ),
-    ),
+    each_with (λ id. answers d id true) (accepts kernel.root) (matched ∷ [])
+        (subst (λ (o : Option (Captures ℕ)). answers d (accepts kernel.root) (is_some o)) takes_d
+        (solved.kernel_is.accepting d kernel.root sound)) (inside, tt),
     tt,
   )
 
@@ -94,7 +89,7 @@ module _ (answers : Thing → Answers NodeId) (sort : Sort) (test : NodeId → T
   holds_caught = nodes_hold answers sort table variable root_place id solved.are_nodes
 
   -- each thing that the variable captures is in its node, where the table covers
-  pub is_held : IsWhole answers sort.Of test kernel.nodes false accepts table → (d : Thing)
+  pub is_held : IsWhole answers sort.Of kernel.nodes false accepts table → (d : Thing)
       (captures : Captures ℕ) (what : Thing) → sort.Of d → answers d matched true
       → takes d ≡ Some captures → captures variable ≡ Some what → sort.Of what
       → answers what (id root_place) true
@@ -114,12 +109,12 @@ exactly graph matched kernel accepts table variable id solved test what right so
       λ h. back (caught_is_captured (in_node graph) IsElement (λ d e one other. (one, other))
           (elements_apart graph) test kernel.nodes accepts (length kernel.variables)
           (λ type. type.0 < length graph) it.0.kernel_is table variable
-          (first_place kernel matched accepts) what it.0.whole it.1
+          (first_place kernel matched accepts) what it.0.whole it.1 it.2
           ((holds_caught (in_node graph) sorts.elements test true matched kernel accepts
           (λ type. type.0 < length graph) table variable id it.0 what sound).0 h)),
       λ given. is_held (in_node graph) sorts.elements test true matched kernel accepts
           (λ type. type.0 < length graph) table variable id it.0
-          (whole_covers (in_node graph) IsElement test kernel.nodes accepts table it.0.whole)
+          (whole_covers (in_node graph) IsElement kernel.nodes accepts table it.0.whole)
           given.0 given.1 what given.2 given.3 given.4 given.5 sound,
     )
   where
@@ -131,7 +126,8 @@ exactly graph matched kernel accepts table variable id solved test what right so
         × (taken NodeId test kernel.nodes d kernel.root ≡ Some captures)
         × (captures variable ≡ Some what)
     back (d, captures, sound_d, comes, takes_d, has) =
-        (d, captures, sound_d, comes.0.0, takes_d, has)
+        let parts = each_without (λ id. in_node graph d id true) (accepts kernel.root)
+        (matched ∷ []) comes.0 in (d, captures, sound_d, parts.1.0, takes_d, has)
 
 pub widely : (graph : Graph) (interfaces : Interfaces) (matched : NodeId) (kernel : Kernel NodeId)
     (accepts : ℕ → NodeId) (table : Table) (variable : ℕ) (id : Place → NodeId)
@@ -140,7 +136,10 @@ pub widely : (graph : Graph) (interfaces : Interfaces) (matched : NodeId) (kerne
     → IsWideCapture graph interfaces matched kernel variable
     (id (first_place kernel matched accepts)) test
 widely graph interfaces matched kernel accepts table variable id test solved d what captures sound
-    sound_what inside takes_d has =
+    inside takes_d has =
     is_held (value_in_node graph interfaces) sorts.values test false matched kernel accepts
     (λ type. type.0 < length graph) table variable id solved solved.whole d captures what sound
-    inside takes_d has sound_what
+    inside takes_d has
+    (values_captured NodeId test kernel.nodes (length kernel.variables)
+    (λ type. type.0 < length graph) solved.kernel_is.sound variable d sound kernel.root captures
+    what takes_d has)

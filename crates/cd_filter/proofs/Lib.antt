@@ -10,5 +10,10 @@ pub mod Giving
 pub mod Capturing
 pub mod Holding
 pub mod FormulasHold
-pub mod ExactCapture
 pub mod CapturedSound
+pub mod ExactCapture
+pub mod ValuesDecided
+pub mod RowsOf
+pub mod Forming
+pub mod BatchSound
+pub mod LongerGraphs

@@ -12,7 +12,7 @@ use Rattle.cd_matching.specs.Captures.{Captures}
 use Rattle.cd_matching.specs.Kernel.{Kernel, taken}
 use Rattle.cd_matching.specs.Sequences.{thing_of}
 use Rattle.cd_filter.specs.Accepting.{AreRight}
-use Rattle.cd_filter.specs.Capturing.{IsWhole, IsInhabitedPlace, AreSoundAndAccepted}
+use Rattle.cd_filter.specs.Capturing.{IsWhole, AreAccepted, IsInhabitedPlace, AreSoundAndAccepted}
 use Rattle.cd_filter.specs.Table.{Place, Step, Takes, Puts, Leads, Gathers, Table, HasPlace}
 use Rattle.cd_filter.specs.Table.{HasStep}
 use Rattle.cd_filter.specs.Table.{first_place}
@@ -55,7 +55,7 @@ module _ (answers : Thing → Answers NodeId) (Sort : Thing → Type 0) where
       (variable : ℕ) (id : Place → NodeId) : Type 0 where
     pub kernel_is : AreSoundAndAccepted answers Sort test kernel.nodes accepts
         (length kernel.variables) IsType
-    pub whole : IsWhole answers Sort test kernel.nodes exact accepts table
+    pub whole : IsWhole answers Sort kernel.nodes exact accepts table
     pub rooted : HasPlace table (first_place kernel matched accepts)
     pub are_nodes : AreNodes table variable (first_place kernel matched accepts) id
 
@@ -65,6 +65,7 @@ abbrev pub IsSolvedForElements : Graph → NodeId → Kernel NodeId → (ℕ →
 IsSolvedForElements graph matched kernel accepts table variable id test =
     IsSolved (in_node graph) IsElement test true matched kernel accepts
     (λ type. type.0 < length graph) table variable id
+    × AreAccepted (in_node graph) IsElement test kernel.nodes table
     × AllOf (IsInhabitedPlace (in_node graph) IsElement) table
 
 abbrev pub IsSolvedForValues : Graph → Interfaces → NodeId → Kernel NodeId → (ℕ → NodeId)
@@ -88,7 +89,6 @@ IsExactCapture graph matched kernel variable id = (test : NodeId → Thing → B
 abbrev pub IsWideCapture : Graph → Interfaces → (matched : NodeId) → Kernel NodeId
     → (variable : ℕ) → NodeId → (NodeId → Thing → Bool) → Type 0
 IsWideCapture graph interfaces matched kernel variable id test = (v what : Thing)
-    (captures : Captures ℕ) → IsValue v → IsValue what
-    → value_in_node graph interfaces v matched true
+    (captures : Captures ℕ) → IsValue v → value_in_node graph interfaces v matched true
     → taken NodeId test kernel.nodes v kernel.root ≡ Some captures
     → captures variable ≡ Some what → value_in_node graph interfaces what id true

@@ -73,6 +73,22 @@ module _ (answers : Thing → Answers NodeId) (Sort : Thing → Type 0) where
   abbrev pub IsInhabitedPlace : Place × List Step → Type 0
   IsInhabitedPlace entry = IsInhabited answers Sort entry.0.question ⊎ (entry.1 ≡ [])
 
+  module _ (nodes : List (KernelNode NodeId)) where
+    -- the place has the steps of its node, or, where its question has no thing, none
+    abbrev pub IsSettled : (exact : Bool) → (accepts : ℕ → NodeId) → Place × List Step → Type 0
+    IsSettled exact accepts entry =
+        AreSteps exact accepts entry.0.question (slice_get nodes entry.0.number) entry.1
+        ⊎ ((IsInhabited answers Sort entry.0.question → ⊥) × (entry.1 ≡ []))
+
+    -- each place is settled, and each place that steps lead to is there
+    pub record IsWhole (exact : Bool) (accepts : ℕ → NodeId) (table : Table) : Type 0 where
+      pub settled : AllOf (IsSettled exact accepts) table
+      pub ends : AllOf (λ entry. Ends nodes (length nodes) entry.0.number) table
+      pub leads : (place next : Place) (but : Option ℕ) → HasStep table place (Leads but next)
+          → HasPlace table next
+      pub gathers : (place next : Place) (variable : ℕ) (item : Question)
+          → HasStep table place (Gathers variable item next) → HasPlace table next
+
   module _ (test : NodeId → Thing → Bool) (nodes : List (KernelNode NodeId)) where
     -- at the place the variable captures this, from a thing that is taken
     abbrev pub Captured : (variable : ℕ) → Place → Thing → Type 0
@@ -86,21 +102,8 @@ module _ (answers : Thing → Answers NodeId) (Sort : Thing → Type 0) where
     IsAccepted place = (d : Thing) → Sort d → asked (answers d) place.question true
         → is_some (taken NodeId test nodes d place.number) ≡ true
 
-    -- the place has the steps of its node, or, where its question has no thing, none
-    abbrev pub IsSettled : (exact : Bool) → (accepts : ℕ → NodeId) → Place × List Step → Type 0
-    IsSettled exact accepts entry =
-        AreSteps exact accepts entry.0.question (slice_get nodes entry.0.number) entry.1
-        ⊎ ((IsInhabited answers Sort entry.0.question → ⊥) × (entry.1 ≡ []))
-
-    -- each place is settled, and each place that steps lead to is there
-    pub record IsWhole (exact : Bool) (accepts : ℕ → NodeId) (table : Table) : Type 0 where
-      pub settled : AllOf (IsSettled exact accepts) table
-      pub accepted : AllOf (λ entry. IsAccepted entry.0) table
-      pub ends : AllOf (λ entry. Ends nodes (length nodes) entry.0.number) table
-      pub leads : (place next : Place) (but : Option ℕ) → HasStep table place (Leads but next)
-          → HasPlace table next
-      pub gathers : (place next : Place) (variable : ℕ) (item : Question)
-          → HasStep table place (Gathers variable item next) → HasPlace table next
+    abbrev pub AreAccepted : Table → Type 0
+    AreAccepted table = AllOf (λ entry. IsAccepted entry.0) table
 
     -- the nodes of a kernel with so many variables are sound, and these nodes accept them
     pub record AreSoundAndAccepted (accepts : ℕ → NodeId) (variables : ℕ)

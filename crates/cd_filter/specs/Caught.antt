@@ -9,7 +9,7 @@ use Rattle.cd_model.specs.Thing.{Thing, Pair}
 use Rattle.cd_model.specs.Types.{Answers}
 use Rattle.cd_matching.specs.Kernel.{KernelNode}
 use Rattle.cd_matching.specs.Sequences.{thing_of}
-use Rattle.cd_filter.specs.Capturing.{Captured, IsWhole, IsInhabitedPlace}
+use Rattle.cd_filter.specs.Capturing.{Captured, IsWhole, AreAccepted, IsInhabitedPlace}
 use Rattle.cd_filter.specs.Table.{Place, Table, Takes, Puts, Leads, Gathers, HasPlace, HasStep}
 
 module _ (answers : Thing → Answers NodeId) (Sort : Thing → Type 0) where
@@ -30,12 +30,12 @@ module _ (answers : Thing → Answers NodeId) (Sort : Thing → Type 0) where
   module _ (test : NodeId → Thing → Bool) (nodes : List (KernelNode NodeId)) where
     abbrev pub CapturedIsCaught : (accepts : ℕ → NodeId) → Type 0
     CapturedIsCaught accepts = (table : Table) (variable : ℕ) (place : Place) (what : Thing)
-        → IsWhole answers Sort test nodes false accepts table → HasPlace table place
+        → IsWhole answers Sort nodes false accepts table → HasPlace table place
         → Captured answers Sort test nodes variable place what
         → Caught table variable place what
 
     abbrev pub CaughtIsCaptured : (accepts : ℕ → NodeId) → Type 0
     CaughtIsCaptured accepts = (table : Table) (variable : ℕ) (place : Place) (what : Thing)
-        → IsWhole answers Sort test nodes true accepts table
+        → IsWhole answers Sort nodes true accepts table → AreAccepted answers Sort test nodes table
         → AllOf (IsInhabitedPlace answers Sort) table → Caught table variable place what
         → Captured answers Sort test nodes variable place what

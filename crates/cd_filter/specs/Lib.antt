@@ -5,4 +5,5 @@ pub mod Capturing
 pub mod Caught
 pub mod CapturedNodes
 pub mod CapturedFormulas
-pub mod Putting
+pub mod OfProgram
+pub mod Inner

@@ -6,6 +6,7 @@ use Rattle.cd_syntax.specs.Name.{Name}
 use Rattle.cd_syntax.specs.declared.constant.Constant.{Constant}
 use Rattle.cd_model.specs.AllOf.{AnyOf}
 use Rattle.cd_matching.specs.Kernel.{Kernel, KernelField, Present, Optional}
+use Rattle.cd_rules.specs.Needs.{with_id}
 
 -- the things of a question come to the node with this number
 pub record Place : Type 0 where
@@ -73,4 +74,4 @@ row_steps named (row ∷ rows) = cell_steps named row ++ row_steps named rows
 -- the place of what is matched and taken by the root
 abbrev pub first_place : Kernel NodeId → (matched : NodeId) → (accepts : ℕ → NodeId) → Place
 first_place kernel matched accepts =
-    at kernel.root (record { pos = matched ∷ accepts kernel.root ∷ []; neg = [] })
+    at kernel.root (record { pos = with_id (accepts kernel.root) (matched ∷ []); neg = [] })

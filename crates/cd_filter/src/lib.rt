@@ -1,4 +1,12 @@
-//! The types of what kernels take and of what their variables capture: definitions and laws alone.
+//! The types of what kernels take and of what their variables capture.
 #![tactic(auto)]
 
+pub mod accept;
+mod batch;
+mod formed;
 pub mod laws;
+mod members;
+mod own;
+mod rows;
+
+pub use accept::{AcceptedNodes, accepted};

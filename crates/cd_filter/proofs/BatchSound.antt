@@ -1,0 +1,225 @@
+-- The formulas of a batch are formulas of the graph that they are put into, and there they are for
+-- the nodes of the kernel.
+use Rattle.std.proofs.Common.{◌≡◌, ◌<◌, ◌≤◌, ◌+◌, ◌++◌, ℕ, zero, suc, List, [], ◌∷◌, length, Option}
+use Rattle.std.proofs.Common.{Some, None, refl, sym, ap, subst, ◌∙◌, arith, true, false, Bool}
+use Rattle.std.specs.List.{slice_get}
+use Rattle.std.specs.Option.{unwrap_or}
+use Rattle.cd_sets.specs.declared.node_id.NodeId.{NodeId}
+use Rattle.cd_syntax.specs.Name.{Name}
+use Rattle.cd_model.specs.AllOf.{AllOf}
+use Rattle.cd_model.specs.BuiltIns.{built_ins}
+use Rattle.cd_model.specs.Formula as formula
+use Rattle.cd_model.specs.Formula.{Graph, Formula, Formulas, Field, NoFormula, AFormula, Nothing}
+use Rattle.cd_model.specs.Formula.{Everything, Ints, Chars, Atoms, Arrow, And, Or, Not, formulas_of}
+use Rattle.cd_model.specs.Formula.{formula_at, IsFormula, AreFormulas, IsGraph}
+use Rattle.cd_matching.specs.Kernel.{Kernel, KernelNode, KernelField, Present, Optional, Test, Bind}
+use Rattle.cd_matching.specs.Kernel.{Put, Pair, Xml, Record, Both, First, Gather, AreRisingLabels}
+use Rattle.cd_matching.specs.Kernel.{leads_to, parts_of, field_nodes, optional_types, IsSoundNode}
+use Rattle.cd_matching.specs.Kernel.{IsSound}
+use Rattle.cd_matching.proofs.AllOf.{all_at, all_weaker}
+use Rattle.cd_filter.specs.Accepting.{place, fields_of, rest_of, own_formula, Accepts}
+use Rattle.cd_filter.specs.Accepting.{by_itself, by_both, by_members, AllAccept, no_more, one_more}
+use Rattle.cd_filter.specs.Accepting.{IsAcceptedFrom}
+use Rattle.cd_filter.specs.Inner.Forming.{HasTypes, IsBatch}
+use Rattle.cd_filter.proofs.Forming.{has_types}
+
+-- a formula of a graph is one of a larger graph
+mutual
+  still_formula : (nodes more : ℕ) → nodes ≤ more → (is : Formula) → IsFormula nodes is
+      → IsFormula more is
+  still_formula nodes more larger Nothing sound = tt
+  still_formula nodes more larger Everything sound = tt
+  still_formula nodes more larger (Ints set) sound = tt
+  still_formula nodes more larger (Chars set) sound = tt
+  still_formula nodes more larger (Atoms set) sound = sound
+  still_formula nodes more larger (formula.Pair first second) sound = (omega arith, omega arith)
+  still_formula nodes more larger (formula.Xml tag attributes content) sound =
+      (omega arith, omega arith, omega arith)
+  still_formula nodes more larger (formula.Record named rest) sound = (
+    sound.0,
+    all_weaker (λ (field : Name × Field). field.1.type.0 < nodes)
+        (λ (field : Name × Field). field.1.type.0 < more) (λ field small. omega arith) named
+        sound.1,
+    omega arith,
+  )
+  still_formula nodes more larger (Arrow argument result) sound = (omega arith, omega arith)
+  still_formula nodes more larger (And formulas) sound =
+      still_formulas nodes more larger formulas sound
+  still_formula nodes more larger (Or formulas) sound =
+      still_formulas nodes more larger formulas sound
+  still_formula nodes more larger (Not is) sound = still_formula nodes more larger is sound
+
+  still_formulas : (nodes more : ℕ) → nodes ≤ more → (formulas : Formulas)
+      → AreFormulas nodes formulas → AreFormulas more formulas
+  still_formulas nodes more larger NoFormula sound = tt
+  still_formulas nodes more larger (AFormula is rest) sound = (
+    still_formula nodes more larger is sound.0,
+    still_formulas nodes more larger rest sound.1,
+  )
+
+-- the formula of an old node, and of a new one
+formula_sound : (count : ℕ) (graph : Graph) (id : ℕ) → AllOf (IsFormula count) graph
+    → id < length graph → IsFormula count (formula_at graph (record { 0 = id }))
+formula_sound count [] id all below = absurd (omega arith)
+formula_sound count (is ∷ graph) zero all below = all.0
+formula_sound count (is ∷ graph) (suc id) all below =
+    formula_sound count graph id all.1 (omega arith)
+
+old_formula : (graph more : Graph) (id : ℕ) → id < length graph
+    → formula_at graph (record { 0 = id }) ≡ formula_at (graph ++ more) (record { 0 = id })
+old_formula [] more id below = absurd (omega arith)
+old_formula (is ∷ graph) more zero below = refl
+old_formula (is ∷ graph) more (suc id) below = old_formula graph more id (omega arith)
+
+new_formula : (graph batch : Graph) (number at : ℕ) → at ≡ length graph + number
+    → slice_get (graph ++ batch) at ≡ slice_get batch number
+new_formula [] batch number at same = ap (slice_get batch) (omega (arith, same))
+new_formula (is ∷ graph) batch number zero same = absurd (omega (arith, same))
+new_formula (is ∷ graph) batch number (suc at) same =
+    new_formula graph batch number at (omega (arith, same))
+
+there_is : (batch : List Formula) (number : ℕ) → number < length batch
+    → (f : Formula) × (slice_get batch number ≡ Some f)
+there_is [] number below = absurd (omega arith)
+there_is (f ∷ batch) zero below = (f, refl)
+there_is (f ∷ batch) (suc number) below = there_is batch number (omega arith)
+
+all_of_each : (P : Formula → Type 0) (batch : List Formula)
+    → ((number : ℕ) (f : Formula) → slice_get batch number ≡ Some f → P f) → AllOf P batch
+all_of_each P [] each = tt
+all_of_each P (f ∷ batch) each =
+    (each zero f refl, all_of_each P batch (λ number g there. each (suc number) g there))
+
+-- labels that rise
+pub fields_rise : (first : ℕ) (before : Option Name) (named : List (Name × KernelField NodeId))
+    → AreRisingLabels before named → formula.AreRisingLabels before (fields_of first named)
+fields_rise first before [] rise = tt
+fields_rise first before (field ∷ named) rise =
+    (rise.0, rise.1, fields_rise first (Some field.0) named rise.2)
+
+fields_below : (first count types : ℕ) → types ≤ first
+    → (named : List (Name × KernelField NodeId))
+    → AllOf (λ number. number < count) (field_nodes named)
+    → AllOf (λ (id : NodeId). id.0 < types) (optional_types named)
+    → AllOf (λ field. field.1.type.0 < first + count) (fields_of first named)
+fields_below first count types least [] within typed = tt
+fields_below first count types least ((label, Present number) ∷ named) within typed =
+    (omega (arith, within.0), fields_below first count types least named within.1 typed)
+fields_below first count types least ((label, Optional type) ∷ named) within typed =
+    (omega (arith, typed.0), fields_below first count types least named within typed.1)
+
+rest_below : (count : ℕ) → 14 ≤ count → (more : Bool) → (rest_of more).0 < count
+rest_below count least true = omega (arith, least)
+rest_below count least false = omega (arith, least)
+
+module _ (graph : Graph) (kernel : Kernel NodeId)
+    (is : IsSound (λ id. id.0 < length graph) kernel) where
+  abbrev IsInRange : KernelNode NodeId → Type 0
+  IsInRange node = AllOf (λ number. number < length kernel.nodes) (leads_to node ++ parts_of node)
+
+  abbrev IsFit : KernelNode NodeId → Type 0
+  IsFit = IsSoundNode kernel.nodes (length kernel.variables) (λ id. id.0 < length graph)
+
+  abbrev all_nodes : ℕ
+  all_nodes = length graph + length kernel.nodes
+
+  module _ (sound : IsGraph graph) (least : 14 ≤ length graph) where
+    own_sound : (node : KernelNode NodeId) → IsInRange node → IsFit node
+        → IsFormula all_nodes (own_formula graph (length graph) node)
+    own_sound (Test id) within fits = still_formula (length graph) all_nodes (omega arith)
+        (formula_at graph id) (formula_sound (length graph) graph id.0 sound fits)
+    own_sound (Bind variable) within fits = tt
+    own_sound (Put variable constant) within fits = tt
+    own_sound (Pair p q) within fits = (omega (arith, within.0), omega (arith, within.1.0))
+    own_sound (Gather by p q) within fits = (omega (arith, within.0), omega (arith, within.1.0))
+    own_sound (Xml p q r) within fits =
+        (omega (arith, within.0), omega (arith, within.1.0), omega (arith, within.1.1.0))
+    own_sound (Record named more) within fits = (
+      fields_rise (length graph) None named fits.0,
+      fields_below (length graph) (length kernel.nodes) (length graph) (omega arith) named within
+          fits.2,
+      rest_below all_nodes (omega (arith, least)) more,
+    )
+    own_sound (Both p q) within fits = tt
+    own_sound (First p q) within fits = tt
+
+    mutual
+      accepts_sound : (number : ℕ) (f : Formula)
+          → Accepts graph kernel.nodes (length graph) number f → IsFormula all_nodes f
+      accepts_sound _ _ (by_itself number node there own) =
+          own_sound node (all_at IsInRange kernel.nodes number node is.parts there)
+          (all_at IsFit kernel.nodes number node is.nodes there)
+      accepts_sound _ _ (by_both number p q f g there accepts_p accepts_q) =
+          (accepts_sound p f accepts_p, (accepts_sound q g accepts_q, tt))
+      accepts_sound _ _ (by_members number members formulas are all) =
+          all_sound members formulas all
+
+      all_sound : (members : List ℕ) (formulas : List Formula)
+          → AllAccept graph kernel.nodes (length graph) members formulas
+          → AreFormulas all_nodes (formulas_of formulas)
+      all_sound _ _ no_more = tt
+      all_sound _ _ (one_more number f members formulas one rest) =
+          (accepts_sound number f one, all_sound members formulas rest)
+
+    pub batch_sound : (batch : List Formula) → IsBatch graph kernel.nodes (length graph) batch
+        → AllOf (IsFormula (length graph + length batch)) batch
+    batch_sound batch right = subst
+        (λ (count : ℕ). AllOf (IsFormula (length graph + count)) batch) (sym right.count)
+        (all_of_each (IsFormula all_nodes) batch
+        (λ number f there. accepts_sound number f (right.accepts number f there)))
+
+  -- in the longer graph
+  module _ (batch : List Formula) where
+    same_own : (node : KernelNode NodeId) → HasTypes (length graph) node
+        → own_formula graph (length graph) node
+        ≡ own_formula (graph ++ batch) (length graph) node
+    same_own (Test id) fits = old_formula graph batch id.0 fits
+    same_own (Bind variable) fits = refl
+    same_own (Put variable constant) fits = refl
+    same_own (Pair p q) fits = refl
+    same_own (Gather by p q) fits = refl
+    same_own (Xml p q r) fits = refl
+    same_own (Record named more) fits = refl
+    same_own (Both p q) fits = refl
+    same_own (First p q) fits = refl
+
+    mutual
+      accepts_later : (number : ℕ) (f : Formula)
+          → Accepts graph kernel.nodes (length graph) number f
+          → Accepts (graph ++ batch) kernel.nodes (length graph) number f
+      accepts_later _ _ (by_itself number node there own) =
+          subst (Accepts (graph ++ batch) kernel.nodes (length graph) number)
+          (sym (same_own node (has_types (length graph) kernel is number node there)))
+          (by_itself number node there own)
+      accepts_later _ _ (by_both number p q f g there accepts_p accepts_q) =
+          by_both number p q f g there (accepts_later p f accepts_p) (accepts_later q g accepts_q)
+      accepts_later _ _ (by_members number members formulas are all) =
+          by_members number members formulas are (all_later members formulas all)
+
+      all_later : (members : List ℕ) (formulas : List Formula)
+          → AllAccept graph kernel.nodes (length graph) members formulas
+          → AllAccept (graph ++ batch) kernel.nodes (length graph) members formulas
+      all_later _ _ no_more = no_more
+      all_later _ _ (one_more number f members formulas one rest) =
+          one_more number f members formulas (accepts_later number f one)
+          (all_later members formulas rest)
+
+    pub accepted_from : (others : Graph) → graph ≡ built_ins ++ others
+        → IsBatch graph kernel.nodes (length graph) batch
+        → IsAcceptedFrom (graph ++ batch) kernel (length graph)
+    accepted_from others begins right = record {
+      sound = is;
+      everything = rw begins refl;
+      nothing = rw begins refl;
+      formulas = λ number within. at_number number
+          (there_is batch number (subst (λ (count : ℕ). number < count) (sym right.count) within));
+    }
+      where
+        at_number : (number : ℕ) → (f : Formula) × (slice_get batch number ≡ Some f)
+            → Accepts (graph ++ batch) kernel.nodes (length graph) number
+            (formula_at (graph ++ batch) (place (length graph) number))
+        at_number number (f, there) = subst
+            (Accepts (graph ++ batch) kernel.nodes (length graph) number)
+            (sym (ap (λ (o : Option Formula). unwrap_or o Nothing)
+            (new_formula graph batch number (length graph + number) refl ∙ there)))
+            (accepts_later number f (right.accepts number f there))
