@@ -95,7 +95,7 @@ module _ (variables : List Name) (r : Regular NodeId) (group : List Name) (items
   copy_is_made = made_on items.1 between (put_copy variables r group items)
       (rows_grow steps (rows_made r) items.1) (row_is_made steps (heads_row r 0) between)
 
-  states_count : length steps.states ≡ length (items_of [] r)
+  pub states_count : length steps.states ≡ length (items_of [] r)
   states_count = places_long (length group) (length items.1) (rows_made r)
       ∙ ap length (states_rows_are r) ∙ length-map (states r 0 (End ∷ [])) once
       ∙ states_long r 0 (End ∷ []) ∙ sym (items_long [] r)
@@ -127,7 +127,7 @@ module _ (variables : List Name) (r : Regular NodeId) (group : List Name) (items
         );
   }
 
-  starts_are_states : starts_of steps (rows_made r) items.1 ≡ steps.states
+  pub starts_are_states : starts_of steps (rows_made r) items.1 ≡ steps.states
   starts_are_states = starts_are_places steps (rows_made r) items.1
       ∙ ap (λ (count : ℕ). places_of count (length items.1) (rows_made r))
       (length-map group (numbered variables))

@@ -28,7 +28,7 @@ use Rattle.cd_patterns.specs.Copies.{gatherer, Copy, in_a_group, AreDisjoint, Ar
 use Rattle.cd_patterns.specs.Copies.{IsMove, IsState, IsCopy, AreJoined}
 use Rattle.cd_patterns.specs.Making.{inner, AreCopies}
 use Rattle.cd_patterns.specs.Making.{AreItemsOf, AreItemsOfAll}
-use Rattle.cd_patterns.specs.WellMade.{IsWellMadeRegular, AreWellMadeRegulars}
+use Rattle.cd_patterns.proofs.CompletePatterns.{IsCompleteRegular, AreCompleteRegulars}
 use Rattle.cd_patterns.proofs.ItemsByNumber.{ItemsHave, AllItemsHave, item_has}
 use Rattle.cd_patterns.proofs.PartsStand.{items_long, states_long}
 use Rattle.cd_patterns.proofs.PlainVariables.{Names, either, none, afters, BindsBy, BindsFrom}
@@ -384,7 +384,7 @@ module _ {T : Type 0} (IsType : T → Type 0) (types : Types T) (variables : Lis
     mutual
       items_made : (keeps : Names) (numbers : List ℕ) (r : Regular T) (before : ℕ)
           → AreItemsOf types variables nodes keeps numbers r before → IsNamedRegular r
-          → IsWellMadeRegular IsType r → ItemsHave (made_item keeps) numbers r before
+          → IsCompleteRegular IsType r → ItemsHave (made_item keeps) numbers r before
       items_made keeps numbers pattern.Nothing before are named fits = tt
       items_made keeps numbers (pattern.Item p) before (number, there, is) named fits =
           (number, there, (is, named, fits))
@@ -399,7 +399,7 @@ module _ {T : Type 0} (IsType : T → Type 0) (types : Types T) (variables : Lis
 
       turn_made : (keeps : Names) (numbers : List ℕ) (all : Regulars T) (before : ℕ)
           → AreItemsOfAll types variables nodes keeps numbers all before → AreNamedInTurn all
-          → AreWellMadeRegulars IsType all → AllItemsHave (made_item keeps) numbers all before
+          → AreCompleteRegulars IsType all → AllItemsHave (made_item keeps) numbers all before
       turn_made keeps numbers NoRegular before are named fits = tt
       turn_made keeps numbers (ARegular first rest) before are named fits = (
         items_made keeps numbers first before are.0 named.1 fits.0,
@@ -408,7 +408,7 @@ module _ {T : Type 0} (IsType : T → Type 0) (types : Types T) (variables : Lis
 
       either_made : (keeps : Names) (numbers : List ℕ) (all : Regulars T) (before : ℕ)
           → AreItemsOfAll types variables nodes keeps numbers all before → AreNamedEither all
-          → AreWellMadeRegulars IsType all → AllItemsHave (made_item keeps) numbers all before
+          → AreCompleteRegulars IsType all → AllItemsHave (made_item keeps) numbers all before
       either_made keeps numbers NoRegular before are named fits = tt
       either_made keeps numbers (ARegular first rest) before are named fits = (
         items_made keeps numbers first before are.0 named.0 fits.0,
@@ -418,7 +418,7 @@ module _ {T : Type 0} (IsType : T → Type 0) (types : Types T) (variables : Lis
 
       like_made : (keeps : Names) (numbers : List ℕ) (plain : Names) (all : Regulars T)
           (before : ℕ) → AreItemsOfAll types variables nodes keeps numbers all before
-          → AreNamedLike plain all → AreWellMadeRegulars IsType all
+          → AreNamedLike plain all → AreCompleteRegulars IsType all
           → AllItemsHave (made_item keeps) numbers all before
       like_made keeps numbers plain NoRegular before are named fits = tt
       like_made keeps numbers plain (ARegular first rest) before are named fits = (
@@ -429,7 +429,7 @@ module _ {T : Type 0} (IsType : T → Type 0) (types : Types T) (variables : Lis
     -- the copies of a sequence
     each_copy_of : (keeps : Names) (r : Regular T) (copies : List Copy) (number : ℕ)
         → AreCopies types variables nodes keeps r copies number → IsNamed (Sequence r)
-        → IsWellMadeRegular IsType r → (some : List Copy)
+        → IsCompleteRegular IsType r → (some : List Copy)
         → Within (in_a_group some) (in_a_group copies)
         → AllOf (IsCopy types variables nodes r) some
         → AllOf (λ copy. AreItemsOf types variables nodes (inner keeps r copy) copy.items r 0) some
@@ -451,7 +451,7 @@ module _ {T : Type 0} (IsType : T → Type 0) (types : Types T) (variables : Lis
 
     pub copies_of : (keeps : Names) (r : Regular T) (copies : List Copy) (number : ℕ)
         → AreCopies types variables nodes keeps r copies number → IsNamed (Sequence r)
-        → IsWellMadeRegular IsType r
+        → IsCompleteRegular IsType r
         → AllOf (λ copy. AreItemsOf types variables nodes (inner keeps r copy) copy.items r 0)
         copies → AllOf (is_copy_of keeps r) copies
     copies_of keeps r copies number are named fits items =

@@ -65,7 +65,7 @@ distinct_end (first ∷ names) one distinct none =
     by_test false differs none on =
         (among_end names one first ∙ ap₂ (λ (a b : Bool). a || b) distinct.0 differs, on none)
 
-distinct_with : (names : List Name) (one : Name) → AreDistinct names
+pub distinct_with : (names : List Name) (one : Name) → AreDistinct names
     → AreDistinct (with_name names one)
 distinct_with names one distinct = by_test (is_among names one) refl
   where

@@ -19,6 +19,7 @@ pub mod RecordsTake
 pub mod SequencesTake
 pub mod KernelsTake
 pub mod KernelsAreExact
+pub mod CompletePatterns
 pub mod StateEnds
 pub mod PlainVariables
 pub mod Pieces
@@ -50,4 +51,15 @@ pub mod GroupsOfNames
 pub mod ChainsBuilt
 pub mod SequencesBuilt
 pub mod PatternsBuilt
+pub mod NodesReached
+pub mod SequencesReached
+pub mod NamedParts
+pub mod PatternsReached
+pub mod KernelVariables
+pub mod KernelHasNoMore
 pub mod KernelIsMade
+pub mod BeforeOthers
+pub mod CompletedVariables
+pub mod CompletedTakes
+pub mod CompletedNames
+pub mod CompletedParts

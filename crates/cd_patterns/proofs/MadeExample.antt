@@ -13,6 +13,7 @@ use Rattle.cd_matching.specs.Kernel.{KernelNode, Ends}
 use Rattle.cd_matching.specs.Naming.{IsNamed}
 use Rattle.cd_matching.specs.Pattern.{OfType}
 use Rattle.cd_matching.specs.Variables.{binds}
+use Rattle.cd_patterns.specs.Alternatives.{HasAlternatives}
 use Rattle.cd_patterns.specs.Automaton.{Move, End, To, ItemOf, items_of, rows_of}
 use Rattle.cd_patterns.specs.Copies.{IsNumber, is_among, gatherer, Copy, IsState, IsCopy}
 use Rattle.cd_patterns.specs.Examples.{two_gather, greedy, greedy_kernel}
@@ -151,12 +152,15 @@ is_well_made n long = (an_int n long, (an_int n long, tt))
     an_int : (n : ℕ) → 14 ≤ n → 2 < n
     an_int n long = omega (arith, long)
 
+pub has_alternatives : HasAlternatives greedy
+has_alternatives = (tt, (tt, tt))
+
 module _ (n : ℕ) (long : length built_ins ≤ n) where
   abbrev is_part : ℕ → Type 0
   is_part = IsPart (λ id. id.0 < n) the_types greedy_kernel.variables nodes
 
   root : is_part 0
-  root = made (λ name. true) greedy 0 is_kernel is_named (is_well_made n long)
+  root = made (λ name. true) greedy 0 is_kernel is_named (is_well_made n long) has_alternatives
 
   at_one : is_part 1
   at_one = next 0 1 _ root refl (inr (inl refl))

@@ -13,8 +13,9 @@ use Rattle.cd_matching.specs.Kernel.{Put, Pair, Xml, Record, Both, First, Gather
 use Rattle.cd_matching.specs.Kernel.{parts_of, field_nodes, optional_types, variables_of, Binds}
 use Rattle.cd_matching.specs.Kernel.{BindApart, IsSoundNode, IsSound, Ends}
 use Rattle.cd_matching.specs.Naming.{AreApart, IsNamed}
-use Rattle.cd_matching.specs.Pattern.{Pattern}
+use Rattle.cd_matching.specs.Pattern.{Pattern, Sequence}
 use Rattle.cd_matching.specs.Variables.{binds}
+use Rattle.cd_patterns.specs.Alternatives.{HasAlternatives}
 use Rattle.cd_patterns.specs.Copies.{Types, AreTypes, IsAt}
 use Rattle.cd_patterns.specs.Making.{the_types, IsKernelOf, IsMade}
 use Rattle.cd_patterns.specs.Parts as part
@@ -24,6 +25,7 @@ use Rattle.cd_patterns.proofs.AnyOrder.{all_among, EachTwo}
 use Rattle.cd_patterns.proofs.Pieces.{kept_of, Piece, made, Allowed, SubPiece, FieldIs}
 use Rattle.cd_patterns.proofs.Pieces.{FieldsBindApart, Shape, IsCopyOf}
 use Rattle.cd_patterns.proofs.BindsNoMore.{sub_pieces, binds_no_more}
+use Rattle.cd_patterns.proofs.CompletePatterns.{complete}
 use Rattle.cd_patterns.proofs.CopyPieces.{row_state, copies_of}
 use Rattle.cd_patterns.proofs.PatternPieces.{good}
 use Rattle.cd_patterns.proofs.PiecesBind.{pieces_bind}
@@ -141,13 +143,14 @@ module _ {T : Type 0} (IsType : T → Type 0) (types : Types T) (variables : Lis
 
   parts_are : (number : ℕ) → IsPart IsType types variables nodes number
       → (bound : Names) × a_piece bound number
-  parts_are _ (part.made keeps p number is named fits) =
-      (kept_of keeps (binds p), made keeps p number (is, named, fits))
-  parts_are _ (part.state keeps r copies copy root place number of are items named fits one is_item
-      is_number) =
+  parts_are _ (part.made keeps p number is named fits others) =
+      (kept_of keeps (binds p), made keeps p number (is, named, complete IsType p fits others))
+  parts_are _ (part.state keeps r copies copy root place number of are items named fits others one
+      is_item is_number) =
       let found = row_state IsType types variables nodes keeps r copy
       (all_among (IsCopyOf IsType types variables nodes keeps r) copies copy
-      (copies_of IsType types variables nodes are_types keeps r copies root are named fits items)
+      (copies_of IsType types variables nodes are_types keeps r copies root are named
+      (complete IsType (Sequence r) fits others) items)
       one) place number of is_number is_item in (_, found.2)
   parts_are _ (part.next number next_number node is there one) =
       let piece = parts_are number is in
@@ -203,8 +206,9 @@ pub made_is_sound : {T : Type 0} (IsType : T → Type 0) (types : Types T) (p : 
     → IsKernelOf types kernel.variables kernel.nodes (λ name. true) p kernel.root
     → ((number : ℕ) → number < length kernel.nodes
     → Ends kernel.nodes (length kernel.nodes) number)
-    → IsNamed p → IsWellMade IsType p → HasNoMore IsType types p kernel → IsSound IsType kernel
-made_is_sound IsType types p kernel are_types is ends named fits no_more = record {
+    → IsNamed p → IsWellMade IsType p → HasAlternatives p → HasNoMore IsType types p kernel
+    → IsSound IsType kernel
+made_is_sound IsType types p kernel are_types is ends named fits others no_more = record {
   root = piece_within IsType types kernel.variables kernel.nodes are_types
       (kept_of (λ name. true) (binds p)) kernel.root piece;
   parts = each_within IsType types kernel.variables kernel.nodes are_types no_more.parts;
@@ -217,15 +221,16 @@ made_is_sound IsType types p kernel are_types is ends named fits no_more = recor
   where
     piece : Piece IsType types kernel.variables kernel.nodes (kept_of (λ name. true) (binds p))
         kernel.root
-    piece = made (λ name. true) p kernel.root (is, named, fits)
+    piece = made (λ name. true) p kernel.root (is, named, complete IsType p fits others)
 
 -- where a graph has the built-in nodes at least
 pub kernels_are_sound : (n : ℕ) (p : Pattern NodeId) (kernel : Kernel NodeId)
     → length built_ins ≤ n → IsMade p kernel → IsNamed p → IsWellMade (λ id. id.0 < n) p
-    → HasNoMore (λ id. id.0 < n) the_types p kernel → IsSound (λ id. id.0 < n) kernel
-kernels_are_sound n p kernel long is named fits no_more =
+    → HasAlternatives p → HasNoMore (λ id. id.0 < n) the_types p kernel
+    → IsSound (λ id. id.0 < n) kernel
+kernels_are_sound n p kernel long is named fits others no_more =
     made_is_sound (λ id. id.0 < n) the_types p kernel (are_types n long) is.made is.ends named fits
-    no_more
+    others no_more
   where
     are_types : (n : ℕ) → 14 ≤ n → (13 < n) × (1 < n) × (0 < n)
     are_types n long = (omega (arith, long), omega (arith, long), omega (arith, long))

@@ -18,7 +18,7 @@ use Rattle.cd_matching.proofs.NilIsElement.{nil_is_element}
 use Rattle.cd_patterns.specs.Copies.{Types, AreTypes}
 use Rattle.cd_patterns.specs.Making.{IsPut, IsBothOf, IsFirstOf}
 use Rattle.cd_patterns.specs.Making.{AreFieldsOf}
-use Rattle.cd_patterns.specs.WellMade.{AreWellMade, AreWellMadeFields}
+use Rattle.cd_patterns.proofs.CompletePatterns.{AreComplete, AreCompleteFields}
 use Rattle.cd_patterns.proofs.AnyOrder.{all_reordered, EachTwo, two_reordered}
 use Rattle.cd_patterns.proofs.PlainVariables.{Names, either}
 use Rattle.cd_patterns.proofs.VariableNumbers.{name_itself}
@@ -72,7 +72,7 @@ module _ {T : Type 0} (IsType : T → Type 0) (types : Types T) (variables : Lis
     -- fields
     fields_are : (keeps bound : Names) (fields : Fields T) (written : List (Name × KernelField T))
         → AreFieldsOf types variables nodes keeps fields written → AreNamedFields fields
-        → AreWellMadeFields IsType fields → Within (kept_of keeps (fields_bind fields)) bound
+        → AreCompleteFields IsType fields → Within (kept_of keeps (fields_bind fields)) bound
         → AllOf (is_field bound) written
     fields_are keeps bound NoField written same named fits within =
         subst (AllOf (is_field bound)) (sym same) tt
@@ -97,7 +97,7 @@ module _ {T : Type 0} (IsType : T → Type 0) (types : Types T) (variables : Lis
         → a_piece (kept_of keeps first) number
         → (fields : Fields T) (written : List (Name × KernelField T))
         → AreFieldsOf types variables nodes keeps fields written → AreNamedFields fields
-        → AreWellMadeFields IsType fields → AreApart first (fields_bind fields)
+        → AreCompleteFields IsType fields → AreApart first (fields_bind fields)
         → AllOf (bind_apart (label, Present number)) written
     one_field_apart keeps first label number piece NoField written same named fits apart =
         subst (AllOf (bind_apart (label, Present number))) (sym same) tt
@@ -132,7 +132,7 @@ module _ {T : Type 0} (IsType : T → Type 0) (types : Types T) (variables : Lis
 
     fields_apart : (keeps : Names) (fields : Fields T) (written : List (Name × KernelField T))
         → AreFieldsOf types variables nodes keeps fields written → AreNamedFields fields
-        → AreWellMadeFields IsType fields → FieldsApart fields → EachTwo bind_apart written
+        → AreCompleteFields IsType fields → FieldsApart fields → EachTwo bind_apart written
     fields_apart keeps NoField written same named fits apart =
         subst (EachTwo bind_apart) (sym same) tt
     fields_apart keeps (pattern.Present label p rest) written (number, others, same, is, are) named
@@ -260,7 +260,7 @@ module _ {T : Type 0} (IsType : T → Type 0) (types : Types T) (variables : Lis
 
       good_both : (keeps : Names) (all : Patterns T) (number : ℕ)
           → IsBothOf types variables nodes keeps all number → AreNamedApart all
-          → AreWellMade IsType all → is_good (kept_of keeps (all_bind all)) number
+          → AreComplete IsType all → is_good (kept_of keeps (all_bind all)) number
       good_both keeps NoPattern number there named fits = (Test types.any, there, tt, are_types.1)
       good_both keeps (APattern p NoPattern) number there named fits =
           wider IsType types variables nodes (kept_of keeps (binds p))
@@ -285,7 +285,7 @@ module _ {T : Type 0} (IsType : T → Type 0) (types : Types T) (variables : Lis
 
       good_first : (keeps : Names) (all : Patterns T) (number : ℕ)
           → IsFirstOf types variables nodes keeps all number → AreNamedSame all
-          → AreWellMade IsType all → is_good (kept_of keeps (all_bind all)) number
+          → AreComplete IsType all → is_good (kept_of keeps (all_bind all)) number
       good_first keeps NoPattern number there named fits =
           (Test types.empty, there, tt, are_types.2)
       good_first keeps (APattern p NoPattern) number there named fits =

@@ -20,13 +20,14 @@ use Rattle.cd_matching.specs.Variables.{regulars_bind, is_gathered, one_is_gathe
 use Rattle.cd_matching.specs.Variables.{one_is_plain as one_has_plain, names_label}
 use Rattle.cd_patterns.specs.Automaton.{items_in, items_in_all}
 use Rattle.cd_patterns.specs.Copies.{IsNumber, Copy}
+use Rattle.cd_patterns.specs.Making.{AreCopies}
 use Rattle.cd_patterns.specs.Making.{the_types, inner, IsPut, IsKernelOf, IsBothOf, IsFirstOf}
 use Rattle.cd_patterns.specs.Making.{AreFieldsOf, AreItemsOf, AreItemsOfAll}
 use Rattle.cd_patterns.specs.Inner.Building.{Nodes, put_if, chained, KernelFields}
 use Rattle.cd_patterns.specs.Inner.Building.{sorted_over}
 use Rattle.cd_patterns.specs.Inner.Building.{built, built_all, built_fields, built_items}
 use Rattle.cd_patterns.specs.Inner.Building.{built_items_all}
-use Rattle.cd_patterns.specs.Inner.Gathering.{numbered}
+use Rattle.cd_patterns.specs.Inner.Gathering.{numbered, groups_of}
 use Rattle.cd_patterns.proofs.ChainsBuilt.{IsChainOf, chained_is}
 use Rattle.cd_patterns.proofs.FieldsSorted.{AreLabelled, sorted_are_all, sorted_rise}
 use Rattle.cd_patterns.proofs.GoodPatterns.{IsGood, AreGood, AreGoodFields, IsGoodRegular}
@@ -36,13 +37,13 @@ use Rattle.cd_patterns.proofs.PatternsMade.{pattern_is_made, all_are_made, field
 use Rattle.cd_patterns.proofs.PatternsMade.{all_items_grow, there_later, there_end, AreThere}
 use Rattle.cd_patterns.proofs.PatternsMade.{chained_is_made, both_joins, first_joins}
 use Rattle.cd_patterns.proofs.PartsStand.{items_long}
-use Rattle.cd_patterns.proofs.SequencesBuilt.{sequence_is}
+use Rattle.cd_patterns.proofs.SequencesBuilt.{copies, HasItems, sequence_made}
 use Rattle.cd_patterns.proofs.VariableNumbers.{name_itself, name_turned}
 
-or_left : (a b : Bool) → a ≡ true → (a || b) ≡ true
+pub or_left : (a b : Bool) → a ≡ true → (a || b) ≡ true
 or_left a b h = ap (λ (c : Bool). c || b) h
 
-or_right : (a b : Bool) → b ≡ true → (a || b) ≡ true
+pub or_right : (a b : Bool) → b ≡ true → (a || b) ≡ true
 or_right true b h = refl
 or_right false b h = h
 
@@ -109,7 +110,7 @@ mutual
           or_right (regular_binds first name) (regulars_bind rest name) (other h)
 
 module _ (variables : List Name) (final : Nodes) where
-  abbrev Fits : (keeps : Name → Bool) → (kept : Bool) → (Name → Bool) → Type 0
+  abbrev pub Fits : (keeps : Name → Bool) → (kept : Bool) → (Name → Bool) → Type 0
   Fits keeps kept bound = (name : Name) → bound name ≡ true
       → (keeps name ≡ kept) × IsNumber variables name (numbered variables name)
 
@@ -285,11 +286,11 @@ module _ (variables : List Name) (final : Nodes) where
         let made = built_items variables kept first numbers nodes in
         all_stay kept rest made.0 made.1 n x (numbers_stay kept first numbers nodes n x h)
 
-  abbrev Stays : Nodes → Type 0
+  abbrev pub Stays : Nodes → Type 0
   Stays nodes = Keeps nodes final
 
   -- the first copy keeps what its items bind, and the others keep nothing
-  inner_fits : (keeps : Name → Bool) (kept : Bool) (r : Regular NodeId) (copy : Copy)
+  pub inner_fits : (keeps : Name → Bool) (kept : Bool) (r : Regular NodeId) (copy : Copy)
       → copy.plain ≡ true → AreApart (is_gathered r) (is_plain r)
       → Fits keeps kept (regular_binds r) → Fits (inner keeps r copy) kept (is_plain r)
   inner_fits keeps kept r copy plain apart fits name b =
@@ -307,13 +308,39 @@ module _ (variables : List Name) (final : Nodes) where
       by_test true there = absurd (true≢false (sym b ∙ apart name there))
       by_test false none = and_true (keeps name)
 
-  inner_hides : (keeps : Name → Bool) (kept : Bool) (r : Regular NodeId) (copy : Copy)
+  pub inner_hides : (keeps : Name → Bool) (kept : Bool) (r : Regular NodeId) (copy : Copy)
       → copy.plain ≡ false → Fits keeps kept (regular_binds r)
       → Fits (inner keeps r copy) false (is_plain r)
   inner_hides keeps kept r copy plain fits name b = (
     ap (λ (p : Bool). p && (keeps name && not (is_gathered r name))) plain,
     (fits name (plain_binds r name b)).1,
   )
+
+  -- the copies for a sequence
+  abbrev pub copies_in : (kept : Bool) → Regular NodeId → Nodes → List Copy
+  copies_in kept r = copies variables r true (built_items variables kept r [])
+      (built_items variables false r []) (groups_of kept r)
+
+  abbrev pub AreCopiesOf : (keeps : Name → Bool) → (kept : Bool) → Regular NodeId → Nodes → Type 0
+  AreCopiesOf keeps kept r nodes = AreCopies the_types variables final keeps r
+      (copies_in kept r nodes) (built variables kept (pattern.Sequence r) nodes).0
+      × AllOf (λ copy. AreItemsOf the_types variables final (inner keeps r copy) copy.items r 0)
+      (copies_in kept r nodes)
+
+  -- they are such if their items are made
+  by_items : (keeps : Name → Bool) (kept : Bool) (r : Regular NodeId) (nodes : Nodes)
+      → IsGood (pattern.Sequence r) → Fits keeps kept (regular_binds r)
+      → HasItems variables r final keeps true (built_items variables kept r [])
+      → HasItems variables r final keeps false (built_items variables false r [])
+      → Stays (built variables kept (pattern.Sequence r) nodes).1 → AreCopiesOf keeps kept r nodes
+  by_items keeps kept r nodes good fits items items_too stay =
+      sequence_made variables r final keeps kept (built_items variables kept r [])
+      (built_items variables false r []) nodes good.0
+      (λ name b. fits name (gathered_binds r name b)) (items_grow variables kept r [])
+      (items_grow variables false r [])
+      (λ at. items_count kept r [] at ∙ none_before (items_in r) ∙ sym (items_long [] r))
+      (λ at. items_count false r [] at ∙ none_before (items_in r) ∙ sym (items_long [] r))
+      items items_too stay
 
   mutual
     pub pattern_is : (keeps : Name → Bool) (kept : Bool) (p : Pattern NodeId) (nodes : Nodes)
@@ -413,18 +440,14 @@ module _ (variables : List Name) (final : Nodes) where
         (chained_is final First EMPTY (built variables kept p nodes).0
         (numbers_in kept rest (built variables kept p nodes).1) made.1) stay)
     pattern_is keeps kept (pattern.Sequence r) nodes good fits stay =
-        sequence_is variables r final keeps kept (built_items variables kept r [])
-        (built_items variables false r []) nodes good.0
-        (λ name b. fits name (gathered_binds r name b)) (items_grow variables kept r [])
-        (items_grow variables false r [])
-        (λ at. items_count kept r [] at ∙ none_before (items_in r) ∙ sym (items_long [] r))
-        (λ at. items_count false r [] at ∙ none_before (items_in r) ∙ sym (items_long [] r))
+        let made = by_items keeps kept r nodes good fits
         (λ copy plain at after. items_are (inner keeps r copy) kept r [] at 0 refl good.2
         (inner_fits keeps kept r copy plain good.1 fits) after
         (built_items variables kept r [] at).0 (λ n x h. h))
         (λ copy plain at after. items_are (inner keeps r copy) false r [] at 0 refl good.2
         (inner_hides keeps kept r copy plain fits) after
-        (built_items variables false r [] at).0 (λ n x h. h)) stay
+        (built_items variables false r [] at).0 (λ n x h. h)) stay in
+        (copies_in kept r nodes, made.0, made.1)
 
     all_are : (keeps : Name → Bool) (kept : Bool) (all : Patterns NodeId) (numbers : List ℕ)
         (nodes : Nodes) → AreThere numbers nodes → AreGood all → Fits keeps kept (all_bind all)
@@ -515,3 +538,14 @@ module _ (variables : List Name) (final : Nodes) where
               (or_right (is_plain first name) (one_has_plain rest name) b))
               stay whole among,
         )
+
+  pub sequence_is : (keeps : Name → Bool) (kept : Bool) (r : Regular NodeId) (nodes : Nodes)
+      → IsGood (pattern.Sequence r) → Fits keeps kept (regular_binds r)
+      → Stays (built variables kept (pattern.Sequence r) nodes).1 → AreCopiesOf keeps kept r nodes
+  sequence_is keeps kept r nodes good fits stay = by_items keeps kept r nodes good fits
+      (λ copy plain at after. items_are (inner keeps r copy) kept r [] at 0 refl good.2
+      (inner_fits keeps kept r copy plain good.1 fits) after
+      (built_items variables kept r [] at).0 (λ n x h. h))
+      (λ copy plain at after. items_are (inner keeps r copy) false r [] at 0 refl good.2
+      (inner_hides keeps kept r copy plain fits) after
+      (built_items variables false r [] at).0 (λ n x h. h)) stay

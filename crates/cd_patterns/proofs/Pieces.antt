@@ -22,8 +22,8 @@ use Rattle.cd_patterns.specs.Copies.{Types, IsAt, IsNumber, is_among, AreDistinc
 use Rattle.cd_patterns.specs.Copies.{AreDisjoint, ArePut, IsMove}
 use Rattle.cd_patterns.specs.Copies.{IsState, IsCopy, AreJoined}
 use Rattle.cd_patterns.specs.Making.{inner, IsKernelOf, IsBothOf, IsFirstOf}
-use Rattle.cd_patterns.specs.WellMade.{IsWellMade, AreWellMade}
-use Rattle.cd_patterns.specs.WellMade.{IsWellMadeRegular}
+use Rattle.cd_patterns.proofs.CompletePatterns.{IsComplete, AreComplete}
+use Rattle.cd_patterns.proofs.CompletePatterns.{IsCompleteRegular}
 use Rattle.cd_patterns.proofs.AnyOrder.{EachTwo}
 use Rattle.cd_patterns.proofs.ItemsByNumber.{ItemsHave}
 use Rattle.cd_patterns.proofs.PlainVariables.{Names, either, none, BindsBy, BindsFrom}
@@ -83,7 +83,7 @@ module _ {T : Type 0} (IsType : T → Type 0) (types : Types T) (variables : Lis
     (nodes : List (KernelNode T)) where
   abbrev pub ItemMade : Names → Pattern T → ℕ → Type 0
   ItemMade keeps p number = IsKernelOf types variables nodes keeps p number × IsNamed p
-      × IsWellMade IsType p
+      × IsComplete IsType p
 
   pub record IsCopyOf (keeps : Names) (r : Regular T) (copy : Copy) : Type 0 where
     pub is_copy : IsCopy types variables nodes r copy
@@ -91,7 +91,7 @@ module _ {T : Type 0} (IsType : T → Type 0) (types : Types T) (variables : Lis
         → (keeps name && is_gathered r name) ≡ true
     pub items : ItemsHave (ItemMade (inner keeps r copy)) copy.items r 0
     pub named : IsNamed (Sequence r)
-    pub well_made : IsWellMadeRegular IsType r
+    pub well_made : IsCompleteRegular IsType r
 
   pub data Piece : Names → ℕ → Type 0 where
     test_of : (type : T) (number : ℕ) → IsAt nodes number (Test type) → IsType type
@@ -103,10 +103,10 @@ module _ {T : Type 0} (IsType : T → Type 0) (types : Types T) (variables : Lis
         → Piece (kept_of keeps (binds p)) number
     both_of : (keeps : Names) (all : Patterns T) (number : ℕ)
         → IsBothOf types variables nodes keeps all number → AreNamedApart all
-        → AreWellMade IsType all → Piece (kept_of keeps (all_bind all)) number
+        → AreComplete IsType all → Piece (kept_of keeps (all_bind all)) number
     first_of : (keeps : Names) (all : Patterns T) (number : ℕ)
         → IsFirstOf types variables nodes keeps all number → AreNamedSame all
-        → AreWellMade IsType all → Piece (kept_of keeps (all_bind all)) number
+        → AreComplete IsType all → Piece (kept_of keeps (all_bind all)) number
     puts_of : (type : T) (names : List Name) (number : ℕ)
         → ArePut types variables nodes type names number → IsType type → AreDistinct names
         → Piece (is_among names) number

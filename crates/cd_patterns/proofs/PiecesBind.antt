@@ -29,8 +29,8 @@ use Rattle.cd_patterns.specs.Copies.{Types, AreTypes, IsAt, IsNumber, is_among, 
 use Rattle.cd_patterns.specs.Copies.{in_a_group, ArePut, IsStep, IsMove, IsState, AreJoined}
 use Rattle.cd_patterns.specs.Making.{inner, IsPut, AreCopies, IsKernelOf, IsBothOf}
 use Rattle.cd_patterns.specs.Making.{IsFirstOf, AreFieldsOf, AreItemsOf, AreItemsOfAll}
-use Rattle.cd_patterns.specs.WellMade.{IsWellMade, AreWellMade, AreWellMadeFields}
-use Rattle.cd_patterns.specs.WellMade.{IsWellMadeRegular, AreWellMadeRegulars}
+use Rattle.cd_patterns.proofs.CompletePatterns.{IsComplete, AreComplete, AreCompleteFields}
+use Rattle.cd_patterns.proofs.CompletePatterns.{IsCompleteRegular, AreCompleteRegulars}
 use Rattle.cd_patterns.proofs.AnyOrder.{all_among, any_reordered}
 use Rattle.cd_patterns.proofs.ItemsByNumber.{ItemsHave, AllItemsHave, item_has}
 use Rattle.cd_patterns.proofs.Pieces.{Within, kept_of, copy_binds, copies_bind, HasMove}
@@ -308,7 +308,7 @@ module _ {T : Type 0} (IsType : T → Type 0) (types : Types T) (variables : Lis
 
   mutual
     binds_made : (keeps : Names) (p : Pattern T) (number : ℕ)
-        → IsKernelOf types variables nodes keeps p number → IsNamed p → IsWellMade IsType p
+        → IsKernelOf types variables nodes keeps p number → IsNamed p → IsComplete IsType p
         → BindsAll (kept_of keeps (binds p)) number
     binds_made keeps (pattern.OfType type) number there named fits = λ name variable is_number h.
         absurd (true≢false (sym (and_parts (keeps name) false h).1))
@@ -369,7 +369,7 @@ module _ {T : Type 0} (IsType : T → Type 0) (types : Types T) (variables : Lis
 
     binds_both : (keeps : Names) (all : Patterns T) (number : ℕ)
         → IsBothOf types variables nodes keeps all number → AreNamedApart all
-        → AreWellMade IsType all → BindsAll (kept_of keeps (all_bind all)) number
+        → AreComplete IsType all → BindsAll (kept_of keeps (all_bind all)) number
     binds_both keeps NoPattern number there named fits = λ name variable is_number h.
         absurd (true≢false (sym (and_parts (keeps name) false h).1))
     binds_both keeps (APattern p NoPattern) number there named fits = λ name variable is_number h.
@@ -396,7 +396,7 @@ module _ {T : Type 0} (IsType : T → Type 0) (types : Types T) (variables : Lis
     -- all alternatives bind the same, so the first does for all
     binds_first : (keeps : Names) (all : Patterns T) (number : ℕ)
         → IsFirstOf types variables nodes keeps all number → AreNamedSame all
-        → AreWellMade IsType all → BindsAll (kept_of keeps (all_bind all)) number
+        → AreComplete IsType all → BindsAll (kept_of keeps (all_bind all)) number
     binds_first keeps NoPattern number there named fits = λ name variable is_number h.
         absurd (true≢false (sym (and_parts (keeps name) false h).1))
     binds_first keeps (APattern p NoPattern) number there named fits = λ name variable is_number h.
@@ -429,7 +429,7 @@ module _ {T : Type 0} (IsType : T → Type 0) (types : Types T) (variables : Lis
 
     fields_made : (keeps : Names) (fields : Fields T) (written : List (Name × KernelField T))
         → AreFieldsOf types variables nodes keeps fields written → AreNamedFields fields
-        → AreWellMadeFields IsType fields → (name : Name) (variable : ℕ)
+        → AreCompleteFields IsType fields → (name : Name) (variable : ℕ)
         → IsNumber variables name variable → (keeps name && fields_bind fields name) ≡ true
         → AnyOf (FieldBinds variable) written
     fields_made keeps NoField written same named fits = λ name variable is_number h.
@@ -450,7 +450,7 @@ module _ {T : Type 0} (IsType : T → Type 0) (types : Types T) (variables : Lis
 
     items_bind : (keeps : Names) (numbers : List ℕ) (r : Regular T) (before : ℕ)
         → AreItemsOf types variables nodes keeps numbers r before → IsNamedRegular r
-        → IsWellMadeRegular IsType r
+        → IsCompleteRegular IsType r
         → ItemsHave (λ p. BindsAll (kept_of keeps (binds p))) numbers r before
     items_bind keeps numbers pattern.Nothing before are named fits = tt
     items_bind keeps numbers (pattern.Item p) before (number, there, is) named fits =
@@ -466,7 +466,7 @@ module _ {T : Type 0} (IsType : T → Type 0) (types : Types T) (variables : Lis
 
     turn_bind : (keeps : Names) (numbers : List ℕ) (all : Regulars T) (before : ℕ)
         → AreItemsOfAll types variables nodes keeps numbers all before → AreNamedInTurn all
-        → AreWellMadeRegulars IsType all
+        → AreCompleteRegulars IsType all
         → AllItemsHave (λ p. BindsAll (kept_of keeps (binds p))) numbers all before
     turn_bind keeps numbers NoRegular before are named fits = tt
     turn_bind keeps numbers (ARegular first rest) before are named fits = (
@@ -476,7 +476,7 @@ module _ {T : Type 0} (IsType : T → Type 0) (types : Types T) (variables : Lis
 
     either_bind : (keeps : Names) (numbers : List ℕ) (all : Regulars T) (before : ℕ)
         → AreItemsOfAll types variables nodes keeps numbers all before → AreNamedEither all
-        → AreWellMadeRegulars IsType all
+        → AreCompleteRegulars IsType all
         → AllItemsHave (λ p. BindsAll (kept_of keeps (binds p))) numbers all before
     either_bind keeps numbers NoRegular before are named fits = tt
     either_bind keeps numbers (ARegular first rest) before are named fits = (
@@ -486,7 +486,7 @@ module _ {T : Type 0} (IsType : T → Type 0) (types : Types T) (variables : Lis
 
     like_bind : (keeps : Names) (numbers : List ℕ) (plain : Names) (all : Regulars T) (before : ℕ)
         → AreItemsOfAll types variables nodes keeps numbers all before → AreNamedLike plain all
-        → AreWellMadeRegulars IsType all
+        → AreCompleteRegulars IsType all
         → AllItemsHave (λ p. BindsAll (kept_of keeps (binds p))) numbers all before
     like_bind keeps numbers plain NoRegular before are named fits = tt
     like_bind keeps numbers plain (ARegular first rest) before are named fits = (

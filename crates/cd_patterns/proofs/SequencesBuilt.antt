@@ -9,12 +9,12 @@ use Rattle.cd_model.specs.AllOf.{AllOf}
 use Rattle.cd_model.specs.BuiltIns.{ANY}
 use Rattle.cd_matching.specs.Kernel.{KernelNode, Both}
 use Rattle.cd_matching.specs.Naming.{GathersApart}
-use Rattle.cd_matching.specs.Pattern.{Regular, Sequence}
+use Rattle.cd_matching.specs.Pattern.{Regular}
 use Rattle.cd_matching.specs.Variables.{is_gathered}
 use Rattle.cd_patterns.specs.Automaton.{items_of}
 use Rattle.cd_patterns.specs.Copies.{IsNumber, is_among, Copy, in_a_group, one_is_plain}
 use Rattle.cd_patterns.specs.Copies.{AreDisjoint, IsCopy, AreJoined}
-use Rattle.cd_patterns.specs.Making.{the_types, inner, IsKernelOf, AreItemsOf}
+use Rattle.cd_patterns.specs.Making.{the_types, inner, AreCopies, AreItemsOf}
 use Rattle.cd_patterns.specs.Inner.Building.{Nodes, Several, chained, put_copy, put_copies}
 use Rattle.cd_patterns.specs.Inner.Building.{put_sequence}
 use Rattle.cd_patterns.specs.Inner.Gathering.{groups_of, numbered}
@@ -35,7 +35,7 @@ abbrev pub MakesAll : Regular NodeId → Making → Type 0
 MakesAll r making = (nodes : Nodes) → length (making nodes).0 ≡ length (items_of [] r)
 
 module _ (variables : List Name) (r : Regular NodeId) where
-  abbrev copies : (plain : Bool) → (first others : Making) → List (List Name) → Nodes → List Copy
+  abbrev pub copies : (plain : Bool) → (first others : Making) → List (List Name) → Nodes → List Copy
   copies plain first others [] nodes = []
   copies plain first others (group ∷ groups) nodes =
       copy_put variables r group (first nodes) plain
@@ -52,7 +52,7 @@ module _ (variables : List Name) (r : Regular NodeId) where
       ∙ append_assoc starts (copy.0 ∷ [])
       (map (λ copy. copy.start) (copies false others others groups copy.1))
 
-  copies_grow : (first others : Making) → MakingGrows first → MakingGrows others
+  pub copies_grow : (first others : Making) → MakingGrows first → MakingGrows others
       → (groups : List (List Name)) (starts : List ℕ) (nodes : Nodes)
       → Grows nodes (put_copies variables r first others groups starts nodes).1
   copies_grow first others one other [] starts nodes = grows_not nodes
@@ -96,7 +96,7 @@ module _ (variables : List Name) (r : Regular NodeId) where
       (chain.0, chain.1, are_joined final (next ∷ rest) chain.0 chain.2)
 
   module _ (final : Nodes) (keeps : Name → Bool) where
-    abbrev HasItems : (plain : Bool) → Making → Type 0
+    abbrev pub HasItems : (plain : Bool) → Making → Type 0
     HasItems plain making = (copy : Copy) → copy.plain ≡ plain → (nodes : Nodes)
         → Keeps (making nodes).1 final
         → AreItemsOf the_types variables final (inner keeps r copy) (making nodes).0 r 0
@@ -134,15 +134,19 @@ module _ (variables : List Name) (r : Regular NodeId) where
               copy.1 stay,
         )
 
-    pub sequence_is : (kept : Bool) (first others : Making) (nodes : Nodes) → GathersApart [] r
+    -- they are copies of the automaton, which are joined
+    pub sequence_made : (kept : Bool) (first others : Making) (nodes : Nodes) → GathersApart [] r
         → ((name : Name) → is_gathered r name ≡ true
         → (keeps name ≡ kept) × IsNumber variables name (numbered variables name))
         → MakingGrows first → MakingGrows others → MakesAll r first → MakesAll r others
         → HasItems true first → HasItems false others
         → Keeps (put_sequence variables kept r first others nodes).1 final
-        → IsKernelOf the_types variables final keeps (Sequence r)
+        → AreCopies the_types variables final keeps r
+        (copies true first others (groups_of kept r) nodes)
         (put_sequence variables kept r first others nodes).0
-    sequence_is kept first others nodes apart fits one other long long_too has has_too stay =
+        × AllOf (λ copy. AreItemsOf the_types variables final (inner keeps r copy) copy.items r 0)
+        (copies true first others (groups_of kept r) nodes)
+    sequence_made kept first others nodes apart fits one other long long_too has has_too stay =
         let groups = are_groups variables keeps r kept fits in
         let all = copies true first others (groups_of kept r) nodes in
         let made = put_copies variables r first others (groups_of kept r) [] nodes in
@@ -150,7 +154,6 @@ module _ (variables : List Name) (r : Regular NodeId) where
         nodes tt in
         let after = λ (n : ℕ) (x : KernelNode NodeId) (h : slice_get made.1 n ≡ Some x). stay n x
         ((chained_is_made Both both_joins ANY made.0 made.1 several.there).grows.keeps n x h) in (
-          all,
           record {
             joined = are_joined final all (chained Both ANY made.0 made.1).0
                 (chain_of_copies (groups_of kept r) groups.first groups.rest groups.are stay);

@@ -14,7 +14,8 @@ use Rattle.cd_matching.specs.Pattern.{Regular, Regulars, NoRegular, ARegular}
 use Rattle.cd_patterns.specs.Automaton.{Move, End, To, same_move, instead, without_end, without}
 use Rattle.cd_patterns.specs.Automaton.{once, items_in, turns, heads, heads_in_turn, heads_of_one}
 use Rattle.cd_patterns.specs.Automaton.{states, states_in_turn, states_of_one}
-use Rattle.cd_patterns.specs.WellMade.{HasAlternative, IsWellMadeRegular, AreWellMadeRegulars}
+use Rattle.cd_patterns.specs.Alternatives.{HasAlternative}
+use Rattle.cd_patterns.proofs.CompletePatterns.{IsCompleteRegular, AreCompleteRegulars}
 use Rattle.cd_patterns.proofs.ItemsByNumber.{get_split}
 use Rattle.cd_patterns.proofs.PartsStand.{Stand, stand_whole, first_stands, stand_left, stand_right}
 use Rattle.cd_patterns.proofs.PartsStand.{states_long}
@@ -75,7 +76,7 @@ module _ (rows : List (List Move)) where
 
   module _ {T : Type 0} (IsType : T → Type 0) where
     mutual
-      pub heads_end : (r : Regular T) (before : ℕ) (next : List Move) → IsWellMadeRegular IsType r
+      pub heads_end : (r : Regular T) (before : ℕ) (next : List Move) → IsCompleteRegular IsType r
           → Stand rows before (states r before next) → Ending rows next
           → Ending rows (instead (heads r before) next)
       heads_end pattern.Nothing before next fits stand on = end_first next [] on
@@ -107,7 +108,7 @@ module _ (rows : List (List Move)) where
           heads_end r before next fits stand on
 
       turn_ends : (all : Regulars T) (before : ℕ) (next : List Move)
-          → AreWellMadeRegulars IsType all → Stand rows before (states_in_turn all before next)
+          → AreCompleteRegulars IsType all → Stand rows before (states_in_turn all before next)
           → Ending rows next → Ending rows (instead (heads_in_turn all before) next)
       turn_ends NoRegular before next fits stand on = end_first next [] on
       turn_ends (ARegular first rest) before next fits stand on = subst (Ending rows)
@@ -122,7 +123,7 @@ module _ (rows : List (List Move)) where
           (instead (heads_in_turn rest (before + items_in first)) next)) stand) on))
 
       one_ends : (all : Regulars T) (before : ℕ) (next : List Move) → HasAlternative all
-          → AreWellMadeRegulars IsType all → Stand rows before (states_of_one all before next)
+          → AreCompleteRegulars IsType all → Stand rows before (states_of_one all before next)
           → Ending rows next → Ending rows (instead (heads_of_one all before) next)
       one_ends NoRegular before next one fits stand on = absurd one
       one_ends (ARegular first rest) before next one fits stand on = subst (Ending rows)
@@ -134,7 +135,7 @@ module _ (rows : List (List Move)) where
           (stand_left rows before _ (states_of_one rest (before + items_in first) next) stand) on))
 
     mutual
-      states_end : (r : Regular T) (before : ℕ) (next : List Move) → IsWellMadeRegular IsType r
+      states_end : (r : Regular T) (before : ℕ) (next : List Move) → IsCompleteRegular IsType r
           → Stand rows before (states r before next) → Ending rows next
           → (k : ℕ) (row : List Move) → slice_get (states r before next) k ≡ Some row
           → Ending rows row
@@ -158,7 +159,7 @@ module _ (rows : List (List Move)) where
           states_end r before next fits stand on k row h
 
       turn_states_end : (all : Regulars T) (before : ℕ) (next : List Move)
-          → AreWellMadeRegulars IsType all → Stand rows before (states_in_turn all before next)
+          → AreCompleteRegulars IsType all → Stand rows before (states_in_turn all before next)
           → Ending rows next → (k : ℕ) (row : List Move)
           → slice_get (states_in_turn all before next) k ≡ Some row → Ending rows row
       turn_states_end NoRegular before next fits stand on zero row h = absurd (none-some row h)
@@ -183,7 +184,7 @@ module _ (rows : List (List Move)) where
           ]
 
       one_states_end : (all : Regulars T) (before : ℕ) (next : List Move)
-          → AreWellMadeRegulars IsType all → Stand rows before (states_of_one all before next)
+          → AreCompleteRegulars IsType all → Stand rows before (states_of_one all before next)
           → Ending rows next → (k : ℕ) (row : List Move)
           → slice_get (states_of_one all before next) k ≡ Some row → Ending rows row
       one_states_end NoRegular before next fits stand on zero row h = absurd (none-some row h)
@@ -250,7 +251,7 @@ once_ends rows _ (goes place row moves there at on) =
     goes place (once row) (once moves) (in_once (To place) moves there)
     (slice_get-map once rows place ∙ ap (option_map once) at) (once_ends rows row on)
 
-module _ {T : Type 0} (IsType : T → Type 0) (r : Regular T) (fits : IsWellMadeRegular IsType r)
+module _ {T : Type 0} (IsType : T → Type 0) (r : Regular T) (fits : IsCompleteRegular IsType r)
   where
     abbrev all_rows : List (List Move)
     all_rows = states r 0 (End ∷ [])

@@ -2,6 +2,7 @@
 pub mod WaysIn
 pub mod Types
 pub mod Rows
+pub mod Completed
 pub mod Gathering
 pub mod Building
 pub mod PlainGroups

@@ -7,6 +7,7 @@ use Rattle.cd_matching.specs.Kernel.{Kernel, KernelNode, leads_to, parts_of}
 use Rattle.cd_matching.specs.Naming.{IsNamed}
 use Rattle.cd_matching.specs.Pattern.{Pattern, Regular, Sequence}
 use Rattle.cd_matching.specs.Variables.{binds}
+use Rattle.cd_patterns.specs.Alternatives.{HasAlternatives}
 use Rattle.cd_patterns.specs.Automaton.{ItemOf, items_of}
 use Rattle.cd_patterns.specs.Copies.{Types, IsAt, IsNumber, Copy}
 use Rattle.cd_patterns.specs.Making.{inner, AreCopies, IsKernelOf, AreItemsOf}
@@ -18,13 +19,14 @@ module _ {T : Type 0} (IsType : T → Type 0) (types : Types T) (variables : Lis
     -- what is made of a pattern
     made : (keeps : Name → Bool) (p : Pattern T) (number : ℕ)
         → IsKernelOf types variables nodes keeps p number → IsNamed p → IsWellMade IsType p
-        → IsPart number
+        → HasAlternatives p → IsPart number
     -- the state after an item in a copy of what is made of a sequence
     state : (keeps : Name → Bool) (r : Regular T) (copies : List Copy) (copy : Copy)
         (root place number : ℕ) (of : ItemOf T)
         → AreCopies types variables nodes keeps r copies root
         → AllOf (λ other. AreItemsOf types variables nodes (inner keeps r other) other.items r 0)
         copies → IsNamed (Sequence r) → IsWellMade IsType (Sequence r)
+        → HasAlternatives (Sequence r)
         → AnyOf (λ other. other ≡ copy) copies → slice_get (items_of [] r) place ≡ Some of
         → slice_get copy.states place ≡ Some number
         → IsPart number

@@ -1,14 +1,9 @@
--- Patterns that are well made: their types are such, their constants are elements, and each choice
--- in a sequence has an alternative.
+-- Patterns that are well made: their types are such, and their constants are elements.
 use Rattle.cd_model.specs.Thing.{IsElement}
 use Rattle.cd_matching.specs.Pattern as pattern
 use Rattle.cd_matching.specs.Pattern.{Pattern, Patterns, NoPattern, APattern, Fields, NoField}
 use Rattle.cd_matching.specs.Pattern.{Present, Optional, Regular, Regulars, NoRegular, ARegular}
 use Rattle.cd_matching.specs.Sequences.{thing_of}
-
-abbrev pub HasAlternative : {T : Type 0} → Regulars T → Type 0
-HasAlternative NoRegular = ⊥
-HasAlternative (ARegular first rest) = Unit {0}
 
 module _ {T : Type 0} (IsType : T → Type 0) where
   abbrev mutual
@@ -36,7 +31,7 @@ module _ {T : Type 0} (IsType : T → Type 0) where
     IsWellMadeRegular pattern.Nothing = Unit {0}
     IsWellMadeRegular (pattern.Item p) = IsWellMade p
     IsWellMadeRegular (pattern.Seq all) = AreWellMadeRegulars all
-    IsWellMadeRegular (pattern.Alt all) = HasAlternative all × AreWellMadeRegulars all
+    IsWellMadeRegular (pattern.Alt all) = AreWellMadeRegulars all
     IsWellMadeRegular (pattern.Repeat r post) = IsWellMadeRegular r
     IsWellMadeRegular (pattern.Capture variable r) = IsWellMadeRegular r
 

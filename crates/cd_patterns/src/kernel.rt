@@ -1,20 +1,26 @@
 //! The kernel of a pattern.
-ghost use Rattle.std.specs.Prelude.{◌≡◌, IfOk};
-ghost use Rattle.cd_patterns.specs.Labelled.{HasLabels};
+ghost use Rattle.std.specs.Prelude.{◌≡◌, ◌<◌, ◌≤◌, ℕ, length, IfOk};
+ghost use Rattle.cd_model.specs.BuiltIns.{built_ins};
+ghost use Rattle.cd_matching.specs.Kernel.{IsSound};
 ghost use Rattle.cd_matching.specs.Naming.{IsNamed};
 ghost use Rattle.cd_matching.specs.PlainKernel.{plain_kernel};
 ghost use Rattle.cd_matching.specs.PlainPattern.{plain};
+ghost use Rattle.cd_patterns.specs.Alternatives.{HasAlternatives};
 ghost use Rattle.cd_patterns.specs.Inner.Building.{kernel_of};
+ghost use Rattle.cd_patterns.specs.Labelled.{HasLabels};
 ghost use Rattle.cd_patterns.specs.Making.{IsMade, TakesAlike};
+ghost use Rattle.cd_patterns.specs.WellMade.{IsWellMade};
 
+use crate::complete::complete;
 use crate::names::variables;
 use crate::nodes::put_pattern;
 use cd_matching::kernel::Kernel;
 use cd_matching::pattern::Pat;
 use std::alloc::{AllocError, Global};
 
-/// The kernel of a pattern, which takes what the pattern takes, with the same captures. No variable
-/// of the pattern is at fault, and its labels are labels.
+/// The kernel of a pattern, which takes what the pattern takes, with the same captures. It is sound
+/// in a graph of the built-in nodes at least, where the pattern's types are nodes and its constants
+/// are elements. No variable of the pattern is at fault, and its labels are labels.
 ///
 /// # Errors
 ///
@@ -22,16 +28,25 @@ use std::alloc::{AllocError, Global};
 pub fn kernel(alloc: Global, pattern: &Pat) -> Result<Kernel, AllocError>
     requires named { IsNamed (plain pattern.now) }
     requires labels { HasLabels (plain pattern.now) }
-    ensures { IfOk result (λ kernel. TakesAlike (plain pattern.now) (plain_kernel kernel)) }
+    ensures takes { IfOk result (λ kernel. TakesAlike (plain pattern.now) (plain_kernel kernel)) }
+    ensures sound { IfOk result (λ kernel. (nodes : ℕ) → length built_ins ≤ nodes
+        → IsWellMade (λ id. id.0 < nodes) (plain pattern.now)
+        → IsSound (λ id. id.0 < nodes) (plain_kernel kernel)) }
 {
-    Ok(kernel_made(alloc, pattern)?)
+    let complete = complete(alloc, pattern)?;
+    Ok(kernel_made(alloc, &complete)?)
 }
 
-// The kernel that is made of a pattern.
+// The kernel that is made of a pattern. It is sound where each choice in a sequence has an
+// alternative.
 fn kernel_made(alloc: Global, pattern: &Pat) -> Result<Kernel, AllocError>
     requires named { IsNamed (plain pattern.now) }
     requires labels { HasLabels (plain pattern.now) }
-    ensures { IfOk result (λ kernel. IsMade (plain pattern.now) (plain_kernel kernel)) }
+    ensures made { IfOk result (λ kernel. IsMade (plain pattern.now) (plain_kernel kernel)) }
+    ensures sound { IfOk result (λ kernel. (nodes : ℕ) → length built_ins ≤ nodes
+        → IsWellMade (λ id. id.0 < nodes) (plain pattern.now)
+        → HasAlternatives (plain pattern.now)
+        → IsSound (λ id. id.0 < nodes) (plain_kernel kernel)) }
 {
     Ok(make(alloc, pattern)?)
 }

@@ -8,6 +8,7 @@ ghost use Rattle.cd_matching.specs.Naming.{GathersApart, IsNamed};
 ghost use Rattle.cd_matching.specs.Pattern.{Pattern, Regular};
 ghost use Rattle.cd_matching.specs.Take.{ways};
 ghost use Rattle.cd_matching.specs.Ways.{first_whole};
+ghost use Rattle.cd_patterns.specs.Alternatives.{HasAlternatives};
 ghost use Rattle.cd_patterns.specs.Automaton.{run_whole};
 ghost use Rattle.cd_patterns.specs.Examples as example;
 ghost use Rattle.cd_patterns.specs.Examples.{both_ways, number, truth};
@@ -41,11 +42,11 @@ pub fn kernels_are_exact()
         → TakesAlike p kernel }
 {}
 
-/// It is sound where the pattern is well made, no variable of it is at fault, and the kernel has no
-/// other nodes and no other variables.
+/// It is sound where the pattern is well made, no variable of it is at fault, each choice in a
+/// sequence has an alternative, and the kernel has no other nodes and no other variables.
 pub fn kernels_are_sound()
     ensures { (n : ℕ) (p : Pattern NodeId) (kernel : Kernel NodeId) → length built_ins ≤ n
-        → IsMade p kernel → IsNamed p → IsWellMade (λ id. id.0 < n) p
+        → IsMade p kernel → IsNamed p → IsWellMade (λ id. id.0 < n) p → HasAlternatives p
         → HasNoMore (λ id. id.0 < n) the_types p kernel → IsSound (λ id. id.0 < n) kernel }
 {}
 
@@ -55,6 +56,7 @@ pub fn a_kernel_is_made()
     ensures named { IsNamed example.greedy }
     ensures well_made { (n : ℕ) → length built_ins ≤ n
         → IsWellMade (λ id. id.0 < n) example.greedy }
+    ensures alternatives { HasAlternatives example.greedy }
     ensures no_more { (n : ℕ) → length built_ins ≤ n
         → HasNoMore (λ id. id.0 < n) the_types example.greedy example.greedy_kernel }
 {}

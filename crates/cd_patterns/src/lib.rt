@@ -5,6 +5,7 @@
 mod build;
 mod chain;
 mod compare;
+mod complete;
 mod copies;
 mod count;
 mod gathering;

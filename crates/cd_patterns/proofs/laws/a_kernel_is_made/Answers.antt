@@ -1,4 +1,5 @@
-use Rattle.cd_patterns.proofs.MadeExample.{is_made, is_named, is_well_made, has_no_more}
+use Rattle.cd_patterns.proofs.MadeExample.{is_made, is_named, is_well_made, has_alternatives}
+use Rattle.cd_patterns.proofs.MadeExample.{has_no_more}
 use Rattle.cd_patterns.proofs.laws.a_kernel_is_made.Goals as goal
 
 pub returns-clause-made : goal.returns-clause-made
@@ -9,6 +10,9 @@ returns-clause-named c = is_named
 
 pub returns-clause-well_made : goal.returns-clause-well_made
 returns-clause-well_made c = is_well_made
+
+pub returns-clause-alternatives : goal.returns-clause-alternatives
+returns-clause-alternatives c = has_alternatives
 
 pub returns-clause-no_more : goal.returns-clause-no_more
 returns-clause-no_more c = has_no_more
