@@ -1,0 +1,98 @@
+-- Things of lists, by their numbers.
+use Rattle.std.proofs.Common.{◌≡◌, ◌<◌, ℕ, zero, suc, List, [], ◌∷◌, ◌++◌, ◌⊎◌, inl, inr, length}
+use Rattle.std.proofs.Common.{◌+◌, ◌≤◌, Some, refl, sym, ap, subst, ◌∙◌, arith, take, get_or}
+use Rattle.std.proofs.lemmas.Option.{none-some, same_Some, slice_get_within, slice_get-get_or}
+use Rattle.std.proofs.lemmas.Option.{get_or_from_slice_get}
+use Rattle.std.proofs.lemmas.List.{take_more, take_all}
+use Rattle.std.proofs.lemmas.List.Elements.{Contains-push_cases}
+use Rattle.std.specs.List.{slice_get, AllZip, Contains}
+use Rattle.cd_model.specs.AllOf.{AllOf, AnyOf}
+
+module _ {X : Type 0} where
+  -- what is in a list is in a longer one, under the same number
+  pub got_more : (xs more : List X) (k : ℕ) (x : X) → slice_get xs k ≡ Some x
+      → slice_get (xs ++ more) k ≡ Some x
+  got_more [] more k x is = absurd (none-some x is)
+  got_more (y ∷ xs) more zero x is = is
+  got_more (y ∷ xs) more (suc k) x is = got_more xs more k x is
+
+  -- and back, for a number of the shorter one
+  pub got_before : (xs more : List X) (k : ℕ) (x : X) → k < length xs
+      → slice_get (xs ++ more) k ≡ Some x → slice_get xs k ≡ Some x
+  got_before [] more k x below is = absurd (omega (arith, below))
+  got_before (y ∷ xs) more zero x below is = is
+  got_before (y ∷ xs) more (suc k) x below is =
+      got_before xs more k x (omega (arith, below)) is
+
+  -- in a list with one more it was there, or is the last
+  pub got_pushed : (xs : List X) (y : X) (k : ℕ) (x : X) → slice_get (xs ++ y ∷ []) k ≡ Some x
+      → (slice_get xs k ≡ Some x) ⊎ ((k ≡ length xs) × (y ≡ x))
+  got_pushed [] y zero x is = inr (refl, same_Some y x is)
+  got_pushed [] y (suc k) x is = absurd (none-some x is)
+  got_pushed (z ∷ xs) y zero x is = inl is
+  got_pushed (z ∷ xs) y (suc k) x is = elim (got_pushed xs y k x is) [
+    | inl before ↦ inl before
+    | inr last ↦ inr (omega (arith, last.0), last.1)
+  ]
+
+  -- the last one has the number of those before it
+  pub got_last : (xs : List X) (x : X) → slice_get (xs ++ x ∷ []) (length xs) ≡ Some x
+  got_last [] x = refl
+  got_last (y ∷ xs) x = got_last xs x
+
+  pub contains_got : (xs : List X) (k : ℕ) (x : X) → slice_get xs k ≡ Some x → Contains xs x
+  contains_got xs k x is = (k, slice_get_within xs k x is, get_or_from_slice_get xs k x x is)
+
+  pub got_contains : (xs : List X) (x : X) (has : Contains xs x) → slice_get xs has.0 ≡ Some x
+  got_contains xs x has = slice_get-get_or xs has.0 x has.1 ∙ ap Some has.2
+
+  -- one of a list is in it, and back
+  pub contains_any : (xs : List X) (x : X) → AnyOf (λ y. y ≡ x) xs → Contains xs x
+  contains_any [] x is = absurd is
+  contains_any (y ∷ xs) x (inl same) = (0, omega arith, same)
+  contains_any (y ∷ xs) x (inr later) =
+      let has = contains_any xs x later in (suc has.0, omega (arith, has.1), has.2)
+
+  any_got : (xs : List X) (k : ℕ) (x : X) → slice_get xs k ≡ Some x → AnyOf (λ y. y ≡ x) xs
+  any_got [] k x is = absurd (none-some x is)
+  any_got (y ∷ xs) zero x is = inl (same_Some y x is)
+  any_got (y ∷ xs) (suc k) x is = inr (any_got xs k x is)
+
+  pub any_contains : (xs : List X) (x : X) → Contains xs x → AnyOf (λ y. y ≡ x) xs
+  any_contains xs x has = any_got xs has.0 x (got_contains xs x has)
+
+  -- of the first ones and one more
+  pub one_more : (xs : List X) (k : ℕ) (x : X) → k < length xs → x ≡ get_or xs k x → (one : X)
+      → Contains (take (k + 1) xs) one → Contains (take k xs) one ⊎ (x ≡ one)
+  one_more xs k x below is one has = Contains-push_cases (take k xs) x one
+      (subst (λ (all : List X). Contains all one)
+      (take_more xs k x below ∙ ap (λ other. take k xs ++ other ∷ []) (sym is)) has)
+
+  -- all of the first ones are all where there are no more
+  pub all_taken : (xs : List X) (k : ℕ) (one : X) → length xs ≤ k → Contains xs one
+      → Contains (take k xs) one
+  all_taken xs k one past has =
+      subst (λ (all : List X). Contains all one) (sym (take_all k xs past)) has
+
+  -- what all of a list have, one of it has
+  pub all_got : (fact : X → Type 0) (xs : List X) (k : ℕ) (x : X) → AllOf fact xs
+      → slice_get xs k ≡ Some x → fact x
+  all_got fact [] k x all is = absurd (none-some x is)
+  all_got fact (y ∷ xs) zero x all is = subst fact (same_Some y x is) all.0
+  all_got fact (y ∷ xs) (suc k) x all is = all_got fact xs k x all.1 is
+
+module _ {A B : Type 0} where
+  pub zip_pushed : (fact : A → B → Type 0) (xs : List A) (ys : List B) (x : A) (y : B)
+      → AllZip fact xs ys → fact x y → AllZip fact (xs ++ x ∷ []) (ys ++ y ∷ [])
+  zip_pushed fact [] [] x y all is = (is, tt)
+  zip_pushed fact [] (b ∷ ys) x y all is = absurd all
+  zip_pushed fact (a ∷ xs) [] x y all is = absurd all
+  zip_pushed fact (a ∷ xs) (b ∷ ys) x y all is = (all.0, zip_pushed fact xs ys x y all.1 is)
+
+  pub zip_weaker : (one other : A → B → Type 0) → ((x : A) (y : B) → one x y → other x y)
+      → (xs : List A) (ys : List B) → AllZip one xs ys → AllZip other xs ys
+  zip_weaker one other weaker [] [] all = tt
+  zip_weaker one other weaker [] (b ∷ ys) all = all
+  zip_weaker one other weaker (a ∷ xs) [] all = all
+  zip_weaker one other weaker (a ∷ xs) (b ∷ ys) all =
+      (weaker a b all.0, zip_weaker one other weaker xs ys all.1)

@@ -1,0 +1,27 @@
+-- Formulas for steps: what holds in a graph what a question asks, and what holds one thing alone.
+use Rattle.std.specs.Prelude.{◌≡◌, ◌↔◌, ◌++◌, Bool, true, length}
+use Rattle.cd_sets.specs.declared.question.Question.{Question}
+use Rattle.cd_model.specs.Formula.{Graph, Formula, IsFormula, IsGraph, asked, at_formula, holds}
+use Rattle.cd_model.specs.Formula.{in_node, nodes}
+use Rattle.cd_model.specs.Interfaces.{Interfaces, value_in_node, value_reader}
+use Rattle.cd_model.specs.Thing.{Thing, IsElement, IsValue}
+use Rattle.cd_model.specs.Types.{no_closure, reader}
+use Rattle.cd_products.specs.Products.{AreInterfacesOf}
+
+module _ (graph : Graph) where
+  -- a formula of the graph answers what the question asks
+  pub record AnswersQuestion (question : Question) (f : Formula) : Type 0 where
+    pub sound : IsFormula (length graph) f
+    pub elements : (e : Thing) (answer : Bool) → asked (in_node graph e) question answer
+        ↔ holds (at_formula (reader (nodes graph) no_closure e)) f answer
+    pub values : (interfaces : Interfaces) (v : Thing) (answer : Bool)
+        → asked (value_in_node graph interfaces v) question answer
+        ↔ holds (at_formula (value_reader graph interfaces v)) f answer
+
+  -- here and in each longer graph the formula holds this thing alone
+  pub record HoldsAlone (d : Thing) (f : Formula) : Type 0 where
+    pub elements : (e : Thing) → IsElement e
+        → holds (at_formula (reader (nodes graph) no_closure e)) f true ↔ (e ≡ d)
+    pub values : (more : Graph) (interfaces : Interfaces) (v : Thing) → IsGraph (graph ++ more)
+        → AreInterfacesOf (graph ++ more) interfaces → IsValue v
+        → holds (at_formula (value_reader (graph ++ more) interfaces v)) f true ↔ (v ≡ d)
