@@ -1,25 +1,10 @@
-//! Patterns over nodes, which stand for written ones, and their kernels: the automata of sequences, and
-//! what is made of a pattern.
+//! Patterns over the nodes of a graph, which stand for written ones.
 #![tactic(auto)]
 
 mod build;
-mod chain;
-mod compare;
-mod complete;
-mod copies;
-mod count;
-mod gathering;
-mod heads;
-pub mod kernel;
-pub mod laws;
-mod moves;
-mod names;
-mod nodes;
+mod constants;
 mod resolve;
 mod roots;
-mod rows;
-mod sort;
-mod states;
 mod variables;
 mod wanted;
 

@@ -1,5 +1,5 @@
 //! Patterns over the nodes of a graph.
-ghost use Rattle.std.specs.Prelude.{◌+◌, ◌++◌, [], ◌∷◌, length, IfOk};
+ghost use Rattle.std.specs.Prelude.{◌<◌, ◌+◌, ◌++◌, [], ◌∷◌, length, IfOk};
 ghost use Rattle.cd_syntax.specs.PlainTree.{plain as plain_tree};
 ghost use Rattle.cd_syntax.specs.WellMadePattern.{IsWellMadePattern};
 ghost use Rattle.cd_model.specs.AllOf.{AllOf};
@@ -12,8 +12,11 @@ ghost use Rattle.cd_matching.specs.Naming.{IsNamed};
 ghost use Rattle.cd_matching.specs.PlainPattern.{plain};
 ghost use Rattle.cd_matching.specs.Takes.{IsResolved, PatternStandsFor};
 ghost use Rattle.cd_matching.specs.WrittenPattern.{pattern_of};
+ghost use Rattle.cd_kernel.specs.Labelled.{HasLabels};
+ghost use Rattle.cd_kernel.specs.WellMade.{IsWellMade};
 
 use crate::build::build;
+use crate::constants::constants_fit;
 use crate::roots::Roots;
 use crate::wanted::want;
 use cd_graph::{Formulas, Graph};
@@ -60,6 +63,10 @@ pub fn resolve_pattern(
     ensures resolved { IfOk result (λ batch.
         IsResolved (nodes graph.now ++ plain_list batch.formulas) (plain batch.pattern)
         (declared_by names.now ∷ []) (plain_tree pattern.now)) }
+    ensures labels { IfOk result (λ batch. HasLabels (plain batch.pattern)) }
+    ensures made { IfOk result (λ batch.
+        IsWellMade (λ id. id.0 < length (nodes graph.now ++ plain_list batch.formulas))
+        (plain batch.pattern)) }
     ensures stands { IfOk result (λ batch.
         PatternStandsFor (nodes graph.now ++ plain_list batch.formulas) (plain batch.pattern)
         (declared_by names.now ∷ []) (plain_tree pattern.now)) }
@@ -71,5 +78,6 @@ pub fn resolve_pattern(
         left: roots.as_slice(),
     };
     let pattern = build(alloc, pattern, &mut roots)?;
+    constants_fit(&pattern);
     Ok(PatternBatch { formulas, pattern })
 }

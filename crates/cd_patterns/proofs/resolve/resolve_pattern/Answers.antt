@@ -1,4 +1,4 @@
-use Rattle.std.proofs.Common.{[], ◌∷◌, ◌++◌, List, map, sym, subst}
+use Rattle.std.proofs.Common.{◌<◌, length, [], ◌∷◌, ◌++◌, List, map, sym, subst}
 use Rattle.cd_sets.specs.declared.node_id.NodeId.{NodeId}
 use Rattle.cd_syntax.specs.PlainTree.{plain as plain_tree}
 use Rattle.cd_model.specs.Scope.{Scope}
@@ -15,6 +15,7 @@ use Rattle.cd_matching.specs.WrittenPattern.{pattern_of}
 use Rattle.cd_matching.proofs.ResolvedPatterns.{resolved_stands}
 use Rattle.cd_patterns.specs.Inner.Types.{Filled}
 use Rattle.cd_patterns.proofs.PatternsResolved.{wanted_are, all_made, none_at_fault, resolved}
+use Rattle.cd_patterns.proofs.ProperPatterns.{tree_proper, alike_labels, alike_made}
 use Rattle.cd_patterns.proofs.resolve.resolve_pattern.Goals as goal
 use Rattle.cd_patterns.proofs.resolve.resolve_pattern.Goals.{In_ok-pattern}
 
@@ -59,3 +60,18 @@ pub returns-clause-stands : goal.returns-clause-stands
 returns-clause-stands c =
     resolved_stands _ _ _ _ (is_resolved (goal.at.returns-clause-stands c).In_ok-pattern)
     c.requires.variables
+
+pub returns-clause-labels : goal.returns-clause-labels
+returns-clause-labels c = alike_labels
+    (StandsFor (nodes c.args.graph.now ++ plain_list c.in_ok-formulas.field-0.formulas)) _ _
+    (is_resolved (goal.at.returns-clause-labels c).In_ok-pattern)
+    (tree_proper (declared_by c.args.names.now ∷ []) (plain_tree c.args.pattern.now)
+    c.requires.well_made)
+
+pub returns-clause-made : goal.returns-clause-made
+returns-clause-made c =
+    let graph = nodes c.args.graph.now ++ plain_list c.in_ok-formulas.field-0.formulas in
+    alike_made (StandsFor graph) (λ id. id.0 < length graph) (λ id type stands. stands.is_node) _ _
+    (is_resolved (goal.at.returns-clause-made c).In_ok-pattern)
+    (tree_proper (declared_by c.args.names.now ∷ []) (plain_tree c.args.pattern.now)
+    c.requires.well_made) c.constants_fit.ensures

@@ -1,0 +1,333 @@
+-- The node of each piece: it is what the piece is made of.
+use Rattle.std.proofs.Common.{◌≡◌, ℕ, Bool, true, false, ◌||◌, ◌&&◌, List, [], ◌∷◌}
+use Rattle.std.proofs.Common.{refl, sym, ap, subst, ◌∙◌, bytes_eq}
+use Rattle.std.proofs.lemmas.Bool.{true≢false, or_left, or_right, and_parts, or_parts, and_from}
+use Rattle.cd_syntax.specs.Name.{Name}
+use Rattle.cd_syntax.specs.declared.constant.Constant.TheVariants as constant
+use Rattle.cd_model.specs.AllOf.{AllOf}
+use Rattle.cd_matching.specs.Kernel.{KernelNode, KernelField, Present, Optional, Test, Bind, Put}
+use Rattle.cd_matching.specs.Kernel.{Pair, Xml, Record, Both, First, variables_of}
+use Rattle.cd_matching.specs.Naming.{AreApart, AreSame, FieldsApart, AreNamedApart}
+use Rattle.cd_matching.specs.Naming.{AreNamedSame, AreNamedAs, AreNamedFields}
+use Rattle.cd_matching.specs.Pattern as pattern
+use Rattle.cd_matching.specs.Pattern.{Pattern, Patterns, NoPattern, APattern, Fields, NoField}
+use Rattle.cd_matching.specs.Pattern.{Regular, Regulars, NoRegular, ARegular, Sequence}
+use Rattle.cd_matching.specs.Variables.{binds, all_bind, fields_bind}
+use Rattle.cd_matching.specs.Variables.{regular_binds}
+use Rattle.cd_matching.proofs.NilIsElement.{nil_is_element}
+use Rattle.cd_kernel.specs.Copies.{Types, AreTypes}
+use Rattle.cd_kernel.specs.Making.{IsPut, IsBothOf, IsFirstOf}
+use Rattle.cd_kernel.specs.Making.{AreFieldsOf}
+use Rattle.cd_kernel.proofs.CompletePatterns.{AreComplete, AreCompleteFields}
+use Rattle.cd_kernel.proofs.AnyOrder.{all_reordered, EachTwo, two_reordered}
+use Rattle.cd_kernel.proofs.PlainVariables.{Names, either}
+use Rattle.cd_kernel.proofs.VariableNumbers.{name_itself}
+use Rattle.cd_kernel.proofs.Pieces.{Within, apart_turned, kept_of, kept_within, kept_either}
+use Rattle.cd_kernel.proofs.Pieces.{kept_three, kept_apart, copies_bind, ItemMade, Piece, test_of}
+use Rattle.cd_kernel.proofs.Pieces.{put_of, made, both_of, first_of, puts_of, state_of, move_of}
+use Rattle.cd_kernel.proofs.Pieces.{joined_of, Allowed, FieldIs, FieldsBindApart, Shape, Good}
+use Rattle.cd_kernel.proofs.Pieces.{wider}
+use Rattle.cd_kernel.proofs.CopyPieces.{good_puts, good_move, good_state, good_joined, copies_of}
+use Rattle.cd_kernel.proofs.CopyPieces.{copies_within}
+
+module _ {T : Type 0} (IsType : T → Type 0) (types : Types T) (variables : List Name)
+    (nodes : List (KernelNode T)) where
+  abbrev a_piece : Names → ℕ → Type 0
+  a_piece = Piece IsType types variables nodes
+
+  abbrev is_good : Names → ℕ → Type 0
+  is_good = Good IsType types variables nodes
+
+  abbrev made_item : Names → Pattern T → ℕ → Type 0
+  made_item = ItemMade IsType types variables nodes
+
+  abbrev is_field : Names → Name × KernelField T → Type 0
+  is_field = FieldIs IsType types variables nodes
+
+  abbrev bind_apart : (one other : Name × KernelField T) → Type 0
+  bind_apart = FieldsBindApart IsType types variables nodes
+
+  abbrev is_allowed : Names → ℕ → Type 0
+  is_allowed = Allowed IsType types variables nodes
+
+  module _ (are_types : AreTypes IsType types) where
+    -- variables
+    good_put : (b : Bool) (keeps : Names) (name : Name) (node : ℕ → KernelNode T) (number : ℕ)
+        → keeps name ≡ b → IsPut types variables nodes b name node number
+        → ((variable : ℕ) → (variables_of (node variable) ≡ variable ∷ [])
+        × Shape IsType types variables nodes (kept_of keeps (bytes_eq name)) (node variable))
+        → is_good (kept_of keeps (bytes_eq name)) number
+    good_put true keeps name node number is (variable, is_number, there) plain = (
+      node variable,
+      there,
+      subst (AllOf (is_allowed (kept_of keeps (bytes_eq name)))) (sym (plain variable).0) (
+        (name, is_number, and_from (keeps name) (bytes_eq name name) is (name_itself name)),
+        tt,
+      ),
+      (plain variable).1,
+    )
+    good_put false keeps name node number is there plain =
+        (Test types.any, there, tt, are_types.1)
+
+    -- fields
+    fields_are : (keeps bound : Names) (fields : Fields T) (written : List (Name × KernelField T))
+        → AreFieldsOf types variables nodes keeps fields written → AreNamedFields fields
+        → AreCompleteFields IsType fields → Within (kept_of keeps (fields_bind fields)) bound
+        → AllOf (is_field bound) written
+    fields_are keeps bound NoField written same named fits within =
+        subst (AllOf (is_field bound)) (sym same) tt
+    fields_are keeps bound (pattern.Present label p rest) written (number, others, same, is, are)
+        named fits within = subst (AllOf (is_field bound)) (sym same) (
+          (
+            kept_of keeps (binds p),
+            made keeps p number (is, named.0, fits.0),
+            λ name h. within name (kept_within keeps (binds p) (either (binds p) (fields_bind rest))
+                (λ other. or_left (binds p other) (fields_bind rest other)) name h),
+          ),
+          fields_are keeps bound rest others are named.1 fits.1
+              (λ name h. within name
+              (kept_within keeps (fields_bind rest) (either (binds p) (fields_bind rest))
+              (λ other. or_right (binds p other) (fields_bind rest other)) name h)),
+        )
+    fields_are keeps bound (pattern.Optional label type rest) written (others, same, are) named
+        fits within = subst (AllOf (is_field bound)) (sym same)
+        (fits.0, fields_are keeps bound rest others are named fits.1 within)
+
+    one_field_apart : (keeps first : Names) (label : Name) (number : ℕ)
+        → a_piece (kept_of keeps first) number
+        → (fields : Fields T) (written : List (Name × KernelField T))
+        → AreFieldsOf types variables nodes keeps fields written → AreNamedFields fields
+        → AreCompleteFields IsType fields → AreApart first (fields_bind fields)
+        → AllOf (bind_apart (label, Present number)) written
+    one_field_apart keeps first label number piece NoField written same named fits apart =
+        subst (AllOf (bind_apart (label, Present number))) (sym same) tt
+    one_field_apart keeps first label number piece (pattern.Present name p rest) written
+        (other, others, same, is, are) named fits apart =
+        subst (AllOf (bind_apart (label, Present number))) (sym same) (
+          (
+            kept_of keeps first,
+            kept_of keeps (binds p),
+            piece,
+            made keeps p other (is, named.0, fits.0),
+            kept_apart keeps first (binds p)
+                (λ variable h. (or_parts (binds p variable) (fields_bind rest variable)
+                (apart variable h)).0),
+          ),
+          one_field_apart keeps first label number piece rest others are named.1 fits.1
+              (λ variable h. (or_parts (binds p variable) (fields_bind rest variable)
+              (apart variable h)).1),
+        )
+    one_field_apart keeps first label number piece (pattern.Optional name type rest) written
+        (others, same, are) named fits apart =
+        subst (AllOf (bind_apart (label, Present number))) (sym same)
+        (tt, one_field_apart keeps first label number piece rest others are named fits.1 apart)
+
+    absent_apart : (label : Name) (type : T) (written : List (Name × KernelField T))
+        → AllOf (bind_apart (label, Optional type)) written
+    absent_apart label type [] = tt
+    absent_apart label type ((name, Present number) ∷ written) =
+        (tt, absent_apart label type written)
+    absent_apart label type ((name, Optional other) ∷ written) =
+        (tt, absent_apart label type written)
+
+    fields_apart : (keeps : Names) (fields : Fields T) (written : List (Name × KernelField T))
+        → AreFieldsOf types variables nodes keeps fields written → AreNamedFields fields
+        → AreCompleteFields IsType fields → FieldsApart fields → EachTwo bind_apart written
+    fields_apart keeps NoField written same named fits apart =
+        subst (EachTwo bind_apart) (sym same) tt
+    fields_apart keeps (pattern.Present label p rest) written (number, others, same, is, are) named
+        fits apart = subst (EachTwo bind_apart) (sym same) (
+          one_field_apart keeps (binds p) label number (made keeps p number (is, named.0, fits.0))
+              rest
+              others are named.1 fits.1 apart.0,
+          fields_apart keeps rest others are named.1 fits.1 apart.1,
+        )
+    fields_apart keeps (pattern.Optional label type rest) written (others, same, are) named fits
+        apart = subst (EachTwo bind_apart) (sym same)
+        (absent_apart label type others, fields_apart keeps rest others are named fits.1 apart)
+
+    apart_either_way : (one other : Name × KernelField T) → bind_apart one other
+        → bind_apart other one
+    apart_either_way (label, Present number) (name, Present other) (a, b, p, q, apart) =
+        (b, a, q, p, apart_turned a b apart)
+    apart_either_way (label, Present number) (name, Optional type) apart = tt
+    apart_either_way (label, Optional type) (name, Present number) apart = tt
+    apart_either_way (label, Optional type) (name, Optional other) apart = tt
+
+    -- alternatives bind the same
+    all_as : (bound : Names) (first : Pattern T) (rest : Patterns T)
+        → AreNamedAs bound (APattern first rest)
+        → AreSame bound (all_bind (APattern first rest))
+    all_as bound first NoPattern named name =
+        by_bool (bound name) (binds first name) (sym (named.0 name))
+      where
+        by_bool : (a b : Bool) → a ≡ b → a ≡ (b || false)
+        by_bool true true same = refl
+        by_bool false false same = refl
+        by_bool true false same = absurd (true≢false same)
+        by_bool false true same = absurd (true≢false (sym same))
+    all_as bound first (APattern next rest) named name =
+        by_bool (bound name) (binds first name) (all_bind (APattern next rest) name)
+        (sym (named.0 name)) (all_as bound next rest named.2 name)
+      where
+        by_bool : (a b c : Bool) → a ≡ b → a ≡ c → a ≡ (b || c)
+        by_bool a true c same too = same
+        by_bool a false c same too = too
+
+    as_again : (bound : Names) (first : Pattern T) (rest : Patterns T)
+        → AreNamedAs bound (APattern first rest) → AreNamedSame (APattern first rest)
+    as_again bound first rest named =
+        (named.1, turned rest named.2)
+      where
+        turned : (all : Patterns T) → AreNamedAs bound all → AreNamedAs (binds first) all
+        turned NoPattern like = tt
+        turned (APattern p all) like =
+            ((λ name. like.0 name ∙ sym (named.0 name)), like.1, turned all like.2)
+
+    -- patterns
+    mutual
+      good_made : (keeps : Names) (p : Pattern T) (number : ℕ) → made_item keeps p number
+          → is_good (kept_of keeps (binds p)) number
+      good_made keeps (pattern.OfType type) number (there, named, fits) =
+          (Test type, there, tt, fits)
+      good_made keeps (pattern.Bind name) number (there, named, fits) =
+          good_put (keeps name) keeps name Bind number refl there (λ variable. (refl, tt))
+      good_made keeps (pattern.Default name constant) number (there, named, fits) =
+          good_put (keeps name) keeps name (λ variable. Put variable constant) number refl there
+          (λ variable. (refl, fits))
+      good_made keeps (pattern.Pair p q) number ((one, other, there, a, b), named, fits) = (
+        Pair one other,
+        there,
+        tt,
+        (
+          kept_of keeps (binds p),
+          kept_of keeps (binds q),
+          made keeps p one (a, named.1, fits.0),
+          made keeps q other (b, named.2, fits.1),
+          kept_apart keeps (binds p) (binds q) named.0,
+          λ name. kept_either (keeps name) (binds p name) (binds q name),
+        ),
+      )
+      good_made keeps (pattern.Xml p q r) number
+          ((one, other, last, there, a, b, c), named, fits) = (
+            Xml one other last,
+            there,
+            tt,
+            (
+              kept_of keeps (binds p),
+              kept_of keeps (binds q),
+              kept_of keeps (binds r),
+              made keeps p one (a, named.2, fits.0),
+              made keeps q other (b, named.3, fits.1),
+              made keeps r last (c, named.4, fits.2),
+              λ name h. by_kept (keeps name) (binds q name) (binds r name)
+                  (named.0 name (and_parts (keeps name) (binds p name) h).1),
+              kept_apart keeps (binds q) (binds r) named.1,
+              λ name. kept_three (keeps name) (binds p name) (binds q name) (binds r name),
+            ),
+          )
+        where
+          by_kept : (k b c : Bool) → (b || c) ≡ false → ((k && b) || (k && c)) ≡ false
+          by_kept true b c h = h
+          by_kept false b c h = refl
+      good_made keeps (pattern.Record fields more) number
+          ((written, rising, there, order, labels, apart, are), named, fits) = (
+            Record rising more,
+            there,
+            tt,
+            (
+              labels,
+              all_reordered (is_field (kept_of keeps (fields_bind fields))) written rising order
+                  (fields_are keeps (kept_of keeps (fields_bind fields)) fields written are named.2
+                  fits
+                  (λ name h. h)),
+              two_reordered bind_apart apart_either_way written rising order
+                  (fields_apart keeps fields written are named.2 fits named.1),
+            ),
+          )
+      good_made keeps (pattern.Both all) number (there, named, fits) =
+          good_both keeps all number there named fits
+      good_made keeps (pattern.First all) number (there, named, fits) =
+          good_first keeps all number there named fits
+      good_made keeps (pattern.Sequence r) number ((copies, are, items), named, fits) =
+          let of = copies_of IsType types variables nodes are_types keeps r copies number are named
+          fits items in
+          wider IsType types variables nodes (copies_bind keeps r copies)
+          (kept_of keeps (regular_binds r))
+          (copies_within IsType types variables nodes are_types keeps r copies of) number
+          (good_joined IsType types variables nodes are_types keeps r copies number are.joined
+          of are.disjoint)
+
+      good_both : (keeps : Names) (all : Patterns T) (number : ℕ)
+          → IsBothOf types variables nodes keeps all number → AreNamedApart all
+          → AreComplete IsType all → is_good (kept_of keeps (all_bind all)) number
+      good_both keeps NoPattern number there named fits = (Test types.any, there, tt, are_types.1)
+      good_both keeps (APattern p NoPattern) number there named fits =
+          wider IsType types variables nodes (kept_of keeps (binds p))
+          (kept_of keeps (all_bind (APattern p NoPattern)))
+          (kept_within keeps (binds p) (all_bind (APattern p NoPattern))
+          (λ name. or_left (binds p name) false)) number
+          (good_made keeps p number (there, named.1, fits.0))
+      good_both keeps (APattern p (APattern next rest)) number (one, other, there, a, b) named fits
+          = (
+            Both one other,
+            there,
+            tt,
+            (
+              kept_of keeps (binds p),
+              kept_of keeps (all_bind (APattern next rest)),
+              made keeps p one (a, named.1, fits.0),
+              both_of keeps (APattern next rest) other b named.2 fits.1,
+              kept_apart keeps (binds p) (all_bind (APattern next rest)) named.0,
+              λ name. kept_either (keeps name) (binds p name) (all_bind (APattern next rest) name),
+            ),
+          )
+
+      good_first : (keeps : Names) (all : Patterns T) (number : ℕ)
+          → IsFirstOf types variables nodes keeps all number → AreNamedSame all
+          → AreComplete IsType all → is_good (kept_of keeps (all_bind all)) number
+      good_first keeps NoPattern number there named fits =
+          (Test types.empty, there, tt, are_types.2)
+      good_first keeps (APattern p NoPattern) number there named fits =
+          wider IsType types variables nodes (kept_of keeps (binds p))
+          (kept_of keeps (all_bind (APattern p NoPattern)))
+          (kept_within keeps (binds p) (all_bind (APattern p NoPattern))
+          (λ name. or_left (binds p name) false)) number
+          (good_made keeps p number (there, named.0, fits.0))
+      good_first keeps (APattern p (APattern next rest)) number (one, other, there, a, b) named fits
+          = (
+            First one other,
+            there,
+            tt,
+            (
+              kept_of keeps (binds p),
+              kept_of keeps (all_bind (APattern next rest)),
+              made keeps p one (a, named.0, fits.0),
+              first_of keeps (APattern next rest) other b (as_again (binds p) next rest named.1)
+                  fits.1,
+              (λ name. ap (λ (t : Bool). keeps name && t)
+                  (all_as (binds p) next rest named.1 name)),
+              kept_within keeps (binds p) (all_bind (APattern p (APattern next rest)))
+                  (λ name. or_left (binds p name) (all_bind (APattern next rest) name)),
+            ),
+          )
+
+    pub good : (bound : Names) (number : ℕ) → a_piece bound number → is_good bound number
+    good _ _ (test_of type number there is) = (Test type, there, tt, is)
+    good _ _ (put_of name variable number is_number there) =
+        (Put variable constant.Nil, there, ((name, is_number, name_itself name), tt), nil_is_element)
+    good _ _ (made keeps p number is) = good_made keeps p number is
+    good _ _ (both_of keeps all number there named fits) =
+        good_both keeps all number there named fits
+    good _ _ (first_of keeps all number there named fits) =
+        good_first keeps all number there named fits
+    good _ _ (puts_of type names number there is distinct) =
+        good_puts IsType types variables nodes type names number there is distinct
+    good _ _ (state_of keeps r copy plain moves number of there fits has) =
+        good_state IsType types variables nodes are_types keeps r copy plain moves number of there
+        fits has
+    good _ _ (move_of keeps r copy plain move number of there fits) =
+        good_move IsType types variables nodes are_types keeps r copy plain move number of there
+        fits
+    good _ _ (joined_of keeps r copies number joined of disjoint) =
+        good_joined IsType types variables nodes are_types keeps r copies number joined of disjoint

@@ -1,0 +1,103 @@
+//! Nodes that are put after others.
+ghost use Rattle.std.specs.Prelude.{◌≡◌, IfOk};
+ghost use Rattle.std.specs.Prelude.{Some};
+ghost use Rattle.cd_matching.specs.PlainKernel.{plain_node, plain_nodes};
+ghost use Rattle.cd_kernel.specs.Inner.Building.{put, put_if, linked, chain_of, chained};
+ghost use Rattle.cd_kernel.specs.Inner.PlainJoint.{plain_joint};
+
+use cd_graph::built_in::ANY;
+use cd_matching::kernel::KernelNode;
+use cd_sets::node_id::NodeId;
+use std::alloc::AllocError;
+
+/// How the nodes of a chain are joined.
+#[derive(Clone, Copy)]
+pub(crate) enum Joint {
+    Both,
+    First,
+}
+
+impl Joint {
+    fn node(self, first: usize, second: usize) -> KernelNode
+        ensures { plain_node result ≡ plain_joint self first second }
+    {
+        match self {
+            Joint::Both => KernelNode::Both(first, second),
+            Joint::First => KernelNode::First(first, second),
+        }
+    }
+}
+
+/// Puts a node after these, and gives its number.
+pub(crate) fn put(node: KernelNode, nodes: &mut Vec<KernelNode>) -> Result<usize, AllocError>
+    ensures { IfOk result (λ number. (number, plain_nodes nodes.new.items)
+        ≡ put (plain_node node) (plain_nodes nodes.old.items)) }
+{
+    let number = nodes.len();
+    nodes.push(node)?;
+    Ok(number)
+}
+
+/// The same if the node's variable is kept, and else a node that takes anything.
+pub(crate) fn put_if(
+    kept: bool,
+    node: KernelNode,
+    nodes: &mut Vec<KernelNode>,
+) -> Result<usize, AllocError>
+    ensures { IfOk result (λ number. (number, plain_nodes nodes.new.items)
+        ≡ put_if kept (plain_node node) (plain_nodes nodes.old.items)) }
+{
+    if kept {
+        return put(node, nodes);
+    }
+    put(KernelNode::Test(ANY), nodes)
+}
+
+/// Puts the chain of some nodes after these, and gives the number of its first node. Of no node it
+/// is a test of `none`.
+pub(crate) fn chain(
+    joint: Joint,
+    none: NodeId,
+    numbers: &[usize],
+    nodes: &mut Vec<KernelNode>,
+) -> Result<usize, AllocError>
+    ensures { IfOk result (λ number. (number, plain_nodes nodes.new.items)
+        ≡ chained (plain_joint joint) none numbers.now (plain_nodes nodes.old.items)) }
+{
+    match chain_of(joint, numbers, nodes)? {
+        Some(number) => Ok(number),
+        None => Ok(put(KernelNode::Test(none), nodes)?),
+    }
+}
+
+fn chain_of(
+    joint: Joint,
+    numbers: &[usize],
+    nodes: &mut Vec<KernelNode>,
+) -> Result<Option<usize>, AllocError>
+    ensures { IfOk result (λ rest. (rest, plain_nodes nodes.new.items)
+        ≡ chain_of (plain_joint joint) numbers.now (plain_nodes nodes.old.items)) }
+{
+    let mut rest = None;
+    let mut index = numbers.len();
+    while index > 0 {
+        index -= 1;
+        rest = Some(link(joint, numbers[index], rest, nodes)?);
+    }
+    Ok(rest)
+}
+
+fn link(
+    joint: Joint,
+    number: usize,
+    rest: Option<usize>,
+    nodes: &mut Vec<KernelNode>,
+) -> Result<usize, AllocError>
+    ensures { IfOk result (λ first. (Some first, plain_nodes nodes.new.items)
+        ≡ linked (plain_joint joint) number (rest, plain_nodes nodes.old.items)) }
+{
+    match rest {
+        None => Ok(number),
+        Some(rest) => Ok(put(joint.node(number, rest), nodes)?),
+    }
+}

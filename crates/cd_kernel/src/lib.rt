@@ -1,0 +1,20 @@
+//! Kernels of patterns: the automata of sequences, and what is made of a pattern.
+#![tactic(auto)]
+
+mod chain;
+mod compare;
+mod complete;
+mod copies;
+mod count;
+mod gathering;
+mod heads;
+pub mod laws;
+mod make;
+mod moves;
+mod names;
+mod nodes;
+mod rows;
+mod sort;
+mod states;
+
+pub use make::kernel;

@@ -1,5 +1,0 @@
-use Rattle.cd_patterns.proofs.laws.kernels_are_exact.Goals as goal
-use Rattle.cd_patterns.proofs.KernelsAreExact.{kernels_are_exact}
-
-pub returns : goal.returns
-returns c = kernels_are_exact

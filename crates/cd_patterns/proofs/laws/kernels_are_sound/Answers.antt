@@ -1,5 +1,0 @@
-use Rattle.cd_patterns.proofs.MadeIsSound.{kernels_are_sound}
-use Rattle.cd_patterns.proofs.laws.kernels_are_sound.Goals as goal
-
-pub returns : goal.returns
-returns c = kernels_are_sound

@@ -1,9 +1,0 @@
-use Rattle.std.proofs.Common.{◌≡◌, ◌+◌, drop}
-use Rattle.cd_patterns.specs.Inner.Building.{of_moves}
-use Rattle.cd_patterns.specs.Inner.Rows.{plain_moves}
-use Rattle.cd_patterns.proofs.rows.of_moves.Given as goal
-
--- those that were gone over, and those that are left
-abbrev pub invariant-loop-one : goal.invariant-loop-one
-invariant-loop-one l = l.count + of_moves l.group (plain_moves (drop l.one-index l.moves))
-    ≡ of_moves l.group (plain_moves l.moves)
