@@ -96,6 +96,7 @@ AreInRange nodes = AllOf
 -- kernel are nodes before them
 pub record IsAcceptedFrom (graph : Graph) (kernel : Kernel NodeId) (first : ℕ) : Type 0 where
   pub sound : IsSound (λ id. id.0 < first) kernel
+  pub within : first + length kernel.nodes ≤ length graph
   pub everything : formula_at graph ANY ≡ formula.Everything
   pub nothing : formula_at graph EMPTY ≡ formula.Nothing
   pub formulas : (number : ℕ) → number < length kernel.nodes
