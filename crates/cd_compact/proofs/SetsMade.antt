@@ -59,30 +59,30 @@ each_label (name ∷ names) all = (
 
 -- what passes, where a set comes after others
 module _ (f : Formula) (Nothing : Type 0) (old new : List Formula) (adds : Adds f Nothing old new)
-    where
-  passes_added : (test : Formula → Bool) → (Nothing → passes test f ≡ false)
-      → one_passes test (formulas_of new) ≡ (one_passes test (formulas_of old) || passes test f)
-  passes_added test fails = elim adds [
-    | inl more ↦ ap (λ all. one_passes test (formulas_of all)) more ∙ passes_end test old f
-    | inr none ↦ ap (λ all. one_passes test (formulas_of all)) none.0
-        ∙ sym (or_false (one_passes test (formulas_of old)))
-        ∙ ap (one_passes test (formulas_of old) ||◌) (sym (fails none.1))
-  ]
+  where
+    passes_added : (test : Formula → Bool) → (Nothing → passes test f ≡ false)
+        → one_passes test (formulas_of new) ≡ (one_passes test (formulas_of old) || passes test f)
+    passes_added test fails = elim adds [
+      | inl more ↦ ap (λ all. one_passes test (formulas_of all)) more ∙ passes_end test old f
+      | inr none ↦ ap (λ all. one_passes test (formulas_of all)) none.0
+          ∙ sym (or_false (one_passes test (formulas_of old)))
+          ∙ ap (one_passes test (formulas_of old) ||◌) (sym (fails none.1))
+    ]
 
-  basic_added : all_are_basic (formulas_of old) ≡ true → is_basic f ≡ true
-      → all_are_basic (formulas_of new) ≡ true
-  basic_added basic last = elim adds [
-    | inl more ↦ ap (λ all. all_are_basic (formulas_of all)) more ∙ basic_end old f basic last
-    | inr none ↦ ap (λ all. all_are_basic (formulas_of all)) none.0 ∙ basic
-  ]
+    basic_added : all_are_basic (formulas_of old) ≡ true → is_basic f ≡ true
+        → all_are_basic (formulas_of new) ≡ true
+    basic_added basic last = elim adds [
+      | inl more ↦ ap (λ all. all_are_basic (formulas_of all)) more ∙ basic_end old f basic last
+      | inr none ↦ ap (λ all. all_are_basic (formulas_of all)) none.0 ∙ basic
+    ]
 
-  sound_added : (count : ℕ) → AreFormulas count (formulas_of old) → IsFormula count f
-      → AreFormulas count (formulas_of new)
-  sound_added count sound last = elim adds [
-    | inl more ↦ subst (λ all. AreFormulas count (formulas_of all)) (sym more)
-        (sound_end count old f sound last)
-    | inr none ↦ subst (λ all. AreFormulas count (formulas_of all)) (sym none.0) sound
-  ]
+    sound_added : (count : ℕ) → AreFormulas count (formulas_of old) → IsFormula count f
+        → AreFormulas count (formulas_of new)
+    sound_added count sound last = elim adds [
+      | inl more ↦ subst (λ all. AreFormulas count (formulas_of all)) (sym more)
+          (sound_end count old f sound last)
+      | inr none ↦ subst (λ all. AreFormulas count (formulas_of all)) (sym none.0) sound
+    ]
 
 module _ (sets : Basics) (labels : All atoms.IsAtom sets.atoms.names)
     (first second third : List Formula)

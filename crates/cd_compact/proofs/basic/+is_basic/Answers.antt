@@ -23,7 +23,7 @@ one_is_basic-one_is_basic-requires-else-one_is_basic t c =
     let half = length formulas / 2 in
     let least = two_or_more formulas c.if-is_empty.ensures in
     let fall = rw (sym (from_place formulas half)) at
-        (second_falls half formulas (omega arith) (omega arith)) in
+    (second_falls half formulas (omega arith) (omega arith)) in
     search (rules, fall, c.decreases)
 
 pub all_are_basic-all_are_basic-requires : goal.all_are_basic-all_are_basic-requires
@@ -40,7 +40,7 @@ all_are_basic-all_are_basic-requires-then-all_are_basic t c =
     let half = length formulas / 2 in
     let least = two_or_more formulas c.if-is_empty.ensures in
     let fall = rw (sym (from_place formulas half)) at
-        (second_falls half formulas (omega arith) (omega arith)) in
+    (second_falls half formulas (omega arith) (omega arith)) in
     search (rules, fall, c.decreases)
 
 -- what is found of the halves
