@@ -96,11 +96,7 @@ fn steps(
 }
 
 // Puts the states after each item, and then the first one, whose number it gives.
-fn put_states(
-    steps: &Steps,
-    plan: &Plan,
-    nodes: &mut Vec<KernelNode>,
-) -> Result<usize, AllocError>
+fn put_states(steps: &Steps, plan: &Plan, nodes: &mut Vec<KernelNode>) -> Result<usize, AllocError>
     ensures { IfOk result (λ number. (number, plain_nodes nodes.new.items)
         ≡ put_row (plain_steps steps.now) (plain_row plan.now.start)
         (put_rows (plain_steps steps.now) (plain_rows plan.now.rows.items)

@@ -69,12 +69,7 @@ fn add_in_turn(
 }
 
 // The moves that an expression begins with, and then these.
-fn heads_before(
-    alloc: Global,
-    is: &RegPat,
-    before: usize,
-    next: &Row,
-) -> Result<Row, AllocError>
+fn heads_before(alloc: Global, is: &RegPat, before: usize, next: &Row) -> Result<Row, AllocError>
     requires { before + items_in (plain_regular is.now) < 2 ^ 64 }
     ensures { IfOk result (λ row. plain_row row
         ≡ followed (heads_row (plain_regular is.now) before) (plain_row next.now)) }
