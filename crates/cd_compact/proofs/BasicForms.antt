@@ -1,5 +1,5 @@
 -- What is basic by its form holds no thing with parts.
-use Rattle.std.proofs.Common.{◌≡◌, ◌⊎◌, inl, inr, Bool, true, false, ◌&&◌, ◌||◌, ℕ, zero, suc, List}
+use Rattle.std.proofs.Common.{◌≡◌, inl, inr, Bool, true, false, ◌&&◌, ◌||◌, ℕ, zero, suc, List}
 use Rattle.std.proofs.Common.{[], ◌∷◌, map, take, drop, refl, sym, ap, ◌∙◌, true≢false}
 use Rattle.std.proofs.lemmas.Bool.{and_parts}
 use Rattle.cd_sets.specs.declared.node_id.NodeId.{NodeId}

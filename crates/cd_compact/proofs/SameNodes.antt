@@ -1,5 +1,5 @@
 -- Nodes that are each within the other hold the same.
-use Rattle.std.proofs.Common.{◌≡◌, ◌++◌, inl, inr, true, false, List, [], ◌∷◌, ap, ◌∙◌, append_assoc}
+use Rattle.std.proofs.Common.{◌≡◌, ◌++◌, inl, inr, true, [], ◌∷◌, ap, ◌∙◌, append_assoc}
 use Rattle.cd_sets.specs.declared.node_id.NodeId.{NodeId}
 use Rattle.cd_model.specs.BuiltIns.{built_ins}
 use Rattle.cd_model.specs.Formula.{Graph, IsGraph}

@@ -1,7 +1,7 @@
 -- The formula of the sets of a question holds what the question asks, where one of its nodes is
 -- basic.
-use Rattle.std.proofs.Common.{◌≡◌, ◌↔◌, ◌<◌, Bool, true, false, true≢false, ◌&&◌, ℤ, ℕ, List, []}
-use Rattle.std.proofs.Common.{◌∷◌, length, refl, sym, ap, ◌∙◌, Result, Ok, Err}
+use Rattle.std.proofs.Common.{◌≡◌, ◌↔◌, Bool, true, false, true≢false, ◌&&◌, ℤ, ℕ, []}
+use Rattle.std.proofs.Common.{◌∷◌, length, refl, sym, ◌∙◌, Result, Ok, Err}
 use Rattle.std.specs.Result.{IfOk}
 use Rattle.std.specs.declared.alloc.AllocError.{AllocError}
 use Rattle.cd_sets.specs.declared.node_id.NodeId.{NodeId}

@@ -1,6 +1,6 @@
 -- The union of those of three sets that are not empty holds what is in one of the sets.
-use Rattle.std.proofs.Common.{◌≡◌, ◌⊎◌, inl, inr, ◌++◌, Bool, true, false, ◌||◌, ◌&&◌, ℕ, ℤ, List}
-use Rattle.std.proofs.Common.{[], ◌∷◌, refl, sym, ap, ap₂, subst, ◌∙◌}
+use Rattle.std.proofs.Common.{◌≡◌, inl, inr, ◌++◌, Bool, true, false, ◌||◌, ◌&&◌, ℕ, List}
+use Rattle.std.proofs.Common.{[], ◌∷◌, refl, sym, ap, subst, ◌∙◌}
 use Rattle.std.proofs.lemmas.Bool.{and_parts, and_from}
 use Rattle.std.proofs.lemmas.List.Elements.{All-head, All-tail}
 use Rattle.std.specs.List.{All}

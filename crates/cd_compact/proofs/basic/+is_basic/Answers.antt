@@ -1,5 +1,5 @@
-use Rattle.std.proofs.Common.{rules, ◌/◌, ◌≡◌, Bool, true, false, ◌&&◌, ◌||◌, List, take, drop}
-use Rattle.std.proofs.Common.{length, map, ap, sym, refl, ◌∙◌, subst, arith, true≢false}
+use Rattle.std.proofs.Common.{rules, ◌/◌, ◌≡◌, Bool, true, false, ◌&&◌, ◌||◌, List, drop}
+use Rattle.std.proofs.Common.{length, map, ap, sym, refl, ◌∙◌, arith, true≢false}
 use Rattle.cd_model.specs.Formula.{formulas_of}
 use Rattle.cd_graph.specs.PlainFormula.{plain}
 use Rattle.cd_graph.specs.declared.formula.Formula.{Formula as CodeFormula}
