@@ -1,6 +1,6 @@
 -- Formulas that hold what the nodes of a kernel take: one for each node, from a number on.
-use Rattle.std.specs.Prelude.{◌≡◌, ◌<◌, ◌++◌, length, ◌+◌, ℕ, Bool, true, false, ◌||◌, List, []}
-use Rattle.std.specs.Prelude.{◌∷◌, Option, Some, None, is_some}
+use Rattle.std.specs.Prelude.{◌≡◌, ◌<◌, ◌≤◌, ◌++◌, length, ◌+◌, ℕ, Bool, true, false, ◌||◌, List}
+use Rattle.std.specs.Prelude.{[], ◌∷◌, Option, Some, None, is_some}
 use Rattle.std.specs.List.{slice_get, list_any}
 use Rattle.cd_sets.specs.declared.node_id.NodeId.{NodeId}
 use Rattle.cd_syntax.specs.Name.{Name}
