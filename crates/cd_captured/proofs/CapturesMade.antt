@@ -57,6 +57,21 @@ module _ (graph : Graph) (kernel : Kernel NodeId) (first : ℕ) (matched : NodeI
       pub extends_soundly : AllOf (IsFormula (length graph + length batch)) batch
       extends_soundly = batch_sound plan plan_sound formulas.wants refl batch formulas.made formulas.count
 
+      -- the places ask nodes of the longer graph too
+      longer_asks : (place : Place) → AsksNodes (length graph) place.question
+          → AsksNodes (length (graph ++ batch)) place.question
+      longer_asks place asks = (
+        each_weaker (λ id. id.0 < length graph) (λ id. id.0 < length (graph ++ batch))
+            (λ id below. omega (arith, length-append graph batch)) place.question.pos asks.0,
+        each_weaker (λ id. id.0 < length graph) (λ id. id.0 < length (graph ++ batch))
+            (λ id below. omega (arith, length-append graph batch)) place.question.neg asks.1,
+      )
+
+      pub still_ask : AllOf (λ place. AsksNodes (length (graph ++ batch)) place.question) places
+      still_ask = each_weaker (λ place. AsksNodes (length graph) place.question)
+          (λ place. AsksNodes (length (graph ++ batch)) place.question) longer_asks places
+          plan_sound.asks
+
       texts : HasTexts plan has.0
       texts = text_of_put graph kernel (place_of kernel.nodes first) has.0 has.3.settled
 

@@ -1,5 +1,5 @@
 -- The nodes that are made from an explored table hold what variables capture.
-use Rattle.std.proofs.Common.{◌≡◌, ◌<◌, ◌≤◌, ◌+◌, ℕ, Bool, true, false, List, ◌++◌, length}
+use Rattle.std.proofs.Common.{◌≡◌, ◌<◌, ℕ, Bool, true, false, List, ◌++◌, length}
 use Rattle.std.proofs.Common.{Option, Some, None, is_some, refl, sym, subst, append_assoc}
 use Rattle.std.proofs.Common.{length-append, arith}
 use Rattle.std.specs.List.{slice_get}

@@ -1,5 +1,5 @@
 -- The first place is a place: what is matched, and in the node that accepts the root, is taken there.
-use Rattle.std.proofs.Common.{◌≡◌, ◌<◌, ◌≤◌, ◌+◌, ℕ, Bool, true, false, [], ◌∷◌, length, is_some}
+use Rattle.std.proofs.Common.{◌≡◌, ◌<◌, ℕ, Bool, true, false, [], ◌∷◌, length, is_some}
 use Rattle.std.proofs.Common.{refl, arith}
 use Rattle.cd_sets.specs.declared.node_id.NodeId.{NodeId}
 use Rattle.cd_model.specs.Formula.{Graph, in_node}

@@ -1,8 +1,8 @@
 -- Nodes that stand for the nodes that are made are as exact as these.
-use Rattle.std.proofs.Common.{◌≡◌, ◌++◌, ◌<◌, ℕ, zero, suc, List, [], ◌∷◌, map, length, Some, refl}
-use Rattle.std.proofs.Common.{sym, ap, ◌∙◌, subst}
+use Rattle.std.proofs.Common.{◌≡◌, ◌<◌, ℕ, zero, suc, List, [], ◌∷◌, length, Some, refl}
+use Rattle.std.proofs.Common.{sym, ap, ◌∙◌, subst, get_or, arith}
 use Rattle.std.proofs.lemmas.Option.{none-some, same_Some}
-use Rattle.std.specs.List.{slice_get, slice_set, AllZip}
+use Rattle.std.specs.List.{slice_get, slice_set}
 use Rattle.cd_sets.specs.declared.node_id.NodeId.{NodeId}
 use Rattle.cd_syntax.specs.Name.{Name}
 use Rattle.cd_model.specs.AllOf.{AllOf}
@@ -13,6 +13,13 @@ use Rattle.cd_compact.specs.Keeping.{HoldSame}
 use Rattle.cd_filter.proofs.CapturedSound.{values_captured}
 use Rattle.cd_captured.specs.Captures.{AreExactCaptures, AreWideCaptures}
 use Rattle.cd_captured.specs.Inner.Known.{AreSame, StandFor, ids_of, names_of}
+
+-- what is found at a place
+pub got_item : {X : Type 0} (xs : List X) (k : ℕ) (x : X) → k < length xs
+    → ((d : X) → x ≡ get_or xs k d) → slice_get xs k ≡ Some x
+got_item [] k x below is = absurd (omega (arith, below))
+got_item (y ∷ xs) zero x below is = ap Some (sym (is y))
+got_item (y ∷ xs) (suc k) x below is = got_item xs k x (omega (arith, below)) is
 
 module _ (graph : Graph) where
   same_itself : (id : NodeId) → HoldSame graph id id
@@ -70,7 +77,7 @@ module _ (graph : Graph) where
     below_set (y ∷ all) zero are = (below, are.1)
     below_set (y ∷ all) (suc k) are = (are.0, below_set all k are.1)
 
-    pub stand_for_set : (first all : List (Name × NodeId)) (k : ℕ)
+    stand_for_set : (first all : List (Name × NodeId)) (k : ℕ)
         → slice_get all k ≡ Some (name, one) → StandFor graph first all
         → StandFor graph first (slice_set all k (name, other))
     stand_for_set first all k there stand = record {
@@ -78,6 +85,14 @@ module _ (graph : Graph) where
       same = same_set first all k there stand.same;
       nodes = below_set all k stand.nodes;
     }
+
+  pub put_in : (old new : Name × NodeId) → new.0 ≡ old.0 → HoldSame graph old.1 new.1
+      → new.1.0 < length graph → (first all : List (Name × NodeId)) (k : ℕ)
+      → slice_get all k ≡ Some old → StandFor graph first all
+      → StandFor graph first (slice_set all k new)
+  put_in old new named same below first all k there stand =
+      subst (λ (n : Name). StandFor graph first (slice_set all k (n, new.1))) (sym named)
+      (stand_for_set old.0 old.1 new.1 same below first all k there stand)
 
   -- the node at a place holds the same as that of the other list
   found : (ids others : List NodeId) → AreSame graph ids others → (k : ℕ) (id : NodeId)

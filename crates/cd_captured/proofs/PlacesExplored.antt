@@ -9,7 +9,7 @@ use Rattle.cd_model.specs.AllOf.{AllOf, AnyOf}
 use Rattle.cd_model.specs.Formula.{Graph}
 use Rattle.cd_matching.specs.Kernel.{Kernel}
 use Rattle.cd_products.proofs.Appending.{all_append}
-use Rattle.cd_filter.specs.Accepting.{place_of}
+use Rattle.cd_filter.specs.Accepting.{place_of, IsAcceptedFrom}
 use Rattle.cd_filter.specs.Table.{Place, Step, Takes, Puts, Leads, Gathers, Table, HasPlace, HasStep}
 use Rattle.cd_filter.specs.Table.{IsAmong}
 use Rattle.cd_captured.specs.Explored.{IsAcceptedPlace, IsPlace, IsSettledPlace, IsExplored}

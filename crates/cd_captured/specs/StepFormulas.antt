@@ -1,9 +1,8 @@
 -- Formulas for steps: what holds in a graph what a question asks, and what holds one thing alone.
-use Rattle.std.specs.Prelude.{◌≡◌, ◌↔◌, ◌++◌, Bool, true, length}
-use Rattle.cd_sets.specs.declared.question.Question.{Question}
-use Rattle.cd_model.specs.Formula.{Graph, Formula, IsFormula, IsGraph, asked, at_formula, holds}
-use Rattle.cd_model.specs.Formula.{in_node, nodes}
-use Rattle.cd_model.specs.Interfaces.{Interfaces, value_in_node, value_reader}
+use Rattle.std.specs.Prelude.{◌≡◌, ◌↔◌, ◌++◌, true}
+use Rattle.cd_model.specs.Formula.{Graph, Formula, IsGraph, at_formula, holds}
+use Rattle.cd_model.specs.Formula.{nodes}
+use Rattle.cd_model.specs.Interfaces.{Interfaces, value_reader}
 use Rattle.cd_model.specs.Thing.{Thing, IsElement, IsValue}
 use Rattle.cd_model.specs.Types.{no_closure, reader}
 use Rattle.cd_products.specs.Products.{AreInterfacesOf}

@@ -1,11 +1,11 @@
 -- What is explored so far.
-use Rattle.std.specs.Prelude.{◌≡◌, ◌+◌, ◌≤◌, ℕ, List, zero, map, length, take, Some}
+use Rattle.std.specs.Prelude.{◌≡◌, ℕ, List, zero, map, length, take, Some}
 use Rattle.std.specs.List.{slice_get}
 use Rattle.cd_sets.specs.declared.node_id.NodeId.{NodeId}
 use Rattle.cd_model.specs.AllOf.{AllOf}
 use Rattle.cd_model.specs.Formula.{Graph}
 use Rattle.cd_matching.specs.Kernel.{Kernel}
-use Rattle.cd_filter.specs.Accepting.{IsAcceptedFrom, place_of}
+use Rattle.cd_filter.specs.Accepting.{place_of}
 use Rattle.cd_filter.specs.Table.{Place, Step, Table}
 use Rattle.cd_captured.specs.Explored.{IsPlace, IsSettledPlace}
 use Rattle.cd_captured.specs.NextPlaces.{NextHas}

@@ -1,20 +1,16 @@
 -- Formulas that are made for what is wanted, where nodes are known by their numbers among the wants.
-use Rattle.std.specs.Prelude.{◌≡◌, ◌+◌, ◌↔◌, ℕ, Bool, List, [], ◌∷◌, length, Option, Some}
+use Rattle.std.specs.Prelude.{◌≡◌, ◌+◌, ℕ, List, [], ◌∷◌, length, Option, Some}
 use Rattle.std.specs.Prelude.{None, codes}
 use Rattle.std.specs.List.{slice_get, All, AllZip, Contains}
 use Rattle.std.specs.Option.{unwrap_or}
 use Rattle.cd_sets.specs.Atoms.{listing}
 use Rattle.cd_sets.specs.declared.node_id.NodeId.{NodeId}
-use Rattle.cd_sets.specs.declared.question.Question.{Question}
 use Rattle.cd_syntax.specs.Name.{first}
 use Rattle.cd_syntax.specs.declared.constant.Constant.{Constant}
 use Rattle.cd_syntax.specs.declared.constant.Constant.TheVariants as constant
 use Rattle.cd_model.specs.BuiltIns.{node, atoms_of}
-use Rattle.cd_model.specs.Formula.{Graph, Formula, Nothing, Ints, Chars, Atoms, Pair, Or, IsFormula}
+use Rattle.cd_model.specs.Formula.{Formula, Nothing, Ints, Chars, Atoms, Pair, Or}
 use Rattle.cd_model.specs.Formula.{formulas_of}
-use Rattle.cd_model.specs.Interfaces.{Interfaces}
-use Rattle.cd_model.specs.Membership.{asked, holds, answers, reader, value_answers, value_reader}
-use Rattle.cd_model.specs.Thing.{Thing}
 use Rattle.cd_compact.specs.Keeping.{IsFormulaOfQuestion}
 use Rattle.cd_filter.specs.Table.{Place}
 use Rattle.cd_captured.specs.declared.givers.Giver.{Giver}
