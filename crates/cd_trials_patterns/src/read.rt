@@ -1,20 +1,34 @@
 //! Programs, and nodes and kernels of the patterns of their first functions.
+ghost use Rattle.std.specs.Prelude.{◌≡◌, ◌<◌, ◌++◌, map, length, IfOk, IfSome};
+ghost use Rattle.cd_syntax.specs.PlainTree.{plain as plain_tree, plain_declarations};
+ghost use Rattle.cd_program.specs.Expr.{branches_of};
+ghost use Rattle.cd_program.specs.PlainExpr.{plain_branch, plain_function};
+ghost use Rattle.cd_program.specs.PlainProgram.{plain_program};
+ghost use Rattle.cd_model.specs.Formula.{Graph as PlainGraph, IsGraph};
+ghost use Rattle.cd_resolve.specs.Named.{AreNamed, plain_names, declared_by};
+ghost use Rattle.cd_matching.specs.Kernel.{IsSound};
+ghost use Rattle.cd_matching.specs.PlainKernel.{plain_kernel};
+ghost use Rattle.cd_empty.specs.Seen.{graph_of};
+ghost use Rattle.cd_replies.specs.Naming.{AreNamedWell};
+ghost use Rattle.cd_trials_patterns.specs.Sound.{IsSoundProgram, IsSoundPattern};
+ghost use Rattle.cd_trials_patterns.specs.Sound.{AreSoundBranches, branches_in};
+
 use cd_captured::captured;
 use cd_empty::World;
 use cd_filter::accepted;
 use cd_graph::Formulas;
 use cd_graph::built_in::node_of;
+use cd_names::laws::sound_patterns_are_named;
 use cd_kernel::kernel;
+use cd_needs::asking::question;
 use cd_matching::kernel::Kernel;
 use cd_matching::pattern::Pat;
 use cd_patterns::resolve_pattern;
-use cd_program::expr::Branch;
+use cd_program::expr::{Branch, FunctionTree};
 use cd_program::program::Program;
 use cd_replies::reader::{name_declarations, read_program};
 use cd_resolve::Names;
-use cd_sets::id_set::IdSet;
 use cd_sets::node_id::NodeId;
-use cd_sets::question::Question;
 use cd_syntax::name::Name;
 use cd_syntax::type_tree::{Declarations, Tree, TreeKind};
 use std::alloc::{AllocError, Global};
@@ -50,15 +64,9 @@ pub(crate) fn first_kernel(
     world: &mut World,
     text: &str,
 ) -> Result<Option<Made>, AllocError> {
-    let Ok(program) = read_program(alloc, text)? else {
-        return Ok(None);
-    };
-    let Some(names) = declare(alloc, world, &program)? else {
-        return Ok(None);
-    };
-    match branches_of(&program) {
-        [first, ..] => Ok(Some(made_of(alloc, world, &names, &first.pattern)?)),
-        [] => Ok(None),
+    match read_program(alloc, text)? {
+        Ok(program) => kernel_of_first(alloc, world, &program),
+        Err(_) => Ok(None),
     }
 }
 
@@ -69,18 +77,44 @@ pub(crate) fn answer(
     world: &mut World,
     text: &str,
 ) -> Result<Option<Answered>, AllocError> {
-    let Ok(program) = read_program(alloc, text)? else {
+    match read_program(alloc, text)? {
+        Ok(program) => answer_of(alloc, world, &program),
+        Err(_) => Ok(None),
+    }
+}
+
+fn kernel_of_first(
+    alloc: Global,
+    world: &mut World,
+    program: &Program,
+) -> Result<Option<Made>, AllocError>
+    requires { IsSoundProgram (plain_program program.now) }
+{
+    let Some(names) = declare(alloc, world, program)? else {
         return Ok(None);
     };
+    match first_branches(program) {
+        [first, ..] => Ok(Some(made_of(alloc, world, &names, first)?)),
+        [] => Ok(None),
+    }
+}
+
+fn answer_of(
+    alloc: Global,
+    world: &mut World,
+    program: &Program,
+) -> Result<Option<Answered>, AllocError>
+    requires { IsSoundProgram (plain_program program.now) }
+{
     let first = world.graph().len();
-    let Some(names) = declare(alloc, world, &program)? else {
+    let Some(names) = declare(alloc, world, program)? else {
         return Ok(None);
     };
     let types = types_of(alloc, first, &program.types)?;
-    let Some(argument) = argument_of(&program, types.as_slice()) else {
+    let Some(argument) = argument_of(program, types.as_slice()) else {
         return Ok(None);
     };
-    let branches = of_branches(alloc, world, &names, branches_of(&program), argument)?;
+    let branches = of_branches(alloc, world, &names, first_branches(program), argument)?;
     Ok(Some(Answered { types, branches }))
 }
 
@@ -89,7 +123,15 @@ fn declare<'p>(
     alloc: Global,
     world: &mut World,
     program: &'p Program,
-) -> Result<Option<Names<'p>>, AllocError> {
+) -> Result<Option<Names<'p>>, AllocError>
+    requires { IsSoundProgram (plain_program program.now) }
+    ensures list { IfOk result (λ named. IfSome named
+        (λ names. declared_by names ≡ plain_declarations program.now.types)) }
+    ensures sound { IfOk result (λ named. IfSome named
+        (λ names. AreNamedWell (declared_by names))) }
+    ensures stand { IfOk result (λ named. IfSome named
+        (λ names. AreNamed (graph_of world.new) (plain_names names))) }
+{
     match name_declarations(alloc, world.graph().len(), &program.types)? {
         Ok(batch) => {
             world.extend(batch.formulas)?;
@@ -100,11 +142,21 @@ fn declare<'p>(
 }
 
 // The branches of the first function.
-fn branches_of(program: &Program) -> &[Branch] {
+fn first_branches(program: &Program) -> &[Branch]
+    requires { IsSoundProgram (plain_program program.now) }
+    ensures { AreSoundBranches (plain_declarations program.now.types)
+        (branches_of (map plain_branch result.now)) }
+{
     match program.functions.items() {
-        [first, ..] => first.branches.items(),
+        [first, ..] => branches_in(first),
         [] => &[],
     }
+}
+
+fn branches_in(function: &FunctionTree) -> &[Branch]
+    ensures { branches_of (map plain_branch result.now) ≡ branches_in (plain_function function.now) }
+{
+    function.branches.items()
 }
 
 // The names of declarations, whose nodes follow one another from this one on.
@@ -148,25 +200,71 @@ fn of_branches(
     names: &Names<'_>,
     branches: &[Branch],
     argument: NodeId,
-) -> Result<Vec<Taken>, AllocError> {
+) -> Result<Vec<Taken>, AllocError>
+    requires names_sound { AreNamedWell (declared_by names.now) }
+    requires named { AreNamed (graph_of world.old) (plain_names names.now) }
+    requires branches { AreSoundBranches (declared_by names.now)
+        (branches_of (map plain_branch branches.now)) }
+{
     let mut all = Vec::new(alloc);
     let mut matched = argument;
     for branch in branches {
-        let made = made_of(alloc, world, names, &branch.pattern)?;
-        let taken = taken_of(alloc, world, matched, &made.kernel)?;
+        let taken = of_branch(alloc, world, names, branch, matched)?;
         matched = left(alloc, world, matched, taken.accepted)?;
         all.push(taken)?;
     }
     Ok(all)
 }
 
-// A pattern over the nodes of a world, and its kernel.
+// What a branch takes of what is in a node.
+fn of_branch(
+    alloc: Global,
+    world: &mut World,
+    names: &Names<'_>,
+    branch: &Branch,
+    matched: NodeId,
+) -> Result<Taken, AllocError>
+    requires names_sound { AreNamedWell (declared_by names.now) }
+    requires named { AreNamed (graph_of world.old) (plain_names names.now) }
+    requires branch { IsSoundPattern (declared_by names.now) (plain_branch branch.now).pattern }
+    ensures { IfOk result (λ _. AreNamed (graph_of world.new) (plain_names names.now)) }
+{
+    let made = made_of(alloc, world, names, branch)?;
+    taken_of(alloc, world, matched, &made.kernel)
+}
+
+// The pattern of a branch over the nodes of a world, and its kernel.
 fn made_of(
     alloc: Global,
     world: &mut World,
     names: &Names<'_>,
+    branch: &Branch,
+) -> Result<Made, AllocError>
+    requires names_sound { AreNamedWell (declared_by names.now) }
+    requires named { AreNamed (graph_of world.old) (plain_names names.now) }
+    requires branch { IsSoundPattern (declared_by names.now) (plain_branch branch.now).pattern }
+    ensures sound { IfOk result (λ made.
+        IsSound (λ id. id.0 < length (graph_of world.new)) (plain_kernel made.kernel)) }
+    ensures named { IfOk result (λ _. AreNamed (graph_of world.new) (plain_names names.now)) }
+{
+    made_of_tree(alloc, world, names, &branch.pattern)
+}
+
+fn made_of_tree(
+    alloc: Global,
+    world: &mut World,
+    names: &Names<'_>,
     pattern: &Tree,
-) -> Result<Made, AllocError> {
+) -> Result<Made, AllocError>
+    requires names_sound { AreNamedWell (declared_by names.now) }
+    requires named { AreNamed (graph_of world.old) (plain_names names.now) }
+    requires pattern { IsSoundPattern (declared_by names.now) (plain_tree pattern.now) }
+    ensures sound { IfOk result (λ made.
+        IsSound (λ id. id.0 < length (graph_of world.new)) (plain_kernel made.kernel)) }
+    ensures named { IfOk result (λ _. AreNamed (graph_of world.new) (plain_names names.now)) }
+{
+    // The contract of this call says that the variables are named apart.
+    sound_patterns_are_named();
     let batch = resolve_pattern(alloc, world.graph(), names, pattern)?;
     world.extend(batch.formulas)?;
     let pattern = batch.pattern;
@@ -180,14 +278,18 @@ fn taken_of(
     world: &mut World,
     matched: NodeId,
     kernel: &Kernel,
-) -> Result<Taken, AllocError> {
+) -> Result<Taken, AllocError>
+    requires { IsSound (λ id. id.0 < length (graph_of world.old)) (plain_kernel kernel.now) }
+    ensures grows { IfOk result (λ _. (more : PlainGraph)
+        × (graph_of world.new ≡ graph_of world.old ++ more)) }
+{
     let count = kernel.nodes.len();
     let nodes = accepted(alloc, world, kernel)?;
+    let accepted = nodes.root;
     if matched.0 >= world.graph().len() {
         return Err(AllocError);
     }
     let captured = captured(alloc, world, matched, kernel, nodes)?;
-    let accepted = nodes.root;
     Ok(Taken {
         count,
         accepted,
@@ -201,17 +303,15 @@ fn left(
     world: &mut World,
     one: NodeId,
     other: NodeId,
-) -> Result<NodeId, AllocError> {
+) -> Result<NodeId, AllocError>
+    ensures { IfOk result (λ _. (more : PlainGraph)
+        × (graph_of world.new ≡ graph_of world.old ++ more)) }
+{
     let graph = world.graph();
     if one.0 >= graph.len() || other.0 >= graph.len() {
         return Err(AllocError);
     }
-    let mut question = Question {
-        pos: IdSet::new(alloc),
-        neg: IdSet::new(alloc),
-    };
-    question.pos.insert(one)?;
-    question.neg.insert(other)?;
+    let question = question(alloc, &[one], &[other])?;
     let formula = graph.formula_of(&question)?;
     world.extend(Formulas::of(vec![in alloc; formula]?)?)
 }

@@ -19,8 +19,8 @@ pub(crate) struct Values {
 }
 
 impl Values {
-    /// Two integers, the empty sequence, the pairs of these, the pairs of all those, and sequences
-    /// of up to four of the first ones.
+    /// Two integers, the empty sequence, the pairs of these, those that have up to three of the
+    /// first ones before such a one, and the pairs of all the first twelve.
     pub(crate) fn small(alloc: Global) -> Result<Values, AllocError> {
         let mut values = Values {
             cells: Vec::new(alloc),
@@ -29,9 +29,9 @@ impl Values {
         values.put(Cell::Number(2))?;
         values.put(Cell::Nil)?;
         values.put_pairs(3, 0, 3)?;
+        values.put_pairs(3, 3, 12)?;
+        values.put_pairs(3, 12, 39)?;
         values.put_pairs(12, 0, 12)?;
-        let pairs = values.len();
-        values.put_pairs(3, 12, pairs)?;
         Ok(values)
     }
 

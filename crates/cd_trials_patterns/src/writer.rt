@@ -23,7 +23,7 @@ impl Writer {
     pub(crate) fn next(&mut self) -> Result<&str, AllocError> {
         self.text.clear();
         let count = self.random.below(4) as usize;
-        self.pattern(0, count, 4)?;
+        self.pattern(0, count, 5)?;
         Ok(self.text.as_str())
     }
 
@@ -50,18 +50,17 @@ impl Writer {
     // A type without variables.
     fn of_type(&mut self) -> Result<(), AllocError> {
         match self.random.below(8) {
-            0 => self.write("Int"),
-            1 => self.write("1"),
-            2 => self.write("2"),
-            3 => self.write("Any"),
-            4 => self.write("[]"),
-            5 => self.write("[Int*]"),
-            6 => self.write("(Int, Any)"),
-            _ => self.write("(1 | [])"),
+            0 | 1 => self.write("Int"),
+            2 => self.write("1"),
+            3 => self.write("2"),
+            4 => self.write("[Any*]"),
+            5 => self.write("(1 | [])"),
+            _ => self.write("Any"),
         }
     }
 
     // A pattern that binds the variables from the one number to the other.
+    #[cycle(pattern)]
     fn pattern(&mut self, from: usize, to: usize, depth: usize) -> Result<(), AllocError> {
         if to <= from && (depth == 0 || self.random.below(2) == 0) {
             return self.of_type();
@@ -69,7 +68,7 @@ impl Writer {
         if depth == 0 {
             return self.all_of(from, to);
         }
-        match self.random.below(6) {
+        match self.random.below(8) {
             0 => self.two(from, to, depth - 1, ", "),
             1 => self.two(from, to, depth - 1, " & "),
             2 => self.either(from, to, depth - 1),
@@ -104,6 +103,7 @@ impl Writer {
     }
 
     // Two patterns that share the variables.
+    #[cycle(pattern)]
     fn two(&mut self, from: usize, to: usize, depth: usize, sign: &str) -> Result<(), AllocError> {
         let middle = self.between(from, to);
         self.write("(")?;
@@ -114,6 +114,7 @@ impl Writer {
     }
 
     // Two patterns each of which has all variables.
+    #[cycle(pattern)]
     fn either(&mut self, from: usize, to: usize, depth: usize) -> Result<(), AllocError> {
         self.write("(")?;
         self.pattern(from, to, depth)?;
@@ -123,13 +124,13 @@ impl Writer {
     }
 
     // An expression that binds these variables.
+    #[cycle(sequence)]
     fn sequence(&mut self, from: usize, to: usize, depth: usize) -> Result<(), AllocError> {
-        if depth == 0 {
+        if depth == 0 || (to <= from && self.random.below(2) == 0) {
             return self.item(from, to);
         }
-        match self.random.below(7) {
-            0 => self.item(from, to),
-            1 | 2 => self.in_turn(from, to, depth - 1),
+        match self.random.below(8) {
+            0..=2 => self.in_turn(from, to, depth - 1),
             3 => self.one_of(from, to, depth - 1),
             4 => self.repeated(from, to, depth - 1),
             _ => self.gathered(from, to, depth - 1),
@@ -143,6 +144,7 @@ impl Writer {
         self.all_of(from, to)
     }
 
+    #[cycle(sequence)]
     fn in_turn(&mut self, from: usize, to: usize, depth: usize) -> Result<(), AllocError> {
         let middle = self.between(from, to);
         self.sequence(from, middle, depth)?;
@@ -150,6 +152,7 @@ impl Writer {
         self.sequence(middle, to, depth)
     }
 
+    #[cycle(sequence)]
     fn one_of(&mut self, from: usize, to: usize, depth: usize) -> Result<(), AllocError> {
         self.write("(")?;
         self.sequence(from, to, depth)?;
@@ -158,28 +161,30 @@ impl Writer {
         self.write(")")
     }
 
+    #[cycle(sequence)]
     fn repeated(&mut self, from: usize, to: usize, depth: usize) -> Result<(), AllocError> {
         self.write("(")?;
         self.sequence(from, to, depth)?;
         self.write(")")?;
-        match self.random.below(6) {
+        match self.random.below(7) {
             0 => self.write("*"),
             1 => self.write("*?"),
             2 => self.write("+"),
             3 => self.write("+?"),
             4 => self.write("?"),
-            _ => self.write("??"),
+            5 => self.write("??"),
+            _ => Ok(()),
         }
     }
 
     // The first variable gathers what the others are taken from.
+    #[cycle(sequence)]
     fn gathered(&mut self, from: usize, to: usize, depth: usize) -> Result<(), AllocError> {
         if to <= from {
             return self.repeated(from, to, depth);
         }
         self.variable(from)?;
-        self.write("::(")?;
-        self.sequence(from + 1, to, depth)?;
-        self.write(")")
+        self.write("::")?;
+        self.repeated(from + 1, to, depth)
     }
 }

@@ -1,0 +1,2 @@
+mod SoundBranches
+mod KernelsMade

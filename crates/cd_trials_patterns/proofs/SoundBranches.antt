@@ -1,0 +1,27 @@
+-- The branches of a function in a sound program are sound.
+use Rattle.std.proofs.Common.{inl, inr, refl, ◌∷◌}
+use Rattle.cd_syntax.specs.TypeTree.{Tree, Declarations}
+use Rattle.cd_program.specs.Expr.{Program, Branches, NoBranch, ABranch, FunctionTree, function}
+use Rattle.cd_program.specs.WellMade.{IsWellMadeFunction, AreWellMadeBranches, AreWellMadeFunctions}
+use Rattle.cd_resolve.specs.Faults.{Fault}
+use Rattle.cd_names.specs.ProgramFaults.{IsFaultOfProgram, IsFaultOfFunction, IsFaultOfPattern, patterns, all_functions, Seen}
+use Rattle.cd_names.specs.ProgramFaults.IsFaultOfFunction.{in_pattern}
+use Rattle.cd_names.specs.ProgramFaults.IsFaultOfProgram.{in_function}
+use Rattle.cd_names.specs.VariableFaults.{IsOneIn}
+use Rattle.cd_trials_patterns.specs.Sound.{IsSoundProgram, AreSoundBranches, branches_in}
+
+module _ (types : Declarations) where
+  of_branches : (branches : Branches) → AreWellMadeBranches branches
+      → ((pattern : Tree) (fault : Fault) → IsOneIn pattern (patterns branches) → IsFaultOfPattern types pattern fault → ⊥)
+      → AreSoundBranches types branches
+  of_branches NoBranch made sound = tt
+  of_branches (ABranch pattern body rest) made sound = (
+    record { well_made = made.0; sound = λ fault is. sound pattern fault (inl refl) is },
+    of_branches rest made.2 (λ other fault among is. sound other fault (inr among) is),
+  )
+
+  of_function : (seen : Seen) (f : FunctionTree) → IsWellMadeFunction f
+      → ((fault : Fault) → IsFaultOfFunction types seen f fault → ⊥) → AreSoundBranches types (branches_in f)
+  of_function seen (function at name name_at interface branches) made sound =
+      of_branches branches made.2.2.2.1
+      (λ pattern fault among is. sound fault (in_pattern pattern fault among is))
