@@ -1,6 +1,6 @@
 -- The labels of the pattern of a well made tree are labels, and its atoms are. So they are in a
 -- pattern that is alike, which is well made where its constants fit.
-use Rattle.std.proofs.Common.{◌≡◌, Bool, true, false, if◌then◌else◌, sym, subst}
+use Rattle.std.proofs.Common.{Bool, true, false, if◌then◌else◌, sym, subst}
 use Rattle.cd_syntax.specs.Name.{IsLabel}
 use Rattle.cd_syntax.specs.declared.constant.Constant.{Constant}
 use Rattle.cd_syntax.specs.declared.constant.Constant.TheVariants as constant

@@ -1,7 +1,6 @@
 -- What holds of what is left of a row, one item on and at its end; and texts are elements.
 use Rattle.std.proofs.Common.{◌≡◌, ◌+◌, ◌<◌, ◌≤◌, ℕ, true, List, [], ◌∷◌, drop, get_or, length}
 use Rattle.std.proofs.Common.{sym, subst}
-use Rattle.std.specs.Char.{IsScalar}
 use Rattle.std.specs.Str.{chars, IsUtf8}
 use Rattle.std.proofs.lemmas.Bool.{and_parts}
 use Rattle.std.proofs.lemmas.List.{at_drop_more, at_drop_all}

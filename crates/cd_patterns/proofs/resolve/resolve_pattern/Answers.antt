@@ -62,16 +62,21 @@ returns-clause-stands c =
     c.requires.variables
 
 pub returns-clause-labels : goal.returns-clause-labels
-returns-clause-labels c = alike_labels
-    (StandsFor (nodes c.args.graph.now ++ plain_list c.in_ok-formulas.field-0.formulas)) _ _
-    (is_resolved (goal.at.returns-clause-labels c).In_ok-pattern)
-    (tree_proper (declared_by c.args.names.now ∷ []) (plain_tree c.args.pattern.now)
-    c.requires.well_made)
+returns-clause-labels c =
+    let is = plain_tree c.args.pattern.now in
+    let scope : Scope = declared_by c.args.names.now ∷ [] in
+    let made = (goal.at.returns-clause-labels c).In_ok-pattern in
+    alike_labels
+    (StandsFor (nodes c.args.graph.now ++ plain_list c.in_ok-formulas.field-0.formulas))
+    (plain made.in_ok-pattern.pattern) (pattern_of scope is) (is_resolved made)
+    (tree_proper scope is c.requires.well_made)
 
 pub returns-clause-made : goal.returns-clause-made
 returns-clause-made c =
+    let is = plain_tree c.args.pattern.now in
+    let scope : Scope = declared_by c.args.names.now ∷ [] in
     let graph = nodes c.args.graph.now ++ plain_list c.in_ok-formulas.field-0.formulas in
-    alike_made (StandsFor graph) (λ id. id.0 < length graph) (λ id type stands. stands.is_node) _ _
-    (is_resolved (goal.at.returns-clause-made c).In_ok-pattern)
-    (tree_proper (declared_by c.args.names.now ∷ []) (plain_tree c.args.pattern.now)
-    c.requires.well_made) c.constants_fit.ensures
+    let made = (goal.at.returns-clause-made c).In_ok-pattern in
+    alike_made (StandsFor graph) (λ id. id.0 < length graph) (λ id type stands. stands.is_node)
+    (plain made.in_ok-pattern.pattern) (pattern_of scope is) (is_resolved made)
+    (tree_proper scope is c.requires.well_made) c.constants_fit.ensures
