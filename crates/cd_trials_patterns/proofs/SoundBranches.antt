@@ -1,12 +1,11 @@
 -- The branches of a function in a sound program are sound.
-use Rattle.std.proofs.Common.{inl, inr, refl, ◌∷◌}
+use Rattle.std.proofs.Common.{◌≡◌, ◌∷◌, List, inl, inr, refl, sym, subst}
 use Rattle.cd_syntax.specs.TypeTree.{Tree, Declarations}
 use Rattle.cd_program.specs.Expr.{Program, Branches, NoBranch, ABranch, FunctionTree, function}
 use Rattle.cd_program.specs.WellMade.{IsWellMadeFunction, AreWellMadeBranches, AreWellMadeFunctions}
 use Rattle.cd_resolve.specs.Faults.{Fault}
-use Rattle.cd_names.specs.ProgramFaults.{IsFaultOfProgram, IsFaultOfFunction, IsFaultOfPattern, patterns, all_functions, Seen}
-use Rattle.cd_names.specs.ProgramFaults.IsFaultOfFunction.{in_pattern}
-use Rattle.cd_names.specs.ProgramFaults.IsFaultOfProgram.{in_function}
+use Rattle.cd_names.specs.ProgramFaults as faults
+use Rattle.cd_names.specs.ProgramFaults.{IsFaultOfFunction, IsFaultOfPattern, patterns, all_functions, Seen}
 use Rattle.cd_names.specs.VariableFaults.{IsOneIn}
 use Rattle.cd_trials_patterns.specs.Sound.{IsSoundProgram, AreSoundBranches, branches_in}
 
@@ -23,5 +22,13 @@ module _ (types : Declarations) where
   of_function : (seen : Seen) (f : FunctionTree) → IsWellMadeFunction f
       → ((fault : Fault) → IsFaultOfFunction types seen f fault → ⊥) → AreSoundBranches types (branches_in f)
   of_function seen (function at name name_at interface branches) made sound =
-      of_branches branches made.2.2.2.1
-      (λ pattern fault among is. sound fault (in_pattern pattern fault among is))
+      of_branches branches made.4
+      (λ pattern fault among is. sound fault (faults.in_pattern pattern fault among is))
+
+pub sound_first : (program : Program) (f : FunctionTree) (rest : List FunctionTree) → program.functions ≡ f ∷ rest
+    → IsSoundProgram program → AreSoundBranches program.types (branches_in f)
+sound_first program f rest is sound =
+    of_function program.types (all_functions program) f
+    (subst AreWellMadeFunctions is sound.well_made.1).1
+    (λ fault stands. sound.sound fault
+    (faults.in_function f fault (subst (IsOneIn f) (sym is) (inl refl)) stands))

@@ -22,7 +22,8 @@ pub(crate) fn put_rows(rt: &HostRuntime, rows: &[Value]) -> Result<usize> {
 
 // Whether a row comes out as it says, if its program can be read.
 fn is_right(alloc: Global, row: &Value) -> Result<Option<bool>, AllocError> {
-    let (types, matched, branches) = (text(row, "types"), text(row, "matched"), text(row, "branches"));
+    let (types, matched) = (text(row, "types"), text(row, "matched"));
+    let branches = text(row, "branches");
     let program = format!(in alloc; "{types} let fun main ({matched} -> Any) {branches} -> 0")?;
     let mut world = Box::new(alloc, World::new(alloc)?)?;
     match answer(alloc, &mut world, program.as_str())? {
@@ -68,7 +69,9 @@ fn is_type(
     name: &str,
 ) -> Result<bool, AllocError> {
     match (id, node_named(answer.types.as_slice(), name)) {
-        (Some(one), Some(other)) => Ok(is_within(world, one, other)? && is_within(world, other, one)?),
+        (Some(one), Some(other)) => {
+            Ok(is_within(world, one, other)? && is_within(world, other, one)?)
+        }
         _ => Ok(false),
     }
 }

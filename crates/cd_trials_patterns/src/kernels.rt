@@ -12,6 +12,7 @@ use std::alloc::{AllocError, Global};
 
 // So many patterns are compared, and so many texts are written at most.
 const PATTERNS: usize = 500;
+
 const TEXTS: usize = 5_000;
 
 // So deep is no pattern and no value.
@@ -55,7 +56,8 @@ pub(crate) fn compare_kernels(rt: &HostRuntime) -> Result<usize> {
         differ,
     } = tally;
     let count = values.len();
-    println!(rt; "{patterns} patterns, {refused} refused, {count} values, {taken} taken, {differ} differ")?;
+    println!(rt; "{patterns} patterns, {refused} more refused, {count} values")?;
+    println!(rt; "{taken} taken, {differ} differ")?;
     Ok(differ)
 }
 
@@ -100,7 +102,7 @@ fn put_made(
     Ok(())
 }
 
-// Whether a pattern takes a value, and whether its kernel does so with the same values of variables.
+// Whether a pattern takes a value, and whether its kernel does so with the same captures.
 fn compare(
     alloc: Global,
     types: Types<'_>,
@@ -117,7 +119,13 @@ fn compare(
     let mut wanted = Vec::new(alloc);
     let is_taken = take(base, pattern, value, &mut wanted, STEPS)?;
     let mut got = Vec::new(alloc);
-    let is_run = taken(Running { types, kernel }, kernel.root, value, &mut got, STEPS)?;
+    let is_run = taken(
+        Running { types, kernel },
+        kernel.root,
+        value,
+        &mut got,
+        STEPS,
+    )?;
     if !is_taken || !is_run {
         return Ok((is_taken, is_taken == is_run));
     }

@@ -18,11 +18,11 @@ use cd_empty::World;
 use cd_filter::accepted;
 use cd_graph::Formulas;
 use cd_graph::built_in::node_of;
-use cd_names::laws::sound_patterns_are_named;
 use cd_kernel::kernel;
-use cd_needs::asking::question;
 use cd_matching::kernel::Kernel;
 use cd_matching::pattern::Pat;
+use cd_names::laws::sound_patterns_are_named;
+use cd_needs::asking::question;
 use cd_patterns::resolve_pattern;
 use cd_program::expr::{Branch, FunctionTree};
 use cd_program::program::Program;
@@ -185,7 +185,8 @@ pub(crate) fn node_named(names: &[(Name, NodeId)], word: &str) -> Option<NodeId>
 
 // The node of the argument of the first function.
 fn argument_of(program: &Program, types: &[(Name, NodeId)]) -> Option<NodeId> {
-    let arrow = program.functions.items().first()?.interface.items().first()?;
+    let function = program.functions.items().first()?;
+    let arrow = function.interface.items().first()?;
     match &arrow.takes.kind {
         TreeKind::Named(name) => node_named(types, name.as_str()),
         TreeKind::Builtin(name) => Some(node_of(*name)),
@@ -298,12 +299,7 @@ fn taken_of(
 }
 
 // A node of what is in the one and not in the other.
-fn left(
-    alloc: Global,
-    world: &mut World,
-    one: NodeId,
-    other: NodeId,
-) -> Result<NodeId, AllocError>
+fn left(alloc: Global, world: &mut World, one: NodeId, other: NodeId) -> Result<NodeId, AllocError>
     ensures { IfOk result (λ _. (more : PlainGraph)
         × (graph_of world.new ≡ graph_of world.old ++ more)) }
 {

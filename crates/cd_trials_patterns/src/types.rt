@@ -27,7 +27,9 @@ impl Types<'_> {
         }
         match (formula, self.values.get(value)) {
             (Formula::All, _) => true,
-            (Formula::And(all), _) => self.count(all.items(), value, steps - 1) == all.items().len(),
+            (Formula::And(all), _) => {
+                self.count(all.items(), value, steps - 1) == all.items().len()
+            }
             (Formula::Or(all), _) => self.count(all.items(), value, steps - 1) > 0,
             (Formula::Not(other), _) => !self.formula_holds(other, value, steps - 1),
             (Formula::Ints(set), Some(Cell::Number(number))) => set.contains(number),
