@@ -179,7 +179,7 @@ module _ (plan : Plan) (table : Table) (variables : ℕ) (batch : List Formula)
         (λ a b parts. parts) (λ k f is. ap (λ found. unwrap_or found Nothing)
         (got_more whole_graph more (plan.first + k) f (there_after k f is)))
         (subst (λ (graph : Graph). HoldsQuestions plan.graph graph
-        (closure_maps (nodes graph) (admits interfaces))) (sym (append_assoc plan.graph batch more))
+        (closure_maps (nodes graph) (admits interfaces)) IsValue) (sym (append_assoc plan.graph batch more))
         (of_values plan.graph (batch ++ more) sound interfaces)) one entry source.entry_is source.has
         source.gives_it source.member;
   }

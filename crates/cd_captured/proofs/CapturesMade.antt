@@ -28,8 +28,7 @@ use Rattle.cd_captured.proofs.FormulasMade.{batch_sound}
 use Rattle.cd_captured.proofs.NamedNodes.{ids_from, id_from, ids_below}
 
 module _ (graph : Graph) (kernel : Kernel NodeId) (first : ℕ) (matched : NodeId)
-    (places : List Place) (rows : Rows) (accepted : IsAcceptedFrom graph kernel first)
-    (within : first + length kernel.nodes ≤ length graph) where
+    (places : List Place) (rows : Rows) (accepted : IsAcceptedFrom graph kernel first) where
   abbrev pub root : Place
   root = first_place kernel matched (place_of kernel.nodes first)
 
@@ -96,9 +95,9 @@ module _ (graph : Graph) (kernel : Kernel NodeId) (first : ℕ) (matched : NodeI
             )
 
         pub exact : AreExactCaptures (graph ++ batch) matched kernel (ids_from (length graph) kernel.variables)
-        exact = exact_captures graph kernel first accepted within matched has.0 batch sound has.3
+        exact = exact_captures graph kernel first accepted matched has.0 batch sound has.3
             (ids_from (length graph) kernel.variables) nodes_of_variables
 
         pub wide : AreWideCaptures (graph ++ batch) matched kernel (ids_from (length graph) kernel.variables)
-        wide = wide_captures graph kernel first accepted within matched has.0 batch sound has.3
+        wide = wide_captures graph kernel first accepted matched has.0 batch sound has.3
             (ids_from (length graph) kernel.variables) nodes_of_variables

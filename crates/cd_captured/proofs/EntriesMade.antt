@@ -47,7 +47,8 @@ module _ (plan : Plan) (wants : List Want) (batch : List Formula)
     → IsNodeOfWant plan wants one (Captures variable number) → id place ≡ one)
     (graph : Graph) (closed : ℕ → Mapping NodeId) (Sort : Thing → Type 0)
     (parts : (one other : Thing) → Sort (thing.Pair one other) → Sort one × Sort other)
-    (stand : StandFrom plan.first batch graph) (questions : HoldsQuestions plan.graph graph closed)
+    (stand : StandFrom plan.first batch graph)
+    (questions : HoldsQuestions plan.graph graph closed Sort)
   where
     abbrev Gives : Place → Thing → Step → Type 0
     Gives = GivesAt (in_it graph closed) Sort variable id
@@ -64,13 +65,13 @@ module _ (plan : Plan) (wants : List Want) (batch : List Formula)
         → IsGiven plan wants variable number code f → (d : Thing) → Sort d
         → Holds d f ↔ Gives place d is
     given_holds number (step.Takes other) f place is there one has does given d sound =
-        let held = coming_holds plan wants batch asks made count graph closed stand questions number
-        place there f given d in
+        let held = coming_holds plan wants batch asks made count graph closed Sort stand questions
+        number place there f given d sound in
         subst (λ (s : Step). Holds d f ↔ Gives place d s) (sym one)
         (λ h. (same_variable other does, held.0 h), λ g. held.1 g.1)
     given_holds number (step.Puts other constant) f place is there one has does given d sound =
-        let held = constant_holds plan wants batch asks made count graph closed stand questions
-        place.number constant.now
+        let held = constant_holds plan wants batch asks made count graph closed Sort stand
+        questions place.number constant.now
         (texts place other constant.now (subst (HasStep table place) one has)) f
         (subst (λ (found : Option Place). IsPut plan wants found constant.now f) there given) d in
         subst (λ (s : Step). Holds d f ↔ Gives place d s) (sym one)
@@ -80,8 +81,8 @@ module _ (plan : Plan) (wants : List Want) (batch : List Formula)
     given_holds number (step.Gathers other item next) f place is there
         (first_place, last, at_item, at_next, one) has does (first, second, is_first, is_second, are) d
         sound =
-        let items = coming_node plan wants batch asks made count graph closed stand questions first item
-        first_place at_item is_first in
+        let items = coming_node plan wants batch asks made count graph closed Sort stand questions first
+        item first_place at_item is_first in
         let next_is = ids next last second at_next is_second in
         subst (λ (g : Formula). Holds d g ↔ Gives place d is) (sym are)
         (subst (λ (s : Step). Holds d (formula.Pair first second) ↔ Gives place d s) (sym one)
@@ -95,7 +96,7 @@ module _ (plan : Plan) (wants : List Want) (batch : List Formula)
                   sorts.0,
                   sorts.1,
                   same,
-                  (items a).0 here,
+                  (items a sorts.0).0 here,
                   subst (λ (i : NodeId). in_it graph closed b i true) (sym next_is) more,
                 ),
               ),
@@ -103,7 +104,7 @@ module _ (plan : Plan) (wants : List Want) (batch : List Formula)
             a,
             b,
             same,
-            (items a).1 here,
+            (items a sort_a).1 here,
             subst (λ (i : NodeId). in_it graph closed b i true) next_is more,
           ),
         )))

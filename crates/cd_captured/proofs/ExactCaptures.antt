@@ -45,8 +45,7 @@ sound_weaker nodes variables Is Has weaker (First p q) sound = sound
 sound_weaker nodes variables Is Has weaker (Gather by p q) sound = sound
 
 module _ (graph : Graph) (kernel : Kernel NodeId) (first : ℕ)
-    (is : IsAcceptedFrom graph kernel first)
-    (within : first + length kernel.nodes ≤ length graph) where
+    (is : IsAcceptedFrom graph kernel first) where
   abbrev accepts : ℕ → NodeId
   accepts = place_of kernel.nodes first
 
@@ -56,9 +55,9 @@ module _ (graph : Graph) (kernel : Kernel NodeId) (first : ℕ)
     where
       by_node : (one : Option (KernelNode NodeId)) → slice_get kernel.nodes number ≡ one
           → (place_if first number one).0 < length graph
-      by_node None there = let root = is.sound.root in omega arith
-      by_node (Some one) there = let here = slice_get_within kernel.nodes number one there in
-          omega arith
+      by_node None there = omega (arith, is.sound.root, is.within)
+      by_node (Some one) there =
+          omega (arith, slice_get_within kernel.nodes number one there, is.within)
 
   -- they accept in each longer graph
   module _ (sound : IsGraph graph) (rest : Graph) (test : NodeId → Thing → Bool) where
@@ -72,7 +71,7 @@ module _ (graph : Graph) (kernel : Kernel NodeId) (first : ℕ)
         (elements_accepting graph kernel first test is right_first d number element)
       where
         right_first : AreRight (in_node graph) IsElement first test
-        right_first id below e element = let here : id.0 < length graph = omega arith in
+        right_first id below e element = let here : id.0 < length graph = omega (arith, is.within) in
             (kept_elements graph rest sound e id (test id e) here).1 (right id here e element)
 
     values_accept : (interfaces : Interfaces)
@@ -84,7 +83,7 @@ module _ (graph : Graph) (kernel : Kernel NodeId) (first : ℕ)
         (values_accepting graph interfaces kernel first test is right_first d number value)
       where
         right_first : AreRight (value_in_node graph interfaces) IsValue first test
-        right_first id below v value = let here : id.0 < length graph = omega arith in
+        right_first id below v value = let here : id.0 < length graph = omega (arith, is.within) in
             (kept_values graph rest sound (admits interfaces) (admits interfaces)
             (λ function pairs element. itself) v id (test id v) here).1 (right id here v value)
 
@@ -95,7 +94,7 @@ module _ (graph : Graph) (kernel : Kernel NodeId) (first : ℕ)
         (IsSoundNode kernel.nodes (length kernel.variables) (λ type. type.0 < length longer))
         (sound_weaker kernel.nodes (length kernel.variables) (λ type. type.0 < first)
         (λ type. type.0 < length longer)
-        (λ type below. omega (arith, length-append graph rest)))
+        (λ type below. omega (arith, length-append graph rest, is.within)))
         kernel.nodes is.sound.nodes
 
   -- what is explored is whole

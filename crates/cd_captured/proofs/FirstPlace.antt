@@ -14,8 +14,7 @@ use Rattle.cd_captured.specs.Explored.{IsPlace}
 use Rattle.cd_captured.proofs.ExactCaptures.{accepts_below}
 
 module _ (graph : Graph) (kernel : Kernel NodeId) (first : ℕ)
-    (is : IsAcceptedFrom graph kernel first)
-    (within : first + length kernel.nodes ≤ length graph) where
+    (is : IsAcceptedFrom graph kernel first) where
   abbrev accepts : ℕ → NodeId
   accepts = place_of kernel.nodes first
 
@@ -31,13 +30,13 @@ module _ (graph : Graph) (kernel : Kernel NodeId) (first : ℕ)
     number = is.sound.root;
     asks = (
       each_with (λ id. id.0 < length graph) (accepts kernel.root) (matched ∷ [])
-          (accepts_below graph kernel first is within kernel.root) (below, tt),
+          (accepts_below graph kernel first is kernel.root) (below, tt),
       tt,
     );
     accepted = λ test right d element inside.
         by_answer d (is_some (taken NodeId test kernel.nodes d kernel.root))
         (elements_accepting graph kernel first test is
-        (λ id here. right id (omega (arith, within))) d kernel.root element)
+        (λ id here. right id (omega (arith, is.within))) d kernel.root element)
         (each_without (λ id. in_node graph d id true) (accepts kernel.root) (matched ∷ [])
         inside.0).0;
   }

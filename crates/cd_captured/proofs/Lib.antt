@@ -41,3 +41,4 @@ pub mod UnionsMade
 pub mod FormulasMade
 pub mod NamedNodes
 pub mod CapturesMade
+pub mod KnownNodes

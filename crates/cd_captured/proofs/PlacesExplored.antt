@@ -14,7 +14,7 @@ use Rattle.cd_filter.specs.Table.{Place, Step, Takes, Puts, Leads, Gathers, Tabl
 use Rattle.cd_filter.specs.Table.{IsAmong}
 use Rattle.cd_captured.specs.Explored.{IsAcceptedPlace, IsPlace, IsSettledPlace, IsExplored}
 use Rattle.cd_captured.specs.NextPlaces.{NextHas}
-use Rattle.cd_captured.specs.Inner.Exploring.{IsAcceptedIn, AreSettling, IsExploring}
+use Rattle.cd_captured.specs.Inner.Exploring.{AreSettling, IsExploring}
 use Rattle.cd_captured.specs.Inner.NodeSteps.{IsInRange}
 use Rattle.cd_captured.specs.Inner.NumberedSteps.{IsNumbered, GrowTo, LeadsTo, AreNumbered}
 use Rattle.cd_captured.specs.Inner.PlainSteps.{plain_place, plain_places, IsStep, AreSteps}
@@ -75,7 +75,7 @@ led_has fact (is ∷ steps) place all (inl here) = by_step is all.0 here
 led_has fact (is ∷ steps) place all (inr later) = led_has fact steps place all.1 later
 
 module _ (graph : Graph) (kernel : Kernel NodeId) (first : ℕ)
-    (accepted : IsAcceptedIn graph kernel first) where
+    (accepted : IsAcceptedFrom graph kernel first) where
   abbrev Explores : Place → List Place → List (List CodeStep) → Type 0
   Explores = IsExploring graph kernel first
 
@@ -89,7 +89,7 @@ module _ (graph : Graph) (kernel : Kernel NodeId) (first : ℕ)
         number = it.number;
         asks = it.asks;
         accepted = led_has (IsAcceptedPlace graph kernel) steps next
-            (accepted_next graph kernel first accepted.accepted (place, steps) is.accepted
+            (accepted_next graph kernel first accepted (place, steps) is.accepted
             settling.settled.elements) leads;
       }
 

@@ -61,18 +61,11 @@ module _ (plan : Plan) where
 
   pub coming_made : (number : ℕ) (place : Place) → slice_get plan.places number ≡ Some place
       → (result : Result CodeFormula AllocError)
-      → IfOk result (λ formula. (d : Thing) (answer : Bool)
-      → asked (answers plan.graph d) place.question answer
-      ↔ holds (reader plan.graph d) (plain formula) answer)
-      → IfOk result (λ formula. (interfaces : Interfaces) (d : Thing) (answer : Bool)
-      → asked (value_answers plan.graph interfaces d) place.question answer
-      ↔ holds (value_reader plan.graph interfaces d) (plain formula) answer)
-      → IfOk result (λ formula. IsFormula (length plan.graph) (plain formula))
+      → IfOk result (λ formula. IsFormulaOfQuestion plan.graph place.question (plain formula))
       → IfOk result (λ formula. IsComing plan (slice_get plan.places number) (plain formula))
-  coming_made number place there (Ok formula) elements values sound =
-      subst (λ (found : Option Place). IsComing plan found (plain formula)) (sym there)
-      (record { elements = elements; values = values; sound = sound })
-  coming_made number place there (Err error) elements values sound = tt
+  coming_made number place there (Ok formula) is =
+      subst (λ (found : Option Place). IsComing plan found (plain formula)) (sym there) is
+  coming_made number place there (Err error) is = tt
 
   pub coming_past : (number : ℕ) (f : Formula) → slice_get plan.places number ≡ None → f ≡ Nothing
       → IsComing plan (slice_get plan.places number) f

@@ -5,18 +5,20 @@ use Rattle.cd_sets.specs.declared.question.Question.{Question}
 use Rattle.cd_model.specs.AllOf.{AllOf}
 use Rattle.cd_model.specs.Formula.{Graph, Formula, IsGraph, asked, at_formula, holds, nodes}
 use Rattle.cd_model.specs.Interfaces.{Interfaces, admits}
-use Rattle.cd_model.specs.Thing.{Thing}
+use Rattle.cd_model.specs.Thing.{Thing, IsElement, IsValue}
 use Rattle.cd_model.specs.Types.{Answers, Mapping, reader, answers, no_closure, closure_maps}
 use Rattle.cd_model.proofs.BothWays.{itself, through, turned, both_agree}
 use Rattle.cd_model.proofs.Extending.{kept_elements, kept_formulas, kept_values, kept_value_formulas}
 use Rattle.cd_rules.specs.Family.{AsksNodes}
-use Rattle.cd_captured.specs.Inner.Made.{IsQuestionFormula}
+use Rattle.cd_compact.specs.Keeping.{IsFormulaOfQuestion}
 
--- in the longer graph, where closures map so, formulas of questions hold what is asked
-abbrev pub HoldsQuestions : (graph longer : Graph) → (closed : ℕ → Mapping NodeId) → Type 0
-HoldsQuestions graph longer closed = (question : Question) (f : Formula)
-    → AsksNodes (length graph) question → IsQuestionFormula graph question f → (d : Thing)
-    → holds (at_formula (reader (nodes longer) closed d)) f true
+-- in the longer graph, where closures map so, formulas of questions hold of things of a sort what is
+-- asked
+abbrev pub HoldsQuestions : (graph longer : Graph) → (closed : ℕ → Mapping NodeId)
+    → (Sort : Thing → Type 0) → Type 0
+HoldsQuestions graph longer closed Sort = (question : Question) (f : Formula)
+    → AsksNodes (length graph) question → IsFormulaOfQuestion graph question f → (d : Thing)
+    → Sort d → holds (at_formula (reader (nodes longer) closed d)) f true
     ↔ asked (answers (nodes longer) closed d) question true
 
 module _ (count : ℕ) (one other : Answers NodeId)
@@ -33,21 +35,22 @@ module _ (count : ℕ) (one other : Answers NodeId)
       both_agree (each_kept question.pos true asks.0) (each_kept question.neg false asks.1)
 
 module _ (graph more : Graph) (sound : IsGraph graph) where
-  pub of_elements : HoldsQuestions graph (graph ++ more) no_closure
-  of_elements question f asks is d = through
+  pub of_elements : HoldsQuestions graph (graph ++ more) no_closure IsElement
+  of_elements question f asks is d sort = through
       (turned (kept_formulas graph more sound d f true is.sound))
-      (through (turned (is.elements d true)) (asked_kept (length graph)
+      (through (turned (is.elements d sort)) (asked_kept (length graph)
       (answers (nodes graph) no_closure d) (answers (nodes (graph ++ more)) no_closure d)
       (λ id answer below. kept_elements graph more sound d id answer below) question asks))
 
   pub of_values : (interfaces : Interfaces)
-      → HoldsQuestions graph (graph ++ more) (closure_maps (nodes (graph ++ more)) (admits interfaces))
-  of_values interfaces question f asks is d =
+      → HoldsQuestions graph (graph ++ more)
+      (closure_maps (nodes (graph ++ more)) (admits interfaces)) IsValue
+  of_values interfaces question f asks is d sort =
       let closed = closure_maps (nodes graph) (admits interfaces) in
       let closing = closure_maps (nodes (graph ++ more)) (admits interfaces) in
       through (turned (kept_value_formulas graph more sound (admits interfaces) (admits interfaces)
       (λ function pairs element. itself) d f true is.sound))
-      (through (turned (is.values interfaces d true)) (asked_kept (length graph)
+      (through (turned (is.values interfaces d sort)) (asked_kept (length graph)
       (answers (nodes graph) closed d) (answers (nodes (graph ++ more)) closing d)
       (λ id answer below. kept_values graph more sound (admits interfaces) (admits interfaces)
       (λ function pairs element. itself) d id answer below) question asks))

@@ -19,9 +19,10 @@ use Rattle.cd_model.proofs.Sorts as sorts
 use Rattle.cd_model.proofs.Sorts.{Sort}
 use Rattle.cd_matching.specs.Sequences.{thing_of}
 use Rattle.cd_rules.specs.Family.{AsksNodes}
+use Rattle.cd_compact.specs.Keeping.{IsFormulaOfQuestion}
 use Rattle.cd_filter.specs.Table.{Place, Takes, Puts, Gathers}
 use Rattle.cd_captured.specs.CaptureNodes.{IsFormulaOf}
-use Rattle.cd_captured.specs.StepFormulas.{AnswersQuestion, HoldsAlone}
+use Rattle.cd_captured.specs.StepFormulas.{HoldsAlone}
 use Rattle.cd_captured.proofs.LongerTables.{all_agree, old_alike}
 use Rattle.cd_captured.proofs.NodesStay.{formula_kept}
 
@@ -63,23 +64,24 @@ module _ (graph : Graph) (closed : ℕ → Mapping NodeId) (sort : Sort) (item :
 
 module _ (graph : Graph) (sound : IsGraph graph) (question : Question)
     (asks : AsksNodes (length graph) question) (f : Formula)
-    (answer : AnswersQuestion graph question f) (rest : Graph) where
+    (answer : IsFormulaOfQuestion graph question f) (rest : Graph) where
   abbrev longer : Graph
   longer = graph ++ rest
 
   -- the formula answers so in each longer graph
-  elements_answer : (e : Thing) → holds (at_formula (reader (at_node longer) no_closure e)) f true
+  elements_answer : (e : Thing) → IsElement e
+      → holds (at_formula (reader (at_node longer) no_closure e)) f true
       ↔ asked (in_node longer e) question true
-  elements_answer e = through (turned (kept_formulas graph rest sound e f true answer.sound))
-      (through (turned (answer.elements e true)) (old_alike graph rest sound question asks e))
+  elements_answer e sort = through (turned (kept_formulas graph rest sound e f true answer.sound))
+      (through (turned (answer.elements e sort)) (old_alike graph rest sound question asks e))
 
-  values_answer : (interfaces : Interfaces) (v : Thing)
+  values_answer : (interfaces : Interfaces) (v : Thing) → IsValue v
       → holds (at_formula (value_reader longer interfaces v)) f true
       ↔ asked (value_in_node longer interfaces v) question true
-  values_answer interfaces v = through
+  values_answer interfaces v sort = through
       (turned (kept_value_formulas graph rest sound (admits interfaces) (admits interfaces)
       (λ function pairs element. itself) v f true answer.sound))
-      (through (turned (answer.values interfaces v true))
+      (through (turned (answer.values interfaces v sort))
       (both_agree
       (all_agree (λ id. id.0 < length graph) (λ id. value_in_node graph interfaces v id true)
       (λ id. value_in_node longer interfaces v id true) (kept true) question.pos asks.0)
@@ -94,17 +96,17 @@ module _ (graph : Graph) (sound : IsGraph graph) (question : Question)
 module _ (graph rest : Graph) (variable : ℕ) (id : Place → NodeId) where
   module _ (sound : IsGraph graph) (question : Question)
       (asks : AsksNodes (length graph) question) (f : Formula)
-      (answer : AnswersQuestion graph question f) where
+      (answer : IsFormulaOfQuestion graph question f) where
     abbrev all : Graph
     all = graph ++ rest
 
-    values_so : (more : Graph) (interfaces : Interfaces) (v : Thing)
+    values_so : (more : Graph) (interfaces : Interfaces) (v : Thing) → IsValue v
         → holds (at_formula (value_reader (all ++ more) interfaces v)) f true
         ↔ asked (value_in_node (all ++ more) interfaces v) question true
-    values_so more interfaces v = subst
+    values_so more interfaces v sort = subst
         (λ g. holds (at_formula (value_reader g interfaces v)) f true
         ↔ asked (value_in_node g interfaces v) question true) (sym (append_assoc graph rest more))
-        (values_answer graph sound question asks f answer (rest ++ more) interfaces v)
+        (values_answer graph sound question asks f answer (rest ++ more) interfaces v sort)
 
     -- what is taken
     pub taken_formula : (number : ℕ) → IsFormulaOf all variable id (record {
@@ -114,9 +116,9 @@ module _ (graph rest : Graph) (variable : ℕ) (id : Place → NodeId) where
     })
     taken_formula number = record {
       elements = λ e element.
-          with_itself variable (elements_answer graph sound question asks f answer rest e);
+          with_itself variable (elements_answer graph sound question asks f answer rest e element);
       values = λ more interfaces still of_graph v value.
-          with_itself variable (values_so more interfaces v);
+          with_itself variable (values_so more interfaces v value);
     }
 
     -- what is gathered, where the node of the items has the formula of the question
@@ -144,7 +146,7 @@ module _ (graph rest : Graph) (variable : ℕ) (id : Place → NodeId) where
         items d element = subst
             (λ g. holds (at_formula (reader (at_node all) no_closure d)) g true
             ↔ asked (in_node all d) question true) (sym is)
-            (elements_answer graph sound question asks f answer rest d)
+            (elements_answer graph sound question asks f answer rest d element)
 
         value_items : (more : Graph) (interfaces : Interfaces)
             → HoldsItem (all ++ more) (closure_maps (at_node (all ++ more)) (admits interfaces))
@@ -152,7 +154,7 @@ module _ (graph rest : Graph) (variable : ℕ) (id : Place → NodeId) where
         value_items more interfaces d value = subst
             (λ g. holds (at_formula (value_reader (all ++ more) interfaces d)) g true
             ↔ asked (value_in_node (all ++ more) interfaces d) question true)
-            (sym (formula_kept all more item_node.0 below ∙ is)) (values_so more interfaces d)
+            (sym (formula_kept all more item_node.0 below ∙ is)) (values_so more interfaces d value)
 
 -- what is put
 pub put_formula : (graph : Graph) (variable : ℕ) (id : Place → NodeId) (place : Place)

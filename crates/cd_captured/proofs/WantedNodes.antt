@@ -54,8 +54,9 @@ got_some (x ∷ xs) (suc k) below = got_some xs k (omega (arith, below))
 module _ (plan : Plan) (wants : List Want) (batch : List Formula)
     (asks : AllOf (λ place. AsksNodes (length plan.graph) place.question) plan.places)
     (made : AreMade plan wants batch) (count : length batch ≡ length wants)
-    (graph : Graph) (closed : ℕ → Mapping NodeId) (stand : StandFrom plan.first batch graph)
-    (questions : HoldsQuestions plan.graph graph closed) where
+    (graph : Graph) (closed : ℕ → Mapping NodeId) (Sort : Thing → Type 0)
+    (stand : StandFrom plan.first batch graph)
+    (questions : HoldsQuestions plan.graph graph closed Sort) where
   abbrev IsIn : Thing → NodeId → Type 0
   IsIn d id = in_it graph closed d id true
 
@@ -78,19 +79,19 @@ module _ (plan : Plan) (wants : List Want) (batch : List Formula)
       subst (λ (g : Formula). Holds d g ↔ Fact d) (sym is) holds
 
   pub coming_holds : (number : ℕ) (place : Place) → slice_get plan.places number ≡ Some place
-      → (f : Formula) → IsComing plan (slice_get plan.places number) f → (d : Thing)
+      → (f : Formula) → IsComing plan (slice_get plan.places number) f → (d : Thing) → Sort d
       → Holds d f ↔ asked (in_it graph closed d) place.question true
-  coming_holds number place there f is d = questions place.question f
+  coming_holds number place there f is d sort = questions place.question f
       (all_got (λ place. AsksNodes (length plan.graph) place.question) plan.places number place
-      asks there) (subst (λ (found : Option Place). IsComing plan found f) there is) d
+      asks there) (subst (λ (found : Option Place). IsComing plan found f) there is) d sort
 
   pub coming_node : (id : NodeId) (number : ℕ) (place : Place) → slice_get plan.places number ≡ Some place
-      → IsNodeOfWant plan wants id (Comes number) → (d : Thing)
+      → IsNodeOfWant plan wants id (Comes number) → (d : Thing) → Sort d
       → IsIn d id ↔ asked (in_it graph closed d) place.question true
-  coming_node id number place there is d =
+  coming_node id number place there is d sort =
       let found = formula_of_want id (Comes number) is in
       in_node_of id found.0 (λ d. asked (in_it graph closed d) place.question true) found.2 d
-      (coming_holds number place there found.0 found.1 d)
+      (coming_holds number place there found.0 found.1 d sort)
 
   character_node : (id : NodeId) (c : ℕ) → IsNodeOfWant plan wants id (Character c) → (d : Thing)
       → IsIn d id ↔ (d ≡ thing.Character c)

@@ -8,4 +8,5 @@ pub mod Reached
 pub mod Givers
 pub mod Wanted
 pub mod Plan
+pub mod Known
 pub mod Made

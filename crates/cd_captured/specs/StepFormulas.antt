@@ -9,15 +9,6 @@ use Rattle.cd_model.specs.Types.{no_closure, reader}
 use Rattle.cd_products.specs.Products.{AreInterfacesOf}
 
 module _ (graph : Graph) where
-  -- a formula of the graph answers what the question asks
-  pub record AnswersQuestion (question : Question) (f : Formula) : Type 0 where
-    pub sound : IsFormula (length graph) f
-    pub elements : (e : Thing) (answer : Bool) → asked (in_node graph e) question answer
-        ↔ holds (at_formula (reader (nodes graph) no_closure e)) f answer
-    pub values : (interfaces : Interfaces) (v : Thing) (answer : Bool)
-        → asked (value_in_node graph interfaces v) question answer
-        ↔ holds (at_formula (value_reader graph interfaces v)) f answer
-
   -- here and in each longer graph the formula holds this thing alone
   pub record HoldsAlone (d : Thing) (f : Formula) : Type 0 where
     pub elements : (e : Thing) → IsElement e

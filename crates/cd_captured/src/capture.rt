@@ -18,6 +18,7 @@ use crate::base::Base;
 use crate::constants::texts_of;
 use crate::explore::{Explored, explore};
 use crate::formulas::formulas;
+use crate::known::use_known;
 use crate::nodes::place;
 use crate::plan::Plan;
 use cd_empty::World;
@@ -30,7 +31,8 @@ use std::alloc::{AllocError, Global};
 
 /// The types of what the variables of a kernel capture from what is in a node: for each variable
 /// its name, and a node that holds exactly the elements that it captures from the elements of
-/// `matched` that the kernel takes, and each value that it captures from such a value.
+/// `matched` that the kernel takes, and each value that it captures from such a value. Where a node
+/// that was asked of on the way is found to hold the same, it is that node.
 ///
 /// # Errors
 ///
@@ -44,8 +46,6 @@ pub fn captured(
 ) -> Result<Vec<(Name, NodeId)>, AllocError>
     requires accepted { IsAcceptedFrom (graph_of world.old) (plain_kernel kernel.now)
         accepted.first }
-    requires within { accepted.first + length (plain_kernel kernel.now).nodes
-        ≤ length (graph_of world.old) }
     requires matched { matched.0 < length (graph_of world.old) }
     ensures names { IfOk result (λ captured. map (λ one. one.0) captured.items
         ≡ kernel.now.variables.items) }
@@ -67,9 +67,10 @@ pub fn captured(
     let first = world.graph().len();
     let explored = explore(&base, world, matched)?;
     let batch = batch_of(alloc, world.graph(), kernel, &explored, first)?;
-    let names = named(alloc, kernel.variables.as_slice(), first)?;
+    let mut captured = named(alloc, kernel.variables.as_slice(), first)?;
     world.extend(Formulas::of(batch)?)?;
-    Ok(names)
+    use_known(world, &explored, &mut captured);
+    Ok(captured)
 }
 
 // The formulas for all that variables capture, which are to stand in the graph from this number on.

@@ -4,10 +4,9 @@ ghost use Rattle.cd_graph.specs.Nodes.{nodes};
 ghost use Rattle.cd_matching.specs.PlainKernel.{plain_kernel};
 ghost use Rattle.cd_empty.specs.Growth.{Grows};
 ghost use Rattle.cd_empty.specs.Seen.{graph_of};
-ghost use Rattle.cd_filter.specs.Accepting.{place_of};
+ghost use Rattle.cd_filter.specs.Accepting.{place_of, IsAcceptedFrom};
 ghost use Rattle.cd_filter.specs.Table.{Table, first_place};
 ghost use Rattle.cd_captured.specs.Explored.{IsExplored};
-ghost use Rattle.cd_captured.specs.Inner.Exploring.{IsAcceptedIn};
 ghost use Rattle.cd_captured.specs.Inner.PlainSteps.{plain_place, plain_places, AreEntries};
 
 use crate::base::Base;
@@ -36,7 +35,7 @@ pub(crate) fn explore<'k>(
     world: &mut World,
     matched: NodeId,
 ) -> Result<Explored<'k>, AllocError>
-    requires accepted { IsAcceptedIn (graph_of world.old) (plain_kernel base.now.kernel.now)
+    requires accepted { IsAcceptedFrom (graph_of world.old) (plain_kernel base.now.kernel.now)
         base.now.first }
     requires matched { matched.0 < length (graph_of world.old) }
     ensures explored { IfOk result (λ explored. (table : Table)
@@ -65,7 +64,7 @@ pub(crate) fn explore<'k>(
 
 // The place of what of a node is taken by the root.
 fn root_place(base: &Base<'_>, graph: &Graph, matched: NodeId) -> Result<Place, AllocError>
-    requires { IsAcceptedIn (nodes graph.now) (plain_kernel base.now.kernel.now) base.now.first }
+    requires { IsAcceptedFrom (nodes graph.now) (plain_kernel base.now.kernel.now) base.now.first }
     ensures { IfOk result (λ place. plain_place place
         ≡ first_place (plain_kernel base.now.kernel.now) matched
         (place_of (plain_kernel base.now.kernel.now).nodes base.now.first)) }

@@ -53,8 +53,8 @@ fn add_givers<'k>(
     Ok(())
 }
 
-// Whether a step gives the variable something.
-fn gives(step: &Step<'_>, variable: usize) -> bool
+/// Whether a step gives the variable something.
+pub(crate) fn gives(step: &Step<'_>, variable: usize) -> bool
     ensures { result ≡ gives variable step.now }
 {
     match step {

@@ -26,13 +26,13 @@ ghost use Rattle.cd_captured.specs.CaptureNodes.{IsFormulaOf, AreNodesOfVariable
 ghost use Rattle.cd_captured.specs.Captures.{AreExactCaptures, AreWideCaptures};
 ghost use Rattle.cd_captured.specs.Explored.{IsAcceptedPlace, IsPlace, IsExplored};
 ghost use Rattle.cd_captured.specs.NextPlaces.{NextHas};
-ghost use Rattle.cd_captured.specs.StepFormulas.{AnswersQuestion, HoldsAlone};
+ghost use Rattle.cd_captured.specs.StepFormulas.{HoldsAlone};
+ghost use Rattle.cd_compact.specs.Keeping.{IsFormulaOfQuestion};
 
 /// The first place is a place of the kernel, and all its elements are taken.
 pub fn the_first_place_is_accepted()
     ensures { (graph : Graph) (kernel : Kernel NodeId) (first : ℕ) (matched : NodeId)
-        → IsAcceptedFrom graph kernel first → first + length kernel.nodes ≤ length graph
-        → matched.0 < length graph
+        → IsAcceptedFrom graph kernel first → matched.0 < length graph
         → IsPlace graph kernel (first_place kernel matched (place_of kernel.nodes first)) }
 {}
 
@@ -96,8 +96,7 @@ pub fn parts_are_accepted()
 /// The nodes that accept the nodes of a kernel are nodes of the graph.
 pub fn accepting_nodes_are_there()
     ensures { (graph : Graph) (kernel : Kernel NodeId) (first number : ℕ)
-        → IsAcceptedFrom graph kernel first → first + length kernel.nodes ≤ length graph
-        → (place_of kernel.nodes first number).0 < length graph }
+        → IsAcceptedFrom graph kernel first → (place_of kernel.nodes first number).0 < length graph }
 {}
 
 /// What is explored in a graph is explored in each longer one.
@@ -114,7 +113,6 @@ pub fn captures_are_exact()
     ensures elements { (graph batch : Graph) (kernel : Kernel NodeId) (first : ℕ)
         (matched : NodeId) (table : Table) (ids : List NodeId)
         → IsGraph graph → IsAcceptedFrom graph kernel first
-        → first + length kernel.nodes ≤ length graph
         → IsExplored graph kernel (place_of kernel.nodes first)
         (first_place kernel matched (place_of kernel.nodes first)) table
         → AreNodesOfVariables (graph ++ batch) table
@@ -123,7 +121,6 @@ pub fn captures_are_exact()
     ensures values { (graph batch : Graph) (kernel : Kernel NodeId) (first : ℕ)
         (matched : NodeId) (table : Table) (ids : List NodeId)
         → IsGraph graph → IsAcceptedFrom graph kernel first
-        → first + length kernel.nodes ≤ length graph
         → IsExplored graph kernel (place_of kernel.nodes first)
         (first_place kernel matched (place_of kernel.nodes first)) table
         → AreNodesOfVariables (graph ++ batch) table
@@ -161,7 +158,7 @@ pub fn steps_have_formulas()
     ensures taken { (graph rest : Graph) (variable : ℕ) (id : Place → NodeId) (place : Place)
         (f : Formula)
         → IsGraph graph → AsksNodes (length graph) place.question
-        → AnswersQuestion graph place.question f
+        → IsFormulaOfQuestion graph place.question f
         → IsFormulaOf (graph ++ rest) variable id
         (record { place = place; step = Takes variable; formula = f }) }
     ensures put { (graph : Graph) (variable : ℕ) (id : Place → NodeId) (place : Place)
@@ -170,7 +167,7 @@ pub fn steps_have_formulas()
         (record { place = place; step = Puts variable constant; formula = f }) }
     ensures gathered { (graph rest : Graph) (variable : ℕ) (id : Place → NodeId)
         (place next : Place) (item : Question) (item_node : NodeId) (f : Formula)
-        → IsGraph graph → AsksNodes (length graph) item → AnswersQuestion graph item f
+        → IsGraph graph → AsksNodes (length graph) item → IsFormulaOfQuestion graph item f
         → item_node.0 < length (graph ++ rest) → formula_at (graph ++ rest) item_node ≡ f
         → IsFormulaOf (graph ++ rest) variable id (record {
           place = place;

@@ -9,6 +9,7 @@ mod first;
 mod first_wants;
 mod formulas;
 mod givers;
+mod known;
 pub mod laws;
 mod lead;
 mod node_steps;

@@ -3,8 +3,9 @@ ghost use Rattle.std.specs.Prelude.{◌≡◌, List, length, IfOk};
 ghost use Rattle.cd_matching.specs.PlainKernel.{plain_kernel};
 ghost use Rattle.cd_empty.specs.Growth.{Grows};
 ghost use Rattle.cd_empty.specs.Seen.{graph_of};
+ghost use Rattle.cd_filter.specs.Accepting.{IsAcceptedFrom};
 ghost use Rattle.cd_filter.specs.Table.{Step as AStep};
-ghost use Rattle.cd_captured.specs.Inner.Exploring.{IsAcceptedIn, AreSettling};
+ghost use Rattle.cd_captured.specs.Inner.Exploring.{AreSettling};
 ghost use Rattle.cd_captured.specs.Inner.NodeSteps.{IsInRange};
 ghost use Rattle.cd_captured.specs.Inner.NumberedSteps.{AreNumbered};
 ghost use Rattle.cd_captured.specs.Inner.PlainSteps.{plain_place, plain_places, all_steps};
@@ -27,7 +28,7 @@ pub(crate) fn settle<'k>(
     place: &Place,
     places: &mut Places,
 ) -> Result<Vec<Step<'k>>, AllocError>
-    requires accepted { IsAcceptedIn (graph_of world.old) (plain_kernel base.now.kernel.now)
+    requires accepted { IsAcceptedFrom (graph_of world.old) (plain_kernel base.now.kernel.now)
         base.now.first }
     requires place { IsInRange (length (graph_of world.old))
         (length (plain_kernel base.now.kernel.now).nodes) (plain_place place.now) }
@@ -48,7 +49,7 @@ fn leads_of<'k>(
     world: &mut World,
     place: &Place,
 ) -> Result<Vec<Lead<'k>>, AllocError>
-    requires accepted { IsAcceptedIn (graph_of world.old) (plain_kernel base.now.kernel.now)
+    requires accepted { IsAcceptedFrom (graph_of world.old) (plain_kernel base.now.kernel.now)
         base.now.first }
     requires place { IsInRange (length (graph_of world.old))
         (length (plain_kernel base.now.kernel.now).nodes) (plain_place place.now) }

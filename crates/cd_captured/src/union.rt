@@ -17,6 +17,7 @@ use crate::step::Step;
 use crate::texts::text_of;
 use crate::want::Want;
 use crate::wants::Wants;
+use cd_compact::question_formula;
 use cd_graph::{Formula, Formulas};
 use cd_syntax::constant::Constant;
 use std::alloc::AllocError;
@@ -28,7 +29,7 @@ pub(crate) fn comes(plan: &Plan<'_, '_>, number: usize) -> Result<Formula, Alloc
         (slice_get (plain_plan plan.now).places number) (plain is)) }
 {
     match plan.explored.places.get(number) {
-        Some(place) => plan.graph.formula_of(&place.question),
+        Some(place) => question_formula(plan.alloc, plan.graph, &place.question),
         None => Ok(Formula::none()),
     }
 }

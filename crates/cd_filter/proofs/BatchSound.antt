@@ -2,6 +2,7 @@
 -- the nodes of the kernel.
 use Rattle.std.proofs.Common.{◌≡◌, ◌<◌, ◌≤◌, ◌+◌, ◌++◌, ℕ, zero, suc, List, [], ◌∷◌, length, Option}
 use Rattle.std.proofs.Common.{Some, None, refl, sym, ap, subst, ◌∙◌, arith, true, false, Bool}
+use Rattle.std.proofs.Common.{length-append}
 use Rattle.std.specs.List.{slice_get}
 use Rattle.std.specs.Option.{unwrap_or}
 use Rattle.cd_sets.specs.declared.node_id.NodeId.{NodeId}
@@ -209,6 +210,7 @@ module _ (graph : Graph) (kernel : Kernel NodeId)
         → IsAcceptedFrom (graph ++ batch) kernel (length graph)
     accepted_from others begins right = record {
       sound = is;
+      within = omega (arith, length-append graph batch, right.count);
       everything = rw begins refl;
       nothing = rw begins refl;
       formulas = λ number within. at_number number

@@ -1,6 +1,6 @@
 -- Formulas that hold what the nodes of a kernel take: one for each node, from a number on.
-use Rattle.std.specs.Prelude.{◌≡◌, ◌<◌, ◌++◌, length, ◌+◌, ℕ, Bool, true, false, ◌||◌, List, []}
-use Rattle.std.specs.Prelude.{◌∷◌, Option, Some, None, is_some}
+use Rattle.std.specs.Prelude.{◌≡◌, ◌<◌, ◌≤◌, ◌++◌, length, ◌+◌, ℕ, Bool, true, false, ◌||◌, List}
+use Rattle.std.specs.Prelude.{[], ◌∷◌, Option, Some, None, is_some}
 use Rattle.std.specs.List.{slice_get, list_any}
 use Rattle.cd_sets.specs.declared.node_id.NodeId.{NodeId}
 use Rattle.cd_syntax.specs.Name.{Name}
@@ -96,6 +96,7 @@ AreInRange nodes = AllOf
 -- kernel are nodes before them
 pub record IsAcceptedFrom (graph : Graph) (kernel : Kernel NodeId) (first : ℕ) : Type 0 where
   pub sound : IsSound (λ id. id.0 < first) kernel
+  pub within : first + length kernel.nodes ≤ length graph
   pub everything : formula_at graph ANY ≡ formula.Everything
   pub nothing : formula_at graph EMPTY ≡ formula.Nothing
   pub formulas : (number : ℕ) → number < length kernel.nodes

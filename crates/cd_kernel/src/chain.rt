@@ -1,13 +1,16 @@
 //! Nodes that are put after others.
 ghost use Rattle.std.specs.Prelude.{◌≡◌, IfOk};
 ghost use Rattle.std.specs.Prelude.{Some};
+ghost use Rattle.cd_matching.specs.Kernel.{Bind, Put};
 ghost use Rattle.cd_matching.specs.PlainKernel.{plain_node, plain_nodes};
 ghost use Rattle.cd_kernel.specs.Inner.Building.{put, put_if, linked, chain_of, chained};
 ghost use Rattle.cd_kernel.specs.Inner.PlainJoint.{plain_joint};
 
 use cd_graph::built_in::ANY;
+use cd_matching::constant;
 use cd_matching::kernel::KernelNode;
 use cd_sets::node_id::NodeId;
+use cd_syntax::constant::Constant;
 use std::alloc::AllocError;
 
 /// How the nodes of a chain are joined.
@@ -38,17 +41,34 @@ pub(crate) fn put(node: KernelNode, nodes: &mut Vec<KernelNode>) -> Result<usize
     Ok(number)
 }
 
-/// The same if the node's variable is kept, and else a node that takes anything.
-pub(crate) fn put_if(
+/// Puts the node of a variable if it is kept, and else one that takes anything.
+pub(crate) fn put_bind(
     kept: bool,
-    node: KernelNode,
+    variable: usize,
     nodes: &mut Vec<KernelNode>,
 ) -> Result<usize, AllocError>
     ensures { IfOk result (λ number. (number, plain_nodes nodes.new.items)
-        ≡ put_if kept (plain_node node) (plain_nodes nodes.old.items)) }
+        ≡ put_if kept (Bind variable) (plain_nodes nodes.old.items)) }
 {
     if kept {
-        return put(node, nodes);
+        return put(KernelNode::Bind(variable), nodes);
+    }
+    put(KernelNode::Test(ANY), nodes)
+}
+
+/// The same of a variable that is a constant.
+pub(crate) fn put_default(
+    kept: bool,
+    variable: usize,
+    is: &Constant,
+    nodes: &mut Vec<KernelNode>,
+) -> Result<usize, AllocError>
+    ensures { IfOk result (λ number. (number, plain_nodes nodes.new.items)
+        ≡ put_if kept (Put variable is.now) (plain_nodes nodes.old.items)) }
+{
+    if kept {
+        let is = constant::copy(is)?;
+        return Ok(put(KernelNode::Put(variable, is), nodes)?);
     }
     put(KernelNode::Test(ANY), nodes)
 }

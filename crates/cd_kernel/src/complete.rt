@@ -1,13 +1,15 @@
 //! Copies of patterns, in which each choice in a sequence has an alternative.
 ghost use Rattle.std.specs.Prelude.{◌≡◌, map, IfOk};
 ghost use Rattle.cd_sets.specs.declared.node_id.NodeId.{NodeId};
-ghost use Rattle.cd_matching.specs.Pattern.{patterns_of, regulars_of, Fields};
+ghost use Rattle.cd_matching.specs.Pattern.{patterns_of, regulars_of, Fields, Default};
 ghost use Rattle.cd_matching.specs.PlainPattern.{plain, plain_field, plain_regular, fields_of};
 ghost use Rattle.cd_kernel.specs.Inner.Completed.{choice, completed, completed_all, completed_fields};
 ghost use Rattle.cd_kernel.specs.Inner.Completed.{completed_regular, completed_regulars};
 
 use cd_matching::constant;
 use cd_matching::pattern::{Pat, PatField, RegPat};
+use cd_syntax::constant::Constant;
+use cd_syntax::name::Name;
 use std::alloc::{AllocError, Global};
 
 /// A copy of a pattern, with an item that takes nothing in the place of each choice of no
@@ -19,16 +21,16 @@ pub(crate) fn complete(alloc: Global, pattern: &Pat) -> Result<Pat, AllocError>
     match pattern {
         Pat::OfType(id) => Ok(Pat::of_type(*id)),
         Pat::Bind(name) => Ok(Pat::bind(name.copy()?)),
-        Pat::Default(name, is) => Ok(Pat::default(name.copy()?, constant::copy(is)?)),
+        Pat::Default(name, is) => default_of(name, is),
         Pat::Pair(first, second) => {
-            let first = Box::new(alloc, complete(alloc, first)?)?;
-            let second = Box::new(alloc, complete(alloc, second)?)?;
+            let first = boxed(alloc, first)?;
+            let second = boxed(alloc, second)?;
             Ok(Pat::pair(first, second))
         }
         Pat::Xml(tag, attributes, content) => {
-            let tag = Box::new(alloc, complete(alloc, tag)?)?;
-            let attributes = Box::new(alloc, complete(alloc, attributes)?)?;
-            let content = Box::new(alloc, complete(alloc, content)?)?;
+            let tag = boxed(alloc, tag)?;
+            let attributes = boxed(alloc, attributes)?;
+            let content = boxed(alloc, content)?;
             Ok(Pat::xml(tag, attributes, content))
         }
         Pat::Record(fields, more) => {
@@ -37,11 +39,24 @@ pub(crate) fn complete(alloc: Global, pattern: &Pat) -> Result<Pat, AllocError>
         }
         Pat::Both(all) => Ok(Pat::both(complete_all(alloc, all.items.as_slice())?)),
         Pat::First(all) => Ok(Pat::first(complete_all(alloc, all.items.as_slice())?)),
-        Pat::Sequence(is) => {
-            let is = complete_regular(alloc, is)?;
-            Ok(Pat::sequence(Box::new(alloc, is)?))
-        }
+        Pat::Sequence(is) => Ok(Pat::sequence(boxed_regular(alloc, is)?)),
     }
+}
+
+// The same in a box.
+#[cycle(complete)]
+fn boxed(alloc: Global, pattern: &Pat) -> Result<Box<Pat>, AllocError>
+    ensures { IfOk result (λ copy. plain copy.value ≡ completed (plain pattern.now)) }
+{
+    let copy = complete(alloc, pattern)?;
+    Ok(Box::new(alloc, copy)?)
+}
+
+fn default_of(name: &Name, is: &Constant) -> Result<Pat, AllocError>
+    ensures { IfOk result (λ copy. plain copy ≡ Default name.now is.now) }
+{
+    let name = name.copy()?;
+    Ok(Pat::default(name, constant::copy(is)?))
 }
 
 #[cycle(complete)]
@@ -89,24 +104,27 @@ fn complete_regular(alloc: Global, is: &RegPat) -> Result<RegPat, AllocError>
 {
     match is {
         RegPat::Nothing => Ok(RegPat::nothing()),
-        RegPat::Item(pattern) => {
-            let pattern = complete(alloc, pattern)?;
-            Ok(RegPat::item(Box::new(alloc, pattern)?))
-        }
+        RegPat::Item(pattern) => Ok(RegPat::item(boxed(alloc, pattern)?)),
         RegPat::Seq(all) => Ok(RegPat::seq(complete_parts(alloc, all.items.as_slice())?)),
         RegPat::Alt(all) => {
             let all = complete_parts(alloc, all.items.as_slice())?;
             Ok(choice(alloc, all)?)
         }
-        RegPat::Repeat(is, post) => {
-            let is = complete_regular(alloc, is)?;
-            Ok(RegPat::repeat(Box::new(alloc, is)?, *post))
-        }
+        RegPat::Repeat(is, post) => Ok(RegPat::repeat(boxed_regular(alloc, is)?, *post)),
         RegPat::Capture(name, is) => {
-            let is = complete_regular(alloc, is)?;
-            Ok(RegPat::capture(name.copy()?, Box::new(alloc, is)?))
+            let name = name.copy()?;
+            Ok(RegPat::capture(name, boxed_regular(alloc, is)?))
         }
     }
+}
+
+#[cycle(complete)]
+fn boxed_regular(alloc: Global, is: &RegPat) -> Result<Box<RegPat>, AllocError>
+    ensures { IfOk result (λ copy.
+        plain_regular copy.value ≡ completed_regular (plain_regular is.now)) }
+{
+    let copy = complete_regular(alloc, is)?;
+    Ok(Box::new(alloc, copy)?)
 }
 
 // A choice, or of no alternatives an item that takes nothing.

@@ -3,10 +3,12 @@ ghost use Rattle.std.specs.Prelude.{◌≡◌, ◌<◌, ◌^◌, None, map, IfOk
 ghost use Rattle.cd_matching.specs.PlainKernel.{plain_nodes};
 ghost use Rattle.cd_matching.specs.PlainPattern.{plain_regular};
 ghost use Rattle.cd_kernel.specs.Automaton.{items_in};
-ghost use Rattle.cd_kernel.specs.Inner.Building.{put_copy};
+ghost use Rattle.cd_kernel.specs.Inner.Building.{put_copy, steps_of, put_row, put_rows};
 ghost use Rattle.cd_kernel.specs.Inner.Gathering.{numbered, gathering};
 ghost use Rattle.cd_kernel.specs.Inner.PlainGroups.{plain_group};
+ghost use Rattle.cd_kernel.specs.Inner.PlainSteps.{plain_steps};
 ghost use Rattle.cd_kernel.specs.Inner.Plans.{IsPlanOf};
+ghost use Rattle.cd_kernel.specs.Inner.Rows.{plain_row, plain_rows};
 
 use crate::count::count;
 use crate::gathering::{Group, add_gathering};
@@ -67,15 +69,41 @@ pub(crate) fn put_copy(
         (items.items, plain_nodes nodes.old.items)) }
 {
     let group = group.names.as_slice();
-    let rows = plan.rows.as_slice();
-    let steps = Steps {
+    let steps = steps(alloc, variables, is, plan, group, items, nodes.as_slice())?;
+    Ok(put_states(&steps, plan, nodes)?)
+}
+
+// What the states of a copy need, where they are put after these nodes.
+fn steps(
+    alloc: Global,
+    variables: &[Name],
+    is: &RegPat,
+    plan: &Plan,
+    group: &[Name],
+    items: Vec<usize>,
+    nodes: &[KernelNode],
+) -> Result<Steps, AllocError>
+    requires { IsPlanOf (plain_regular is.now) plan.now }
+    ensures { IfOk result (λ steps. plain_steps steps ≡ steps_of variables.now group.now
+        (plain_regular is.now) (items.items, plain_nodes nodes.now)) }
+{
+    Ok(Steps {
         group: numbers(alloc, variables, group)?,
         gatherers: gatherers(alloc, variables, group, is)?,
         items,
-        states: places(alloc, group.len(), nodes.len(), rows)?,
-    };
-    put_rows(&steps, rows, nodes)?;
-    Ok(put_row(&steps, &plan.start, nodes)?)
+        states: places(alloc, group.len(), nodes.len(), plan.rows.as_slice())?,
+    })
+}
+
+// Puts the states after each item, and then the first one, whose number it gives.
+fn put_states(steps: &Steps, plan: &Plan, nodes: &mut Vec<KernelNode>) -> Result<usize, AllocError>
+    ensures { IfOk result (λ number. (number, plain_nodes nodes.new.items)
+        ≡ put_row (plain_steps steps.now) (plain_row plan.now.start)
+        (put_rows (plain_steps steps.now) (plain_rows plan.now.rows.items)
+        (plain_nodes nodes.old.items))) }
+{
+    put_rows(steps, plan.rows.as_slice(), nodes)?;
+    Ok(put_row(steps, &plan.start, nodes)?)
 }
 
 fn numbers(alloc: Global, variables: &[Name], names: &[Name]) -> Result<Vec<usize>, AllocError>

@@ -4,16 +4,18 @@ ghost use Rattle.cd_matching.specs.Pattern.{patterns_of, regulars_of};
 ghost use Rattle.cd_matching.specs.PlainKernel.{plain_nodes, plain_kind};
 ghost use Rattle.cd_matching.specs.PlainPattern.{plain, plain_field, plain_regular, fields_of};
 ghost use Rattle.cd_kernel.specs.Inner.Building.{built, built_all, built_fields, built_items};
-ghost use Rattle.cd_kernel.specs.Inner.Building.{built_items_all, put_sequence};
+ghost use Rattle.cd_kernel.specs.Inner.Building.{built_items_all, put_sequence, put_copies};
+ghost use Rattle.cd_kernel.specs.Inner.Building.{put_copy, put_record};
+ghost use Rattle.cd_kernel.specs.Inner.PlainGroups.{plain_group, plain_groups};
 ghost use Rattle.cd_kernel.specs.Inner.PlainSteps.{plain_kernel_fields};
+ghost use Rattle.cd_kernel.specs.Inner.Plans.{IsPlanOf};
 
-use crate::chain::{Joint, chain, put, put_if};
-use crate::copies::{make_plan, put_copy};
-use crate::gathering::groups;
+use crate::chain::{Joint, chain, put, put_bind, put_default};
+use crate::copies::{Plan, make_plan, put_copy};
+use crate::gathering::{Group, groups};
 use crate::names::number;
 use crate::sort::sort;
 use cd_graph::built_in::{ANY, EMPTY};
-use cd_matching::constant;
 use cd_matching::kernel::{FieldKind, KernelField, KernelNode};
 use cd_matching::pattern::{Pat, PatField, RegPat};
 use cd_syntax::name::Name;
@@ -34,11 +36,9 @@ pub(crate) fn put_pattern(
 {
     match pattern {
         Pat::OfType(id) => put(KernelNode::Test(*id), nodes),
-        Pat::Bind(name) => put_if(kept, KernelNode::Bind(number(variables, name)), nodes),
+        Pat::Bind(name) => put_bind(kept, number(variables, name), nodes),
         Pat::Default(name, constant) => {
-            let constant = constant::copy(constant)?;
-            let node = KernelNode::Put(number(variables, name), constant);
-            Ok(put_if(kept, node, nodes)?)
+            put_default(kept, number(variables, name), constant, nodes)
         }
         Pat::Pair(first, second) => {
             let first = put_pattern(alloc, variables, kept, first, nodes)?;
@@ -53,8 +53,7 @@ pub(crate) fn put_pattern(
         }
         Pat::Record(fields, more) => {
             let made = put_fields(alloc, variables, kept, fields.items.as_slice(), nodes)?;
-            let fields = sort(alloc, made)?;
-            Ok(put(KernelNode::Record(fields, *more), nodes)?)
+            Ok(put_record(alloc, made, *more, nodes)?)
         }
         Pat::Both(all) => {
             let numbers = put_all(alloc, variables, kept, all.items.as_slice(), nodes)?;
@@ -126,6 +125,20 @@ fn add_field(label: &Name, kind: FieldKind, made: &mut Vec<KernelField>) -> Resu
     Ok(())
 }
 
+// A record of these fields, in the order of their labels.
+fn put_record(
+    alloc: Global,
+    made: Vec<KernelField>,
+    more: bool,
+    nodes: &mut Vec<KernelNode>,
+) -> Result<usize, AllocError>
+    ensures { IfOk result (λ number. (number, plain_nodes nodes.new.items)
+        ≡ put_record more (plain_kernel_fields made.items, plain_nodes nodes.old.items)) }
+{
+    let fields = sort(alloc, made)?;
+    Ok(put(KernelNode::Record(fields, more), nodes)?)
+}
+
 // A sequence: copies of its automaton.
 #[cycle(put_pattern)]
 fn put_sequence(
@@ -143,16 +156,57 @@ fn put_sequence(
 {
     let plan = make_plan(alloc, is)?;
     let groups = groups(alloc, kept, is)?;
+    let starts = put_copies(alloc, variables, kept, is, &plan, groups.as_slice(), nodes)?;
+    Ok(chain(Joint::Both, ANY, starts.as_slice(), nodes)?)
+}
+
+// The first states of the copies for these groups. Variables inside of items are kept in the first
+// copy alone.
+#[cycle(put_pattern)]
+fn put_copies(
+    alloc: Global,
+    variables: &[Name],
+    kept: bool,
+    is: &RegPat,
+    plan: &Plan,
+    groups: &[Group],
+    nodes: &mut Vec<KernelNode>,
+) -> Result<Vec<usize>, AllocError>
+    requires { IsPlanOf (plain_regular is.now) plan.now }
+    ensures { IfOk result (λ starts. (starts.items, plain_nodes nodes.new.items)
+        ≡ put_copies variables.now (plain_regular is.now)
+        (built_items variables.now kept (plain_regular is.now) [])
+        (built_items variables.now false (plain_regular is.now) [])
+        (plain_groups groups.now) [] (plain_nodes nodes.old.items)) }
+{
     let mut starts = Vec::new(alloc);
     let mut keeps = kept;
-    for group in groups.as_slice() {
-        let mut items = Vec::new(alloc);
-        put_items(alloc, variables, keeps, is, &mut items, nodes)?;
-        let start = put_copy(alloc, variables, is, &plan, group, items, nodes)?;
+    for group in groups {
+        let start = put_items_and_copy(alloc, variables, keeps, is, plan, group, nodes)?;
         starts.push(start)?;
         keeps = false;
     }
-    Ok(chain(Joint::Both, ANY, starts.as_slice(), nodes)?)
+    Ok(starts)
+}
+
+#[cycle(put_pattern)]
+fn put_items_and_copy(
+    alloc: Global,
+    variables: &[Name],
+    kept: bool,
+    is: &RegPat,
+    plan: &Plan,
+    group: &Group,
+    nodes: &mut Vec<KernelNode>,
+) -> Result<usize, AllocError>
+    requires { IsPlanOf (plain_regular is.now) plan.now }
+    ensures { IfOk result (λ start. (start, plain_nodes nodes.new.items)
+        ≡ put_copy variables.now (plain_regular is.now) (plain_group group.now)
+        (built_items variables.now kept (plain_regular is.now) [] (plain_nodes nodes.old.items))) }
+{
+    let mut items = Vec::new(alloc);
+    put_items(alloc, variables, kept, is, &mut items, nodes)?;
+    Ok(put_copy(alloc, variables, is, plan, group, items, nodes)?)
 }
 
 // Adds the numbers of the items' nodes.

@@ -63,10 +63,19 @@ fn add_in_turn(
         let is = &all[index];
         at -= items_in(is);
         add_states(alloc, is, at, &after, rows)?;
-        let heads = heads(alloc, is, at)?;
-        after = followed(alloc, &heads, &after)?;
+        after = heads_before(alloc, is, at, &after)?;
     }
     Ok(())
+}
+
+// The moves that an expression begins with, and then these.
+fn heads_before(alloc: Global, is: &RegPat, before: usize, next: &Row) -> Result<Row, AllocError>
+    requires { before + items_in (plain_regular is.now) < 2 ^ 64 }
+    ensures { IfOk result (λ row. plain_row row
+        ≡ followed (heads_row (plain_regular is.now) before) (plain_row next.now)) }
+{
+    let heads = heads(alloc, is, before)?;
+    Ok(followed(alloc, &heads, next)?)
 }
 
 // Adds those of alternatives.

@@ -15,11 +15,6 @@ use Rattle.cd_captured.specs.Inner.PlainSteps.{AreEntries}
 use Rattle.cd_captured.specs.declared.step.Step.{Step as CodeStep}
 
 module _ (graph : Graph) (kernel : Kernel NodeId) (first : ℕ) where
-  -- nodes of the graph accept the nodes of the kernel
-  pub record IsAcceptedIn : Type 0 where
-    pub accepted : IsAcceptedFrom graph kernel first
-    pub within : first + length kernel.nodes ≤ length graph
-
   abbrev pub IsSettledAt : Place → List Step → Type 0
   IsSettledAt place steps =
       IsSettledPlace graph kernel (place_of kernel.nodes first) (place, steps)

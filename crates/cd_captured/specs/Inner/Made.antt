@@ -15,6 +15,7 @@ use Rattle.cd_model.specs.Formula.{formulas_of}
 use Rattle.cd_model.specs.Interfaces.{Interfaces}
 use Rattle.cd_model.specs.Membership.{asked, holds, answers, reader, value_answers, value_reader}
 use Rattle.cd_model.specs.Thing.{Thing}
+use Rattle.cd_compact.specs.Keeping.{IsFormulaOfQuestion}
 use Rattle.cd_filter.specs.Table.{Place}
 use Rattle.cd_captured.specs.declared.givers.Giver.{Giver}
 use Rattle.cd_captured.specs.declared.step.Step.{Step}
@@ -26,15 +27,6 @@ use Rattle.cd_captured.specs.Inner.Plan.{Plan}
 use Rattle.cd_captured.specs.Inner.Reached.{ReachesBy}
 use Rattle.cd_captured.specs.Inner.Wanted.{AreOnce, AreFirst, AreGathered}
 
--- a formula that holds what is in a question over nodes of a graph
-pub record IsQuestionFormula (graph : Graph) (question : Question) (f : Formula) : Type 0 where
-  pub elements : (d : Thing) (answer : Bool)
-      → asked (answers graph d) question answer ↔ holds (reader graph d) f answer
-  pub values : (interfaces : Interfaces) (d : Thing) (answer : Bool)
-      → asked (value_answers graph interfaces d) question answer
-      ↔ holds (value_reader graph interfaces d) f answer
-  pub sound : IsFormula (length graph) f
-
 abbrev pub character : ℕ → Formula
 character c = Chars (record { low = c; high = c } ∷ [])
 
@@ -42,7 +34,7 @@ module _ (plan : Plan) where
   -- what comes to a place
   abbrev pub IsComing : Option Place → Formula → Type 0
   IsComing None f = f ≡ Nothing
-  IsComing (Some place) f = IsQuestionFormula plan.graph place.question f
+  IsComing (Some place) f = IsFormulaOfQuestion plan.graph place.question f
 
   -- the text of a node of the kernel
   abbrev pub text_at : ℕ → List ℕ

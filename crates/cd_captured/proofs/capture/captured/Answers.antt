@@ -26,7 +26,7 @@ batch_of-requires c =
     (sym (c.graph-2.ensures.graph ∙ c.in_ok-explored.ensures.graph))
     (subst (λ (n : ℕ). IsSoundPlan (plan_from graph n kernel.nodes places rows)) (sym count)
     (plan_sound graph kernel c.args.accepted.first c.args.matched places rows c.requires.accepted
-    c.requires.within c.in_ok-explored.ensures.explored))
+    c.in_ok-explored.ensures.explored))
 
 pub extend-requires : goal.extend-requires
 extend-requires c =
@@ -46,7 +46,7 @@ extend-requires c =
     (subst (λ (all : List Formula). AllOf (IsFormula (length graph + length all)) all)
     (sym c.in_ok-of.ensures)
     (extends_soundly graph kernel c.args.accepted.first c.args.matched places rows c.requires.accepted
-    c.requires.within c.in_ok-explored.ensures.explored c.graph.ensures.sound c.batch_of.ensures.once batch
+    c.in_ok-explored.ensures.explored c.graph.ensures.sound c.batch_of.ensures.once batch
     formulas))
 
 pub returns-clause-names : goal.returns-clause-names
@@ -78,7 +78,7 @@ returns-clause-elements c =
     (map (λ (one : Name × NodeId). one.1) c.in_ok-names.names.items)) (sym longer)
     (subst (AreExactCaptures (graph ++ batch) c.args.matched kernel) (sym named)
     (exact graph kernel c.args.accepted.first c.args.matched places rows c.requires.accepted
-    c.requires.within c.in_ok-explored.ensures.explored c.graph.ensures.sound c.batch_of.ensures.once batch
+    c.in_ok-explored.ensures.explored c.graph.ensures.sound c.batch_of.ensures.once batch
     formulas c.in_ok-explored.ensures.first))
 
 pub returns-clause-values : goal.returns-clause-values
@@ -105,7 +105,7 @@ returns-clause-values c =
     (map (λ (one : Name × NodeId). one.1) c.in_ok-names.names.items)) (sym longer)
     (subst (AreWideCaptures (graph ++ batch) c.args.matched kernel) (sym named)
     (wide graph kernel c.args.accepted.first c.args.matched places rows c.requires.accepted
-    c.requires.within c.in_ok-explored.ensures.explored c.graph.ensures.sound c.batch_of.ensures.once batch
+    c.in_ok-explored.ensures.explored c.graph.ensures.sound c.batch_of.ensures.once batch
     formulas c.in_ok-explored.ensures.first))
 
 pub returns-clause-nodes : goal.returns-clause-nodes
@@ -129,5 +129,5 @@ returns-clause-nodes c =
     subst (λ (g : Graph). AllOf (λ one. one.1.0 < length g) c.in_ok-names.names.items) (sym longer)
     (subst (AllOf (λ one. one.1.0 < length (graph ++ batch))) (sym named)
     (ids_are_below graph kernel c.args.accepted.first c.args.matched places rows c.requires.accepted
-    c.requires.within c.in_ok-explored.ensures.explored c.graph.ensures.sound c.batch_of.ensures.once batch
+    c.in_ok-explored.ensures.explored c.graph.ensures.sound c.batch_of.ensures.once batch
     formulas))

@@ -9,9 +9,9 @@ use Rattle.cd_model.specs.Formula.{Graph}
 use Rattle.cd_matching.specs.PlainKernel.{plain_kernel}
 use Rattle.cd_empty.specs.Seen.{graph_of}
 use Rattle.cd_empty.proofs.GrowingWorlds.{to_itself, and_further}
-use Rattle.cd_filter.specs.Accepting.{place_of}
+use Rattle.cd_filter.specs.Accepting.{place_of, IsAcceptedFrom}
 use Rattle.cd_filter.specs.Table.{first_place}
-use Rattle.cd_captured.specs.Inner.Exploring.{IsAcceptedIn, AreSettling, IsExploring}
+use Rattle.cd_captured.specs.Inner.Exploring.{AreSettling, IsExploring}
 use Rattle.cd_captured.specs.Inner.NodeSteps.{IsInRange}
 use Rattle.cd_captured.specs.Inner.PlainSteps.{plain_place, plain_places}
 use Rattle.cd_captured.specs.declared.step.Step.{Step as CodeStep}
@@ -30,8 +30,8 @@ loop-place-init c =
           IsExploring graph kernel first root (plain_places c.number.new.self) codes)
           (sym (ap (map (λ steps. steps.items)) c.new-steps.ensures.items))
           (explored_start graph kernel first c.requires.accepted root
-          (first_is_place graph kernel first c.requires.accepted.accepted
-          c.requires.accepted.within c.args.matched c.requires.matched)
+          (first_is_place graph kernel first c.requires.accepted c.args.matched
+          c.requires.matched)
           c.new-places.result c.number.new.self c.in_ok-number.field-0
           c.in_ok-root_place.field-0 c.new-places.ensures c.in_ok-number.ensures.found
           c.in_ok-number.ensures.grows c.in_ok-root_place.ensures);
@@ -57,7 +57,7 @@ there c = ap (slice_get (plain_places c.loop-place.places))
 pub settle-requires-clause-accepted : goal.settle-requires-clause-accepted
 settle-requires-clause-accepted c =
     let kernel = plain_kernel c.args.base.now.kernel.now in
-    subst (λ (graph : Graph). IsAcceptedIn graph kernel c.args.base.now.first)
+    subst (λ (graph : Graph). IsAcceptedFrom graph kernel c.args.base.now.first)
     (sym c.loop-place.invariant.graph) c.requires.accepted
 
 pub settle-requires-clause-place : goal.settle-requires-clause-place

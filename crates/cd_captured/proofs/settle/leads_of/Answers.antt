@@ -24,14 +24,14 @@ node_steps-requires-clause-sound c =
     let nodes = plain_nodes c.args.base.now.kernel.now.nodes.items in
     all_at (IsSoundNode nodes (length c.args.base.now.kernel.now.variables.items)
     (λ id. id.0 < c.args.base.now.first)) nodes c.args.place.now.number
-    (plain_node c.index.result.now) c.requires.accepted.accepted.sound.nodes (there c)
+    (plain_node c.index.result.now) c.requires.accepted.sound.nodes (there c)
 
 pub node_steps-requires-clause-parts : goal.node_steps-requires-clause-parts
 node_steps-requires-clause-parts c =
     let nodes = plain_nodes c.args.base.now.kernel.now.nodes.items in
     all_at (λ node. AllOf (λ (number : ℕ). number < length nodes) (leads_to node ++ parts_of node))
     nodes c.args.place.now.number (plain_node c.index.result.now)
-    c.requires.accepted.accepted.sound.parts (there c)
+    c.requires.accepted.sound.parts (there c)
 
 pub returns-in-Empty-clause-steps : goal.returns-in-Empty-clause-steps
 returns-in-Empty-clause-steps c =

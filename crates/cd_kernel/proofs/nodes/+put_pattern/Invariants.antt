@@ -4,7 +4,6 @@ use Rattle.cd_matching.specs.PlainKernel.{plain_nodes}
 use Rattle.cd_matching.specs.PlainPattern.{plain, plain_field, plain_regular, fields_of}
 use Rattle.cd_kernel.specs.Inner.Building.{built_all, built_fields, built_items, built_items_all}
 use Rattle.cd_kernel.specs.Inner.Building.{put_copies}
-use Rattle.cd_kernel.specs.Inner.Gathering.{groups_of}
 use Rattle.cd_kernel.specs.Inner.PlainGroups.{plain_groups}
 use Rattle.cd_kernel.specs.Inner.PlainSteps.{plain_kernel_fields}
 use Rattle.cd_kernel.proofs.nodes.+put_pattern.Given as goal
@@ -24,16 +23,16 @@ invariant-put_fields-loop-field l =
     ≡ built_fields l.variables l.kept (fields_of (map plain_field l.fields)) []
     (plain_nodes l.fn.nodes.items)
 
-abbrev pub invariant-put_sequence-loop-group : goal.invariant-put_sequence-loop-group
-invariant-put_sequence-loop-group l =
+abbrev pub invariant-put_copies-loop-group : goal.invariant-put_copies-loop-group
+invariant-put_copies-loop-group l =
     put_copies l.variables (plain_regular l.is)
     (built_items l.variables l.keeps (plain_regular l.is) [])
     (built_items l.variables false (plain_regular l.is) [])
-    (plain_groups (drop l.group-index l.group-items)) l.starts.items (plain_nodes l.nodes.items)
+    (plain_groups (drop l.group-index l.groups)) l.starts.items (plain_nodes l.nodes.items)
     ≡ put_copies l.variables (plain_regular l.is)
     (built_items l.variables l.kept (plain_regular l.is) [])
     (built_items l.variables false (plain_regular l.is) [])
-    (groups_of l.kept (plain_regular l.is)) [] (plain_nodes l.fn.nodes.items)
+    (plain_groups l.groups) [] (plain_nodes l.fn.nodes.items)
 
 abbrev pub invariant-put_parts-loop-is : goal.invariant-put_parts-loop-is
 invariant-put_parts-loop-is l =

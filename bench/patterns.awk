@@ -1,0 +1,31 @@
+# Prints a program whose first function has a large pattern, or many: `what` says of which kind, and `count` how large.
+
+# each number from 1 to `count` in the place of `#` in the text, with another text between
+function row(text, between,    i, one, all) {
+    for (i = 1; i <= count; i++) {
+        one = text
+        gsub("#", i, one)
+        all = all (i > 1 ? between : "") one
+    }
+    return all
+}
+
+function repeated(text,    i, all) {
+    for (i = 1; i <= count; i++) all = all text
+    return all
+}
+
+BEGIN {
+    if (what == "elements") {
+        printf "%s type All = %s\n", row("type E# = <e#>[Int*]", "\n"), row("E#", "|")
+        printf "let fun main (All -> Any) %s -> 0\n", row("<e#>x", " -> 0 | ")
+    } else if (what == "items") {
+        printf "type Ints = [Int*] let fun main (Ints -> Any) [%s rest::Int*] -> 0 | _ -> 0\n", row("(x# & Int)", " ")
+    } else if (what == "union") {
+        printf "let fun main (Int -> Any) (%s) -> 0 | _ -> 0\n", row("(x & #)", " | ")
+    } else if (what == "refused") {
+        printf "type Pairs = (Int, Int) let fun main (Pairs -> Any) %s -> 0 | (x, y) -> 0\n", row("(1, #)", " -> 0 | ")
+    } else if (what == "nested") {
+        printf "let fun main (Any -> Any) %sx%s -> 0 | _ -> 0\n", repeated("("), repeated(", 0)")
+    }
+}
