@@ -1,6 +1,7 @@
 //! Programs, and nodes and kernels of the patterns of their first functions.
-ghost use Rattle.std.specs.Prelude.{◌≡◌, ◌<◌, ◌++◌, map, length, IfOk, IfSome};
+ghost use Rattle.std.specs.Prelude.{◌≡◌, ◌<◌, ◌++◌, map, length, IfOk};
 ghost use Rattle.cd_syntax.specs.PlainTree.{plain as plain_tree, plain_declarations};
+ghost use Rattle.cd_syntax.specs.WellMade.{AreWellMadeDeclarations};
 ghost use Rattle.cd_program.specs.Expr.{branches_of};
 ghost use Rattle.cd_program.specs.PlainExpr.{plain_branch, plain_function};
 ghost use Rattle.cd_program.specs.PlainProgram.{plain_program};
@@ -27,6 +28,7 @@ use cd_patterns::resolve_pattern;
 use cd_program::expr::{Branch, FunctionTree};
 use cd_program::program::Program;
 use cd_replies::reader::{name_declarations, read_program};
+use cd_replies::refusal::Refusal;
 use cd_resolve::Names;
 use cd_sets::node_id::NodeId;
 use cd_syntax::name::Name;
@@ -90,8 +92,9 @@ fn kernel_of_first(
 ) -> Result<Option<Made>, AllocError>
     requires { IsSoundProgram (plain_program program.now) }
 {
-    let Some(names) = declare(alloc, world, program)? else {
-        return Ok(None);
+    let names = match declare(alloc, world, &program.types)? {
+        Ok(names) => names,
+        Err(_) => return Ok(None),
     };
     match first_branches(program) {
         [first, ..] => Ok(Some(made_of(alloc, world, &names, first)?)),
@@ -107,8 +110,9 @@ fn answer_of(
     requires { IsSoundProgram (plain_program program.now) }
 {
     let first = world.graph().len();
-    let Some(names) = declare(alloc, world, program)? else {
-        return Ok(None);
+    let names = match declare(alloc, world, &program.types)? {
+        Ok(names) => names,
+        Err(_) => return Ok(None),
     };
     let types = types_of(alloc, first, &program.types)?;
     let Some(argument) = argument_of(program, types.as_slice()) else {
@@ -118,26 +122,26 @@ fn answer_of(
     Ok(Some(Answered { types, branches }))
 }
 
-// Puts nodes of the declared types into a world.
-fn declare<'p>(
+// Puts nodes of declared types into a world.
+fn declare<'t>(
     alloc: Global,
     world: &mut World,
-    program: &'p Program,
-) -> Result<Option<Names<'p>>, AllocError>
-    requires { IsSoundProgram (plain_program program.now) }
-    ensures list { IfOk result (λ named. IfSome named
-        (λ names. declared_by names ≡ plain_declarations program.now.types)) }
-    ensures sound { IfOk result (λ named. IfSome named
-        (λ names. AreNamedWell (declared_by names))) }
-    ensures stand { IfOk result (λ named. IfSome named
-        (λ names. AreNamed (graph_of world.new) (plain_names names))) }
+    declared: &'t Declarations,
+) -> Result<Result<Names<'t>, Refusal>, AllocError>
+    requires { AreWellMadeDeclarations (plain_declarations declared.now) }
+    ensures named { IfOk result (λ named. IfOk named
+        (λ names. AreNamedWell (plain_declarations declared.now))) }
+    ensures list { IfOk result
+        (λ named. IfOk named (λ names. declared_by names ≡ plain_declarations declared.now)) }
+    ensures stand { IfOk result
+        (λ named. IfOk named (λ names. AreNamed (graph_of world.new) (plain_names names))) }
 {
-    match name_declarations(alloc, world.graph().len(), &program.types)? {
+    match name_declarations(alloc, world.graph().len(), declared)? {
         Ok(batch) => {
             world.extend(batch.formulas)?;
-            Ok(Some(batch.names))
+            Ok(Ok(batch.names))
         }
-        Err(_) => Ok(None),
+        Err(refusal) => Ok(Err(refusal)),
     }
 }
 

@@ -43,7 +43,7 @@ impl Writer {
         if to <= from {
             return from;
         }
-        let more = self.random.below((to - from) as u64 + 1) as usize;
+        let more = self.random.below(((to - from) as u64).saturating_add(1)) as usize;
         if more > to - from { to } else { from + more }
     }
 
@@ -72,7 +72,7 @@ impl Writer {
             0 => self.two(from, to, depth - 1, ", "),
             1 => self.two(from, to, depth - 1, " & "),
             2 => self.either(from, to, depth - 1),
-            3 if to == from + 1 => self.one(from),
+            3 if to.saturating_sub(from) == 1 => self.one(from),
             _ => {
                 self.write("[")?;
                 self.sequence(from, to, depth - 1)?;

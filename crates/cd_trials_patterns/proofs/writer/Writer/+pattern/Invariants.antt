@@ -1,3 +1,5 @@
+use Rattle.std.proofs.Common.{◌*◌}
+use Prim.Native.Nat.{suc}
 use Rattle.cd_trials_patterns.proofs.writer.Writer.+pattern.Given as goal
 
 abbrev pub decreases-pattern : goal.decreases-pattern

@@ -1,3 +1,5 @@
+use Rattle.std.proofs.Common.{◌*◌}
+use Prim.Native.Nat.{suc}
 use Rattle.cd_trials_patterns.proofs.writer.Writer.+sequence.Given as goal
 
 abbrev pub decreases-sequence : goal.decreases-sequence
