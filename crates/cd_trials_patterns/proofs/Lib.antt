@@ -1,2 +1,3 @@
 mod SoundBranches
 mod KernelsMade
+mod Leaving

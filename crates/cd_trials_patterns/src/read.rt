@@ -251,6 +251,7 @@ fn made_of(
     ensures sound { IfOk result (λ made.
         IsSound (λ id. id.0 < length (graph_of world.new)) (plain_kernel made.kernel)) }
     ensures named { IfOk result (λ _. AreNamed (graph_of world.new) (plain_names names.now)) }
+    ensures graph { IfOk result (λ _. IsGraph (graph_of world.new)) }
 {
     made_of_tree(alloc, world, names, &branch.pattern)
 }
@@ -267,6 +268,7 @@ fn made_of_tree(
     ensures sound { IfOk result (λ made.
         IsSound (λ id. id.0 < length (graph_of world.new)) (plain_kernel made.kernel)) }
     ensures named { IfOk result (λ _. AreNamed (graph_of world.new) (plain_names names.now)) }
+    ensures graph { IfOk result (λ _. IsGraph (graph_of world.new)) }
 {
     // The contract of this call says that the variables are named apart.
     sound_patterns_are_named();
@@ -304,8 +306,9 @@ fn taken_of(
 
 // A node of what is in the one and not in the other.
 fn left(alloc: Global, world: &mut World, one: NodeId, other: NodeId) -> Result<NodeId, AllocError>
-    ensures { IfOk result (λ _. (more : PlainGraph)
+    ensures grows { IfOk result (λ _. (more : PlainGraph)
         × (graph_of world.new ≡ graph_of world.old ++ more)) }
+    ensures graph { IfOk result (λ _. IsGraph (graph_of world.old)) }
 {
     let graph = world.graph();
     if one.0 >= graph.len() || other.0 >= graph.len() {
