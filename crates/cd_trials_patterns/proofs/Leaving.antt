@@ -30,6 +30,8 @@ branches_after types branches index branch more sound =
 pub one_formula : (seen old : Graph) (is : Formula) (list : List Formula) → seen ≡ old → list ≡ is ∷ []
     → IsFormula (length seen) is → AllOf (IsFormula (length old + length list)) list
 one_formula seen old is list same one sound =
-    subst (λ (formulas : List Formula). AllOf (IsFormula (length old + length formulas)) formulas) (sym one)
-    (formula_among_more (length old) (length old + length (is ∷ [])) (omega arith) is
-    (subst (λ (graph : Graph). IsFormula (length graph) is) same sound), tt)
+    subst (λ (formulas : List Formula). AllOf (IsFormula (length old + length formulas)) formulas) (sym one) (
+      formula_among_more (length old) (length old + length (is ∷ [])) (omega arith) is
+          (subst (λ (graph : Graph). IsFormula (length graph) is) same sound),
+      tt,
+    )

@@ -32,8 +32,10 @@ pub(crate) fn taken(
         Some(KernelNode::Put(variable, constant)) => {
             put(got, *variable, of_constant(base.types, constant)?, false)
         }
-        Some(KernelNode::Both(one, other)) => Ok(taken(base, *one, value, got, steps - 1)?
-            && taken(base, *other, value, got, steps - 1)?),
+        Some(KernelNode::Both(one, other)) => Ok(
+            taken(base, *one, value, got, steps - 1)?
+                && taken(base, *other, value, got, steps - 1)?,
+        ),
         Some(KernelNode::First(one, other)) => {
             let before = got.len();
             if taken(base, *one, value, got, steps - 1)? {
@@ -90,8 +92,10 @@ fn of_pair(
         return Err(AllocError);
     }
     match base.types.values.get(value) {
-        Some(Cell::Pair(one, other)) => Ok(taken(base, nodes.0, one, got, steps - 1)?
-            && taken(base, nodes.1, other, got, steps - 1)?),
+        Some(Cell::Pair(one, other)) => Ok(
+            taken(base, nodes.0, one, got, steps - 1)?
+                && taken(base, nodes.1, other, got, steps - 1)?,
+        ),
         _ => Ok(false),
     }
 }

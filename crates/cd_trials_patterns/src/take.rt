@@ -53,8 +53,10 @@ pub(crate) fn take(
             put(base, got, name, of_constant(base.types, constant)?, false)
         }
         Pat::Pair(first, second) => match base.types.values.get(value) {
-            Some(Cell::Pair(one, other)) => Ok(take(base, first, one, got, steps - 1)?
-                && take(base, second, other, got, steps - 1)?),
+            Some(Cell::Pair(one, other)) => Ok(
+                take(base, first, one, got, steps - 1)?
+                    && take(base, second, other, got, steps - 1)?,
+            ),
             _ => Ok(false),
         },
         Pat::Both(all) => take_all(base, all.items(), value, got, steps - 1),
