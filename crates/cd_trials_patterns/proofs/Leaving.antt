@@ -1,5 +1,5 @@
 -- What the loop over branches keeps.
-use Rattle.std.proofs.Common.{◌≡◌, ℕ, ◌+◌, ◌<◌, ◌≤◌, ◌++◌, List, [], ◌∷◌, map, length, drop, sym, subst, arith}
+use Rattle.std.proofs.Common.{◌≡◌, ℕ, ◌+◌, ◌<◌, ◌++◌, List, [], ◌∷◌, map, length, drop, sym, subst, arith}
 use Rattle.std.proofs.lemmas.List.{at_drop_more}
 use Rattle.cd_syntax.specs.TypeTree.{Declarations}
 use Rattle.cd_program.specs.Expr.{branches_of}

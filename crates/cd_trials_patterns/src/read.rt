@@ -158,7 +158,8 @@ fn first_branches(program: &Program) -> &[Branch]
 }
 
 fn branches_in(function: &FunctionTree) -> &[Branch]
-    ensures { branches_of (map plain_branch result.now) ≡ branches_in (plain_function function.now) }
+    ensures { branches_of (map plain_branch result.now)
+        ≡ branches_in (plain_function function.now) }
 {
     function.branches.items()
 }

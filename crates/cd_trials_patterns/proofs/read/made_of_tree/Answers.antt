@@ -1,4 +1,4 @@
-use Rattle.std.proofs.Common.{[], ◌∷◌, ◌++◌, sym, subst}
+use Rattle.std.proofs.Common.{[], ◌∷◌, sym, subst}
 use Rattle.cd_syntax.specs.PlainTree.{plain as plain_tree}
 use Rattle.cd_model.specs.Formula.{Graph}
 use Rattle.cd_graph.specs.Nodes.{nodes}
