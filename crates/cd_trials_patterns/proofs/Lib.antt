@@ -1,0 +1,3 @@
+mod SoundBranches
+mod KernelsMade
+mod Leaving
