@@ -5,7 +5,7 @@ ghost use Rattle.cd_resolve.specs.declared.fault.NameFault.TheVariants.{NoMain};
 ghost use Rattle.cd_names.specs.Inner.FindingInPrograms.{nothing, told, told_if, met, with_tree};
 ghost use Rattle.cd_names.specs.Inner.PlainFound.{plain_found};
 
-use crate::told::Told;
+use cd_variables::told::Told;
 use cd_resolve::fault::NameFault;
 use cd_syntax::name::Name;
 use cd_syntax::type_tree::Tree;
