@@ -7,13 +7,11 @@ use Rattle.cd_variables.specs.PlainTold.{plain_occurrence}
 use Rattle.cd_variables.specs.declared.told.Occurrence.{Occurrence as CodeOccurrence}
 
 -- from here on the rest of a list is left
-pub last_part : (all : List CodeOccurrence) (from : ℕ) (before part : List Occurrence)
-    → map plain_occurrence all ≡ before ++ part → from ≡ length before
-    → map plain_occurrence (drop from all) ≡ part
-last_part all from before part is long = sym (drop-map plain_occurrence from all)
-    ∙ ap (drop from) is ∙ ap (λ (n : ℕ). drop n (before ++ part)) long ∙ drop-append_seam before part
-
--- a part begins after those that were there
-pub begins_after : (all : List CodeOccurrence) (from : ℕ) → from ≡ length all
-    → from ≡ length (map plain_occurrence all)
-begins_after all from is = is ∙ sym (length-map all plain_occurrence)
+pub last_part : (before all since : List CodeOccurrence) (from : ℕ) (part : List Occurrence)
+    → map plain_occurrence all ≡ map plain_occurrence before ++ part → from ≡ length before
+    → since ≡ drop from all → map plain_occurrence since ≡ part
+last_part before all since from part is long since_is = ap (map plain_occurrence) since_is
+    ∙ sym (drop-map plain_occurrence from all) ∙ ap (drop from) is
+    ∙ ap (λ (n : ℕ). drop n (map plain_occurrence before ++ part))
+    (long ∙ sym (length-map before plain_occurrence))
+    ∙ drop-append_seam (map plain_occurrence before) part

@@ -34,7 +34,7 @@ pub(crate) fn check_union<'t>(
         [first, rest @ ..] => {
             let from = bound.len();
             check_variables(alloc, first, bound, faults)?;
-            let names = NameSet::of(alloc, since(bound.as_slice(), from))?;
+            let names = NameSet::of(alloc, since(bound, from))?;
             check_others(alloc, &names, rest, bound, faults)
         }
     }
@@ -79,5 +79,5 @@ fn check_other<'t>(
 {
     let from = bound.len();
     check_variables(alloc, tree, bound, faults)?;
-    tell_if_differs(alloc, names, since(bound.as_slice(), from), tree.span.from, faults)
+    tell_if_differs(alloc, names, since(bound, from), tree.span.from, faults)
 }

@@ -38,7 +38,7 @@ pub(crate) fn check_choice<'t>(
         [first, rest @ ..] => {
             let from = plain.len();
             check_regular(alloc, first, plain, gathered, faults)?;
-            let names = NameSet::of(alloc, since(plain.as_slice(), from))?;
+            let names = NameSet::of(alloc, since(plain, from))?;
             check_others(alloc, &names, rest, plain, gathered, faults)
         }
     }
@@ -93,5 +93,5 @@ fn check_other<'t>(
     let from = plain.len();
     check_regular(alloc, expression, plain, gathered, faults)?;
     let at = expression.span.from;
-    tell_if_differs(alloc, names, since(plain.as_slice(), from), at, faults)
+    tell_if_differs(alloc, names, since(plain, from), at, faults)
 }

@@ -88,7 +88,7 @@ fn check_repeated<'t>(
 {
     let from = plain.len();
     check_regular(alloc, inner, plain, gathered, faults)?;
-    tell_repeats(since(plain.as_slice(), from), faults)
+    tell_repeats(since(plain, from), faults)
 }
 
 // An expression whose items this variable gathers. It may not stand in the expression.
@@ -115,6 +115,6 @@ fn check_gathered<'t>(
     let from = plain.len();
     let after = gathered.len();
     check_regular(alloc, inner, plain, gathered, faults)?;
-    tell_inside(variable.name, since(plain.as_slice(), from), faults)?;
-    tell_inside(variable.name, since(gathered.as_slice(), after), faults)
+    tell_inside(variable.name, since(plain, from), faults)?;
+    tell_inside(variable.name, since(gathered, after), faults)
 }

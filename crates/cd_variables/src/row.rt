@@ -57,7 +57,7 @@ fn add_part<'t>(
 {
     let from = bound.len();
     check_variables(alloc, part, bound, faults)?;
-    let own = since(bound.as_slice(), from);
+    let own = since(bound, from);
     tell_again(names, own, faults)?;
     add_names(names, own)
 }

@@ -1,6 +1,5 @@
 //! The names of variables that were met.
-ghost use Rattle.std.specs.Prelude.{◌≡◌, ◌++◌, ◌∷◌, [], List, IfOk, map, length};
-ghost use Rattle.cd_variables.specs.Occurrences.{Occurrence as AnOccurrence};
+ghost use Rattle.std.specs.Prelude.{◌≡◌, ◌++◌, ◌∷◌, [], IfOk, map, drop};
 ghost use Rattle.cd_variables.specs.VariableFaults.{repeats};
 ghost use Rattle.cd_variables.specs.FindingVariables.{has_name, names_among, told_again};
 ghost use Rattle.cd_variables.specs.FindingVariables.{told_of_each};
@@ -13,10 +12,10 @@ use cd_syntax::name::Name;
 use std::alloc::AllocError;
 
 /// The variables from this place on.
-pub(crate) fn since<'a, 't>(all: &'a [Occurrence<'t>], from: usize) -> &'a [Occurrence<'t>]
-    ensures { (before part : List AnOccurrence) → map plain_occurrence all.now ≡ before ++ part
-        → from ≡ length before → map plain_occurrence result.now ≡ part }
+pub(crate) fn since<'a, 't>(all: &'a Vec<Occurrence<'t>>, from: usize) -> &'a [Occurrence<'t>]
+    ensures { result.now ≡ drop from all.now.items }
 {
+    let all = all.as_slice();
     if from > all.len() {
         return &[];
     }

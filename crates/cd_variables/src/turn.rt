@@ -130,5 +130,5 @@ fn check_next<'t>(
     let from = plain.len();
     let after = gathered.len();
     check_regular(alloc, expression, plain, gathered, faults)?;
-    seen.add(since(plain.as_slice(), from), since(gathered.as_slice(), after), faults)
+    seen.add(since(plain, from), since(gathered, after), faults)
 }
