@@ -14,10 +14,10 @@ use crate::base::Base;
 use crate::expr::walk;
 use crate::found::Found;
 use crate::locals::Locals;
-use cd_variables::check_variables;
-use cd_variables::told::Occurrence;
 use cd_program::expr::{Branch, Branches, Expr};
 use cd_syntax::type_tree::Tree;
+use cd_variables::check_variables;
+use cd_variables::told::Occurrence;
 use std::alloc::{AllocError, Global};
 
 /// Walks over a value and the branches that it goes to.

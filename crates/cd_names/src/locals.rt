@@ -5,8 +5,8 @@ ghost use Rattle.std.specs.List.{list_any};
 ghost use Rattle.cd_syntax.specs.Name.{Name as AName};
 ghost use Rattle.cd_variables.specs.PlainTold.{occurring};
 
-use cd_variables::told::Occurrence;
 use cd_syntax::name::Name;
+use cd_variables::told::Occurrence;
 use std::alloc::{AllocError, Global};
 use std::marker::Model;
 

@@ -10,3 +10,4 @@ mod MisplacedFound
 mod RowsFound
 mod TurnsFound
 pub mod VariablesFound
+pub mod Chosen

@@ -36,7 +36,7 @@ present_step label at true t rest all all_after seen seen_after s s_after out al
 present_step label at false t rest all all_after seen seen_after s s_after out all_is seen_is s_is = (
   ap (λ all. all ++ bound_by_fields rest) all_is ∙ append_assoc all (bound t) (bound_by_fields rest),
   ap (λ seen. field_faults seen rest s_after) seen_is
-  ∙ ap (field_faults (seen ++ names_among (bound t)) rest) s_is,
+      ∙ ap (field_faults (seen ++ names_among (bound t)) rest) s_is,
 )
 
 -- where the test is known

@@ -32,7 +32,14 @@ pub fn check_variables<'t>(
         ≡ variable_faults (plain pattern.now) (map plain_told faults.old.items)) }
 {
     let mut names = NameIndex::new(alloc);
-    check_kind(alloc, pattern.span.from, &pattern.kind, &mut names, bound, faults)
+    check_kind(
+        alloc,
+        pattern.span.from,
+        &pattern.kind,
+        &mut names,
+        bound,
+        faults,
+    )
 }
 
 // Those of a kind, whose pattern begins at this place. `names` is empty: the parts of a row enter
@@ -109,11 +116,7 @@ fn tell_in_where<'t>(
 }
 
 // One variable.
-fn add_one<'t>(
-    name: &'t Name,
-    at: usize,
-    bound: &mut Vec<Occurrence<'t>>,
-) -> Result<(), AllocError>
+fn add_one<'t>(name: &'t Name, at: usize, bound: &mut Vec<Occurrence<'t>>) -> Result<(), AllocError>
     ensures { IfOk result (λ _. map plain_occurrence bound.new.items
         ≡ map plain_occurrence bound.old.items ++ one name.now at) }
 {

@@ -36,7 +36,14 @@ pub(crate) fn check_regular<'t>(
     ensures faults { IfOk result (λ _. map plain_told faults.new.items
         ≡ regular_faults (plain_regular expression.now) (map plain_told faults.old.items)) }
 {
-    check_regular_kind(alloc, expression.span.from, &expression.kind, plain, gathered, faults)
+    check_regular_kind(
+        alloc,
+        expression.span.from,
+        &expression.kind,
+        plain,
+        gathered,
+        faults,
+    )
 }
 
 // Those of a kind, whose expression begins at this place.
@@ -64,7 +71,14 @@ fn check_regular_kind<'t>(
         RegKind::Alt(all) => check_choice(alloc, all, plain, gathered, faults),
         RegKind::Repeat(inner, _) => check_repeated(alloc, inner, plain, gathered, faults),
         RegKind::Capture(name, inner) => {
-            check_gathered(alloc, Occurrence { name, at }, inner, plain, gathered, faults)
+            check_gathered(
+                alloc,
+                Occurrence { name, at },
+                inner,
+                plain,
+                gathered,
+                faults,
+            )
         }
     }
 }
