@@ -13,10 +13,10 @@ use Rattle.cd_model.specs.AllOf.{AllOf}
 use Rattle.cd_resolve.specs.Faults.{Fault, IsFaultOfType}
 use Rattle.cd_resolve.specs.declared.fault.NameFault.{NameFault}
 use Rattle.cd_resolve.specs.declared.fault.NameFault.TheVariants.{Unknown, Twice}
-use Rattle.cd_names.specs.Occurrences.{Occurrence}
-use Rattle.cd_names.specs.VariableFaults.{IsOneIn, IsVariableFault}
+use Rattle.cd_variables.specs.Occurrences.{Occurrence}
+use Rattle.cd_variables.specs.VariableFaults.{IsOneIn, IsVariableFault}
 use Rattle.cd_names.specs.ProgramFaults.{IsFaultOfPattern, DeclaredAgain, arrow_types, is_seen}
-use Rattle.cd_names.specs.Inner.FindingVariables.{variable_faults}
+use Rattle.cd_variables.specs.FindingVariables.{variable_faults}
 use Rattle.cd_names.specs.Inner.FindingInPrograms.{Found, told, with_tree, with_pattern, with_types}
 use Rattle.cd_names.specs.Inner.FindingInPrograms.{met, told_if}
 use Rattle.cd_names.specs.Inner.FindingInPrograms.{again}

@@ -15,8 +15,8 @@ use Rattle.cd_program.specs.Expr.{Program}
 use Rattle.cd_model.specs.AllOf.{AllOf}
 use Rattle.cd_resolve.specs.Faults.{Fault, IsFaultOfType}
 use Rattle.cd_resolve.specs.declared.fault.NameFault.TheVariants.{Unknown, Twice, NoMain}
-use Rattle.cd_names.specs.Occurrences.{Occurrence}
-use Rattle.cd_names.specs.VariableFaults.{IsOneIn}
+use Rattle.cd_variables.specs.Occurrences.{Occurrence}
+use Rattle.cd_variables.specs.VariableFaults.{IsOneIn}
 use Rattle.cd_names.specs.ProgramFaults as faults
 use Rattle.cd_names.specs.ProgramFaults.{Seen, is_seen, names_of, IsFaultOfPattern, Part, part}
 use Rattle.cd_names.specs.ProgramFaults.{all_exprs, item_exprs}

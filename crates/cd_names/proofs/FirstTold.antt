@@ -6,7 +6,7 @@ use Rattle.cd_resolve.specs.Errors.{IsToldError}
 use Rattle.cd_resolve.specs.Faults.{Fault, IsBefore, IsTold}
 use Rattle.cd_resolve.specs.declared.error.NameError.{NameError}
 use Rattle.cd_resolve.specs.declared.error.NameError.TheVariants as error
-use Rattle.cd_names.specs.VariableFaults.{IsOneIn}
+use Rattle.cd_variables.specs.VariableFaults.{IsOneIn}
 use Rattle.cd_names.specs.Inner.Faults.{Tells}
 use Rattle.cd_names.specs.Inner.Least.{goes_before, least_from, IsLeast, first_error}
 use Rattle.cd_names.specs.Inner.Least.{first_of}

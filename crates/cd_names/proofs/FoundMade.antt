@@ -18,7 +18,7 @@ use Rattle.cd_program.specs.WellMade.{AreWellMadeFunctions}
 use Rattle.cd_program.specs.WellMade.{IsWellMadeProgram}
 use Rattle.cd_model.specs.AllOf.{AllOf}
 use Rattle.cd_resolve.proofs.TypesArePatterns.{type_is_pattern}
-use Rattle.cd_names.specs.Occurrences.{Occurrence}
+use Rattle.cd_variables.specs.Occurrences.{Occurrence}
 use Rattle.cd_names.specs.ProgramFaults.{Seen, is_seen, names_of, with_name, all_functions}
 use Rattle.cd_names.specs.ProgramFaults.{declared_names}
 use Rattle.cd_names.specs.Inner.FindingInPrograms.{Found, nothing, with_tree, with_pattern}

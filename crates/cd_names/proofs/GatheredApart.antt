@@ -14,11 +14,11 @@ use Rattle.cd_model.specs.Scope.{Scope}
 use Rattle.cd_matching.specs.Naming.{GathersApart, GatherApart}
 use Rattle.cd_matching.specs.WrittenPattern.{regular_pattern, regular_kind_pattern}
 use Rattle.cd_matching.specs.WrittenPattern.{regular_patterns}
-use Rattle.cd_names.specs.Occurrences.{Occurrence, has, plain, plain_in, plain_of_all, gathered}
-use Rattle.cd_names.specs.Occurrences.{gathered_in, gathered_of_all}
-use Rattle.cd_names.specs.VariableFaults.{IsAmong, IsOneIn, all_regulars, StandsAgainInTurn}
-use Rattle.cd_names.specs.VariableFaults.{twice, repeats, differs, regular_begins, plain_differ}
-use Rattle.cd_names.specs.VariableFaults.{stands_again_in_turn, stands_inside, repeated}
+use Rattle.cd_variables.specs.Occurrences.{Occurrence, has, plain, plain_in, plain_of_all, gathered}
+use Rattle.cd_variables.specs.Occurrences.{gathered_in, gathered_of_all}
+use Rattle.cd_variables.specs.VariableFaults.{IsAmong, IsOneIn, all_regulars, StandsAgainInTurn}
+use Rattle.cd_variables.specs.VariableFaults.{twice, repeats, differs, regular_begins, plain_differ}
+use Rattle.cd_variables.specs.VariableFaults.{stands_again_in_turn, stands_inside, repeated}
 use Rattle.cd_names.proofs.OccurrenceNames.{has_both, is_name, name_is, not_among}
 use Rattle.cd_names.proofs.OccurrenceNames.{same_names, among_both}
 use Rattle.cd_names.proofs.SoundParts.{IsSoundRegular, AreSoundRegulars}

@@ -7,7 +7,7 @@ use Rattle.std.proofs.lemmas.Bool.{cases_Bool, cases_order, cases_lt}
 use Rattle.std.proofs.lemmas.Bool.Decides.{Decides-eqb, Decides-and, Decides-or, Decides-ltb}
 use Rattle.std.proofs.lemmas.Option.{same_Some}
 use Rattle.cd_resolve.specs.Faults.{Fault, rank, IsBefore, IsTold}
-use Rattle.cd_names.specs.VariableFaults.{IsOneIn}
+use Rattle.cd_variables.specs.VariableFaults.{IsOneIn}
 use Rattle.cd_names.specs.Inner.Least.{goes_before, lesser, least_from}
 
 goes_before_decides : (one other : Fault) → Decides (goes_before one other)

@@ -1,14 +1,3 @@
-mod Sizes
-mod Views
-mod NamesFound
-mod NamesAmong
-mod Sides
-mod Stepping
-mod Adding
-mod MisplacedFound
-mod RowsFound
-mod TurnsFound
-pub mod VariablesFound
 mod LocalNames
 mod ExprSizes
 mod LeastTold

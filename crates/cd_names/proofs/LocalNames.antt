@@ -10,12 +10,12 @@ use Rattle.std.specs.Prelude.{bytes_eq, is_some}
 use Rattle.std.specs.List.{list_any}
 use Rattle.cd_syntax.specs.Name.{Name}
 use Rattle.cd_syntax.specs.TypeTree.{Tree}
-use Rattle.cd_names.specs.Occurrences.{Occurrence, bound}
+use Rattle.cd_variables.specs.Occurrences.{Occurrence, bound}
 use Rattle.cd_name_index.specs.FirstPlaces.{first_place}
 use Rattle.cd_name_index.proofs.Places.{has_place}
 use Rattle.cd_names.specs.ProgramFaults.{names_of, is_seen}
-use Rattle.cd_names.specs.Inner.PlainTold.{plain_occurrence, occurring}
-use Rattle.cd_names.specs.declared.told.Occurrence.{Occurrence as CodeOccurrence}
+use Rattle.cd_variables.specs.PlainTold.{plain_occurrence, occurring}
+use Rattle.cd_variables.specs.declared.told.Occurrence.{Occurrence as CodeOccurrence}
 
 -- the lower part of a list is what is left of its other order
 pub cut_part : {X : Type 0} (count : ℕ) (all above below : List X) → reverse all ≡ above ++ below

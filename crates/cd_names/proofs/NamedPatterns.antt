@@ -26,12 +26,12 @@ use Rattle.cd_matching.specs.WrittenPattern.{regular_kind_pattern, regular_patte
 use Rattle.cd_resolve.specs.Faults as faults
 use Rattle.cd_resolve.specs.Faults.{Fault, IsFault, IsField, IsItem, IsItemOfOne, IsPart}
 use Rattle.cd_resolve.specs.declared.fault.NameFault.TheVariants.{Twice}
-use Rattle.cd_names.specs.Occurrences.{Occurrence, has, takes_away, bound, bound_by_all}
-use Rattle.cd_names.specs.Occurrences.{bound_by_signs, bound_by_fields, plain, plain_of_all}
-use Rattle.cd_names.specs.Occurrences.{gathered}
-use Rattle.cd_names.specs.VariableFaults.{IsOneIn, StandsAgain, all_trees, all_regulars}
-use Rattle.cd_names.specs.VariableFaults.{kept_trees, side_trees, present_trees, binding_parts}
-use Rattle.cd_names.specs.VariableFaults.{twice, differs, begins, alternative_differs, stands_again}
+use Rattle.cd_variables.specs.Occurrences.{Occurrence, has, takes_away, bound, bound_by_all}
+use Rattle.cd_variables.specs.Occurrences.{bound_by_signs, bound_by_fields, plain, plain_of_all}
+use Rattle.cd_variables.specs.Occurrences.{gathered}
+use Rattle.cd_variables.specs.VariableFaults.{IsOneIn, StandsAgain, all_trees, all_regulars}
+use Rattle.cd_variables.specs.VariableFaults.{kept_trees, side_trees, present_trees, binding_parts}
+use Rattle.cd_variables.specs.VariableFaults.{twice, differs, begins, alternative_differs, stands_again}
 use Rattle.cd_names.proofs.GatheredApart.{AreOnce, sequence_once, later_once, plain_later}
 use Rattle.cd_names.proofs.GatheredApart.{alternative_same, not_repeated, not_plain, gathers_apart}
 use Rattle.cd_names.proofs.LabelsOnce.{labels_once}

@@ -11,13 +11,13 @@ use Rattle.cd_syntax.specs.TypeTree.{Seq, Alt, Repeat, Capture, Regulars, NoRegu
 use Rattle.cd_matching.specs.WrittenPattern.{has_variable, kind_has, trees_have, signs_have}
 use Rattle.cd_matching.specs.WrittenPattern.{fields_have, declarations_have, regular_has}
 use Rattle.cd_matching.specs.WrittenPattern.{regular_kind_has, regulars_have}
-use Rattle.cd_names.specs.Occurrences.{Occurrence, variables, variables_in, variables_of_all}
-use Rattle.cd_names.specs.Occurrences.{variables_of_signs, variables_of_fields}
-use Rattle.cd_names.specs.Occurrences.{variables_of_declarations, variables_of_regular}
-use Rattle.cd_names.specs.Occurrences.{variables_of_regular_kind, variables_of_regulars}
-use Rattle.cd_names.specs.Occurrences.{takes_away, bound, bound_in, bound_by_all, bound_by_signs}
-use Rattle.cd_names.specs.Occurrences.{bound_by_fields, plain, plain_in, plain_of_all, gathered}
-use Rattle.cd_names.specs.Occurrences.{gathered_in, gathered_of_all}
+use Rattle.cd_variables.specs.Occurrences.{Occurrence, variables, variables_in, variables_of_all}
+use Rattle.cd_variables.specs.Occurrences.{variables_of_signs, variables_of_fields}
+use Rattle.cd_variables.specs.Occurrences.{variables_of_declarations, variables_of_regular}
+use Rattle.cd_variables.specs.Occurrences.{variables_of_regular_kind, variables_of_regulars}
+use Rattle.cd_variables.specs.Occurrences.{takes_away, bound, bound_in, bound_by_all, bound_by_signs}
+use Rattle.cd_variables.specs.Occurrences.{bound_by_fields, plain, plain_in, plain_of_all, gathered}
+use Rattle.cd_variables.specs.Occurrences.{gathered_in, gathered_of_all}
 
 none_in_both : (ones others : List Occurrence) → ones ++ others ≡ []
     → (ones ≡ []) × (others ≡ [])

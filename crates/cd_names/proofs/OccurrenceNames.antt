@@ -6,8 +6,8 @@ use Rattle.std.proofs.lemmas.List.Folds.{list_any-append}
 use Rattle.std.proofs.lemmas.Slice.Eq.{bytes_eq-Decides}
 use Rattle.cd_syntax.specs.Name.{Name}
 use Rattle.cd_model.specs.AllOf.{AnyOf}
-use Rattle.cd_names.specs.Occurrences.{Occurrence, has}
-use Rattle.cd_names.specs.VariableFaults.{IsAmong, Differ, StandsAgain}
+use Rattle.cd_variables.specs.Occurrences.{Occurrence, has}
+use Rattle.cd_variables.specs.VariableFaults.{IsAmong, Differ, StandsAgain}
 
 pub has_both : (ones others : List Occurrence) (name : Name)
     → has (ones ++ others) name ≡ (has ones name || has others name)

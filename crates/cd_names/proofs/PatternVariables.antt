@@ -20,11 +20,11 @@ use Rattle.cd_matching.specs.WrittenPattern.{kind_has, in_scope, pattern_of}
 use Rattle.cd_matching.specs.WrittenPattern.{kind_pattern, tuple_pattern, patterns}
 use Rattle.cd_matching.specs.WrittenPattern.{signed_patterns, field_patterns, regular_pattern}
 use Rattle.cd_matching.specs.WrittenPattern.{regular_kind_pattern, regular_patterns}
-use Rattle.cd_names.specs.Occurrences.{Occurrence, has, takes_away, bound, bound_in, bound_by_all}
-use Rattle.cd_names.specs.Occurrences.{bound_by_signs, bound_by_fields, plain, plain_in}
-use Rattle.cd_names.specs.Occurrences.{plain_of_all, gathered, gathered_in, gathered_of_all}
-use Rattle.cd_names.specs.VariableFaults.{all_trees, all_regulars, kept_trees, side_trees}
-use Rattle.cd_names.specs.VariableFaults.{present_trees}
+use Rattle.cd_variables.specs.Occurrences.{Occurrence, has, takes_away, bound, bound_in, bound_by_all}
+use Rattle.cd_variables.specs.Occurrences.{bound_by_signs, bound_by_fields, plain, plain_in}
+use Rattle.cd_variables.specs.Occurrences.{plain_of_all, gathered, gathered_in, gathered_of_all}
+use Rattle.cd_variables.specs.VariableFaults.{all_trees, all_regulars, kept_trees, side_trees}
+use Rattle.cd_variables.specs.VariableFaults.{present_trees}
 use Rattle.cd_names.proofs.OccurrenceNames.{has_both, nothing_among}
 use Rattle.cd_names.proofs.NoVariables.{no_variable, kind_binds_none}
 use Rattle.cd_names.proofs.RegularVariables.{or_nothing, plain_or_gathered}

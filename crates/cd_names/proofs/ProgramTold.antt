@@ -5,7 +5,7 @@ use Rattle.cd_program.specs.Expr.{Program}
 use Rattle.cd_model.specs.AllOf.{AllOf, AnyOf}
 use Rattle.cd_resolve.specs.Faults.{Fault, IsFaultOfType, IsFaultOfDeclarations}
 use Rattle.cd_resolve.specs.declared.error.NameError.{NameError}
-use Rattle.cd_names.specs.VariableFaults.{IsOneIn}
+use Rattle.cd_variables.specs.VariableFaults.{IsOneIn}
 use Rattle.cd_names.specs.ProgramFaults as faults
 use Rattle.cd_names.specs.ProgramFaults.{IsFaultOfProgram}
 use Rattle.cd_names.specs.Inner.Faults.{IsFaultOfOne, Tells}

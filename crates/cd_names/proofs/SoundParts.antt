@@ -7,11 +7,11 @@ use Rattle.cd_syntax.specs.TypeTree.{Sequence}
 use Rattle.cd_syntax.specs.declared.tokens.Span.{Span}
 use Rattle.cd_model.specs.AllOf.{AnyOf}
 use Rattle.cd_resolve.specs.Faults.{Fault}
-use Rattle.cd_names.specs.Occurrences.{Occurrence, variables}
-use Rattle.cd_names.specs.VariableFaults.{IsAmong, IsOneIn, binding_parts, alternatives}
-use Rattle.cd_names.specs.VariableFaults.{parts_without, regular_parts, misplaced}
-use Rattle.cd_names.specs.VariableFaults.{IsVariableFault, IsRegularFault, out_of_place, in_part}
-use Rattle.cd_names.specs.VariableFaults.{in_sequence, in_item, in_regular}
+use Rattle.cd_variables.specs.Occurrences.{Occurrence, variables}
+use Rattle.cd_variables.specs.VariableFaults.{IsAmong, IsOneIn, binding_parts, alternatives}
+use Rattle.cd_variables.specs.VariableFaults.{parts_without, regular_parts, misplaced}
+use Rattle.cd_variables.specs.VariableFaults.{IsVariableFault, IsRegularFault, out_of_place, in_part}
+use Rattle.cd_variables.specs.VariableFaults.{in_sequence, in_item, in_regular}
 
 abbrev pub IsSound : Tree → Type 0
 IsSound t = (fault : Fault) → IsVariableFault t fault → ⊥

@@ -1,7 +1,4 @@
 -- What serves private functions. No public clause speaks of it.
-pub mod PlainTold
-pub mod FindingMisplaced
-pub mod FindingVariables
 pub mod FindingInPrograms
 pub mod PlainFound
 pub mod Least

@@ -1,4 +1,2 @@
-pub mod Occurrences
-pub mod VariableFaults
 pub mod ProgramFaults
 pub mod Inner

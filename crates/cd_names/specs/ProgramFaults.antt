@@ -13,8 +13,8 @@ use Rattle.cd_program.specs.Expr.{Select, Branches, NoBranch, ABranch, FunctionT
 use Rattle.cd_program.specs.Expr.{Signature, Program}
 use Rattle.cd_resolve.specs.Faults.{Fault, IsFaultOfType, IsFaultOfDeclarations}
 use Rattle.cd_resolve.specs.declared.fault.NameFault.TheVariants.{Unknown, Twice, NoMain}
-use Rattle.cd_names.specs.Occurrences.{Occurrence, bound}
-use Rattle.cd_names.specs.VariableFaults.{IsVariableFault, IsOneIn}
+use Rattle.cd_variables.specs.Occurrences.{Occurrence, bound}
+use Rattle.cd_variables.specs.VariableFaults.{IsVariableFault, IsOneIn}
 
 -- the names that an expression sees: of functions and of variables
 abbrev pub Seen : Type 0

@@ -3,21 +3,21 @@ ghost use Rattle.std.specs.Prelude.{◌≡◌, ◌++◌, [], ◌∷◌, map, IfO
 ghost use Rattle.cd_syntax.specs.PlainTree.{plain as plain_tree};
 ghost use Rattle.cd_program.specs.Expr.{branches_of};
 ghost use Rattle.cd_program.specs.PlainExpr.{plain, plain_branch, plain_branches};
-ghost use Rattle.cd_names.specs.Occurrences.{bound};
+ghost use Rattle.cd_variables.specs.Occurrences.{bound};
 ghost use Rattle.cd_names.specs.ProgramFaults.{names_of};
 ghost use Rattle.cd_names.specs.Inner.FindingInPrograms.{found_in_expr, found_in_branches};
 ghost use Rattle.cd_names.specs.Inner.FindingInPrograms.{with_pattern};
 ghost use Rattle.cd_names.specs.Inner.PlainFound.{plain_found};
-ghost use Rattle.cd_names.specs.Inner.PlainTold.{plain_occurrence};
+ghost use Rattle.cd_variables.specs.PlainTold.{plain_occurrence};
 
 use crate::base::Base;
 use crate::expr::walk;
 use crate::found::Found;
 use crate::locals::Locals;
-use crate::pattern::check_variables;
-use crate::told::Occurrence;
 use cd_program::expr::{Branch, Branches, Expr};
 use cd_syntax::type_tree::Tree;
+use cd_variables::check_variables;
+use cd_variables::told::Occurrence;
 use std::alloc::{AllocError, Global};
 
 /// Walks over a value and the branches that it goes to.
@@ -129,7 +129,8 @@ fn look_at<'t>(
     ensures found { OnOk result (plain_found found.new
         ≡ with_pattern (plain_tree pattern.now) (plain_found found.old)) }
 {
-    let bound = check_variables(alloc, pattern, &mut found.faults)?;
+    let mut bound = Vec::new(alloc);
+    check_variables(alloc, pattern, &mut bound, &mut found.faults)?;
     found.add_tree(pattern)?;
     Ok(bound)
 }

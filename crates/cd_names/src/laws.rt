@@ -8,7 +8,7 @@ ghost use Rattle.cd_matching.specs.Naming.{IsNamed};
 ghost use Rattle.cd_matching.specs.Variables.{binds};
 ghost use Rattle.cd_matching.specs.WrittenPattern.{pattern_of};
 ghost use Rattle.cd_resolve.specs.Faults.{Fault};
-ghost use Rattle.cd_names.specs.Occurrences.{has, bound};
+ghost use Rattle.cd_variables.specs.Occurrences.{has, bound};
 ghost use Rattle.cd_names.specs.ProgramFaults.{IsFaultOfPattern};
 
 /// The pattern that a tree without a fault writes has no fault of its variables or labels.

@@ -8,12 +8,12 @@ ghost use Rattle.cd_names.specs.Inner.Least.{comes_first as comes_first_of};
 ghost use Rattle.cd_names.specs.Inner.Least.{goes_first as goes_first_error};
 ghost use Rattle.cd_names.specs.Inner.Least.{first_error as first_of_errors};
 ghost use Rattle.cd_names.specs.Inner.Least.{first_of as first_of_results};
-ghost use Rattle.cd_names.specs.Inner.PlainTold.{plain_told, name_or_none};
+ghost use Rattle.cd_variables.specs.PlainTold.{plain_told, name_or_none};
 
-use crate::told::Told;
 use cd_resolve::error::NameError;
 use cd_resolve::fault::NameFault;
 use cd_syntax::name::Name;
+use cd_variables::told::Told;
 use std::alloc::{AllocError, Global};
 
 /// Tells the least of these faults: the one with the least place, and at one place the first in the

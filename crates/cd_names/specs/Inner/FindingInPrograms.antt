@@ -15,10 +15,10 @@ use Rattle.cd_program.specs.Expr.{Program}
 use Rattle.cd_resolve.specs.Faults.{Fault}
 use Rattle.cd_resolve.specs.declared.fault.NameFault.{NameFault}
 use Rattle.cd_resolve.specs.declared.fault.NameFault.TheVariants.{Unknown, Twice, NoMain}
-use Rattle.cd_names.specs.Occurrences.{Occurrence}
+use Rattle.cd_variables.specs.Occurrences.{Occurrence}
 use Rattle.cd_names.specs.ProgramFaults.{Seen, is_seen, names_of, with_name, declared_names}
 use Rattle.cd_names.specs.ProgramFaults.{all_functions}
-use Rattle.cd_names.specs.Inner.FindingVariables.{variable_faults}
+use Rattle.cd_variables.specs.FindingVariables.{variable_faults}
 
 pub record Found : Type 0 where
   pub faults : List Fault

@@ -1,7 +1,7 @@
 use Rattle.std.proofs.Common.{◌≡◌, map, drop, None}
 use Rattle.std.specs.Option.{option_map}
 use Rattle.cd_names.specs.Inner.Least.{least_from}
-use Rattle.cd_names.specs.Inner.PlainTold.{plain_told}
+use Rattle.cd_variables.specs.PlainTold.{plain_told}
 use Rattle.cd_names.proofs.least.least.Given as goal
 
 -- to go on from here gives what the whole gives from the start

@@ -4,15 +4,15 @@ use Rattle.cd_program.specs.PlainProgram.{plain_program}
 use Rattle.cd_model.specs.AllOf.{AllOf}
 use Rattle.cd_resolve.specs.Named.{declared_by}
 use Rattle.cd_names.specs.ProgramFaults.{IsFaultOfProgram}
-use Rattle.cd_names.specs.VariableFaults.{IsOneIn}
+use Rattle.cd_variables.specs.VariableFaults.{IsOneIn}
 use Rattle.cd_names.specs.Inner.Faults.{IsFaultOfOne, Tells}
 use Rattle.cd_names.specs.Inner.Least.{first_of}
 use Rattle.cd_names.specs.Inner.PlainFound.{plain_found, plain_trees}
-use Rattle.cd_names.specs.Inner.PlainTold.{plain_told}
+use Rattle.cd_variables.specs.PlainTold.{plain_told}
 use Rattle.cd_names.proofs.FirstTold.{list_told}
 use Rattle.cd_names.proofs.FoundMade.{made_program}
 use Rattle.cd_names.proofs.ProgramTold.{program_told}
-use Rattle.cd_names.proofs.VariablesFound.{variables_found}
+use Rattle.cd_variables.proofs.VariablesFound.{variables_found}
 use Rattle.cd_names.proofs.program.check_program.Goals as goal
 
 -- the trees that are found are well made

@@ -1,0 +1,10 @@
+use Rattle.std.proofs.Common.{◌≡◌, map, drop}
+use Rattle.cd_variables.specs.FindingVariables.{told_again}
+use Rattle.cd_variables.specs.PlainTold.{plain_occurrence, plain_told}
+use Rattle.cd_variables.proofs.seen.tell_again.Given as goal
+
+-- to go on from here gives what the whole gives from the start
+abbrev pub invariant-loop-variable : goal.invariant-loop-variable
+invariant-loop-variable l =
+    told_again l.seen (map plain_occurrence (drop l.variable-index l.variables)) (map plain_told l.faults.items)
+    ≡ told_again l.fn.seen (map plain_occurrence l.fn.variables) (map plain_told l.fn.faults.items)

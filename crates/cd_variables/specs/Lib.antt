@@ -1,0 +1,5 @@
+pub mod Occurrences
+pub mod VariableFaults
+pub mod PlainTold
+pub mod FindingMisplaced
+pub mod FindingVariables

@@ -1,0 +1,114 @@
+//! The names of variables that were met.
+ghost use Rattle.std.specs.Prelude.{◌≡◌, ◌++◌, ◌∷◌, [], IfOk, map, drop};
+ghost use Rattle.cd_variables.specs.VariableFaults.{repeats};
+ghost use Rattle.cd_variables.specs.FindingVariables.{has_name, names_among, told_again};
+ghost use Rattle.cd_variables.specs.FindingVariables.{told_of_each};
+ghost use Rattle.cd_variables.specs.PlainTold.{plain_occurrence, plain_told};
+
+use crate::told::{Occurrence, Told};
+use cd_name_index::NameIndex;
+use cd_resolve::fault::NameFault;
+use cd_syntax::name::Name;
+use std::alloc::AllocError;
+
+/// The variables from this place on.
+pub(crate) fn since<'a, 't>(all: &'a Vec<Occurrence<'t>>, from: usize) -> &'a [Occurrence<'t>]
+    ensures { result.now ≡ drop from all.now.items }
+{
+    let all = all.as_slice();
+    if from > all.len() {
+        return &[];
+    }
+    &all[from..]
+}
+
+/// Whether a name is one of these.
+pub(crate) fn has(names: &NameIndex<'_>, name: &Name) -> bool
+    ensures { result ≡ has_name names.now name.now }
+{
+    names.find(name).is_some()
+}
+
+/// Adds the names of some variables.
+pub(crate) fn add_names<'t>(
+    names: &mut NameIndex<'t>,
+    variables: &[Occurrence<'t>],
+) -> Result<(), AllocError>
+    ensures { IfOk result (λ _. names.new
+        ≡ names.old ++ names_among (map plain_occurrence variables.now)) }
+{
+    for variable in variables {
+        names.add(variable.name)?;
+    }
+    Ok(())
+}
+
+/// Tells of each variable whose name is one of these that it stands again.
+pub(crate) fn tell_again<'t>(
+    seen: &NameIndex<'_>,
+    variables: &[Occurrence<'t>],
+    faults: &mut Vec<Told<'t>>,
+) -> Result<(), AllocError>
+    ensures { IfOk result (λ _. map plain_told faults.new.items
+        ≡ told_again seen.now (map plain_occurrence variables.now)
+        (map plain_told faults.old.items)) }
+{
+    for variable in variables {
+        if has(seen, variable.name) {
+            tell(NameFault::VariableTwice, variable, faults)?;
+        }
+    }
+    Ok(())
+}
+
+/// Tells of each variable with this name that it stands again.
+pub(crate) fn tell_inside<'t>(
+    name: &Name,
+    variables: &[Occurrence<'t>],
+    faults: &mut Vec<Told<'t>>,
+) -> Result<(), AllocError>
+    ensures { IfOk result (λ _. map plain_told faults.new.items
+        ≡ told_again (name.now ∷ []) (map plain_occurrence variables.now)
+        (map plain_told faults.old.items)) }
+{
+    for variable in variables {
+        if name == variable.name {
+            tell(NameFault::VariableTwice, variable, faults)?;
+        }
+    }
+    Ok(())
+}
+
+/// Tells of each variable that it stands under a postfix.
+pub(crate) fn tell_repeats<'t>(
+    variables: &[Occurrence<'t>],
+    faults: &mut Vec<Told<'t>>,
+) -> Result<(), AllocError>
+    ensures { IfOk result (λ _. map plain_told faults.new.items
+        ≡ told_of_each repeats (map plain_occurrence variables.now)
+        (map plain_told faults.old.items)) }
+{
+    for variable in variables {
+        tell(NameFault::VariableRepeats, variable, faults)?;
+    }
+    Ok(())
+}
+
+// Tells a fault of a variable.
+fn tell<'t>(
+    fault: NameFault,
+    variable: &Occurrence<'t>,
+    faults: &mut Vec<Told<'t>>,
+) -> Result<(), AllocError>
+    ensures { IfOk result (λ _. map plain_told faults.new.items
+        ≡ map plain_told faults.old.items ++ record {
+          fault = fault;
+          name = variable.now.name.now;
+          at = variable.now.at;
+        } ∷ []) }
+{
+    let Occurrence { name, at } = *variable;
+    let name = Some(name);
+    faults.push(Told { fault, name, at })?;
+    Ok(())
+}

@@ -1,0 +1,23 @@
+//! Faults and occurrences as they are found.
+use cd_resolve::fault::NameFault;
+use cd_syntax::name::Name;
+
+/// A fault of a name, and where it is.
+#[derive(Clone, Copy)]
+pub struct Told<'t> {
+    /// What is wrong.
+    pub fault: NameFault,
+    /// The name that it is told of, if it is told of one.
+    pub name: Option<&'t Name>,
+    /// Its place.
+    pub at: usize,
+}
+
+/// A variable where it stands.
+#[derive(Clone, Copy)]
+pub struct Occurrence<'t> {
+    /// Its name.
+    pub name: &'t Name,
+    /// The place.
+    pub at: usize,
+}
