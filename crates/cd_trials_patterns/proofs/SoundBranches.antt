@@ -8,7 +8,7 @@ use Rattle.cd_program.specs.WellMade.{IsWellMadeFunction, AreWellMadeBranches, A
 use Rattle.cd_resolve.specs.Faults.{Fault}
 use Rattle.cd_names.specs.ProgramFaults as faults
 use Rattle.cd_names.specs.ProgramFaults.{IsFaultOfFunction, IsFaultOfPattern, patterns, all_functions, Seen}
-use Rattle.cd_names.specs.VariableFaults.{IsOneIn}
+use Rattle.cd_variables.specs.VariableFaults.{IsOneIn}
 use Rattle.cd_trials_patterns.specs.Sound.{IsSoundProgram, AreSoundBranches, branches_in}
 
 module _ (types : Declarations) where
