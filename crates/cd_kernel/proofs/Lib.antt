@@ -31,6 +31,7 @@ pub mod MadeIsSound
 pub mod MadeExample
 pub mod NextItem
 pub mod LastPart
+pub mod HeadsMade
 pub mod RowsOnce
 pub mod Comparing
 pub mod FieldsSorted
