@@ -6,6 +6,8 @@ use Rattle.cd_model.specs.Thing.{Thing, IsElement}
 abbrev pub Set : Type 1
 Set = Thing → Type 0
 
+infix 50 ◌⊆◌
+
 -- each element of the one is in the other
 abbrev pub ◌⊆◌ : Set → Set → Type 0
 one ⊆ other = (e : Thing) → IsElement e → one e → other e

@@ -1,0 +1,7 @@
+pub mod Typ
+pub mod Interfaces
+pub mod Branches
+pub mod Results
+pub mod Operators
+pub mod Typing
+pub mod Typed

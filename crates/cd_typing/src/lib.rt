@@ -1,0 +1,2 @@
+//! The typing rules of programs, and their laws.
+#![tactic(auto)]
