@@ -8,30 +8,25 @@ use Rattle.cd_model.specs.Scope.{Scope}
 use Rattle.cd_program.specs.Expr.{Expr, expr, Kind, Constant, Variable, Tuple, Sequence, Record, Xml}
 use Rattle.cd_program.specs.Expr.{Function, Apply, Match, Try, Map, Transform, Let, If, Chain, Call}
 use Rattle.cd_program.specs.Expr.{Exprs, NoExpr, AnExpr, Items, NoItem, AnItem, One, Splice, Run}
-use Rattle.cd_program.specs.Expr.{Fields, NoField, AField, Tails, NoTail, ATail, Tail, Operand, Without, Select}
-use Rattle.cd_program.specs.Expr.{Branches, NoBranch, ABranch, FunctionTree, function}
+use Rattle.cd_program.specs.Expr.{Fields, NoField, AField, Tails, NoTail, ATail, Operand, Without, Select}
+use Rattle.cd_program.specs.Expr.{Branches, NoBranch, ABranch, function}
 use Rattle.cd_meaning.specs.Sets.{Set, ◌⊆◌}
-use Rattle.cd_typing.specs.Typ.{Typ, In, BuiltIn, Types, type_at, with_type}
+use Rattle.cd_typing.specs.Typ.{Typ, In, BuiltIn, Types, type_at, with_type, AreNarrower}
 use Rattle.cd_typing.specs.Interfaces.{Arrow}
 use Rattle.cd_typing.specs.Branches.{Cover}
-use Rattle.cd_typing.specs.Typing.{Has, KindHas, HaveAll, ItemsHave, FieldsHave, FunctionHas, ApplyHas}
-use Rattle.cd_typing.specs.Typing.{ArgumentsHave, TailsHave, TailHas, BodiesHave}
+use Rattle.cd_typing.specs.Typing.{Has, KindHas, HaveAll, ItemsHave, FieldsHave}
+use Rattle.cd_typing.specs.Typing.{ArgumentsHave, TailsHave, BodiesHave}
 use Rattle.cd_typing.proofs.Subsets.{itself, through}
 
--- each name that has a type there has a narrower one here
-abbrev pub Below : Types → Types → Type 0
-Below types others = (name : Name) (t : Typ) → type_at others name ≡ Some t
-    → (s : Typ) × (type_at types name ≡ Some s) × (In s ⊆ In t)
-
-pub below_itself : (types : Types) → Below types types
+pub below_itself : (types : Types) → AreNarrower types types
 below_itself types name t is = (t, is, itself (In t))
 
-InFound : Typ → Option Typ → Type 0
+abbrev InFound : Typ → Option Typ → Type 0
 InFound t None = ⊥
 InFound t (Some s) = In t ⊆ In s
 
-pub below_one : (types others : Types) → Below types others → (first : Name) (t s : Typ) → In t ⊆ In s
-    → Below ((first, t) ∷ types) ((first, s) ∷ others)
+pub below_one : (types others : Types) → AreNarrower types others → (first : Name) (t s : Typ) → In t ⊆ In s
+    → AreNarrower ((first, t) ∷ types) ((first, s) ∷ others)
 below_one types others below first t s within name r is = by (bytes_eq first name) is
   where
     by : (same : Bool) → (if same then Some s else type_at others name) ≡ Some r
@@ -39,26 +34,26 @@ below_one types others below first t s within name r is = by (bytes_eq first nam
     by true is = (t, refl, subst (InFound t) is within)
     by false is = below name r is
 
-pub below_with : (own types others : Types) → Below types others → Below (own ++ types) (own ++ others)
+pub below_with : (own types others : Types) → AreNarrower types others → AreNarrower (own ++ types) (own ++ others)
 below_with [] types others below = below
 below_with (first ∷ own) types others below =
     below_one (own ++ types) (own ++ others) (below_with own types others below) first.0 first.1 first.1 (itself (In first.1))
 
-pub below_name : (name : Option Name) (t : Typ) (types others : Types) → Below types others
-    → Below (with_type name t types) (with_type name t others)
+pub below_name : (name : Option Name) (t : Typ) (types others : Types) → AreNarrower types others
+    → AreNarrower (with_type name t types) (with_type name t others)
 below_name None t types others below = below
 below_name (Some name) t types others below = below_one types others below name t t (itself (In t))
 
 module _ (scope : Scope) where
   abbrev pub Narrows : Expr → Type 0
-  Narrows e = (types others : Types) → Below types others → (t : Typ) → Has scope others e t → Has scope types e t
+  Narrows e = (types others : Types) → AreNarrower types others → (t : Typ) → Has scope others e t → Has scope types e t
 
   -- the body of each branch
   abbrev pub AllNarrow : Branches → Type 0
   AllNarrow NoBranch = Unit {0}
   AllNarrow (ABranch pattern body rest) = Narrows body × AllNarrow rest
 
-  pub narrow_bodies : (branches : Branches) → AllNarrow branches → (types others : Types) → Below types others
+  pub narrow_bodies : (branches : Branches) → AllNarrow branches → (types others : Types) → AreNarrower types others
       → (before : List Tree) (matched wanted : Set) → BodiesHave scope others before matched branches wanted
       → BodiesHave scope types before matched branches wanted
   narrow_bodies NoBranch all types others below before matched wanted has = tt
@@ -81,12 +76,15 @@ module _ (scope : Scope) where
       × BodiesHave scope (with_type name self types) [] (In arrow.argument) branches (In arrow.result))
 
   arrows_narrow : (name : Option Name) (self : Typ) (branches : Branches) → AllNarrow branches → (types others : Types)
-      → Below types others → (arrows : List Arrow) → ArrowsHave others name self branches arrows
+      → AreNarrower types others → (arrows : List Arrow) → ArrowsHave others name self branches arrows
       → ArrowsHave types name self branches arrows
   arrows_narrow name self branches all types others below [] has = tt
   arrows_narrow name self branches all types others below (arrow ∷ arrows) has = (
-    (has.0.0, narrow_bodies branches all (with_type name self types) (with_type name self others)
-      (below_name name self types others below) [] (In arrow.argument) (In arrow.result) has.0.1),
+    (
+      has.0.0,
+      narrow_bodies branches all (with_type name self types) (with_type name self others)
+          (below_name name self types others below) [] (In arrow.argument) (In arrow.result) has.0.1,
+    ),
     arrows_narrow name self branches all types others below arrows has.1,
   )
 
@@ -98,7 +96,7 @@ module _ (scope : Scope) where
     narrow_branches NoBranch = tt
     narrow_branches (ABranch pattern body rest) = (narrow body, narrow_branches rest)
 
-    pub narrow_kind : (kind : Kind) (types others : Types) → Below types others → (t : Typ) → KindHas scope others kind t
+    pub narrow_kind : (kind : Kind) (types others : Types) → AreNarrower types others → (t : Typ) → KindHas scope others kind t
         → KindHas scope types kind t
     narrow_kind (Constant is) types others below t has = has
     narrow_kind (Variable name) types others below t has = let own = below name has.0 has.1 in
@@ -199,7 +197,7 @@ module _ (scope : Scope) where
     narrow_kind (Call word operand) types others below t has =
         (has.0, has.1, narrow operand types others below has.0 has.2, has.3)
 
-    pub narrow_all : (exprs : Exprs) (types others : Types) → Below types others → (parts : List Typ)
+    pub narrow_all : (exprs : Exprs) (types others : Types) → AreNarrower types others → (parts : List Typ)
         → HaveAll scope others exprs parts → HaveAll scope types exprs parts
     narrow_all NoExpr types others below [] has = has
     narrow_all NoExpr types others below (s ∷ parts) has = has
@@ -207,7 +205,7 @@ module _ (scope : Scope) where
     narrow_all (AnExpr e rest) types others below (s ∷ parts) has =
         (has.0, narrow e types others below s has.1, narrow_all rest types others below parts has.2)
 
-    pub narrow_items : (items : Items) (types others : Types) → Below types others → (parts : List Typ)
+    pub narrow_items : (items : Items) (types others : Types) → AreNarrower types others → (parts : List Typ)
         → ItemsHave scope others items parts → ItemsHave scope types items parts
     narrow_items NoItem types others below [] has = has
     narrow_items NoItem types others below (s ∷ parts) has = has
@@ -220,7 +218,7 @@ module _ (scope : Scope) where
     narrow_items (AnItem (Run characters) rest) types others below parts has =
         narrow_items rest types others below parts has
 
-    pub narrow_fields : (fields : Fields) (types others : Types) → Below types others → (parts : List Typ)
+    pub narrow_fields : (fields : Fields) (types others : Types) → AreNarrower types others → (parts : List Typ)
         → FieldsHave scope others fields parts → FieldsHave scope types fields parts
     narrow_fields NoField types others below [] has = has
     narrow_fields NoField types others below (s ∷ parts) has = has
@@ -228,7 +226,7 @@ module _ (scope : Scope) where
     narrow_fields (AField label at e rest) types others below (s ∷ parts) has =
         (has.0, narrow e types others below s has.1, narrow_fields rest types others below parts has.2)
 
-    pub narrow_arguments : (exprs : Exprs) (types others : Types) → Below types others → (self t : Typ)
+    pub narrow_arguments : (exprs : Exprs) (types others : Types) → AreNarrower types others → (self t : Typ)
         → ArgumentsHave scope others self exprs t → ArgumentsHave scope types self exprs t
     narrow_arguments NoExpr types others below self t has = has
     narrow_arguments (AnExpr e rest) types others below self t has = (
@@ -241,7 +239,7 @@ module _ (scope : Scope) where
       narrow_arguments rest types others below has.1 t has.6,
     )
 
-    pub narrow_tails : (tails : Tails) (types others : Types) → Below types others → (self t : Typ)
+    pub narrow_tails : (tails : Tails) (types others : Types) → AreNarrower types others → (self t : Typ)
         → TailsHave scope others self tails t → TailsHave scope types self tails t
     narrow_tails NoTail types others below self t has = has
     narrow_tails (ATail (Operand op e) rest) types others below self t has = (

@@ -1,5 +1,4 @@
 -- Sets within one another.
-use Rattle.cd_model.specs.Thing.{Thing}
 use Rattle.cd_meaning.specs.Sets.{Set, ◌⊆◌}
 
 pub itself : (set : Set) → set ⊆ set

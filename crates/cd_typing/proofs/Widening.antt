@@ -16,7 +16,7 @@ use Rattle.cd_typing.specs.Typ.{Typ, In, BuiltIn, Types}
 use Rattle.cd_typing.specs.Results.{IsTupleOf, IsSequenceOf, IsRecordOf, IsXmlOf}
 use Rattle.cd_typing.specs.Operators.{WordGives}
 use Rattle.cd_typing.specs.Typing.{Has, KindHas, FunctionHas, ApplyHas, ArgumentsHave, TailsHave, BodiesHave}
-use Rattle.cd_typing.proofs.Subsets.{itself, through}
+use Rattle.cd_typing.proofs.Subsets.{through}
 
 pub word_gives_more : (word : Word) (operand result wider : Set) → result ⊆ wider
     → WordGives word operand result → WordGives word operand wider
@@ -41,8 +41,15 @@ module _ (scope : Scope) where
   pub arguments_have_more : (types : Types) (self : Typ) (exprs : Exprs) (t s : Typ) → In t ⊆ In s
       → ArgumentsHave scope types self exprs t → ArgumentsHave scope types self exprs s
   arguments_have_more types self NoExpr t s within has = through (In self) (In t) (In s) has within
-  arguments_have_more types self (AnExpr e rest) t s within has = (has.0, has.1, has.2, has.3, has.4, has.5,
-    arguments_have_more types has.1 rest t s within has.6)
+  arguments_have_more types self (AnExpr e rest) t s within has = (
+    has.0,
+    has.1,
+    has.2,
+    has.3,
+    has.4,
+    has.5,
+    arguments_have_more types has.1 rest t s within has.6,
+  )
 
   pub tails_have_more : (types : Types) (self : Typ) (tails : Tails) (t s : Typ) → In t ⊆ In s
       → TailsHave scope types self tails t → TailsHave scope types self tails s
@@ -77,26 +84,66 @@ module _ (scope : Scope) where
     widen_kind (Record fields) types t s within has =
         (has.0, has.1, through (IsRecordOf fields has.0) (In t) (In s) has.2 within)
     widen_kind (Xml tag attributes content) types t s within has = (
-      has.0, has.1, has.2, has.3, has.4, has.5, has.6, has.7, has.8, has.9, has.10,
+      has.0,
+      has.1,
+      has.2,
+      has.3,
+      has.4,
+      has.5,
+      has.6,
+      has.7,
+      has.8,
+      has.9,
+      has.10,
       through (IsXmlOf (In has.0) (In has.1) (In has.2)) (In t) (In s) has.11 within,
     )
     widen_kind (Function f) types t s within has = function_has_more types f t s within has
     widen_kind (Apply exprs) types t s within has = apply_has_more types exprs t s within has
     widen_kind (Match value branches) types t s within has =
         (has.0, has.1, has.2, has.3, bodies_have_more types [] (In has.0) branches (In t) (In s) within has.4)
-    widen_kind (Let pattern value rest) types t s within has = (has.0, has.1, has.2, has.3,
+    widen_kind (Let pattern value rest) types t s within has = (
+      has.0,
+      has.1,
+      has.2,
+      has.3,
       λ e captures first. let one = has.4 e captures first in
-          (one.0, one.1, one.2, widen rest (one.0 ++ types) t s within one.3))
-    widen_kind (If condition then_one else_one) types t s within has = (has.0, has.1, has.2, has.3,
-      λ yes. widen then_one types t s within (has.4 yes), λ no. widen else_one types t s within (has.5 no))
-    widen_kind (Try body branches) types t s within has = (widen body types t s within has.0,
-      bodies_have_more types [] (BuiltIn DATA) branches (In t) (In s) within has.1)
+          (one.0, one.1, one.2, widen rest (one.0 ++ types) t s within one.3),
+    )
+    widen_kind (If condition then_one else_one) types t s within has = (
+      has.0,
+      has.1,
+      has.2,
+      has.3,
+      λ yes. widen then_one types t s within (has.4 yes),
+      λ no. widen else_one types t s within (has.5 no),
+    )
+    widen_kind (Try body branches) types t s within has = (
+      widen body types t s within has.0,
+      bodies_have_more types [] (BuiltIn DATA) branches (In t) (In s) within has.1,
+    )
     widen_kind (Map value branches) types t s within has = (
-      has.0, has.1, has.2, has.3, has.4, has.5, has.6, has.7, has.8, has.9,
+      has.0,
+      has.1,
+      has.2,
+      has.3,
+      has.4,
+      has.5,
+      has.6,
+      has.7,
+      has.8,
+      has.9,
       through (IsListOf (In has.2)) (In t) (In s) has.10 within,
     )
     widen_kind (Transform value branches) types t s within has = (
-      has.0, has.1, has.2, has.3, has.4, has.5, has.6, has.7, has.8,
+      has.0,
+      has.1,
+      has.2,
+      has.3,
+      has.4,
+      has.5,
+      has.6,
+      has.7,
+      has.8,
       through (IsListOf (In has.2)) (In t) (In s) has.9 within,
     )
     widen_kind (Chain first tails) types t s within has =

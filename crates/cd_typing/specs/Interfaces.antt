@@ -1,11 +1,11 @@
 -- The types that the written types of functions stand for.
-use Rattle.std.specs.Prelude.{◌≡◌, List, [], ◌∷◌, Option, Some}
+use Rattle.std.specs.Prelude.{◌≡◌, List, [], ◌∷◌}
 use Rattle.cd_syntax.specs.TypeTree.{Tree}
 use Rattle.cd_model.specs.AllOf.{AllOf}
 use Rattle.cd_model.specs.Interfaces.{ArrowOf}
 use Rattle.cd_model.specs.Scope.{Scope}
 use Rattle.cd_model.specs.StandsFor.{StandsFor}
-use Rattle.cd_model.specs.Thing.{Thing, Function, Pairs}
+use Rattle.cd_model.specs.Thing.{Function, Pairs}
 use Rattle.cd_matching.specs.WrittenPattern.{in_scope}
 use Rattle.cd_program.specs.Expr.{Signature}
 use Rattle.cd_meaning.specs.Sets.{Set, ◌⊆◌}

@@ -1,6 +1,5 @@
 -- What operators need of the types of their operands, and what a type of their results holds.
-use Rattle.std.specs.Prelude.{◌≡◌, ◌⊎◌, ℤ, pos, ◌+ℤ◌, ◌-ℤ◌, Bool, true, false, codes}
-use Rattle.cd_syntax.specs.Name.{Name}
+use Rattle.std.specs.Prelude.{◌⊎◌, pos, ◌+ℤ◌, ◌-ℤ◌, Bool, true, false, codes}
 use Rattle.cd_model.specs.BuiltIns.{INT, BOOL, STRING, RECORD, DATA}
 use Rattle.cd_model.specs.Thing.{Thing, Integer, Atom}
 use Rattle.cd_program.specs.declared.operator.Op.{Op}

@@ -1,14 +1,14 @@
 -- What forms make of elements of the types of their operands.
-use Rattle.std.specs.Prelude.{◌≡◌, ◌++◌, ℕ, List, [], ◌∷◌, map, Option, Some, None, bytes_eq}
+use Rattle.std.specs.Prelude.{◌≡◌, ◌++◌, List, [], ◌∷◌, map, Option, Some, None, bytes_eq}
 use Rattle.std.specs.Prelude.{if◌then◌else◌}
 use Rattle.cd_syntax.specs.Name.{Name}
 use Rattle.cd_model.specs.Thing.{Thing, Character, Pair, Xml, Record}
 use Rattle.cd_model.specs.Thing.{Fields as ThingFields}
 use Rattle.cd_rules.specs.InRow.{thing_at}
 use Rattle.cd_matching.specs.Sequences.{items, sequence_of}
-use Rattle.cd_program.specs.Expr.{Items, NoItem, AnItem, One, Splice, Run, Fields, NoField, AField}
+use Rattle.cd_program.specs.Expr.{Items, NoItem, AnItem, One, Splice, Run, Fields, AField}
 use Rattle.cd_meaning.specs.Sets.{Set}
-use Rattle.cd_typing.specs.Typ.{Typ, In, AreIn}
+use Rattle.cd_typing.specs.Typ.{Typ, AreIn}
 
 -- a tuple is grouped to the right
 abbrev pub tuple_after : Thing → List Thing → Thing

@@ -7,7 +7,7 @@ use Rattle.cd_model.specs.AllOf.{AllOf}
 use Rattle.cd_model.specs.BuiltIns.{built_ins}
 use Rattle.cd_model.specs.Formula.{Graph, IsGraph}
 use Rattle.cd_model.specs.Thing.{Thing, IsElement}
-use Rattle.cd_meaning.specs.Sets.{Set, elements_of}
+use Rattle.cd_meaning.specs.Sets.{Set, ◌⊆◌, elements_of}
 
 pub record Typ : Type 0 where
   pub graph : Graph
@@ -51,3 +51,8 @@ abbrev pub AreIn : List Typ → List Thing → Type 0
 AreIn [] [] = Unit {0}
 AreIn (t ∷ types) (d ∷ ds) = IsElement d × In t d × AreIn types ds
 AreIn types ds = ⊥
+
+-- each name that has a type there has a type within it here
+abbrev pub AreNarrower : Types → Types → Type 0
+AreNarrower types others = (name : Name) (t : Typ) → type_at others name ≡ Some t
+    → (s : Typ) × (type_at types name ≡ Some s) × (In s ⊆ In t)

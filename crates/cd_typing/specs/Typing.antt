@@ -3,7 +3,7 @@
 -- Each rule guesses types of the operands, and asks that the type of the whole holds all that the
 -- form gives for elements of these. Where a rule speaks of a branch, it speaks of those elements
 -- alone that the branch is the first to take: other branches have no rule.
-use Rattle.std.specs.Prelude.{◌≡◌, List, [], ◌∷◌, ◌++◌, Option, Some}
+use Rattle.std.specs.Prelude.{◌≡◌, true, false, List, [], ◌∷◌, ◌++◌, Some}
 use Rattle.cd_syntax.specs.Name.{Name}
 use Rattle.cd_syntax.specs.TypeTree.{Tree}
 use Rattle.cd_model.specs.AllOf.{AllOf}

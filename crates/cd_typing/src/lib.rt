@@ -1,2 +1,4 @@
 //! The typing rules of programs, and their laws.
 #![tactic(auto)]
+
+pub mod laws;
