@@ -12,10 +12,10 @@ HasRecord set fields = IsElement (Record fields) × set (Record fields)
 abbrev pub IsFieldOf : Name → Set → Set
 IsFieldOf label set e = (fields : Fields) × HasRecord set fields × (thing_at fields label ≡ Some e)
 
--- each record of the set has something at a label, and there are no other elements in it
-abbrev pub HaveField : Name → Set → Type 0
-HaveField label set = (e : Thing) → IsElement e → set e
-    → (fields : Fields) × (what : Thing) × (e ≡ Record fields) × (thing_at fields label ≡ Some what)
+-- a record that has something at a label
+abbrev pub HasFieldAt : Name → Set
+HasFieldAt label e = (fields : Fields) × (what : Thing) × (e ≡ Record fields)
+    × (thing_at fields label ≡ Some what)
 
 -- the other record has the same fields but at the label, where it has nothing
 abbrev pub IsWithout : Name → (fields others : Fields) → Type 0

@@ -1,3 +1,4 @@
 pub mod Subsets
 pub mod Widening
+pub mod Later
 pub mod Narrowing

@@ -1,4 +1,5 @@
 pub mod Typ
+pub mod Later
 pub mod Interfaces
 pub mod Branches
 pub mod Results

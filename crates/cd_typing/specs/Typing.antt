@@ -19,7 +19,7 @@ use Rattle.cd_program.specs.Expr.{Fields, NoField, AField, Tails, NoTail, ATail,
 use Rattle.cd_program.specs.Expr.{Without, Select, Branches, NoBranch, ABranch, FunctionTree, function}
 use Rattle.cd_meaning.specs.Sets.{Set, ◌⊆◌}
 use Rattle.cd_meaning.specs.Functions.{AllMapInto}
-use Rattle.cd_meaning.specs.Records.{HaveField, IsFieldOf, IsRestOf}
+use Rattle.cd_meaning.specs.Records.{HasFieldAt, IsFieldOf, IsRestOf}
 use Rattle.cd_meaning.specs.Sequences.{IsSequence, IsListOf}
 use Rattle.cd_typing.specs.Typ.{Typ, In, IsType, BuiltIn, Types, type_at, with_type, AreTypes}
 use Rattle.cd_typing.specs.Interfaces.{Arrow, AreWritten, IsIntersection}
@@ -139,7 +139,7 @@ module _ (scope : Scope) where
     TailHas types self (Without label) result =
         (In self ⊆ BuiltIn RECORD) × (IsRestOf label (In self) ⊆ In result)
     TailHas types self (Select label) result =
-        HaveField label (In self) × (IsFieldOf label (In self) ⊆ In result)
+        (In self ⊆ HasFieldAt label) × (IsFieldOf label (In self) ⊆ In result)
 
     -- the body of each branch that some element is the first to come to has a type within what is
     -- wanted, where its variables have types that hold what they capture
