@@ -7,7 +7,7 @@ use Rattle.cd_model.specs.Scope.{Scope}
 use Rattle.cd_model.proofs.Extending.{kept_elements}
 use Rattle.cd_program.specs.Expr.{Expr}
 use Rattle.cd_meaning.specs.Sets.{Set, ◌⊆◌, elements_of}
-use Rattle.cd_typing.specs.Typ.{typ, In, IsType, Types}
+use Rattle.cd_typing.specs.Typ.{typ, IsType, Types}
 use Rattle.cd_typing.specs.Typing.{Has}
 use Rattle.cd_typing.proofs.Subsets.{through}
 use Rattle.cd_typing.proofs.Widening.{widen}

@@ -2,3 +2,4 @@ pub mod Subsets
 pub mod Widening
 pub mod Later
 pub mod Narrowing
+pub mod Examples

@@ -6,3 +6,4 @@ pub mod Results
 pub mod Operators
 pub mod Typing
 pub mod Typed
+pub mod Examples

@@ -1,7 +1,11 @@
 //! Laws of typing. Each is the contract of a function that does nothing.
+ghost use Rattle.std.specs.Prelude.{pos};
 ghost use Rattle.cd_model.specs.Scope.{Scope};
+ghost use Rattle.cd_model.specs.Thing.{Thing, Integer, IsElement};
 ghost use Rattle.cd_program.specs.Expr.{Expr};
+ghost use Rattle.cd_meaning.specs.Functions.{IsFunction};
 ghost use Rattle.cd_meaning.specs.Sets.{◌⊆◌};
+ghost use Rattle.cd_typing.specs.Examples.{x_of_x, ten_by_x, XMayBe};
 ghost use Rattle.cd_typing.specs.Typ.{Typ, In, Types, AreNarrower};
 ghost use Rattle.cd_typing.specs.Typing.{Has};
 
@@ -15,4 +19,13 @@ pub fn types_may_be_wider()
 pub fn names_may_be_narrower()
     ensures { (scope : Scope) (e : Expr) (types others : Types) → AreNarrower types others
         → (t : Typ) → Has scope others e t → Has scope types e t }
+{}
+
+/// `x x` has no type where `x` may be something else than a function, and `10 div x` has none where
+/// `x` may be 0.
+pub fn examples_without_types()
+    ensures function { (scope : Scope) (types : Types) (d : Thing) → IsElement d
+        → (IsFunction d → ⊥) → XMayBe types d → (t : Typ) → Has scope types x_of_x t → ⊥ }
+    ensures divisor { (scope : Scope) (types : Types) → IsElement (Integer (pos 0))
+        → XMayBe types (Integer (pos 0)) → (t : Typ) → Has scope types ten_by_x t → ⊥ }
 {}
