@@ -3,3 +3,4 @@ pub mod Widening
 pub mod Later
 pub mod Narrowing
 pub mod Examples
+pub mod BuiltInSets
