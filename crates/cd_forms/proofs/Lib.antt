@@ -1,0 +1,16 @@
+pub mod LongerGraphs
+pub mod ReadHeads
+pub mod ChainsHold
+pub mod Followed
+pub mod UnionsHold
+pub mod ArrowsHold
+pub mod TextsHold
+pub mod FieldsSorted
+pub mod RecordsHold
+pub mod SequencesHold
+pub mod SortedCode
+pub mod LettersNumbered
+pub mod MembersOfUnions
+pub mod OneMoreNode
+pub mod PutHolds
+pub mod ConstantsHold

@@ -1,0 +1,69 @@
+-- A graph with one formula more, which is over its nodes.
+use Rattle.std.proofs.Common.{◌≡◌, ◌≤◌, ◌<◌, ◌+◌, ◌++◌, ◌↔◌, ℕ, true, List, [], ◌∷◌, length, ap, sym}
+use Rattle.std.proofs.Common.{subst, ◌∙◌, arith, Result, Ok, Err, OnOk}
+use Rattle.std.specs.Result.{IfOk}
+use Rattle.std.specs.declared.alloc.AllocError.{AllocError}
+use Rattle.cd_sets.specs.declared.node_id.NodeId.{NodeId}
+use Rattle.cd_syntax.specs.Name.{Name}
+use Rattle.cd_model.specs.AllOf.{AllOf}
+use Rattle.cd_model.specs.BuiltIns.{node}
+use Rattle.cd_model.specs.Formula as formula
+use Rattle.cd_model.specs.Formula.{Graph, Formula, Formulas, Field, NoFormula, AFormula, IsFormula}
+use Rattle.cd_model.specs.Formula.{AreFormulas, IsGraph}
+use Rattle.cd_model.specs.Membership.{holds, reader, answers}
+use Rattle.cd_model.specs.Thing.{Thing}
+use Rattle.cd_rules.proofs.Ones.{each_weaker}
+use Rattle.cd_forms.proofs.LongerGraphs.{new_node_holds}
+
+-- a formula of a graph is one of a longer one
+mutual
+  still_formula : (count more : ℕ) → count ≤ more → (f : Formula) → IsFormula count f
+      → IsFormula more f
+  still_formula count more long formula.Nothing is = tt
+  still_formula count more long formula.Everything is = tt
+  still_formula count more long (formula.Ints set) is = tt
+  still_formula count more long (formula.Chars set) is = tt
+  still_formula count more long (formula.Atoms set) is = is
+  still_formula count more long (formula.Pair first second) is = (omega arith, omega arith)
+  still_formula count more long (formula.Xml tag attributes content) is =
+      (omega arith, omega arith, omega arith)
+  still_formula count more long (formula.Record named rest) is = (
+    is.0,
+    each_weaker (λ (field : Name × Field). field.1.type.0 < count)
+        (λ (field : Name × Field). field.1.type.0 < more) (λ field below. omega arith) named is.1,
+    omega arith,
+  )
+  still_formula count more long (formula.Arrow argument result) is = (omega arith, omega arith)
+  still_formula count more long (formula.And all) is = still_formulas count more long all is
+  still_formula count more long (formula.Or all) is = still_formulas count more long all is
+  still_formula count more long (formula.Not f) is = still_formula count more long f is
+
+  still_formulas : (count more : ℕ) → count ≤ more → (all : Formulas) → AreFormulas count all
+      → AreFormulas more all
+  still_formulas count more long NoFormula are = tt
+  still_formulas count more long (AFormula f rest) are =
+      (still_formula count more long f are.0, still_formulas count more long rest are.1)
+
+-- as code finds it
+module _ (graph : Graph) (f : Formula) (is : IsFormula (length graph) f) (batch : List Formula)
+    (alone : batch ≡ f ∷ []) where
+  pub one_is_sound : AllOf (IsFormula (length graph + length batch)) batch
+  one_is_sound = subst (λ (all : List Formula). AllOf (IsFormula (length graph + length all)) all)
+      (sym alone) (still_formula (length graph) (length graph + 1) (omega arith) f is, tt)
+
+  pub one_holds : IsGraph graph → (longer : Graph) → longer ≡ graph ++ batch → (id : NodeId)
+      → id.0 ≡ length graph → (e : Thing)
+      → holds (reader graph e) f true ↔ answers longer e id true
+  one_holds sound longer added id number e =
+      let same : node (length graph) ≡ id = ap node (sym number) in
+      let grown : graph ++ f ∷ [] ≡ longer = ap (λ all. graph ++ all) (sym alone) ∙ sym added in
+      subst (λ (i : NodeId). holds (reader graph e) f true ↔ answers longer e i true) same
+      (subst (λ (g : Graph). holds (reader graph e) f true ↔ answers g e (node (length graph)) true)
+      grown (new_node_holds graph sound f is e))
+
+  -- where the call that puts it in has ended well
+  pub one_holds_if : IsGraph graph → (longer : Graph) (result : Result NodeId AllocError)
+      → IfOk result (λ id. id.0 ≡ length graph) → OnOk result (longer ≡ graph ++ batch)
+      → IfOk result (λ id. (e : Thing) → holds (reader graph e) f true ↔ answers longer e id true)
+  one_holds_if sound longer (Ok id) number added = λ e. one_holds sound longer added id number e
+  one_holds_if sound longer (Err error) number added = tt

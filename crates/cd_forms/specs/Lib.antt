@@ -1,0 +1,4 @@
+pub mod Arrows
+pub mod Labels
+pub mod Unions
+pub mod Inner

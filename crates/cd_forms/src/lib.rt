@@ -1,0 +1,26 @@
+//! Nodes for what expressions make of what their parts give.
+#![tactic(auto)]
+
+mod built_in;
+mod constants;
+mod interfaces;
+mod leaves;
+mod letters;
+mod members;
+mod nodes;
+mod pairs;
+mod put;
+mod records;
+mod rows;
+mod sorting;
+mod texts;
+mod tuples;
+mod unions;
+mod xmls;
+
+pub use constants::constant;
+pub use interfaces::interface;
+pub use records::record;
+pub use tuples::tuple;
+pub use unions::union;
+pub use xmls::xml;

@@ -1,0 +1,4 @@
+pub mod Sites
+pub mod TakenElements
+pub mod CapturedTypes
+pub mod Inner

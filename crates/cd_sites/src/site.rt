@@ -1,0 +1,11 @@
+use cd_filter::AcceptedNodes;
+use cd_matching::kernel::Kernel;
+
+/// The pattern of a branch, over the nodes of a graph.
+#[derive(Drop)]
+pub struct Site {
+    /// The kernel of the pattern.
+    pub kernel: Kernel,
+    /// Nodes that accept what the nodes of the kernel take.
+    pub accepted: AcceptedNodes,
+}
