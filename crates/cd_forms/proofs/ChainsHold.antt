@@ -113,9 +113,10 @@ pub chain_sound : (total first : ℕ) (heads : List NodeId) (end : NodeId)
     → AllOf (IsFormula total) (chain_from first heads end)
 chain_sound total first [] end each below long = tt
 chain_sound total first (head ∷ heads) end each below long =
-    let more : first + 1 + length heads ≤ total = omega (arith, long) in
-    ((each.0, begins_below total (first + 1) heads end below more),
-    chain_sound total (first + 1) heads end each.1 below more)
+    let more : first + 1 + length heads ≤ total = omega (arith, long) in (
+      (each.0, begins_below total (first + 1) heads end below more),
+      chain_sound total (first + 1) heads end each.1 below more,
+    )
 
 pub chain_length : (first : ℕ) (heads : List NodeId) (end : NodeId)
     → length (chain_from first heads end) ≡ length heads

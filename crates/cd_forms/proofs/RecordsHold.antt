@@ -56,9 +56,10 @@ typed_differ : (fields : Fields) (ids : List NodeId) → AreOnce (labels_of fiel
     → Differ (typed_fields fields ids)
 typed_differ NoField ids once = tt
 typed_differ (AField label at e rest) [] once = tt
-typed_differ (AField label at e rest) (id ∷ ids) once =
-    (typed_differs (label, record { optional = false; type = id }) rest ids once.0,
-    typed_differ rest ids once.1)
+typed_differ (AField label at e rest) (id ∷ ids) once = (
+  typed_differs (label, record { optional = false; type = id }) rest ids once.0,
+  typed_differ rest ids once.1,
+)
 
 typed_below : (count : ℕ) (fields : Fields) (ids : List NodeId) → AllOf (λ id. id.0 < count) ids
     → AllOf (λ field. field.1.type.0 < count) (typed_fields fields ids)
@@ -237,11 +238,14 @@ module _ (graph more : Graph) (begins : graph ≡ built_ins ++ more) where
     pub record_has : (e : Thing) → IsRecordOf fields (map (typ graph) ids) e
         → holds (reader graph e) Type_of true
     record_has e (ds, made, are, written, same) =
-        (record_holds graph (in_order fields ids) EMPTY e).1
-        (made, same, λ label. (as_labelled made label (field_of (in_order fields ids) EMPTY label)).1
-        (subst (λ (field : Field). IsAs (thing_at made label) field) (sym (says label))
-        (subst (λ (found : Option Thing). IsAs found (At fields ids label)) (sym (written label))
-        (written_is fields ids ds are label))))
+        (record_holds graph (in_order fields ids) EMPTY e).1 (
+          made,
+          same,
+          λ label. (as_labelled made label (field_of (in_order fields ids) EMPTY label)).1
+              (subst (λ (field : Field). IsAs (thing_at made label) field) (sym (says label))
+              (subst (λ (found : Option Thing). IsAs found (At fields ids label)) (sym (written label))
+              (written_is fields ids ds are label))),
+        )
 
     module _ (count : length ids ≡ length (labels_of fields)) where
       is_as : (made : thing.Fields)

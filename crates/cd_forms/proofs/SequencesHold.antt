@@ -119,9 +119,12 @@ before_more types one other within e element (ds, last, are, last_element, there
 
 pub text_before_more : (text : List ℕ) (one other : Set) → one ⊆ other
     → IsTextBefore text one ⊆ IsTextBefore text other
-text_before_more text one other within e element (last, there, same) =
-    (last, within last (parts_are_elements (map Character text) last
-    (subst IsElement same element)).1 there, same)
+text_before_more text one other within e element (last, there, same) = (
+  last,
+  within last (parts_are_elements (map Character text) last
+      (subst IsElement same element)).1 there,
+  same,
+)
 
 pub join_more : (first second one other : Set) → first ⊆ second → one ⊆ other
     → IsJoinOf first one ⊆ IsJoinOf second other

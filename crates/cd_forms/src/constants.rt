@@ -21,11 +21,7 @@ use std::alloc::{AllocError, Global};
 /// # Errors
 ///
 /// Want of memory. The graph stays as it was.
-pub fn constant(
-    alloc: Global,
-    world: &mut World,
-    constant: &Constant,
-) -> Result<NodeId, AllocError>
+pub fn constant(alloc: Global, world: &mut World, constant: &Constant) -> Result<NodeId, AllocError>
     requires { IsElement (thing_of constant.now) }
     ensures has { IfOk result (λ id. (λ d. d ≡ thing_of constant.now)
         ⊆ elements_of (graph_of world.new) id) }

@@ -17,11 +17,7 @@ use std::alloc::{AllocError, Global};
 /// # Errors
 ///
 /// Want of memory. The graph stays as it was.
-pub(crate) fn put(
-    alloc: Global,
-    world: &mut World,
-    formula: Formula,
-) -> Result<NodeId, AllocError>
+pub(crate) fn put(alloc: Global, world: &mut World, formula: Formula) -> Result<NodeId, AllocError>
     requires { IsFormula (length (graph_of world.old)) (plain formula) }
     ensures holds { IfOk result (λ id. (e : Thing)
         → holds (reader (graph_of world.old) e) (plain formula) true

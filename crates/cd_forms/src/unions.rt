@@ -47,11 +47,7 @@ pub fn union(alloc: Global, world: &mut World, parts: &[NodeId]) -> Result<NodeI
 }
 
 // The same of nodes that are each there once: where there is one, it is that node.
-fn of_members(
-    alloc: Global,
-    world: &mut World,
-    members: &[NodeId],
-) -> Result<NodeId, AllocError>
+fn of_members(alloc: Global, world: &mut World, members: &[NodeId]) -> Result<NodeId, AllocError>
     requires { AllOf (λ id. id.0 < length (graph_of world.old)) members.now }
     ensures holds { IfOk result (λ id. (e : Thing) → IsElement e
         → AnyOf (λ one. answers (graph_of world.old) e one true) members.now
@@ -70,11 +66,7 @@ fn of_members(
 }
 
 // The same, as a new node where no node is found that holds it.
-fn union_of(
-    alloc: Global,
-    world: &mut World,
-    members: &[NodeId],
-) -> Result<NodeId, AllocError>
+fn union_of(alloc: Global, world: &mut World, members: &[NodeId]) -> Result<NodeId, AllocError>
     requires { AllOf (λ id. id.0 < length (graph_of world.old)) members.now }
     ensures holds { IfOk result (λ id. (e : Thing) → IsElement e
         → AnyOf (λ one. answers (graph_of world.old) e one true) members.now

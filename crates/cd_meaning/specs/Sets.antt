@@ -7,7 +7,6 @@ abbrev pub Set : Type 1
 Set = Thing → Type 0
 
 infix 50 ◌⊆◌
-
 -- each element of the one is in the other
 abbrev pub ◌⊆◌ : Set → Set → Type 0
 one ⊆ other = (e : Thing) → IsElement e → one e → other e
