@@ -1,12 +1,14 @@
 -- Nodes that hold what is in one node and outside another.
 use Rattle.std.proofs.Common.{◌≡◌, ◌<◌, ◌+◌, ◌↔◌, ℕ, zero, suc, true, false, [], ◌∷◌, ◌++◌}
-use Rattle.std.proofs.Common.{Some, length, length-append, inl, inr, refl, sym, ap, subst, ◌∙◌, arith}
+use Rattle.std.proofs.Common.{Some, length, length-append, inl, inr, refl, sym, ap, subst, ◌∙◌}
+use Rattle.std.proofs.Common.{arith}
 use Rattle.cd_sets.specs.declared.node_id.NodeId.{NodeId}
 use Rattle.cd_model.proofs.BothWays.{through, both_agree, itself, turned}
 use Rattle.cd_model.proofs.DecidedAtNodes.{in_or_outside}
 use Rattle.cd_model.proofs.Extending.{kept_formulas}
 use Rattle.cd_model.specs.BuiltIns.{built_ins, node, EMPTY}
-use Rattle.cd_model.specs.Formula.{Graph, Formula, IsFormula, IsGraph, IsWithin, formula_at, in_node}
+use Rattle.cd_model.specs.Formula.{Graph, Formula, IsFormula, IsGraph, IsWithin, formula_at}
+use Rattle.cd_model.specs.Formula.{in_node}
 use Rattle.cd_model.specs.Membership.{answers, asked, holds, reader}
 use Rattle.cd_model.specs.Thing.{Thing, IsElement}
 use Rattle.cd_rules.specs.Needs.{question}
@@ -21,7 +23,8 @@ use Rattle.std.proofs.lemmas.Bool.{true≢false}
 -- a new node has its formula of the batch
 pub new_formula : (graph batch : Graph) (number at : ℕ) → at ≡ length graph + number
     → formula_at (graph ++ batch) (node at) ≡ formula_at batch (node number)
-new_formula [] batch number at same = ap (λ (n : ℕ). formula_at batch (node n)) (omega (arith, same))
+new_formula [] batch number at same =
+    ap (λ (n : ℕ). formula_at batch (node n)) (omega (arith, same))
 new_formula (is ∷ graph) batch number zero same = absurd (omega (arith, same))
 new_formula (is ∷ graph) batch number (suc at) same =
     new_formula graph batch number at (omega (arith, same))

@@ -44,7 +44,8 @@ pub fn site_of(
     requires named { AreNamed (graph_of world.old) (plain_names names.now) }
     requires faultless { (fault : Fault)
         → IsFaultOfType (declared_by names.now) (plain_tree pattern.now) fault → ⊥ }
-    requires variables { IsNamed (pattern_of (declared_by names.now ∷ []) (plain_tree pattern.now)) }
+    requires variables { IsNamed
+        (pattern_of (declared_by names.now ∷ []) (plain_tree pattern.now)) }
     ensures site { IfOk result (λ site.
         IsSite (graph_of world.new) (declared_by names.now ∷ []) (plain_tree pattern.now) site) }
     ensures sound { IsGraph (graph_of world.new) }
@@ -70,7 +71,8 @@ fn kernel_of(
     requires named { AreNamed (graph_of world.old) (plain_names names.now) }
     requires faultless { (fault : Fault)
         → IsFaultOfType (declared_by names.now) (plain_tree pattern.now) fault → ⊥ }
-    requires variables { IsNamed (pattern_of (declared_by names.now ∷ []) (plain_tree pattern.now)) }
+    requires variables { IsNamed
+        (pattern_of (declared_by names.now ∷ []) (plain_tree pattern.now)) }
     ensures kernel { IfOk result (λ kernel. IsKernelOf (graph_of world.new)
         (declared_by names.now ∷ []) (plain_tree pattern.now) (plain_kernel kernel)) }
     ensures types { IfOk result (λ kernel.
