@@ -1,0 +1,16 @@
+pub mod PairsOfFunctions
+pub mod FunctionsOfClauses
+pub mod ImagesByClauses
+pub mod ClausesOfNodes
+pub mod TakenThings
+pub mod WalkedArrows
+pub mod DividedArrows
+pub mod ArgumentsBeyond
+pub mod RefusedArrows
+pub mod ImagesGathered
+pub mod ApplicationsAnswered
+pub mod SubsumedQuestions
+pub mod LargerGraphs
+pub mod NodesAskedFor
+pub mod UnionsHold
+pub mod QuestionsNarrowed

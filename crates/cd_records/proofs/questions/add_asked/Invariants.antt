@@ -1,0 +1,13 @@
+use Rattle.std.proofs.Common.{◌≡◌, drop, map}
+use Rattle.cd_needs.specs.RecordTypes.{plain_row}
+use Rattle.cd_records.specs.Inner.Plain.{plain_questions}
+use Rattle.cd_records.specs.Inner.Saying.{asked_by, with_questions}
+use Rattle.cd_records.proofs.questions.add_asked.Given as goal
+
+-- the questions of the rows that are left, put after those so far, are all
+abbrev pub invariant-loop-row : goal.invariant-loop-row
+invariant-loop-row l =
+    with_questions (asked_by (map plain_row (drop l.row-index l.rows)) l.label)
+    (plain_questions l.questions.items)
+    ≡ with_questions (asked_by (map plain_row l.rows) l.label)
+    (plain_questions l.fn.questions.items)
