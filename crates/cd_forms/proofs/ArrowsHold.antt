@@ -1,9 +1,9 @@
 -- The meet of arrows between nodes holds the functions that are in all of them.
-use Rattle.std.proofs.Common.{◌≡◌, ◌↔◌, ◌⊎◌, ◌<◌, ◌++◌, true, false, List, [], ◌∷◌, map, length}
-use Rattle.std.proofs.Common.{inl, inr, refl, sym, subst, ap, ◌∙◌, arith}
+use Rattle.std.proofs.Common.{◌≡◌, ◌⊎◌, ◌<◌, true, false, List, [], ◌∷◌, length}
+use Rattle.std.proofs.Common.{inl, inr, refl, sym, subst, arith}
 use Rattle.cd_sets.specs.declared.node_id.NodeId.{NodeId}
 use Rattle.cd_model.specs.AllOf.{AllOf}
-use Rattle.cd_model.specs.Formula.{Graph, Formula, Arrow, And, IsFormula, AreFormulas, nodes}
+use Rattle.cd_model.specs.Formula.{Graph, Formula, And, IsFormula, nodes}
 use Rattle.cd_model.specs.Formula.{formulas_of}
 use Rattle.cd_model.specs.Membership.{holds, each_holds, reader, answers, mapping}
 use Rattle.cd_model.specs.Thing.{Thing, Function, Pairs, NoPair, Maps, Fails, IsElement}
@@ -11,7 +11,7 @@ use Rattle.cd_model.proofs.Apart.{element_apart}
 use Rattle.cd_model.proofs.ApartAtNodes.{nodes_keep}
 use Rattle.cd_model.proofs.Decided.{element_decides}
 use Rattle.cd_model.proofs.DecidedAtNodes.{nodes_decide}
-use Rattle.cd_meaning.specs.Functions.{MapsInto, HasPair, FailsAt}
+use Rattle.cd_meaning.specs.Functions.{MapsInto}
 use Rattle.cd_typing.specs.Interfaces.{AllArrows}
 use Rattle.cd_typing.specs.Typ as types
 use Rattle.cd_forms.specs.Arrows.{arrows_of}
@@ -42,7 +42,10 @@ module _ (graph : Graph) where
     leads from to (inr there) inside = there
 
     pub maps_into : (pairs : Pairs) → mapping graph pairs argument result true → Into pairs
-    maps_into NoPair maps = record { total = λ from fails. absurd fails; into = λ from to has. absurd has }
+    maps_into NoPair maps = record {
+      total = λ from fails. absurd fails;
+      into = λ from to has. absurd has;
+    }
     maps_into (Maps one other rest) (here, later) =
         let others = maps_into rest later in record {
           total = λ from fails inside. others.total from fails inside;
@@ -133,7 +136,8 @@ module _ (graph : Graph) where
         found.0,
         found.1,
         all_map_into found.0 (arrow ∷ arrows)
-            (subst (λ (d : Thing). holds (reader graph d) (Meet (arrow ∷ arrows)) true) found.1 each),
+            (subst (λ (d : Thing). holds (reader graph d) (Meet (arrow ∷ arrows)) true) found.1
+            each),
       )
 
   pub interface_is : (arrows : List (NodeId × NodeId)) → 0 < length arrows → (e : Thing)

@@ -1,6 +1,6 @@
 -- Pairs in a row hold things of their nodes, one of each, and then a thing of the last one.
-use Rattle.std.proofs.Common.{◌≡◌, ◌<◌, ◌≤◌, ◌+◌, ◌++◌, ◌↔◌, ℕ, zero, suc, true, List, [], ◌∷◌}
-use Rattle.std.proofs.Common.{length, map, Some, refl, ap, sym, subst, ◌∙◌, arith, length-append}
+use Rattle.std.proofs.Common.{◌≡◌, ◌<◌, ◌≤◌, ◌+◌, ◌++◌, ℕ, zero, suc, true, List, [], ◌∷◌}
+use Rattle.std.proofs.Common.{length, map, Some, refl, ap, sym, subst, ◌∙◌, arith}
 use Rattle.std.proofs.lemmas.Option.{none-some}
 use Rattle.std.specs.List.{slice_get}
 use Rattle.cd_sets.specs.declared.node_id.NodeId.{NodeId}
@@ -147,12 +147,6 @@ module _ (graph : Graph) (sound : IsGraph graph) (heads : List NodeId) (end : No
       chain_sound (length graph + length pairs) (length graph) heads end
       (still_below graph pairs heads each) (omega (arith, below)) (omega (arith, count))
 
-  pub pairs_there : first_pair.0 < length longer
-  pairs_there = let count = chain_length (length graph) heads end in
-      let long = length-append graph pairs in
-      begins_below (length longer) (length graph) heads end (omega (arith, below))
-      (omega (arith, count))
-
   is_chain : IsChain longer heads end first_pair
   is_chain = chain_stands longer (length graph) heads end (stand_after graph pairs)
 
@@ -195,11 +189,6 @@ module _ (graph : Graph) (sound : IsGraph graph) (heads : List NodeId) (end : No
 
     is_first : first_pair graph sound heads end each below ≡ id
     is_first = ap (λ n. begin n heads end) (sym count) ∙ sym at
-
-    pub row_there : id.0 < length longer
-    row_there = subst (λ (i : NodeId). i.0 < length longer) is_first
-        (subst (λ (g : Graph). (first_pair graph sound heads end each below).0 < length g) is_longer
-        (pairs_there graph sound heads end each below))
 
     pub row_has : AreBefore (map (typ graph) heads) (elements_of graph end)
         ⊆ elements_of longer id

@@ -11,7 +11,7 @@ use Rattle.cd_model.specs.Formula.{Graph}
 use Rattle.cd_model.specs.Membership.{answers}
 use Rattle.cd_model.specs.Thing.{Thing, Character, IsElement}
 use Rattle.cd_matching.specs.Sequences.{nil, text_of, thing_of}
-use Rattle.cd_meaning.specs.Sets.{Set, ◌⊆◌, elements_of}
+use Rattle.cd_meaning.specs.Sets.{◌⊆◌, elements_of}
 use Rattle.cd_meaning.specs.Sequences.{followed_by}
 use Rattle.cd_forms.specs.Inner.Chains.{IsTextBefore}
 use Rattle.cd_forms.proofs.Followed.{text_followed}

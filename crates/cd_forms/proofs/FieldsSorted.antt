@@ -1,7 +1,7 @@
 -- Fields whose labels differ, put in the order of their labels: the labels rise, and at each label
 -- the fields say what they said.
 use Rattle.std.proofs.Common.{◌≡◌, true, false, Bool, List, [], ◌∷◌, Option, Some, None, ap, refl}
-use Rattle.std.proofs.Common.{sym, subst, ◌∙◌, bytes_eq, if◌then◌else◌}
+use Rattle.std.proofs.Common.{sym, ◌∙◌, bytes_eq, if◌then◌else◌}
 use Rattle.std.proofs.lemmas.Bool.{true≢false}
 use Rattle.std.proofs.lemmas.Cmp.{nat_list_cmp_total}
 use Rattle.std.proofs.lemmas.Map.Text.{is_eq-slice_cmp}

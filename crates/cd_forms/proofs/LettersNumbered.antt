@@ -1,5 +1,6 @@
 -- One more character of a text has its node among those of all letters.
-use Rattle.std.proofs.Common.{◌≡◌, ◌⊎◌, ◌+◌, ◌++◌, ℕ, zero, suc, List, [], ◌∷◌, Some, inl, inr, refl}
+use Rattle.std.proofs.Common.{◌≡◌, ◌⊎◌, ◌+◌, ◌++◌, ℕ, zero, suc, List, [], ◌∷◌, Some, inl, inr}
+use Rattle.std.proofs.Common.{refl}
 use Rattle.std.proofs.Common.{subst, sym, ap, ◌∙◌, None, map, drop, length, length-append, arith}
 use Rattle.std.proofs.Common.{append_assoc}
 use Rattle.std.proofs.lemmas.List.{map-append, append-nil}
@@ -79,7 +80,8 @@ formula_more letters formulas longer f c there put is before =
     (map-append plain formulas (f ∷ []))
     ∙ append_assoc (map plain formulas) (plain f ∷ [])
     (map one_character (drop (length formulas + 1) letters))
-    ∙ ap (λ one. map plain formulas ++ one ∷ map one_character (drop (length formulas + 1) letters)) is
+    ∙ ap (λ one. map plain formulas
+    ++ one ∷ map one_character (drop (length formulas + 1) letters)) is
     ∙ ap (λ rest. map plain formulas ++ map one_character rest)
     (sym (drop_got letters (length formulas) c there))
     ∙ before

@@ -14,3 +14,4 @@ pub mod MembersOfUnions
 pub mod OneMoreNode
 pub mod PutHolds
 pub mod ConstantsHold
+pub mod ItemsPut

@@ -1,5 +1,5 @@
 -- What nodes hold in a longer graph: old ones what they held, and new ones what their formulas say.
-use Rattle.std.proofs.Common.{◌≡◌, ◌<◌, ◌≤◌, ◌+◌, ◌++◌, ◌↔◌, ℕ, zero, suc, true, List, [], ◌∷◌}
+use Rattle.std.proofs.Common.{◌≡◌, ◌<◌, ◌+◌, ◌++◌, ◌↔◌, ℕ, suc, true, List, [], ◌∷◌}
 use Rattle.std.proofs.Common.{length, map, Some, refl, ap, sym, subst, ◌∙◌, arith}
 use Rattle.std.specs.List.{slice_get}
 use Rattle.std.specs.Option.{unwrap_or}
@@ -8,10 +8,9 @@ use Rattle.cd_model.specs.AllOf.{AllOf}
 use Rattle.cd_model.specs.BuiltIns.{node}
 use Rattle.cd_model.specs.Formula.{Graph, Formula, Nothing, IsFormula, IsGraph, formula_at}
 use Rattle.cd_model.specs.Membership.{holds, reader, answers}
-use Rattle.cd_model.specs.Thing.{Thing, IsElement}
-use Rattle.cd_model.proofs.BothWays.{through}
+use Rattle.cd_model.specs.Thing.{Thing}
 use Rattle.cd_model.proofs.Extending.{kept_elements, kept_formulas}
-use Rattle.cd_typing.specs.Typ.{Typ, typ, AreIn}
+use Rattle.cd_typing.specs.Typ.{typ, AreIn}
 
 got_after : (graph batch : Graph) (k : ℕ)
     → slice_get (graph ++ batch) (length graph + k) ≡ slice_get batch k

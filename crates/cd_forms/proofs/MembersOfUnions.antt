@@ -1,18 +1,13 @@
 -- The members of a union hold what its parts hold.
-use Rattle.std.proofs.Common.{◌≡◌, ◌<◌, ◌==◌, ◌||◌, ◌&&◌, ◌++◌, ◌⊎◌, not, true, false, Bool, List, []}
-use Rattle.std.proofs.Common.{◌∷◌, length, inl, inr, refl, sym, ap, subst, ◌∙◌, arith, true≢false}
+use Rattle.std.proofs.Common.{◌≡◌, ◌==◌, ◌||◌, ◌⊎◌, true, false, Bool, List, []}
+use Rattle.std.proofs.Common.{◌∷◌, inl, inr, refl, sym, ap, subst, ◌∙◌, arith, true≢false}
 use Rattle.std.proofs.lemmas.Bool.{cases_Bool}
 use Rattle.std.proofs.lemmas.Bool.Decides.{nat_tests}
 use Rattle.cd_sets.specs.IdSet.{holds}
 use Rattle.cd_sets.specs.declared.node_id.NodeId.{NodeId}
 use Rattle.cd_model.specs.AllOf.{AllOf, AnyOf}
-use Rattle.cd_model.specs.BuiltIns.{built_ins, EMPTY}
-use Rattle.cd_model.specs.Formula.{Graph}
-use Rattle.cd_model.specs.Membership.{answers}
-use Rattle.cd_model.specs.Thing.{Thing}
-use Rattle.cd_rules.proofs.Ones.{each_of_all}
+use Rattle.cd_model.specs.BuiltIns.{EMPTY}
 use Rattle.cd_forms.specs.Inner.Members.{is_same, is_member}
-use Rattle.cd_forms.proofs.ReadHeads.{nothing_in_empty}
 
 id_from_number : (id other : NodeId) → id.0 ≡ other.0 → id ≡ other
 id_from_number id other same =

@@ -1,5 +1,6 @@
 -- A graph with one formula more, which is over its nodes.
-use Rattle.std.proofs.Common.{◌≡◌, ◌≤◌, ◌<◌, ◌+◌, ◌++◌, ◌↔◌, ℕ, true, List, [], ◌∷◌, length, ap, sym}
+use Rattle.std.proofs.Common.{◌≡◌, ◌≤◌, ◌<◌, ◌+◌, ◌++◌, ◌↔◌, ℕ, true, List, [], ◌∷◌, length, ap}
+use Rattle.std.proofs.Common.{sym}
 use Rattle.std.proofs.Common.{subst, ◌∙◌, arith, Result, Ok, Err, OnOk}
 use Rattle.std.specs.Result.{IfOk}
 use Rattle.std.specs.declared.alloc.AllocError.{AllocError}

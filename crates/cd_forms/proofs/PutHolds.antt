@@ -1,6 +1,6 @@
 -- What the node of a call that ended well holds, from what its contract says.
-use Rattle.std.proofs.Common.{◌≡◌, ◌<◌, ◌↔◌, ◌++◌, true, List, [], ◌∷◌, Result, Ok, Err, length, refl}
-use Rattle.std.proofs.Common.{sym, ap, subst, ◌∙◌, ℕ, suc, arith, ◌≤◌, get_or}
+use Rattle.std.proofs.Common.{◌≡◌, ◌<◌, ◌↔◌, true, List, [], ◌∷◌, Result, Ok, Err, length, refl}
+use Rattle.std.proofs.Common.{sym, subst, arith, ◌≤◌, get_or}
 use Rattle.std.specs.Result.{IfOk}
 use Rattle.std.specs.declared.alloc.AllocError.{AllocError}
 use Rattle.cd_sets.specs.declared.node_id.NodeId.{NodeId}
@@ -13,11 +13,6 @@ use Rattle.cd_meaning.specs.Sets.{Set, ◌⊆◌, elements_of}
 pub no_items : {X : Type 0} (xs : List X) → length xs < 1 → xs ≡ []
 no_items [] below = refl
 no_items (x ∷ xs) below = absurd (omega (arith, below))
-
-pub first_item : {X : Type 0} (xs : List X) → 0 < length xs
-    → (x : X) × (rest : List X) × (xs ≡ x ∷ rest)
-first_item [] some = absurd (omega (arith, some))
-first_item (x ∷ xs) some = (x, xs, refl)
 
 -- a node that holds what a formula held
 module _ (graph longer : Graph) (f g : Formula) (same : f ≡ g) (result : Result NodeId AllocError)

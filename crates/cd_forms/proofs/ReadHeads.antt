@@ -7,12 +7,11 @@ use Rattle.std.specs.Cmp.{first_so, second_so}
 use Rattle.std.specs.Cmp.Lexicographic.{bytes_decides}
 use Rattle.std.proofs.lemmas.Int.{ints}
 use Rattle.std.proofs.lemmas.Bool.Decides.{nat_tests}
-use Rattle.cd_sets.specs.Atoms.{listing}
 use Rattle.cd_sets.specs.Characters.{is_among}
 use Rattle.cd_sets.specs.Interval.{is_between}
 use Rattle.cd_sets.specs.declared.node_id.NodeId.{NodeId}
 use Rattle.cd_syntax.specs.Name.{Name}
-use Rattle.cd_model.specs.BuiltIns.{atoms_of, built_ins, EMPTY, NIL, ARROW}
+use Rattle.cd_model.specs.BuiltIns.{atoms_of, built_ins, EMPTY, ARROW}
 use Rattle.cd_model.specs.Formula as formula
 use Rattle.cd_model.specs.Formula.{Graph, Formula, Field}
 use Rattle.cd_model.specs.Membership.{holds, reader, answers, labelled, mapping}
@@ -194,19 +193,7 @@ module _ (graph more : Graph) (begins : graph ≡ built_ins ++ more) where
   pub nothing_in_empty : (e : Thing) → answers graph e EMPTY true → ⊥
   nothing_in_empty e is = true≢false (subst (λ (g : Graph). answers g e EMPTY true) begins is)
 
-  pub nil_alone : (e : Thing) → answers graph e NIL true ↔ (e ≡ nil)
-  nil_alone e = subst (λ (g : Graph). answers g e NIL true ↔ (e ≡ nil)) (sym begins)
-      (nil_holds (built_ins ++ more) e)
-
   pub functions_in_arrow : (pairs : Pairs) → answers graph (thing.Function pairs) ARROW true
   functions_in_arrow pairs = subst
       (λ (g : Graph). answers g (thing.Function pairs) ARROW true) (sym begins)
       (all_map more no_closure pairs)
-
-  pub arrow_holds_functions : (e : Thing) → answers graph e ARROW true
-      → (pairs : Pairs) × (e ≡ thing.Function pairs)
-  arrow_holds_functions e is = let found = of_arrow (built_ins ++ more) EMPTY (formula_any) e
-      (subst (λ (g : Graph). answers g e ARROW true) begins is) in (found.0, found.1)
-    where
-      formula_any : NodeId
-      formula_any = record { 0 = 1 }

@@ -1,8 +1,10 @@
 -- A record type of the fields of a record expression holds the records that have, at each label,
 -- what stands there.
-use Rattle.std.proofs.Common.{◌≡◌, ◌↔◌, ◌⊎◌, ◌<◌, ◌++◌, true, false, Bool, List, [], ◌∷◌, map, Option}
-use Rattle.std.proofs.Common.{Some, None, ap, refl, sym, subst, ◌∙◌, bytes_eq, if◌then◌else◌, inl, inr}
-use Rattle.std.proofs.Common.{length, true≢false, ℕ, zero, suc, arith, length-append}
+use Rattle.std.proofs.Common.{◌≡◌, ◌↔◌, ◌⊎◌, ◌<◌, ◌++◌, true, false, Bool, List, [], ◌∷◌, map}
+use Rattle.std.proofs.Common.{Option}
+use Rattle.std.proofs.Common.{Some, None, ap, refl, sym, subst, ◌∙◌, bytes_eq, if◌then◌else◌, inl}
+use Rattle.std.proofs.Common.{inr}
+use Rattle.std.proofs.Common.{length, true≢false, ℕ, suc, arith, length-append}
 use Rattle.std.proofs.lemmas.Option.{none-some, same_Some}
 use Rattle.std.proofs.lemmas.Slice.Eq.{bytes_eq-Decides}
 use Rattle.cd_sets.specs.declared.node_id.NodeId.{NodeId}
@@ -23,7 +25,7 @@ use Rattle.cd_typing.specs.Results.{IsRecordOf, written_at}
 use Rattle.cd_forms.specs.Labels.{labels_of, AreLabels, AreOnce}
 use Rattle.cd_forms.specs.Inner.Sorting.{typed_fields, sorted_over}
 use Rattle.cd_forms.proofs.FieldsSorted.{Differs, Differ, sorted_rise, sorted_says, sorted_keeps}
-use Rattle.cd_forms.proofs.ReadHeads.{record_holds, IsRecordIn, nothing_in_empty}
+use Rattle.cd_forms.proofs.ReadHeads.{record_holds, nothing_in_empty}
 
 -- a label is its own
 pub name_itself : (name : Name) → bytes_eq name name ≡ true
@@ -243,15 +245,18 @@ module _ (graph more : Graph) (begins : graph ≡ built_ins ++ more) where
           same,
           λ label. (as_labelled made label (field_of (in_order fields ids) EMPTY label)).1
               (subst (λ (field : Field). IsAs (thing_at made label) field) (sym (says label))
-              (subst (λ (found : Option Thing). IsAs found (At fields ids label)) (sym (written label))
+              (subst (λ (found : Option Thing). IsAs found (At fields ids label))
+              (sym (written label))
               (written_is fields ids ds are label))),
         )
 
     module _ (count : length ids ≡ length (labels_of fields)) where
       is_as : (made : thing.Fields)
-          → ((label : Name) → labelled graph made label (field_of (in_order fields ids) EMPTY label) true)
+          → ((label : Name)
+          → labelled graph made label (field_of (in_order fields ids) EMPTY label) true)
           → (label : Name) → IsAs (thing_at made label) (At fields ids label)
-      is_as made each label = subst (λ (field : Field). IsAs (thing_at made label) field) (says label)
+      is_as made each label = subst (λ (field : Field). IsAs (thing_at made label) field)
+          (says label)
           ((as_labelled made label (field_of (in_order fields ids) EMPTY label)).0 (each label))
 
       each_is_as : (made : thing.Fields)

@@ -1,16 +1,16 @@
 -- The sequences of items, from the last one on: what an item does before the sequences of those
 -- that follow it.
-use Rattle.std.proofs.Common.{◌≡◌, ◌++◌, ◌<◌, ℕ, zero, suc, List, [], ◌∷◌, map, length, Some, refl}
-use Rattle.std.proofs.Common.{sym, ap, subst, ◌∙◌, arith}
-use Rattle.cd_model.specs.AllOf.{AllOf}
+use Rattle.std.proofs.Common.{◌≡◌, ◌++◌, ℕ, suc, List, [], ◌∷◌, map, length, refl}
+use Rattle.std.proofs.Common.{sym, ap, subst, ◌∙◌}
 use Rattle.cd_model.specs.Thing.{Thing, Character, Pair, IsElement}
-use Rattle.cd_matching.specs.Sequences.{nil, sequence_of, items}
+use Rattle.cd_matching.specs.Sequences.{nil, sequence_of}
 use Rattle.cd_meaning.specs.Sets.{Set, ◌⊆◌}
 use Rattle.cd_meaning.specs.Sequences.{followed_by, IsJoinOf}
-use Rattle.cd_program.specs.Expr.{Expr, Items, NoItem, AnItem, Item, One, Splice, Run}
+use Rattle.cd_program.specs.Expr.{Expr, Items, NoItem, AnItem, One, Splice, Run}
 use Rattle.cd_typing.specs.Typ.{Typ, In, AreIn}
 use Rattle.cd_typing.specs.Results.{Make, IsSequenceOf}
 use Rattle.cd_forms.specs.Inner.Chains.{AreBefore, IsTextBefore}
+use Rattle.cd_forms.specs.Inner.Putting.{wanted}
 use Rattle.cd_forms.proofs.Followed.{parts_are_elements}
 
 -- items in two lists
@@ -75,13 +75,14 @@ module _ (rest : Items) (types : List Typ) where
 
   pub before_splice : (x : Expr) (t : Typ) (e : Thing) → IsJoinOf (In t) Later e
       → IsSequenceOf (AnItem (Splice x) rest) (t ∷ types) e
-  before_splice x t e (d, last, own, element, last_element, there, (ds, others, in_types, make, is), has, same) = (
-    d ∷ ds,
-    own ++ others,
-    (element, there, in_types),
-    (own, others, has, make, refl),
-    same ∙ ap (followed_by own) is ∙ sym (in_turn own others),
-  )
+  before_splice x t e (d, last, own, element, last_element, there, later, has, same) =
+      let others = later.1 in (
+        d ∷ later.0,
+        own ++ others,
+        (element, there, later.2),
+        (own, others, has, later.3, refl),
+        same ∙ ap (followed_by own) later.4 ∙ sym (in_turn own others),
+      )
 
   -- characters, before the others
   pub run_before : (text : List ℕ) (e : Thing)
@@ -140,13 +141,6 @@ join_more first second one other firsts within e element
       has,
       same,
     )
-
--- how many operands items have
-abbrev pub wanted : Items → ℕ
-wanted NoItem = 0
-wanted (AnItem (One x) rest) = suc (wanted rest)
-wanted (AnItem (Splice x) rest) = suc (wanted rest)
-wanted (AnItem (Run text) rest) = wanted rest
 
 make_counts : (all : Items) (ds made : List Thing) → Make all ds made → length ds ≡ wanted all
 make_counts NoItem [] made make = refl

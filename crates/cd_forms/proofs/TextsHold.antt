@@ -1,16 +1,14 @@
 -- Pairs of the characters of a text, and then a thing of a node.
-use Rattle.std.proofs.Common.{◌≡◌, ◌<◌, ◌≤◌, ◌+◌, ◌++◌, ◌↔◌, ℕ, zero, suc, true, List, [], ◌∷◌}
-use Rattle.std.proofs.Common.{length, map, Some, refl, ap, sym, subst, ◌∙◌, arith, length-append}
+use Rattle.std.proofs.Common.{◌≡◌, ◌<◌, ◌≤◌, ◌+◌, ◌++◌, ◌↔◌, ℕ, true, List, [], ◌∷◌}
+use Rattle.std.proofs.Common.{length, map, refl, ap, sym, subst, ◌∙◌, arith, length-append}
 use Rattle.std.proofs.lemmas.List.{length-map}
 use Rattle.std.proofs.lemmas.Option.{slice_get-map, slice_get_within}
-use Rattle.std.specs.List.{slice_get}
 use Rattle.std.specs.Option.{option_map}
 use Rattle.cd_sets.specs.declared.node_id.NodeId.{NodeId}
 use Rattle.cd_model.specs.AllOf.{AllOf}
-use Rattle.cd_model.specs.BuiltIns.{node}
 use Rattle.cd_model.specs.Formula.{Graph, Formula, IsFormula, IsGraph, formula_at}
 use Rattle.cd_model.specs.Membership.{holds, reader, answers}
-use Rattle.cd_model.specs.Thing.{Thing, Character, Pair, IsElement}
+use Rattle.cd_model.specs.Thing.{Thing, Character, IsElement}
 use Rattle.cd_model.proofs.Extending.{kept_elements}
 use Rattle.cd_rules.proofs.Ones.{each_of_lists}
 use Rattle.cd_meaning.specs.Sets.{◌⊆◌, elements_of}
@@ -21,7 +19,7 @@ use Rattle.cd_forms.specs.Inner.Leaves.{one_character}
 use Rattle.cd_forms.specs.Inner.Letters.{IsLetter, AreLetters, IsTextBatch}
 use Rattle.cd_forms.proofs.ChainsHold.{StandFrom, stand_after, stand_left, stand_right, IsChain}
 use Rattle.cd_forms.proofs.ChainsHold.{chain_has, chain_only, chain_stands, chain_sound}
-use Rattle.cd_forms.proofs.ChainsHold.{chain_length, begins_below}
+use Rattle.cd_forms.proofs.ChainsHold.{chain_length}
 use Rattle.cd_forms.proofs.Followed.{parts_are_elements}
 use Rattle.cd_forms.proofs.ReadHeads.{character_holds}
 
@@ -111,12 +109,6 @@ module _ (graph : Graph) (sound : IsGraph graph) (text letters : List ℕ) (head
       (heads_below (length graph + length text_batch) (length graph) letters text heads are
       (omega (arith, count))) (omega (arith, below)) (omega (arith, count)))
 
-  pub text_there : text_node.0 < length longer
-  text_there = let count = batch_length in
-      let long = length-append graph text_batch in
-      begins_below (length longer) after heads end (omega (arith, below, long))
-      (omega (arith, count, long))
-
   stand : StandFrom (length graph) text_batch longer
   stand = stand_after graph text_batch
 
@@ -145,7 +137,8 @@ module _ (graph : Graph) (sound : IsGraph graph) (text letters : List ℕ) (head
         found.1,
         (kept_elements graph text_batch sound found.1 end true below).1 found.4,
         found.5 ∙ ap (λ ds. followed_by ds found.1)
-            (letters_alone longer (length graph) letters stand_letters text heads are found.0 found.2),
+            (letters_alone longer (length graph) letters stand_letters text heads are found.0
+            found.2),
       )
 
 -- as code finds it
@@ -171,12 +164,6 @@ module _ (graph : Graph) (sound : IsGraph graph) (text : List ℕ) (end : NodeId
   module _ (longer : Graph) (added : longer ≡ graph ++ formulas) where
     is_longer : graph ++ text_batch graph sound text made.0 made.1 end are below ≡ longer
     is_longer = ap (λ all. graph ++ all) is_batch ∙ sym added
-
-    pub text_node_there : id.0 < length longer
-    text_node_there = subst (λ (i : NodeId). i.0 < length longer) (sym made.4)
-        (subst (λ (g : Graph).
-        (text_node graph sound text made.0 made.1 end are below).0 < length g) is_longer
-        (text_there graph sound text made.0 made.1 end are below))
 
     pub text_node_has : IsTextBefore text (elements_of graph end) ⊆ elements_of longer id
     text_node_has e element is = subst (λ (i : NodeId). answers longer e i true) (sym made.4)

@@ -1,13 +1,14 @@
 -- A union of the formulas of nodes holds what is in one of them.
-use Rattle.std.proofs.Common.{◌≡◌, ◌↔◌, ◌⊎◌, ◌<◌, ◌++◌, ℕ, zero, suc, true, List, [], ◌∷◌, map}
-use Rattle.std.proofs.Common.{length, inl, inr, arith, sym, ap, subst, ◌∙◌, length-append, Result, Ok, Err}
+use Rattle.std.proofs.Common.{◌≡◌, ◌↔◌, ◌<◌, ◌++◌, ℕ, zero, suc, true, List, [], ◌∷◌, map}
+use Rattle.std.proofs.Common.{length, inl, inr, arith, sym, ap, subst, ◌∙◌, length-append, Result}
+use Rattle.std.proofs.Common.{Ok, Err}
 use Rattle.std.specs.Result.{IfOk}
 use Rattle.std.specs.declared.alloc.AllocError.{AllocError}
 use Rattle.cd_sets.specs.IdSet as set
 use Rattle.cd_sets.specs.declared.node_id.NodeId.{NodeId}
 use Rattle.cd_model.specs.AllOf.{AllOf, AnyOf}
 use Rattle.cd_model.specs.BuiltIns.{node, built_ins, BOOL, INT, ANY}
-use Rattle.cd_model.specs.Formula.{Graph, Formula, Or, IsFormula, AreFormulas, IsGraph}
+use Rattle.cd_model.specs.Formula.{Graph, Formula, Or, IsFormula, IsGraph}
 use Rattle.cd_model.specs.Formula.{formula_at, formulas_of}
 use Rattle.cd_model.specs.Membership.{holds, one_holds, reader, answers}
 use Rattle.cd_model.specs.Thing.{Thing, IsElement}
@@ -83,8 +84,10 @@ likely_below graph more longer others begins grows ids all is below =
     subst (AllOf (λ id. id.0 < length longer)) (sym is)
     (each_of_lists (λ (id : NodeId). id.0 < length longer) ids (BOOL ∷ INT ∷ ANY ∷ [])
     (each_weaker (λ (id : NodeId). id.0 < length graph) (λ id. id.0 < length longer)
-    (λ id small. omega (arith, longest, small)) ids below)
-    (omega (arith, long, longest), (omega (arith, long, longest), (omega (arith, long, longest), tt))))
+    (λ id small. omega (arith, longest, small)) ids below) (
+      omega (arith, long, longest),
+      (omega (arith, long, longest), (omega (arith, long, longest), tt)),
+    ))
 
 -- parts and members
 module _ (graph more : Graph) (begins : graph ≡ built_ins ++ more) (parts members : List NodeId)
@@ -147,4 +150,5 @@ module _ (graph : Graph) (ids : List NodeId) where
 
 pub first_below : (count : ℕ) (ids : List NodeId) (one : NodeId) → ids ≡ one ∷ []
     → AllOf (λ id. id.0 < count) ids → one.0 < count
-first_below count ids one alone below = (subst (AllOf (λ (id : NodeId). id.0 < count)) alone below).0
+first_below count ids one alone below =
+    (subst (AllOf (λ (id : NodeId). id.0 < count)) alone below).0

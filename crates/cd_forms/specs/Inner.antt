@@ -5,3 +5,4 @@ pub mod Letters
 pub mod Sorting
 pub mod Members
 pub mod ArrowFormulas
+pub mod Putting

@@ -16,7 +16,8 @@ returns-in_ok-integer-in-Int-clause-has c = let graph = graph_of c.args.world.no
     put_has graph (graph_of c.put.new.world) (plain c.in_ok-integer-in-Int.field-0)
     (one_integer c.in-Int.n)
     (c.in_ok-integer-in-Int.ensures
-    ∙ ap one_integer (integer_is c.args.constant.now c.in-Int.n c.requires c.in-Int.is)) c.put.result c.put.ensures.holds
+    ∙ ap one_integer (integer_is c.args.constant.now c.in-Int.n c.requires c.in-Int.is))
+    c.put.result c.put.ensures.holds
     (λ (d : Thing). d ≡ thing_of c.args.constant.now)
     (λ e element is. (integer_holds graph c.in-Int.n e).1 (is ∙ ap thing_of c.in-Int.is))
 
@@ -25,7 +26,8 @@ returns-in_ok-integer-in-Int-clause-only c = let graph = graph_of c.args.world.n
     put_only graph (graph_of c.put.new.world) (plain c.in_ok-integer-in-Int.field-0)
     (one_integer c.in-Int.n)
     (c.in_ok-integer-in-Int.ensures
-    ∙ ap one_integer (integer_is c.args.constant.now c.in-Int.n c.requires c.in-Int.is)) c.put.result c.put.ensures.holds
+    ∙ ap one_integer (integer_is c.args.constant.now c.in-Int.n c.requires c.in-Int.is))
+    c.put.result c.put.ensures.holds
     (λ (d : Thing). d ≡ thing_of c.args.constant.now)
     (λ e element is. (integer_holds graph c.in-Int.n e).0 is ∙ sym (ap thing_of c.in-Int.is))
 

@@ -1,5 +1,4 @@
-use Rattle.std.proofs.Common.{◌≡◌, length, List, [], subst, sym, ap}
-use Rattle.cd_sets.specs.declared.node_id.NodeId.{NodeId}
+use Rattle.std.proofs.Common.{length, subst, sym}
 use Rattle.cd_model.specs.Formula.{Formula, And, IsFormula, formulas_of}
 use Rattle.cd_graph.specs.PlainFormula.{plain}
 use Rattle.cd_typing.specs.Interfaces.{AllArrows}
@@ -18,7 +17,8 @@ returns-in-empty-clause-has c = none_has (graph_of c.args.world.now) c.arrow-fun
 
 pub returns-in-empty-clause-only : goal.returns-in-empty-clause-only
 returns-in-empty-clause-only c = none_only (graph_of c.args.world.now) c.arrow-functions.result
-    c.arrow-functions.ensures.only c.args.arrows.now (no_items c.args.arrows.now c.in-empty.len_below)
+    c.arrow-functions.ensures.only c.args.arrows.now
+    (no_items c.args.arrows.now c.in-empty.len_below)
 
 -- and some
 pub put-requires : goal.put-requires

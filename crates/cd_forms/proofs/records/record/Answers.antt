@@ -2,13 +2,14 @@ use Rattle.std.proofs.Common.{◌≡◌, ◌∙◌, None, map, length, sym, ap, 
 use Rattle.cd_model.specs.BuiltIns.{EMPTY}
 use Rattle.cd_model.specs.Formula.{Formula, Record, IsFormula, AreRisingLabels}
 use Rattle.cd_graph.specs.PlainFormula.{plain, plain_named}
-use Rattle.cd_program.specs.Expr.{Fields, fields_of}
+use Rattle.cd_program.specs.Expr.{fields_of}
 use Rattle.cd_program.specs.PlainExpr.{plain_field}
 use Rattle.cd_typing.specs.Results.{IsRecordOf}
 use Rattle.cd_typing.specs.Typ.{typ}
 use Rattle.cd_empty.specs.Seen.{graph_of}
 use Rattle.cd_forms.proofs.PutHolds.{put_has, put_only}
-use Rattle.cd_forms.proofs.RecordsHold.{in_order, labels_rise, record_sound, record_has, record_only}
+use Rattle.cd_forms.proofs.RecordsHold.{in_order, labels_rise, record_sound, record_has}
+use Rattle.cd_forms.proofs.RecordsHold.{record_only}
 use Rattle.cd_forms.proofs.RecordsHold.{some_node, count_labels}
 use Rattle.cd_forms.proofs.records.record.Goals as goal
 use Rattle.cd_forms.proofs.records.record.Goals.{After-record}

@@ -1,4 +1,4 @@
-use Rattle.std.proofs.Common.{◌≡◌, ◌∙◌, ◌++◌, ap, ap₂, sym, drop, ◌∷◌, ◌+◌, get_or, List}
+use Rattle.std.proofs.Common.{◌∙◌, ◌++◌, ap, ap₂, sym, drop, ◌∷◌, ◌+◌, get_or, List}
 use Rattle.std.proofs.lemmas.List.{take-map, drop-map, at_drop_more}
 use Rattle.cd_syntax.specs.Name.{Name}
 use Rattle.cd_model.specs.Formula.{Field}

@@ -1,6 +1,3 @@
-use Rattle.std.proofs.Common.{subst, sym, rules}
-use Rattle.cd_sets.specs.declared.node_id.NodeId.{NodeId}
-use Rattle.cd_model.specs.AllOf.{AllOf, AnyOf}
 use Rattle.cd_empty.specs.Seen.{graph_of}
 use Rattle.cd_forms.proofs.PutHolds.{no_items, alone}
 use Rattle.cd_forms.proofs.UnionsHold.{in_none, in_one, first_below}

@@ -1,9 +1,7 @@
 use Rattle.std.proofs.Common.{◌<◌, sym, subst, length}
-use Rattle.cd_sets.specs.IdSet.{holds}
 use Rattle.cd_sets.specs.declared.node_id.NodeId.{NodeId}
 use Rattle.cd_model.specs.AllOf.{AllOf}
 use Rattle.cd_empty.specs.Seen.{graph_of}
-use Rattle.cd_forms.specs.Inner.Members.{is_member}
 use Rattle.cd_forms.proofs.MembersOfUnions.{each_member}
 use Rattle.cd_forms.proofs.UnionsHold.{union_has, union_only}
 use Rattle.cd_forms.proofs.unions.union.Goals as goal

@@ -1,11 +1,9 @@
-use Rattle.std.proofs.Common.{◌≡◌, ◌∙◌, ◌<◌, ◌++◌, ◌∷◌, [], length, map, sym, ap, subst}
+use Rattle.std.proofs.Common.{◌≡◌, ◌∙◌, ◌<◌, length, sym, ap, subst}
 use Rattle.cd_model.specs.AllOf.{AllOf}
-use Rattle.cd_model.specs.BuiltIns.{BOOL, INT, ANY}
-use Rattle.cd_model.specs.Formula.{Graph, Formula, Or, IsFormula, formula_at, formulas_of}
-use Rattle.cd_model.specs.Membership.{holds, reader}
+use Rattle.cd_model.specs.Formula.{Graph, Formula, Or, IsFormula, formulas_of}
 use Rattle.cd_graph.specs.PlainFormula.{plain}
 use Rattle.cd_empty.specs.Seen.{graph_of}
-use Rattle.cd_forms.proofs.UnionsHold.{union_sound, union_holds, likely_below, formulas_at}
+use Rattle.cd_forms.proofs.UnionsHold.{union_sound, likely_below, formulas_at}
 use Rattle.cd_forms.proofs.UnionsHold.{union_made}
 use Rattle.cd_forms.proofs.unions.union_of.Goals as goal
 use Rattle.cd_forms.proofs.unions.union_of.Goals.{In_ok-formula}

@@ -1,4 +1,4 @@
-use Rattle.std.proofs.Common.{◌≡◌, ◌∙◌, ℕ, Some, None, length, ap, sym, rules}
+use Rattle.std.proofs.Common.{◌≡◌, ◌∙◌, length, ap, sym, rules}
 use Rattle.std.specs.List.{slice_get}
 use Rattle.cd_forms.proofs.LettersNumbered.{formula_more, formulas_end}
 use Rattle.cd_forms.proofs.letters.Letters.formulas.Goals as goal
