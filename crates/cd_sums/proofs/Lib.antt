@@ -1,0 +1,3 @@
+mod OfIntervals
+mod OfSets
+mod ResultNodes
