@@ -193,7 +193,8 @@ module _ (old new : Graph) (second : NodeId) (questions : List Question) (id : â
                     joined.3,
                     goes_pair old questions question at.state at.is first (sequence_of joined.0)
                         (element.0, joined.2)
-                        (any_among (GoesBy old questions first (sequence_of joined.0)) at.state.steps
+                        (any_among (GoesBy old questions first (sequence_of joined.0))
+                        at.state.steps
                         goes.0 goes.1 (goes.2.0, (to.0, to.1, joined.4))),
                     joined.5,
                     ap (thing.Pair first) {y = followed_by joined.0 joined.1} joined.6,

@@ -1,6 +1,6 @@
 -- Nodes that hold what one of some questions asks.
-use Rattle.std.proofs.Common.{◌≡◌, ◌↔◌, ◌<◌, ◌+◌, ◌++◌, true, List, [], ◌∷◌, length, inl, inr}
-use Rattle.std.proofs.Common.{sym, subst, arith}
+use Rattle.std.proofs.Common.{◌≡◌, ◌↔◌, ◌<◌, ◌+◌, ◌++◌, ℕ, true, false, List, [], ◌∷◌, length, inl}
+use Rattle.std.proofs.Common.{inr, sym, subst, arith}
 use Rattle.std.specs.List.{AllZip}
 use Rattle.cd_sets.specs.declared.node_id.NodeId.{NodeId}
 use Rattle.cd_sets.specs.declared.question.Question.{Question}
@@ -14,34 +14,69 @@ use Rattle.cd_model.specs.Thing.{Thing, IsElement}
 use Rattle.cd_model.proofs.BothWays.{through, turned}
 use Rattle.cd_model.proofs.Extending.{kept_formulas}
 use Rattle.cd_rules.specs.Family.{AsksNodes}
-use Rattle.cd_compact.specs.Keeping.{IsFormulaOfQuestion, HoldSame}
-use Rattle.cd_sequences.specs.Inner.Unions.{IsUnion, IsOneNode}
-use Rattle.cd_sequences.proofs.ByNumber.{zip_all, zip_any, zip_any_back}
+use Rattle.cd_rules.proofs.Ones.{one_leads}
+use Rattle.cd_empty.specs.Verdicts.{HasNoElement}
+use Rattle.cd_products.specs.QuestionBoxes.{without_node}
+use Rattle.cd_products.proofs.Decided.{elements_decided}
+use Rattle.cd_products.proofs.OneMore.{each_with}
+use Rattle.cd_compact.specs.Keeping.{IsFormulaOfQuestion}
+use Rattle.cd_sequences.specs.Inner.Asking.{asking}
+use Rattle.cd_sequences.specs.Inner.Numbered.{IsAmong}
+use Rattle.cd_sequences.specs.Inner.Unions.{IsUnion, IsWithinNode}
+use Rattle.cd_sequences.proofs.ByNumber.{all_among, any_among, zip_all, zip_any, zip_any_back}
 use Rattle.cd_sequences.proofs.JoinedNodes.{one_of_formulas, of_one_formula}
 use Rattle.cd_sequences.proofs.LongerGraphs.{formula_among_more, are_formulas, formula_last}
-use Rattle.cd_sequences.proofs.NilAsked.{none_empty, built_in_below}
+use Rattle.cd_sequences.proofs.NilAsked.{none_empty}
+
+-- nothing is in the empty node
+pub none_is_union : (graph : Graph) → (more : Graph) × (graph ≡ built_ins ++ more)
+    → IsUnion graph graph [] EMPTY
+none_is_union graph begins e element = (
+  λ inside. absurd (none_empty graph begins e inside),
+  λ any. absurd any,
+)
+
+-- what a question asks is in a node, where nothing of it is outside
+pub none_without : (graph : Graph) (question : Question) (id : NodeId)
+    → HasNoElement graph (without_node id question) → IsWithinNode graph question id
+none_without graph question id none e element inside =
+    elim (elements_decided graph e id element) [
+      | inl there ↦ there
+      | inr outside ↦ absurd (none e element (
+        inside.0,
+        each_with (λ one. in_node graph e one false) id question.neg outside inside.1,
+      ))
+    ]
+
+pub without_asks : (count : ℕ) (id : NodeId) (question : Question) → id.0 < count
+    → AsksNodes count question → AsksNodes count (without_node id question)
+without_asks count id question below asks =
+    (asks.0, each_with (λ one. one.0 < count) id question.neg below asks.1)
 
 module _ (graph : Graph) (questions : List Question)
     (asks : AllOf (AsksNodes (length graph)) questions) where
-  -- a node of the graph
-  module _ (begins : (more : Graph) × (graph ≡ built_ins ++ more)) (id : NodeId) where
-    pub one_is_union : IsOneNode questions id → IsUnion graph graph questions id
-    one_is_union (inl none) e element = (
-      λ inside. absurd (none_empty graph begins e
-          (subst (λ (id : NodeId). IsIn graph e id) none.1 inside)),
-      λ any. absurd (subst (AnyOf (λ question. asked (in_node graph e) question true)) none.0 any),
+  -- a node that is asked alone and holds what the others ask
+  module _ (id : NodeId) (among : IsAmong questions (asking id)) where
+    pub one_is_union : AllOf (λ question. IsWithinNode graph question id) questions
+        → IsUnion graph graph questions id
+    one_is_union within e element = (
+      λ inside. any_among (λ question. asked (in_node graph e) question true) questions (asking id)
+          among ((inside, tt), tt),
+      λ any. one_leads (λ question.
+          IsWithinNode graph question id × asked (in_node graph e) question true)
+          (λ question both. both.0 e element both.1) questions (both_of questions within any),
     )
-    one_is_union (inr alone) e element =
-        subst (λ (all : List Question). IsIn graph e id
-        ↔ AnyOf (λ question. asked (in_node graph e) question true) all) (sym alone) (
-          λ inside. inl ((inside, tt), tt),
-          λ any. elim any [ inl here ↦ here.0.0 | inr none ↦ absurd none ],
-        )
+      where
+        both_of : (some : List Question) → AllOf (λ question. IsWithinNode graph question id) some
+            → AnyOf (λ question. asked (in_node graph e) question true) some
+            → AnyOf (λ question.
+            IsWithinNode graph question id × asked (in_node graph e) question true) some
+        both_of [] within any = any
+        both_of (question ∷ some) within (inl here) = inl (within.0, here)
+        both_of (question ∷ some) within (inr later) = inr (both_of some within.1 later)
 
-    pub one_below : IsOneNode questions id → id.0 < length graph
-    one_below (inl none) = subst (λ (id : NodeId). id.0 < length graph) (sym none.1)
-        (built_in_below graph begins EMPTY (omega arith))
-    one_below (inr alone) = (subst (AllOf (AsksNodes (length graph))) alone asks).0.0.0
+    pub one_below : id.0 < length graph
+    one_below = (all_among (AsksNodes (length graph)) questions (asking id) asks among).0.0
 
   -- a new node
   module _ (sound : IsGraph graph) (members : List Formula)
@@ -85,9 +120,3 @@ module _ (graph : Graph) (questions : List Question)
             (λ f. holds (reader (graph ++ all ∷ []) e) f true)
             (λ question f of. (alike e element question f of).1) questions members are any)),
       )
-
--- a node that holds the same
-pub same_is_union : (old new : Graph) (questions : List Question) (id other : NodeId)
-    → IsUnion old new questions id → HoldSame new id other → IsUnion old new questions other
-same_is_union old new questions id other is same e element =
-    through (turned (same.elements e element)) (is e element)

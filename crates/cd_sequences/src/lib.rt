@@ -15,6 +15,7 @@ mod state;
 mod state_formulas;
 mod step;
 mod union;
+mod widest;
 
 pub use join::joined;
 pub use list_type::list_of;

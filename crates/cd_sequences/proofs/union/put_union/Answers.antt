@@ -1,18 +1,16 @@
-use Rattle.std.proofs.Common.{◌≡◌, ◌<◌, ◌+◌, ◌++◌, ◌∷◌, [], List, map, length, sym, ap, subst, ◌∙◌}
-use Rattle.std.proofs.Common.{arith, length-append, ◌≤◌}
+use Rattle.std.proofs.Common.{◌≡◌, ◌+◌, ◌++◌, ◌∷◌, [], List, map, length, sym, ap, subst, ◌∙◌}
 use Rattle.std.specs.List.{AllZip}
-use Rattle.cd_sets.specs.declared.node_id.NodeId.{NodeId}
 use Rattle.cd_model.specs.AllOf.{AllOf}
 use Rattle.cd_model.specs.Formula as formula
 use Rattle.cd_model.specs.Formula.{Graph, Formula, IsFormula, formulas_of}
 use Rattle.cd_graph.specs.PlainFormula.{plain, plain_list}
-use Rattle.cd_rules.proofs.Ones.{each_weaker}
 use Rattle.cd_compact.specs.Keeping.{IsFormulaOfQuestion}
 use Rattle.cd_empty.specs.Seen.{graph_of}
 use Rattle.cd_sequences.specs.Inner.Unions.{IsUnion}
-use Rattle.cd_sequences.proofs.UnionNodes.{all_sound, new_is_union, same_is_union}
+use Rattle.cd_sequences.proofs.Outcomes.{both_ok}
+use Rattle.cd_sequences.proofs.UnionNodes.{all_sound, new_is_union}
 use Rattle.cd_sequences.proofs.union.put_union.Goals as goal
-use Rattle.cd_sequences.proofs.union.put_union.Goals.{In_ok-of-2, In_ok-id}
+use Rattle.cd_sequences.proofs.union.put_union.Goals.{In_ok-of-2}
 
 -- formulas of the questions
 abbrev members : In_ok-of-2 → List Formula
@@ -37,35 +35,13 @@ extend-requires c =
     (sym (batch_is c))
     (all_sound graph c.args.questions.now c.requires c.graph.ensures.sound (members c) (are c))
 
--- the longer graph
-longer : (c : In_ok-id) → graph_of c.extend.new.self ≡ graph_of c.args.world.now
-    ++ formula.Or (formulas_of (members (goal.at.In_ok-id c).In_ok-of-2)) ∷ []
-longer c = c.in_ok-id.ensures.added
-    ∙ ap (λ all. graph_of c.args.world.now ++ all) (batch_is (goal.at.In_ok-id c).In_ok-of-2)
-
-pub known_node-requires-clause-others : goal.known_node-requires-clause-others
-known_node-requires-clause-others c =
-    let graph = graph_of c.args.world.now in
-    let new = graph_of c.extend.new.self in
-    let grown : length graph ≤ length new =
-    let count = ap length (longer (goal.at.known_node-requires-clause-others c).In_ok-id) in
-    let all = length-append graph (formula.Or (formulas_of
-    (members (goal.at.known_node-requires-clause-others c).In_ok-of-2)) ∷ []) in
-    omega (arith, count, all) in
-    subst (AllOf (λ id. id.0 < length new)) (sym c.as_slice.ensures.value)
-    (each_weaker (λ (id : NodeId). id.0 < length graph) (λ id. id.0 < length new)
-    (λ id below. omega (arith, below, grown)) c.in_ok-known.known.items
-    (c.in_ok-known.ensures (length graph) c.requires))
-
 pub returns-clause-union : goal.returns-clause-union
 returns-clause-union c =
-    let end = (goal.at.returns-clause-union c).In_ok-id in
     let at = (goal.at.returns-clause-union c).In_ok-of-2 in
     let graph = graph_of c.args.world.now in
     let questions = c.args.questions.now in
-    subst (λ (g : Graph). IsUnion graph g questions c.known_node.result)
-    (sym c.known_node.ensures.graph)
-    (same_is_union graph (graph_of c.extend.new.self) questions c.in_ok-id.id c.known_node.result
-    (subst (λ (g : Graph). IsUnion graph g questions c.in_ok-id.id) (sym (longer end))
-    (new_is_union graph questions c.requires c.graph.ensures.sound (members at) (are at)
-    c.in_ok-id.id c.in_ok-id.ensures.first)) c.known_node.ensures.same)
+    both_ok c.extend.result _ _ _ (λ id first added.
+    subst (λ (g : Graph). IsUnion graph g questions id)
+    (sym (added ∙ ap (λ all. graph ++ all) (batch_is at)))
+    (new_is_union graph questions c.requires c.graph.ensures.sound (members at) (are at) id first))
+    c.extend.ensures.first c.extend.ensures.added
