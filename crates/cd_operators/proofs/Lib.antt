@@ -1,0 +1,9 @@
+pub mod Missing
+mod Outcomes
+mod BuiltInNodes
+mod Refused
+mod LaterWorlds
+mod ListsOfLists
+mod NodesKept
+mod ZeroAsked
+mod OpenRecords

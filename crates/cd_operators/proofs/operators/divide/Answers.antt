@@ -1,0 +1,40 @@
+use Rattle.std.proofs.Common.{[], ◌∷◌, ◌∙◌, subst, sym, lit<}
+use Rattle.cd_model.specs.BuiltIns.{INT}
+use Rattle.cd_model.specs.Formula.{Graph}
+use Rattle.cd_rules.specs.Needs.{question}
+use Rattle.cd_empty.specs.Seen.{graph_of, table_of}
+use Rattle.cd_empty.specs.Verdicts.{IsExact}
+use Rattle.cd_empty.specs.declared.verdict.Verdict.TheVariants.{Empty, Inhabited}
+use Rattle.cd_operators.specs.Tools.{AreTools}
+use Rattle.cd_operators.proofs.BuiltInNodes.{type_stays}
+use Rattle.cd_operators.proofs.ZeroAsked.{never_zero, zero_found}
+use Rattle.cd_operators.proofs.operators.divide.Goals as goal
+
+-- the graph is the same where it is asked for 0
+pub zeros-requires-clause-tools : goal.zeros-requires-clause-tools
+zeros-requires-clause-tools c = subst (λ (g : Graph). AreTools g c.args.tools.now)
+    (sym c.in_ok-integers.ensures.graph) c.requires.tools
+
+-- no divisor is 0
+pub returns-in-Empty-clause-gives : goal.returns-in-Empty-clause-gives
+returns-in-Empty-clause-gives c =
+    let graph = graph_of c.args.world.now in
+    let tools = c.args.tools.now in
+    let none = subst (λ (g : Graph). IsExact g (table_of c.zeros.new.world)
+    (question (c.args.second ∷ tools.zero ∷ []) []) Empty) c.in_ok-integers.ensures.graph
+    (rw c.in-Empty.is at c.in_ok-zeros.ensures.exact) in (
+      c.in_ok-integers.ensures.within,
+      never_zero graph tools c.requires.tools c.args.second none.0,
+      type_stays graph c.graph.ensures.built_in INT (lit< tt) (graph_of c.zeros.new.world)
+          (c.in_ok-zeros.ensures.graph ∙ c.in_ok-integers.ensures.graph),
+    )
+
+-- one is
+pub returns-in-Inhabited-clause-misfit : goal.returns-in-Inhabited-clause-misfit
+returns-in-Inhabited-clause-misfit c =
+    let tools = c.args.tools.now in
+    let one = subst (λ (g : Graph). IsExact g (table_of c.zeros.new.world)
+    (question (c.args.second ∷ tools.zero ∷ []) []) (Inhabited c.in-Inhabited.element))
+    c.in_ok-integers.ensures.graph (rw c.in-Inhabited.is at c.in_ok-zeros.ensures.exact) in
+    zero_found (graph_of c.args.world.now) tools c.requires.tools c.args.second
+    (table_of c.zeros.new.world) c.in-Inhabited.element one

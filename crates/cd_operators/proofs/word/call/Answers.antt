@@ -1,0 +1,114 @@
+use Rattle.std.proofs.Common.{sym, subst, lit<}
+use Rattle.std.proofs.lemmas.Result.{err_from_is_err_and}
+use Rattle.cd_model.specs.BuiltIns.{BOOL, DATA, EMPTY, INT, STRING}
+use Rattle.cd_program.specs.declared.operator.BuiltIn.{BuiltIn as Word}
+use Rattle.cd_program.specs.declared.operator.BuiltIn.TheVariants as word
+use Rattle.cd_meaning.specs.Sets.{elements_of}
+use Rattle.cd_typing.specs.Operators.{WordGives}
+use Rattle.cd_empty.specs.Seen.{graph_of, table_of}
+use Rattle.cd_operators.specs.declared.misfit.Side.TheVariants.{First}
+use Rattle.cd_operators.specs.Misfits.{IsMisfitOfWord}
+use Rattle.cd_operators.proofs.BuiltInNodes.{in_type, type_in_node, type_stays}
+use Rattle.cd_operators.proofs.Refused.{misfit_of_word}
+use Rattle.cd_operators.proofs.word.call.Goals as goal
+
+-- `not`
+pub returns-in_err-need-in-Not-clause-misfit : goal.returns-in_err-need-in-Not-clause-misfit
+returns-in_err-need-in-Not-clause-misfit c =
+    let graph = graph_of c.args.world.now in
+    let table = table_of c.need.new.world in
+    let is = err_from_is_err_and c.from_residual.result
+    c.from_residual.ensures.1 in
+    let stop = c.in_err-need-in-Not.field-0.0 in
+    rw (is.1, is.2)
+    (subst (λ (one : Word). IsMisfitOfWord graph table one c.args.operand stop) (sym c.in-Not.is)
+    (misfit_of_word graph table (elements_of graph BOOL) First c.args.operand word.Not
+    (type_in_node graph c.graph.ensures.built_in BOOL (lit< tt)) stop
+    c.in_err-need-in-Not.ensures.misfit))
+
+pub returns-in_ok-need-in-Not-clause-gives : goal.returns-in_ok-need-in-Not-clause-gives
+returns-in_ok-need-in-Not-clause-gives c =
+    let graph = graph_of c.args.world.now in
+    let begins = c.graph.ensures.built_in in
+    subst (λ (one : Word). WordGives one (elements_of graph c.args.operand)
+    (elements_of (graph_of c.need.new.world) BOOL)) (sym c.in-Not.is) (
+      in_type graph begins BOOL (lit< tt) (elements_of graph c.args.operand)
+          c.in_ok-need-in-Not.ensures.within,
+      type_stays graph begins BOOL (lit< tt) (graph_of c.need.new.world)
+          c.in_ok-need-in-Not.ensures.graph,
+    )
+
+-- `int_of`
+pub returns-in_err-need-in-IntOf-clause-misfit : goal.returns-in_err-need-in-IntOf-clause-misfit
+returns-in_err-need-in-IntOf-clause-misfit c =
+    let graph = graph_of c.args.world.now in
+    let table = table_of c.need-in-IntOf.new.world in
+    let is = err_from_is_err_and c.from_residual-in_err-need-in-IntOf.result
+    c.from_residual-in_err-need-in-IntOf.ensures.1 in
+    let stop = c.in_err-need-in-IntOf.field-0.0 in
+    rw (is.1, is.2)
+    (subst (λ (one : Word). IsMisfitOfWord graph table one c.args.operand stop) (sym c.in-IntOf.is)
+    (misfit_of_word graph table (elements_of graph STRING) First c.args.operand word.IntOf
+    (type_in_node graph c.graph.ensures.built_in STRING (lit< tt)) stop
+    c.in_err-need-in-IntOf.ensures.misfit))
+
+pub returns-in_ok-need-in-IntOf-clause-gives : goal.returns-in_ok-need-in-IntOf-clause-gives
+returns-in_ok-need-in-IntOf-clause-gives c =
+    let graph = graph_of c.args.world.now in
+    let begins = c.graph.ensures.built_in in
+    subst (λ (one : Word). WordGives one (elements_of graph c.args.operand)
+    (elements_of (graph_of c.need-in-IntOf.new.world) INT)) (sym c.in-IntOf.is) (
+      in_type graph begins STRING (lit< tt) (elements_of graph c.args.operand)
+          c.in_ok-need-in-IntOf.ensures.within,
+      type_stays graph begins INT (lit< tt) (graph_of c.need-in-IntOf.new.world)
+          c.in_ok-need-in-IntOf.ensures.graph,
+    )
+
+-- `string_of`
+pub returns-in_err-need-in-StringOf-clause-misfit : goal.returns-in_err-need-in-StringOf-clause-misfit
+returns-in_err-need-in-StringOf-clause-misfit c =
+    let graph = graph_of c.args.world.now in
+    let table = table_of c.need-in-StringOf.new.world in
+    let is = err_from_is_err_and c.from_residual-in_err-need-in-StringOf.result
+    c.from_residual-in_err-need-in-StringOf.ensures.1 in
+    let stop = c.in_err-need-in-StringOf.field-0.0 in
+    rw (is.1, is.2)
+    (subst (λ (one : Word). IsMisfitOfWord graph table one c.args.operand stop) (sym c.in-StringOf.is)
+    (misfit_of_word graph table (elements_of graph INT) First c.args.operand word.StringOf
+    (type_in_node graph c.graph.ensures.built_in INT (lit< tt)) stop
+    c.in_err-need-in-StringOf.ensures.misfit))
+
+pub returns-in_ok-need-in-StringOf-clause-gives : goal.returns-in_ok-need-in-StringOf-clause-gives
+returns-in_ok-need-in-StringOf-clause-gives c =
+    let graph = graph_of c.args.world.now in
+    let begins = c.graph.ensures.built_in in
+    subst (λ (one : Word). WordGives one (elements_of graph c.args.operand)
+    (elements_of (graph_of c.need-in-StringOf.new.world) STRING)) (sym c.in-StringOf.is) (
+      in_type graph begins INT (lit< tt) (elements_of graph c.args.operand)
+          c.in_ok-need-in-StringOf.ensures.within,
+      type_stays graph begins STRING (lit< tt) (graph_of c.need-in-StringOf.new.world)
+          c.in_ok-need-in-StringOf.ensures.graph,
+    )
+
+-- `raise`
+pub returns-in_err-need-in-Raise-clause-misfit : goal.returns-in_err-need-in-Raise-clause-misfit
+returns-in_err-need-in-Raise-clause-misfit c =
+    let graph = graph_of c.args.world.now in
+    let table = table_of c.need-in-Raise.new.world in
+    let is = err_from_is_err_and c.from_residual-in_err-need-in-Raise.result
+    c.from_residual-in_err-need-in-Raise.ensures.1 in
+    let stop = c.in_err-need-in-Raise.field-0.0 in
+    rw (is.1, is.2)
+    (subst (λ (one : Word). IsMisfitOfWord graph table one c.args.operand stop) (sym c.in-Raise.is)
+    (misfit_of_word graph table (elements_of graph DATA) First c.args.operand word.Raise
+    (type_in_node graph c.graph.ensures.built_in DATA (lit< tt)) stop
+    c.in_err-need-in-Raise.ensures.misfit))
+
+pub returns-in_ok-need-in-Raise-clause-gives : goal.returns-in_ok-need-in-Raise-clause-gives
+returns-in_ok-need-in-Raise-clause-gives c =
+    let graph = graph_of c.args.world.now in
+    let begins = c.graph.ensures.built_in in
+    subst (λ (one : Word). WordGives one (elements_of graph c.args.operand)
+    (elements_of (graph_of c.need-in-Raise.new.world) EMPTY)) (sym c.in-Raise.is)
+    (in_type graph begins DATA (lit< tt) (elements_of graph c.args.operand)
+    c.in_ok-need-in-Raise.ensures.within)

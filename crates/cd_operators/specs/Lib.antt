@@ -1,0 +1,3 @@
+pub mod RuleTexts
+pub mod Tools
+pub mod Misfits

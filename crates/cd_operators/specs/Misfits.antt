@@ -1,0 +1,79 @@
+-- Operands that operators refuse.
+use Rattle.std.specs.Prelude.{◌≡◌, List}
+use Rattle.cd_sets.specs.declared.node_id.NodeId.{NodeId}
+use Rattle.cd_model.specs.BuiltIns.{INT, BOOL, STRING, DATA}
+use Rattle.cd_model.specs.Formula.{Graph}
+use Rattle.cd_model.specs.Thing.{Thing, IsElement}
+use Rattle.cd_elements.specs.Table.{Names, element_at}
+use Rattle.cd_elements.specs.declared.shape.ElementId.{ElementId}
+use Rattle.cd_program.specs.declared.operator.BuiltIn.{BuiltIn as Word}
+use Rattle.cd_program.specs.declared.operator.BuiltIn.TheVariants as word
+use Rattle.cd_meaning.specs.Sets.{Set, elements_of}
+use Rattle.cd_meaning.specs.Sequences.{IsSequence, IsListOf}
+use Rattle.cd_typing.specs.Typ.{BuiltIn}
+use Rattle.cd_operators.specs.declared.misfit.Side.{Side}
+use Rattle.cd_operators.specs.declared.misfit.Side.TheVariants as side
+use Rattle.cd_operators.specs.declared.misfit.Stop.{Stop}
+use Rattle.cd_operators.specs.declared.misfit.Stop.TheVariants as stop
+use Rattle.cd_operators.specs.declared.rule.Rule.{Rule}
+use Rattle.cd_operators.specs.declared.rule.Rule.TheVariants as rule
+use Rattle.cd_operators.specs.Tools.{IsZero}
+
+-- what the rules of operators need of an operand
+abbrev pub Needed : Rule → Set
+Needed rule.Comparison = BuiltIn DATA
+Needed rule.Sequence = IsSequence
+Needed rule.Operand = BuiltIn INT
+Needed rule.Divisor = λ d. IsZero d → ⊥
+Needed other = λ d. ⊥
+
+-- and those of the words
+abbrev pub WordNeeds : Word → Set
+WordNeeds word.Not = BuiltIn BOOL
+WordNeeds word.Flatten = IsListOf IsSequence
+WordNeeds word.IntOf = BuiltIn STRING
+WordNeeds word.StringOf = BuiltIn INT
+WordNeeds word.Raise = BuiltIn DATA
+
+abbrev pub rule_of : Word → Rule
+rule_of word.Not = rule.Condition
+rule_of word.Flatten = rule.Sequence
+rule_of word.IntOf = rule.Text
+rule_of word.StringOf = rule.Operand
+rule_of word.Raise = rule.Exception
+
+-- an element of the table is in the node, and is not what is needed
+pub record Misses (graph : Graph) (table : List Thing) (id : NodeId) (needed : Set)
+    (element : ElementId) : Type 0 where
+  pub named : Names table element
+  pub is_element : IsElement (element_at table element)
+  pub inside : elements_of graph id (element_at table element)
+  pub missed : needed (element_at table element) → ⊥
+
+abbrev pub operand : Side → (first second : NodeId) → NodeId
+operand side.First first second = first
+operand side.Second first second = second
+
+-- one operand is refused by a rule, which needs this of it
+abbrev pub IsMisfitOf : Graph → List Thing → Side → NodeId → (needed : Set) → Rule → Stop → Type 0
+IsMisfitOf graph table side id needed rule (stop.Misfit misfit) = (misfit.side ≡ side)
+    × (misfit.rule ≡ rule) × Misses graph table id needed misfit.element
+IsMisfitOf graph table side id needed rule stop.Memory = Unit {0}
+
+-- one of two is
+abbrev pub IsMisfitOfBoth : Graph → List Thing → (first second : NodeId) → (needed : Set) → Rule
+    → Stop → Type 0
+IsMisfitOfBoth graph table first second needed rule (stop.Misfit misfit) = (misfit.rule ≡ rule)
+    × Misses graph table (operand misfit.side first second) needed misfit.element
+IsMisfitOfBoth graph table first second needed rule stop.Memory = Unit {0}
+
+-- the element of a misfit is of the operand, and not what the rule needs of it
+abbrev pub IsMisfit : Graph → List Thing → (first second : NodeId) → Stop → Type 0
+IsMisfit graph table first second (stop.Misfit misfit) =
+    Misses graph table (operand misfit.side first second) (Needed misfit.rule) misfit.element
+IsMisfit graph table first second stop.Memory = Unit {0}
+
+abbrev pub IsMisfitOfWord : Graph → List Thing → Word → NodeId → Stop → Type 0
+IsMisfitOfWord graph table word id (stop.Misfit misfit) =
+    (misfit.rule ≡ rule_of word) × Misses graph table id (WordNeeds word) misfit.element
+IsMisfitOfWord graph table word id stop.Memory = Unit {0}

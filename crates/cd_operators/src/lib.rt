@@ -1,0 +1,15 @@
+//! The types of what operators give, and which operands they refuse.
+#![tactic(auto)]
+
+pub mod misfit;
+mod need;
+mod operators;
+pub mod rule;
+mod select;
+pub mod tools;
+mod word;
+
+pub use need::outside;
+pub use operators::operate;
+pub use select::{drop_field, take_field};
+pub use word::call;
