@@ -1,0 +1,1759 @@
+use Rattle.cd_operators.specs.declared.misfit.Side.TheVariants as side
+use Rattle.cd_operators.specs.declared.rule.Rule.TheVariants as rule
+use Rattle.cd_apply.specs.Applications.{IsResultNode, AreMappedInto}
+use Rattle.cd_apply.specs.declared.application.Applied.{Applied}
+use Rattle.cd_check.proofs.+check.Goals.{bodies::check_bodies-in_default, operands::check_items-in-Some+in_ok-add, bodies::check_bodies-in-Some-2+in_ok-add, operands::check_items-in_default}
+use Rattle.cd_check.proofs.After.{after_both, after_grown, after_later, after_none, after_same, after_growing}
+use Rattle.cd_check.proofs.Arguments.{argument_follows, tail_follows}
+use Rattle.cd_check.proofs.ArrowsKept.{KeptAt}
+use Rattle.cd_check.proofs.BodiesChecked.{none_taken, one_taken, later_two, ready_all, after_all, none_gives}
+use Rattle.cd_check.proofs.BodiesChecked.{hold_here, body_is_sound, one_gives, limit_later}
+use Rattle.cd_check.proofs.BodiesDone.{Done, there, is_sound, one_done, all_done}
+use Rattle.cd_check.proofs.BranchesGiven.{bodies_earlier, cover_earlier, covering_gives, bodies_from, lists_in, body_moved}
+use Rattle.cd_check.proofs.BranchesGiven.{built_in_below, none_passes, before_last, last_within, sequences_within}
+use Rattle.cd_check.proofs.Decided.{site_decides}
+use Rattle.cd_check.proofs.Divided.{they_cover, last_node, all_sited_later, sited_later}
+use Rattle.cd_check.proofs.ExprSizes.{size, size_exprs, size_item, size_items, size_fields, size_tail}
+use Rattle.cd_check.proofs.ExprSizes.{size_tails, size_branches, exprs_fall, items_fall, fields_fall, tails_fall}
+use Rattle.cd_check.proofs.ExprSizes.{branches_fall}
+use Rattle.cd_check.proofs.ExprViews.{item_one, item_splice, tail_without, tail_select}
+use Rattle.cd_check.proofs.FewerOperands.{operand_gives}
+use Rattle.cd_check.proofs.FormsWithBranches.{try_gives, match_gives, transform_gives, map_gives, let_gives, let_gives_none}
+use Rattle.cd_check.proofs.FromReady.{type_in}
+use Rattle.cd_check.proofs.FunctionsKept.{arrows_below, at_any, pair_at, one_kept, promise_kept, patterns_sound}
+use Rattle.cd_check.proofs.FunctionsKept.{function_sound, ready_named, whole_below, function_gives, arrow_given}
+use Rattle.cd_check.proofs.GivesSame.{gives_same}
+use Rattle.cd_check.proofs.KindViews.{kind_constant, kind_variable}
+use Rattle.cd_check.proofs.Looped.{one_expr, one_argument, one_item, one_tail, one_field}
+use Rattle.cd_check.proofs.Loops.{left_is, none_left_have}
+use Rattle.cd_check.proofs.NamedStops.{of_word}
+use Rattle.cd_check.proofs.NamesFound.{node_below, seen_has_node}
+use Rattle.cd_check.proofs.OperandsMade.{xml_gives, within_atom, within_record}
+use Rattle.cd_check.proofs.OperandsTyped.{item_steps, splice_steps}
+use Rattle.cd_check.proofs.ProgramViews.{field_expr, branch_body, function_promise}
+use Rattle.cd_check.proofs.ReadyLater.{later_of, ready_later}
+use Rattle.cd_check.proofs.RecordsLabelled.{are_labels, are_once, parts_count}
+use Rattle.cd_check.proofs.SidesHeld.{holds_earlier}
+use Rattle.cd_check.proofs.Sizes.{room_falls}
+use Rattle.cd_check.proofs.SoundAt.{item_at, tail_at, expr_at, field_at}
+use Rattle.cd_check.proofs.StopsNamed.{misfit_named, misfit_of_named}
+use Rattle.cd_check.proofs.Tests.{if_gives, is_truth, Side, short_gives, short_holds}
+use Rattle.cd_check.proofs.TruthNodes.{truth_held}
+use Rattle.cd_check.proofs.TypesLater.{types_later}
+use Rattle.cd_check.proofs.Variables.{variable_has}
+use Rattle.cd_check.proofs.Walks.{both_nodes, starts_on, goes_to_end}
+use Rattle.cd_check.specs.Inner.Bodies.{BodyGives}
+use Rattle.cd_check.specs.Inner.Divided.{IsSited, sited_pattern, coming_pattern, IsDivision}
+use Rattle.cd_check.specs.Inner.Environment.{Gives, Nodes}
+use Rattle.cd_check.specs.Inner.GoingOn.{GoesOn, LeadsOn, listed, Steps}
+use Rattle.cd_check.specs.Inner.Promises.{ArePairs}
+use Rattle.cd_check.specs.Inner.Ready.{IsAfter, seen_by, scope_of, declarations_of, names_seen}
+use Rattle.cd_check.specs.Inner.Sides.{HoldsSome, truth_node}
+use Rattle.cd_check.specs.Inner.SoundNames.{ItemsAreSound, AreSound, IsSound, TailsAreSound, KindIsSound, FieldsAreSound}
+use Rattle.cd_check.specs.declared.sites.Coming.{Coming}
+use Rattle.cd_elements.specs.Table.{element_at}
+use Rattle.cd_empty.specs.Seen.{graph_of, table_of}
+use Rattle.cd_forms.specs.Labels.{labels_of, AreLabels, AreOnce}
+use Rattle.cd_forms.specs.Unions.{IsInOne}
+use Rattle.cd_meaning.specs.Records.{HasFieldAt}
+use Rattle.cd_meaning.specs.Sequences.{IsSequence}
+use Rattle.cd_meaning.specs.Sets.{◌⊆◌, elements_of}
+use Rattle.cd_model.specs.AllOf.{AllOf}
+use Rattle.cd_model.specs.BuiltIns.{EMPTY, DATA, RECORD, BOOL}
+use Rattle.cd_model.specs.Formula.{Graph}
+use Rattle.cd_names.specs.ProgramFaults.{names_of, with_name}
+use Rattle.cd_program.specs.Expr.{Tails, tails_of, Kind, Exprs, exprs_of, Fields}
+use Rattle.cd_program.specs.Expr.{fields_of, Tail, Items, Expr, Item, AnItem}
+use Rattle.cd_program.specs.Expr.{One, Splice, items_of, branches_of}
+use Rattle.cd_program.specs.PlainExpr.{plain, plain_branches, plain_tail, plain_tails, plain_item, plain_items}
+use Rattle.cd_program.specs.PlainExpr.{plain_function, plain_kind, plain_exprs, plain_field, plain_branch, plain_fields}
+use Rattle.cd_program.specs.declared.expr.Expr.{Expr as CodeExpr}
+use Rattle.cd_program.specs.declared.expr.ExprKind.TheViews.{out-FunctionTree}
+use Rattle.cd_program.specs.declared.expr.FieldExpr.{FieldExpr as CodeField}
+use Rattle.cd_program.specs.declared.expr.Item.{Item as CodeItem}
+use Rattle.cd_program.specs.declared.expr.Tail.{Tail as CodeTail}
+use Rattle.cd_sets.specs.declared.node_id.NodeId.{NodeId}
+use Rattle.cd_sites.specs.Sites.{IsSite}
+use Rattle.cd_syntax.specs.PlainTree.{plain as plain_tree}
+use Rattle.cd_syntax.specs.TypeTree.{Tree}
+use Rattle.cd_typing.proofs.BuiltInSets.{built_in_within, node_within}
+use Rattle.cd_typing.proofs.Later.{later_in, below_later}
+use Rattle.cd_typing.proofs.Subsets.{through, itself}
+use Rattle.cd_typing.specs.Later.{IsLater}
+use Rattle.cd_typing.specs.Operators.{truth}
+use Rattle.cd_typing.specs.Results.{IsSequenceOf, IsTupleOf, IsXmlOf, IsRecordOf}
+use Rattle.cd_typing.specs.Typ.{typ, BuiltIn}
+use Rattle.cd_typing.specs.Typing.{ArgumentsHave, Has, FieldsHave, HaveAll, KindHas, TailsHave}
+use Rattle.cd_typing.specs.Typing.{ItemsHave, TailHas, ApplyHas}
+use Rattle.std.proofs.Common.{subst, List, sym, map, refl, ◌≡◌}
+use Rattle.std.proofs.Common.{◌∙◌, ◌∷◌, ◌-◌, ap, arith, drop}
+use Rattle.std.proofs.Common.{length, take, ◌<◌, ◌++◌, [], lit<}
+use Rattle.std.proofs.Common.{true, rules, suc, ◌+◌, Option, Vec}
+use Rattle.std.proofs.Common.{Global, append-nil, not, Some, None, get_or}
+use Rattle.std.proofs.lemmas.List.{length-drop, take_all, length-map, drop_all}
+use Rattle.std.proofs.lemmas.Result.{IfOk-weaker, on_ok_weaker}
+use Rattle.std.specs.Slice.{IsItemAt}
+use Rattle.cd_check.proofs.BodiesDone.{is_sited}
+use Rattle.cd_check.proofs.BodiesDone.{matched_below}
+use Rattle.cd_check.proofs.FunctionsKept.{branches_sound}
+use Rattle.cd_check.proofs.ProgramViews.{function_is}
+use Rattle.cd_check.proofs.ExprSizes.{size_function}
+use Rattle.cd_check.proofs.+check.Goals as goal
+
+pub test::check_if-returns-clause-after : goal.test::check_if-returns-clause-after
+test::check_if-returns-clause-after t c =
+    let base = c.args.base.now in
+    let locals = c.args.locals.now in
+    let old = graph_of c.args.world.now in
+    let first = after_same base locals old (graph_of c.check.new.world) (graph_of c.need_at.new.world) c.in_ok-tested.ensures.after
+    c.need_at.ensures.graph in
+    let second = after_both base locals old (graph_of c.need_at.new.world) (graph_of c.check_side.new.world) first c.in_ok-one.ensures.after in
+    let third = after_both base locals old (graph_of c.check_side.new.world) (graph_of c.check_side-2.new.world) second
+    c.in_ok-other.ensures.after in
+    after_grown base locals old c.check_side-2.new.world c.either.new.world third c.either.ensures.grows c.either.ensures.sound
+
+pub test::check_if-returns-clause-gives : goal.test::check_if-returns-clause-gives
+test::check_if-returns-clause-gives t c =
+    let base = c.args.base.now in
+    let locals = c.args.locals.now in
+    let old = graph_of c.args.world.now in
+    let nodes = seen_by base locals in
+    let tested = c.in_ok-tested.tested in
+    let first = after_same base locals old (graph_of c.check.new.world) (graph_of c.need_at.new.world) c.in_ok-tested.ensures.after
+    c.need_at.ensures.graph in
+    let second = after_both base locals old (graph_of c.need_at.new.world) (graph_of c.check_side.new.world) first c.in_ok-one.ensures.after in
+    let third = after_both base locals old (graph_of c.check_side.new.world) (graph_of c.check_side-2.new.world) second
+    c.in_ok-other.ensures.after in
+    let last = after_grown base locals old c.check_side-2.new.world c.either.new.world third c.either.ensures.grows c.either.ensures.sound in
+    let condition = c.in_ok-tested.ensures.after.ready in
+    if_gives (scope_of base) nodes old c.requires.ready.sound c.requires.ready.nodes (plain c.args.condition.now) tested
+    (graph_of c.need_at.new.world) first.later
+    (gives_same old nodes (graph_of c.check.new.world) (graph_of c.need_at.new.world) c.need_at.ensures.graph
+    (λ types t. Has (scope_of base) types (plain c.args.condition.now) t) tested c.in_ok-tested.ensures.gives)
+    (subst (λ (whole : Graph). elements_of whole tested ⊆ BuiltIn BOOL) (sym c.need_at.ensures.graph)
+    (through (elements_of (graph_of c.check.new.world) tested) (elements_of (graph_of c.check.new.world) BOOL) (BuiltIn BOOL)
+    c.in_ok-need_at.ensures.within (node_within (graph_of c.check.new.world) condition.more condition.begins BOOL (lit< tt))))
+    (plain c.args.then_one.now) (plain c.args.else_one.now) (graph_of c.check_side.new.world) (graph_of c.check_side-2.new.world)
+    (graph_of c.either.new.world) c.in_ok-one.ensures.after.later c.in_ok-one.one c.in_ok-other.other c.in_ok-one.ensures.gives
+    c.in_ok-other.ensures.gives c.in_ok-either.field-0
+    (type_in base (graph_of c.either.new.world) locals last.ready c.in_ok-either.field-0 c.in_ok-either.ensures.node)
+    (holds_earlier (scope_of base) nodes (graph_of c.need_at.new.world) (elements_of (graph_of c.need_at.new.world) tested) true
+    (plain c.args.then_one.now) (graph_of c.check_side.new.world) (graph_of c.check_side-2.new.world) (graph_of c.either.new.world)
+    c.in_ok-other.ensures.after.later c.in_ok-one.ensures.after.ready.sound c.in_ok-one.one c.in_ok-one.ensures.gives c.in_ok-either.field-0
+    c.in_ok-either.ensures.one)
+    c.in_ok-either.ensures.other first.ready.nodes
+
+pub test::check_short-returns-clause-after : goal.test::check_short-returns-clause-after
+test::check_short-returns-clause-after t c =
+    let base = c.args.base.now in
+    let locals = c.args.locals.now in
+    let old = graph_of c.args.world.now in
+    let first = after_same base locals old old (graph_of c.need_at.new.world) (after_none base locals old c.requires.ready) c.need_at.ensures.graph in
+    let second = after_both base locals old (graph_of c.need_at.new.world) (graph_of c.check_side.new.world) first c.in_ok-long.ensures.after in
+    let third = after_same base locals old (graph_of c.check_side.new.world) (graph_of c.short_side.new.world) second c.short_side.ensures.graph in
+    after_grown base locals old c.short_side.new.world c.either.new.world third c.either.ensures.grows c.either.ensures.sound
+
+pub test::check_short-returns-clause-gives : goal.test::check_short-returns-clause-gives
+test::check_short-returns-clause-gives t c =
+    let base = c.args.base.now in
+    let locals = c.args.locals.now in
+    let old = graph_of c.args.world.now in
+    let nodes = seen_by base locals in
+    let tested = c.args.first in
+    let met = c.args.met in
+    let e = plain c.args.expr.now in
+    let after = after_same base locals old old (graph_of c.need_at.new.world) (after_none base locals old c.requires.ready) c.need_at.ensures.graph in
+    let second = after_both base locals old (graph_of c.need_at.new.world) (graph_of c.check_side.new.world) after c.in_ok-long.ensures.after in
+    let third = after_same base locals old (graph_of c.check_side.new.world) (graph_of c.short_side.new.world) second c.short_side.ensures.graph in
+    let last = after_grown base locals old c.short_side.new.world c.either.new.world third c.either.ensures.grows c.either.ensures.sound in
+    let result = c.in_ok-either.field-0 in
+    let ready = c.requires.ready in
+    let side : Side (scope_of base) nodes old (elements_of old tested) met e (graph_of c.check_side.new.world) c.in_ok-long.long =
+    subst (λ (whole : Graph). Side (scope_of base) nodes whole (elements_of whole tested) met e (graph_of c.check_side.new.world) c.in_ok-long.long)
+    c.need_at.ensures.graph c.in_ok-long.ensures.gives in
+    short_gives (scope_of base) nodes old ready.sound ready.nodes tested
+    (through (elements_of old tested) (elements_of old BOOL) (BuiltIn BOOL) c.in_ok-need_at.ensures.within
+    (node_within old ready.more ready.begins BOOL (lit< tt))) e (graph_of c.check_side.new.world) (graph_of c.either.new.world) result
+    (type_in base (graph_of c.either.new.world) locals last.ready result c.in_ok-either.ensures.node) met c.in_ok-long.long side
+    (subst (λ (whole : Graph). HoldsSome whole (graph_of c.either.new.world) c.in_ok-long.long result) c.short_side.ensures.graph
+    c.in_ok-either.ensures.other)
+    (λ may. short_holds (graph_of c.check_side.new.world) (graph_of c.either.new.world) tested (truth_node base (not met)) (not met)
+    c.in_ok-short.short result (truth_held base (graph_of c.check_side.new.world) locals second.ready (not met)) c.in_ok-short.ensures.side
+    (subst (λ (whole : Graph). HoldsSome whole (graph_of c.either.new.world) c.in_ok-short.short result) c.short_side.ensures.graph
+    c.in_ok-either.ensures.one)
+    (later_in old (graph_of c.check_side.new.world) second.later ready.sound tested c.requires.first (truth (not met)) (is_truth (not met)) may))
+
+pub test::check_side-returns-clause-gives : goal.test::check_side-returns-clause-gives
+test::check_side-returns-clause-gives t c = λ may. let value = truth c.args.value in
+    c.in_ok-may_be.ensures.apart c.if-branch.false value (is_truth c.args.value) may
+    (subst (λ (id : NodeId). elements_of (graph_of c.args.world.now) id value) (sym c.truth.ensures)
+    (truth_held c.args.base.now (graph_of c.args.world.now) c.args.locals.now c.requires.ready c.args.value value (is_truth c.args.value) refl))
+
+pub expr::check_call-returns-in-Ok-clause-after : goal.expr::check_call-returns-in-Ok-clause-after
+expr::check_call-returns-in-Ok-clause-after t c = after_grown c.args.base.now c.args.locals.now (graph_of c.args.world.now) c.check.new.world c.call.new.world
+    c.in_ok-id.ensures.after c.call.ensures.grows c.call.ensures.sound
+
+pub expr::check_call-returns-in-Ok-clause-gives : goal.expr::check_call-returns-in-Ok-clause-gives
+expr::check_call-returns-in-Ok-clause-gives t c =
+    let after = after_grown c.args.base.now c.args.locals.now (graph_of c.args.world.now) c.check.new.world c.call.new.world
+    c.in_ok-id.ensures.after c.call.ensures.grows c.call.ensures.sound in record {
+      is_type = type_in c.args.base.now (graph_of c.call.new.world) c.args.locals.now after.ready c.in-Ok.result c.in-Ok.ensures.node;
+      has = λ types of. (
+        typ (graph_of c.check.new.world) c.in_ok-id.id,
+        c.in_ok-id.ensures.gives.is_type,
+        c.in_ok-id.ensures.gives.has types of,
+        c.in-Ok.ensures.gives,
+      );
+    }
+
+pub expr::check_call-returns-in-Err-clause-fault : goal.expr::check_call-returns-in-Err-clause-fault
+expr::check_call-returns-in-Err-clause-fault t c = c.placed.ensures (table_of c.call.new.world)
+    (of_word (graph_of c.check.new.world) (table_of c.call.new.world) c.args.word c.in_ok-id.id c.in-Err.stop c.in-Err.ensures.misfit)
+
+pub operands::check_tuple-returns-clause-after : goal.operands::check_tuple-returns-clause-after
+operands::check_tuple-returns-clause-after t c = after_grown c.args.base.now c.args.locals.now (graph_of c.args.world.now) c.check_exprs.new.world c.tuple.new.world
+    c.in_ok-parts.ensures.after c.in_ok-tuple.ensures.grows c.in_ok-tuple.ensures.sound
+
+pub operands::check_tuple-returns-clause-gives : goal.operands::check_tuple-returns-clause-gives
+operands::check_tuple-returns-clause-gives t c =
+    let base = c.args.base.now in
+    let locals = c.args.locals.now in
+    let made = graph_of c.tuple.new.world in
+    let id = c.in_ok-tuple.field-0 in
+    let parts = graph_of c.check_exprs.new.world in
+    let ready = (after_grown base locals (graph_of c.args.world.now) c.check_exprs.new.world c.tuple.new.world
+    c.in_ok-parts.ensures.after c.in_ok-tuple.ensures.grows c.in_ok-tuple.ensures.sound).ready in record {
+      is_type = type_in base made locals ready id c.in_ok-tuple.ensures.node;
+      has = λ types of. (
+        map (typ parts) c.in_ok-parts.parts.items,
+        c.in_ok-parts.ensures.gives.have_types types of,
+        subst (λ (ids : List NodeId). IsTupleOf (map (typ parts) ids) ⊆ elements_of made id) c.as_slice.ensures.value
+            c.in_ok-tuple.ensures.has,
+      );
+    }
+
+pub operands::check_exprs-loop-expr-init : goal.operands::check_exprs-loop-expr-init
+operands::check_exprs-loop-expr-init t c =
+    let base = c.args.base.now in
+    let locals = c.args.locals.now in
+    let old = graph_of c.args.world.now in
+    let nodes = seen_by base locals in
+    let all = plain_exprs c.args.exprs.now in (
+      after_none base locals old c.requires.ready,
+      subst (λ (left : Exprs). GoesOn (HaveAll (scope_of base)) old nodes old all left c.new-parts.result.items) (sym c.items-expr-items.ensures)
+          (subst (λ (ids : List NodeId). GoesOn (HaveAll (scope_of base)) old nodes old all all ids) (sym c.new-parts.ensures.items)
+          (starts_on (HaveAll (scope_of base)) old nodes all)),
+    )
+
+pub operands::check_exprs-loop-expr-preserved : goal.operands::check_exprs-loop-expr-preserved
+operands::check_exprs-loop-expr-preserved t c =
+    let base = c.args.base.now in
+    let locals = c.args.locals.now in
+    let old = graph_of c.args.world.now in
+    let now = graph_of c.loop-expr.world in
+    let new = graph_of c.check.new.world in
+    let nodes = seen_by base locals in
+    let all = plain_exprs c.args.exprs.now in
+    let items = c.items-expr-items.result.now in
+    let index = c.loop-expr.expr-index in
+    let before = c.loop-expr.invariant in
+    let step = c.in_ok-id.ensures in (
+      after_both base locals old now new before.0 step.after,
+      subst (λ (ids : List NodeId). GoesOn (HaveAll (scope_of base)) old nodes new all (exprs_of (map plain (drop (index + 1) items))) ids)
+          (sym c.in_ok-add.ensures)
+          (one_expr (scope_of base) old c.requires.ready.sound nodes c.requires.ready.nodes now new before.0.later step.after.later
+          all items index c.expr-item.result c.expr-item.is c.loop-expr-test.true c.loop-expr.parts.items c.in_ok-id.id before.1 step.gives),
+    )
+
+pub operands::check_exprs-returns-clause-gives : goal.operands::check_exprs-returns-clause-gives
+operands::check_exprs-returns-clause-gives t c =
+    let base = c.args.base.now in
+    let items = c.items-expr-items.result.now in
+    let index = c.loop-expr.expr-index in
+    let before = c.loop-expr.invariant in record {
+      are_nodes = before.1.done_nodes;
+      have_types = λ types of. goes_to_end (HaveAll (scope_of base)) (graph_of c.args.world.now) (seen_by base c.args.locals.now)
+          (graph_of c.loop-expr.world) before.0.ready.sound (plain_exprs c.args.exprs.now) (exprs_of (map plain (drop index items)))
+          c.loop-expr.parts.items before.1 types of
+          (subst (λ (rest : List CodeExpr). HaveAll (scope_of base) types (exprs_of (map plain rest)) [])
+          (sym (drop_all index items c.loop-expr-test.false)) tt);
+    }
+
+pub operands::check_exprs-returns-clause-after : goal.operands::check_exprs-returns-clause-after
+operands::check_exprs-returns-clause-after t c = c.loop-expr.invariant.0
+
+pub operands::check_sequence-returns-clause-after : goal.operands::check_sequence-returns-clause-after
+operands::check_sequence-returns-clause-after t c = after_grown c.args.base.now c.args.locals.now (graph_of c.args.world.now) c.check_items.new.world c.sequence.new.world
+    c.in_ok-parts.ensures.after c.in_ok-sequence.ensures.grows c.in_ok-sequence.ensures.sound
+
+pub operands::check_sequence-returns-clause-gives : goal.operands::check_sequence-returns-clause-gives
+operands::check_sequence-returns-clause-gives t c =
+    let base = c.args.base.now in
+    let locals = c.args.locals.now in
+    let made = graph_of c.sequence.new.world in
+    let id = c.in_ok-sequence.field-0 in
+    let types_of_parts = map (typ (graph_of c.check_items.new.world)) c.in_ok-parts.parts.items in
+    let ready = (after_grown base locals (graph_of c.args.world.now) c.check_items.new.world c.sequence.new.world
+    c.in_ok-parts.ensures.after c.in_ok-sequence.ensures.grows c.in_ok-sequence.ensures.sound).ready in record {
+      is_type = type_in base made locals ready id c.in_ok-sequence.ensures.node;
+      has = λ types of. (
+        types_of_parts,
+        c.in_ok-parts.ensures.gives.have_types types of,
+        subst (λ (items : Items). IsSequenceOf items types_of_parts ⊆ elements_of made id) c.items.ensures c.in_ok-sequence.ensures.has,
+      );
+    }
+
+pub operands::check_items-loop-item-init : goal.operands::check_items-loop-item-init
+operands::check_items-loop-item-init t c =
+    let base = c.args.base.now in
+    let locals = c.args.locals.now in
+    let old = graph_of c.args.world.now in
+    let nodes = seen_by base locals in
+    let all = plain_items c.args.items.now in (
+      after_none base locals old c.requires.ready,
+      subst (λ (left : Items). GoesOn (ItemsHave (scope_of base)) old nodes old all left c.new-parts.result.items) (sym c.items-item-items.ensures)
+          (subst (λ (ids : List NodeId). GoesOn (ItemsHave (scope_of base)) old nodes old all all ids) (sym c.new-parts.ensures.items)
+          (starts_on (ItemsHave (scope_of base)) old nodes all)),
+    )
+
+pub operands::check_items-loop-item-preserved : goal.operands::check_items-loop-item-preserved
+operands::check_items-loop-item-preserved t c =
+    let base = c.args.base.now in
+    let locals = c.args.locals.now in
+    let old = graph_of c.args.world.now in
+    let now = graph_of c.loop-item.world in
+    let new = graph_of c.check_item.new.world in
+    let nodes = seen_by base locals in
+    let all = plain_items c.args.items.now in
+    let items = c.items-item-items.result.now in
+    let index = c.loop-item.item-index in
+    let before = c.loop-item.invariant in
+    let step = c.in_ok-id.ensures in
+    let done = c.loop-item.parts.items in
+    let found = c.in_ok-id.field-0 in
+    let same : c.match-branch-2.parts.items ≡ done ++ listed found = elim c.match-branch-2.branch [
+      | operands::check_items-in-Some+in_ok-add w ↦ ap (λ (parts : Vec NodeId Global). parts.items) w.parts-is ∙ w.in_ok-add.ensures
+          ∙ ap (λ (one : Option NodeId). done ++ listed one) (sym w.in-Some.is)
+      | operands::check_items-in_default w ↦ ap (λ (parts : Vec NodeId Global). parts.items) w.parts-is ∙ sym (append-nil done)
+          ∙ ap (λ (one : Option NodeId). done ++ listed one) (sym w.in_default.is)
+    ] in (
+      after_both base locals old now new before.0 step.after,
+      subst (λ (ids : List NodeId). GoesOn (ItemsHave (scope_of base)) old nodes new all (items_of (map plain_item (drop (index + 1) items))) ids)
+          (sym same)
+          (one_item (scope_of base) old c.requires.ready.sound nodes c.requires.ready.nodes now new before.0.later step.after.later
+          all items index c.item-item.result c.item-item.is c.loop-item-test.true done (listed found) before.1 step.gives),
+    )
+
+pub operands::check_items-returns-clause-gives : goal.operands::check_items-returns-clause-gives
+operands::check_items-returns-clause-gives t c =
+    let base = c.args.base.now in
+    let items = c.items-item-items.result.now in
+    let index = c.loop-item.item-index in
+    let before = c.loop-item.invariant in record {
+      are_nodes = before.1.done_nodes;
+      have_types = λ types of. goes_to_end (ItemsHave (scope_of base)) (graph_of c.args.world.now) (seen_by base c.args.locals.now)
+          (graph_of c.loop-item.world) before.0.ready.sound (plain_items c.args.items.now) (items_of (map plain_item (drop index items)))
+          c.loop-item.parts.items before.1 types of
+          (subst (λ (rest : List CodeItem). ItemsHave (scope_of base) types (items_of (map plain_item rest)) [])
+          (sym (drop_all index items c.loop-item-test.false)) tt);
+    }
+
+pub operands::check_items-returns-clause-after : goal.operands::check_items-returns-clause-after
+operands::check_items-returns-clause-after t c = c.loop-item.invariant.0
+
+pub operands::check_item-returns-in_ok-check-in-One-clause-gives : goal.operands::check_item-returns-in_ok-check-in-One-clause-gives
+operands::check_item-returns-in_ok-check-in-One-clause-gives t c =
+    let scope = scope_of c.args.base.now in
+    let nodes = seen_by c.args.base.now c.args.locals.now in
+    let old = graph_of c.args.world.now in
+    let new = graph_of c.check.new.world in
+    let id = c.in_ok-check-in-One.field-0 in
+    let step = c.in_ok-check-in-One.ensures in
+    let e = plain c.deref.result.now in
+    let same : plain_item c.args.item.now ≡ One e = ap plain_item c.in-One.is ∙ item_one c.in-One.expr
+    ∙ ap (λ (is : CodeExpr). One (plain is)) (sym c.deref.ensures) in
+    λ rest. subst (λ (item : Item). Steps (ItemsHave scope) old nodes new (AnItem item rest) rest (id ∷ [])) (sym same)
+    (item_steps scope old nodes new step.after.ready.sound e id step.gives rest)
+
+pub operands::check_item-returns-in_ok-need_at-in-Splice-clause-gives : goal.operands::check_item-returns-in_ok-need_at-in-Splice-clause-gives
+operands::check_item-returns-in_ok-need_at-in-Splice-clause-gives t c =
+    let scope = scope_of c.args.base.now in
+    let nodes = seen_by c.args.base.now c.args.locals.now in
+    let old = graph_of c.args.world.now in
+    let middle = graph_of c.check-in-Splice.new.world in
+    let new = graph_of c.need_at.new.world in
+    let id = c.in_ok-id-in-Splice.id in
+    let step = c.in_ok-id-in-Splice.ensures in
+    let e = plain c.deref-in-Splice.result.now in
+    let sequences = c.args.base.now.tools.sequences in
+    let same : plain_item c.args.item.now ≡ Splice e = ap plain_item c.in-Splice.is ∙ item_splice c.in-Splice.expr
+    ∙ ap (λ (is : CodeExpr). Splice (plain is)) (sym c.deref-in-Splice.ensures) in
+    λ rest. subst (λ (g : Graph). Steps (ItemsHave scope) old nodes g (AnItem (plain_item c.args.item.now) rest) rest (id ∷ []))
+    (sym c.in_ok-need_at-in-Splice.ensures.graph)
+    (subst (λ (item : Item). Steps (ItemsHave scope) old nodes middle (AnItem item rest) rest (id ∷ [])) (sym same)
+    (splice_steps scope old nodes middle step.after.ready.sound e id step.gives
+    (through (elements_of middle id) (elements_of middle sequences) IsSequence c.in_ok-need_at-in-Splice.ensures.within
+    step.after.ready.tools.are_sequences) rest))
+
+pub operands::check_record-record-requires-clause-labels : goal.operands::check_record-record-requires-clause-labels
+operands::check_record-record-requires-clause-labels t c = subst (λ (fields : Fields). AreLabels fields) (sym c.items.ensures)
+    (are_labels (declarations_of c.args.base.now) (names_seen c.args.base.now c.args.locals.now) (plain_fields c.args.fields.now)
+    c.requires.sound)
+
+pub operands::check_record-record-requires-clause-differ : goal.operands::check_record-record-requires-clause-differ
+operands::check_record-record-requires-clause-differ t c = subst (λ (fields : Fields). AreOnce (labels_of fields)) (sym c.items.ensures)
+    (are_once (declarations_of c.args.base.now) (names_seen c.args.base.now c.args.locals.now) (plain_fields c.args.fields.now)
+    c.requires.sound)
+
+pub operands::check_record-record-requires-clause-count : goal.operands::check_record-record-requires-clause-count
+operands::check_record-record-requires-clause-count t c =
+    let scope = scope_of c.args.base.now in
+    let items = c.items.result.now in
+    let ids = c.in_ok-parts.parts.items in
+    let new = graph_of c.check_fields.new.world in
+    ap (λ (all : List NodeId). length all) c.as_slice.ensures.value
+    ∙ parts_count scope (graph_of c.args.world.now) new (seen_by c.args.base.now c.args.locals.now) (map plain_field items) ids
+    (λ types of. subst (λ (fields : Fields). FieldsHave scope types fields (map (typ new) ids)) (sym c.items.ensures)
+    (c.in_ok-parts.ensures.gives.have_types types of))
+    ∙ length-map items plain_field
+
+pub operands::check_record-returns-clause-after : goal.operands::check_record-returns-clause-after
+operands::check_record-returns-clause-after t c = after_grown c.args.base.now c.args.locals.now (graph_of c.args.world.now) c.check_fields.new.world c.record.new.world
+    c.in_ok-parts.ensures.after c.in_ok-record.ensures.grows c.in_ok-record.ensures.sound
+
+pub operands::check_record-returns-clause-gives : goal.operands::check_record-returns-clause-gives
+operands::check_record-returns-clause-gives t c =
+    let base = c.args.base.now in
+    let locals = c.args.locals.now in
+    let made = graph_of c.record.new.world in
+    let id = c.in_ok-record.field-0 in
+    let parts = graph_of c.check_fields.new.world in
+    let ids = c.in_ok-parts.parts.items in
+    let ready = (after_grown base locals (graph_of c.args.world.now) c.check_fields.new.world c.record.new.world
+    c.in_ok-parts.ensures.after c.in_ok-record.ensures.grows c.in_ok-record.ensures.sound).ready in record {
+      is_type = type_in base made locals ready id c.in_ok-record.ensures.node;
+      has = λ types of. (
+        map (typ parts) ids,
+        c.in_ok-parts.ensures.gives.have_types types of,
+        subst (λ (fields : Fields). IsRecordOf fields (map (typ parts) ids) ⊆ elements_of made id) c.items.ensures
+            (subst (λ (all : List NodeId). IsRecordOf (fields_of (map plain_field c.items.result.now)) (map (typ parts) all)
+            ⊆ elements_of made id) c.as_slice.ensures.value c.in_ok-record.ensures.has),
+      );
+    }
+
+pub operands::check_fields-loop-field-init : goal.operands::check_fields-loop-field-init
+operands::check_fields-loop-field-init t c =
+    let base = c.args.base.now in
+    let locals = c.args.locals.now in
+    let old = graph_of c.args.world.now in
+    let nodes = seen_by base locals in
+    let all = plain_fields c.args.fields.now in (
+      after_none base locals old c.requires.ready,
+      subst (λ (left : Fields). GoesOn (FieldsHave (scope_of base)) old nodes old all left c.new-parts.result.items) (sym c.items-field-items.ensures)
+          (subst (λ (ids : List NodeId). GoesOn (FieldsHave (scope_of base)) old nodes old all all ids) (sym c.new-parts.ensures.items)
+          (starts_on (FieldsHave (scope_of base)) old nodes all)),
+    )
+
+pub operands::check_fields-loop-field-preserved : goal.operands::check_fields-loop-field-preserved
+operands::check_fields-loop-field-preserved t c =
+    let base = c.args.base.now in
+    let locals = c.args.locals.now in
+    let old = graph_of c.args.world.now in
+    let now = graph_of c.loop-field.world in
+    let new = graph_of c.check.new.world in
+    let nodes = seen_by base locals in
+    let all = plain_fields c.args.fields.now in
+    let items = c.items-field-items.result.now in
+    let index = c.loop-field.field-index in
+    let before = c.loop-field.invariant in
+    let step = c.in_ok-id.ensures in (
+      after_both base locals old now new before.0 step.after,
+      subst (λ (ids : List NodeId). GoesOn (FieldsHave (scope_of base)) old nodes new all (fields_of (map plain_field (drop (index + 1) items))) ids)
+          (sym c.in_ok-add.ensures)
+          (one_field (scope_of base) old c.requires.ready.sound nodes c.requires.ready.nodes now new before.0.later step.after.later
+          all items index c.field-item.result c.field-item.is c.loop-field-test.true c.loop-field.parts.items c.in_ok-id.id before.1
+          (subst (λ (e : Expr). Gives now nodes new (λ types t. Has (scope_of base) types e t) c.in_ok-id.id)
+          (sym (field_expr c.field-item.result)) step.gives)),
+    )
+
+pub operands::check_fields-returns-clause-gives : goal.operands::check_fields-returns-clause-gives
+operands::check_fields-returns-clause-gives t c =
+    let base = c.args.base.now in
+    let items = c.items-field-items.result.now in
+    let index = c.loop-field.field-index in
+    let before = c.loop-field.invariant in record {
+      are_nodes = before.1.done_nodes;
+      have_types = λ types of. goes_to_end (FieldsHave (scope_of base)) (graph_of c.args.world.now) (seen_by base c.args.locals.now)
+          (graph_of c.loop-field.world) before.0.ready.sound (plain_fields c.args.fields.now) (fields_of (map plain_field (drop index items)))
+          c.loop-field.parts.items before.1 types of
+          (subst (λ (rest : List CodeField). FieldsHave (scope_of base) types (fields_of (map plain_field rest)) [])
+          (sym (drop_all index items c.loop-field-test.false)) tt);
+    }
+
+pub operands::check_fields-returns-clause-after : goal.operands::check_fields-returns-clause-after
+operands::check_fields-returns-clause-after t c = c.loop-field.invariant.0
+
+pub operands::check_xml-returns-clause-after : goal.operands::check_xml-returns-clause-after
+operands::check_xml-returns-clause-after t c =
+    let base = c.args.base.now in
+    let locals = c.args.locals.now in
+    let old = graph_of c.args.world.now in
+    let first = graph_of c.check.new.world in
+    let second = graph_of c.check-2.new.world in
+    let third = graph_of c.check-3.new.world in
+    let fourth = graph_of c.need_at.new.world in
+    let fifth = graph_of c.need_at-2.new.world in
+    after_grown base locals old c.need_at-2.new.world c.xml.new.world
+    (after_same base locals old fourth fifth
+    (after_same base locals old third fourth
+    (after_both base locals old second third
+    (after_both base locals old first second c.in_ok-first.ensures.after c.in_ok-second.ensures.after)
+    c.in_ok-third.ensures.after)
+    c.in_ok-need_at.ensures.graph)
+    c.in_ok-need_at-2.ensures.graph)
+    c.in_ok-xml.ensures.grows c.in_ok-xml.ensures.sound
+
+pub operands::check_xml-returns-clause-gives : goal.operands::check_xml-returns-clause-gives
+operands::check_xml-returns-clause-gives t c =
+    let base = c.args.base.now in
+    let locals = c.args.locals.now in
+    let old = graph_of c.args.world.now in
+    let first = graph_of c.check.new.world in
+    let second = graph_of c.check-2.new.world in
+    let third = graph_of c.check-3.new.world in
+    let last = graph_of c.xml.new.world in
+    let tag = c.in_ok-first.first in
+    let attributes = c.in_ok-second.second in
+    let content = c.in_ok-third.third in
+    let made = c.in_ok-xml.field-0 in
+    let ready = c.in_ok-third.ensures.after.ready in
+    let same = c.in_ok-need_at.ensures.graph in
+    let both_same = c.in_ok-need_at-2.ensures.graph ∙ same in
+    let new = (after_grown base locals third c.need_at-2.new.world c.xml.new.world
+    (after_same base locals third third (graph_of c.need_at-2.new.world) (after_none base locals third ready) both_same)
+    c.in_ok-xml.ensures.grows c.in_ok-xml.ensures.sound).ready in
+    xml_gives (scope_of base) (seen_by base locals) old first second third last c.requires.ready.sound c.requires.ready.nodes
+    c.in_ok-first.ensures.after.later c.in_ok-second.ensures.after.later c.in_ok-third.ensures.after.later
+    (plain c.args.tag.now) (plain c.args.attributes.now) (plain c.args.content.now) tag attributes content made
+    c.in_ok-first.ensures.gives c.in_ok-second.ensures.gives c.in_ok-third.ensures.gives
+    (within_atom base third locals ready tag c.in_ok-need_at.ensures.within)
+    (within_record base third locals ready attributes (subst (λ (g : Graph). elements_of g attributes ⊆ elements_of g RECORD) same
+    c.in_ok-need_at-2.ensures.within))
+    (subst (λ (g : Graph). IsXmlOf (elements_of g tag) (elements_of g attributes) (elements_of g content) ⊆ elements_of last made)
+    both_same c.in_ok-xml.ensures.has)
+    (type_in base last locals new made c.in_ok-xml.ensures.node)
+
+pub expr::check_kind-unreachable-requires : goal.expr::check_kind-unreachable-requires
+expr::check_kind-unreachable-requires t c =
+    let base = c.args.base.now in
+    let locals = c.args.locals.now in
+    let name = c.in-Variable.name in
+    seen_has_node (seen_by base locals) name
+    (subst (λ (kind : Kind). KindIsSound (declarations_of base) (names_seen base locals) kind)
+    (ap plain_kind c.in-Variable.is ∙ kind_variable name) c.requires.sound)
+    (sym c.find.ensures ∙ c.in-None.is)
+
+pub expr::check_kind-returns-in_ok-constant_node-in-Constant-clause-after : goal.expr::check_kind-returns-in_ok-constant_node-in-Constant-clause-after
+expr::check_kind-returns-in_ok-constant_node-in-Constant-clause-after t c =
+    let base = c.args.base.now in
+    let locals = c.args.locals.now in
+    let old = graph_of c.args.world.now in
+    let step = c.in_ok-constant_node-in-Constant.ensures in
+    after_grown base locals old c.args.world.now c.constant_node.new.world (after_none base locals old c.requires.ready) step.grows step.sound
+
+pub expr::check_kind-returns-in_ok-constant_node-in-Constant-clause-gives : goal.expr::check_kind-returns-in_ok-constant_node-in-Constant-clause-gives
+expr::check_kind-returns-in_ok-constant_node-in-Constant-clause-gives t c =
+    let base = c.args.base.now in
+    let locals = c.args.locals.now in
+    let old = graph_of c.args.world.now in
+    let new = graph_of c.constant_node.new.world in
+    let id = c.in_ok-constant_node-in-Constant.field-0 in
+    let step = c.in_ok-constant_node-in-Constant.ensures in
+    let ready = (after_grown base locals old c.args.world.now c.constant_node.new.world (after_none base locals old c.requires.ready)
+    step.grows step.sound).ready in
+    subst (λ (kind : Kind). Gives old (seen_by base locals) new (λ types t. KindHas (scope_of base) types kind t) id)
+    (sym (ap plain_kind c.in-Constant.is ∙ kind_constant c.in-Constant.is'))
+    (record { is_type = type_in base new locals ready id step.node; has = λ types of. step.has })
+
+pub expr::check_kind-returns-in-Some-clause-gives : goal.expr::check_kind-returns-in-Some-clause-gives
+expr::check_kind-returns-in-Some-clause-gives t c =
+    let base = c.args.base.now in
+    let locals = c.args.locals.now in
+    let old = graph_of c.args.world.now in
+    let nodes = seen_by base locals in
+    let ready = c.requires.ready in
+    let name = c.in-Variable.name in
+    let id = c.in-Some.id in
+    let at = sym c.find.ensures ∙ c.in-Some.is in
+    subst (λ (kind : Kind). Gives old nodes old (λ types t. KindHas (scope_of base) types kind t) id)
+    (sym (ap plain_kind c.in-Variable.is ∙ kind_variable name))
+    (record {
+      is_type = type_in base old locals ready id (node_below old nodes ready.nodes name id at);
+      has = λ types of. variable_has old nodes types of name id at;
+    })
+
+pub chain::check_apply-returns-clause-gives : goal.chain::check_apply-returns-clause-gives
+chain::check_apply-returns-clause-gives t c =
+    let old = graph_of c.args.world.now in
+    let first = graph_of c.check.new.world in
+    let new = graph_of c.check_arguments.new.world in
+    let nodes = seen_by c.args.base.now c.args.locals.now in
+    let function = c.in_ok-id-in-len1-up.id in
+    let step = c.in_ok-id-in-len1-up.ensures in
+    let items = c.items.result.now in
+    let count = length-drop 1 items in
+    let whole : items ≡ c.function-item.result ∷ take (length items - 1) (drop 1 items) =
+    left_is items 0 c.function-item.result c.function-item.is c.in-len1-up.len_at_least
+    ∙ ap (λ (rest : List CodeExpr). c.function-item.result ∷ rest)
+    (sym (take_all (length items - 1) (drop 1 items) (omega (arith, count)))) in
+    IfOk-weaker c.check_arguments.result _ _
+    (λ id gives. record {
+      is_type = gives.is_type;
+      has = λ types of. subst (λ (exprs : Exprs). ApplyHas (scope_of c.args.base.now) types exprs (typ new id))
+          (ap (λ (all : List CodeExpr). exprs_of (map plain all)) (sym whole) ∙ c.items.ensures) (
+            typ first function,
+            step.gives.is_type,
+            step.gives.has types of,
+            gives.has types (types_later old first step.after.later c.requires.ready.sound nodes c.requires.ready.nodes types of),
+          );
+    })
+    c.check_arguments.ensures.gives
+
+pub chain::check_arguments-loop-argument-init : goal.chain::check_arguments-loop-argument-init
+chain::check_arguments-loop-argument-init t c =
+    let base = c.args.base.now in
+    let locals = c.args.locals.now in
+    let old = graph_of c.args.world.now in (
+      after_none base locals old c.requires.ready,
+      record { is_type = type_in base old locals c.requires.ready c.args.function c.requires.function; leads = λ types of t has. has },
+    )
+
+pub chain::check_arguments-loop-argument-preserved : goal.chain::check_arguments-loop-argument-preserved
+chain::check_arguments-loop-argument-preserved t c =
+    let base = c.args.base.now in
+    let locals = c.args.locals.now in
+    let old = graph_of c.args.world.now in
+    let now = graph_of c.loop-argument.world in
+    let new = graph_of c.check_argument.new.world in
+    let before = c.loop-argument.invariant in
+    let step = c.in_ok-id.ensures in
+    let items = c.args.arguments.now in (
+      after_both base locals old now new before.0 step.after,
+      one_argument (scope_of base) old c.requires.ready.sound (seen_by base locals) c.requires.ready.nodes now new before.0.later
+          step.after.later (typ old c.args.function) c.loop-argument.id c.in_ok-id.id (exprs_of (map plain items)) items
+          c.loop-argument.argument-index c.argument-item.result c.argument-item.is c.loop-argument-test.true before.1 step.gives,
+    )
+
+pub chain::check_arguments-returns-clause-gives : goal.chain::check_arguments-returns-clause-gives
+chain::check_arguments-returns-clause-gives t c =
+    let scope = scope_of c.args.base.now in
+    let items = c.args.arguments.now in
+    let index = c.loop-argument.argument-index in
+    let result = typ (graph_of c.loop-argument.world) c.loop-argument.id in
+    let before = c.loop-argument.invariant.1 in record {
+      is_type = before.is_type;
+      has = λ types of. before.leads types of result
+          (subst (λ (rest : List CodeExpr). ArgumentsHave scope types result (exprs_of (map plain rest)) result)
+          (sym (drop_all index items c.loop-argument-test.false)) (itself (elements_of result.graph result.id)));
+    }
+
+pub chain::check_arguments-returns-clause-after : goal.chain::check_arguments-returns-clause-after
+chain::check_arguments-returns-clause-after t c = c.loop-argument.invariant.0
+
+pub chain::check_argument-returns-in-Results-clause-after : goal.chain::check_argument-returns-in-Results-clause-after
+chain::check_argument-returns-in-Results-clause-after t c = after_grown c.args.base.now c.args.locals.now (graph_of c.args.world.now) c.check.new.world
+    c.apply.new.world c.in_ok-id.ensures.after c.in_ok-results.ensures.grows c.in_ok-results.ensures.sound
+
+pub chain::check_argument-returns-in-Results-clause-gives : goal.chain::check_argument-returns-in-Results-clause-gives
+chain::check_argument-returns-in-Results-clause-gives t c =
+    let base = c.args.base.now in
+    let locals = c.args.locals.now in
+    let old = graph_of c.args.world.now in
+    let middle = graph_of c.check.new.world in
+    let new = graph_of c.apply.new.world in
+    let id = c.in_ok-id.id in
+    let results = c.in-Results.results in
+    let step = c.in_ok-id.ensures in
+    let ready = (after_grown base locals old c.check.new.world c.apply.new.world step.after c.in_ok-results.ensures.grows
+    c.in_ok-results.ensures.sound).ready in
+    argument_follows (scope_of base) old (seen_by base locals) c.requires.ready.sound c.args.function c.requires.function middle
+    step.after.later new (plain c.args.argument.now) id step.gives results
+    (type_in base new locals ready results
+    (subst (λ (applied : Applied). IsResultNode new applied) c.in-Results.is c.in_ok-results.ensures.node))
+    (subst (λ (applied : Applied). AreMappedInto middle c.args.function id new applied) c.in-Results.is c.in_ok-results.ensures.into)
+
+pub chain::check_chain-returns-clause-gives : goal.chain::check_chain-returns-clause-gives
+chain::check_chain-returns-clause-gives t c =
+    let old = graph_of c.args.world.now in
+    let first = graph_of c.check.new.world in
+    let nodes = seen_by c.args.base.now c.args.locals.now in
+    let step = c.in_ok-id.ensures in
+    IfOk-weaker c.check_tails.result _ _
+    (λ result gives. record {
+      is_type = gives.is_type;
+      has = λ types of. (
+        typ first c.in_ok-id.id,
+        step.gives.is_type,
+        step.gives.has types of,
+        gives.has types (types_later old first step.after.later c.requires.ready.sound nodes c.requires.ready.nodes types of),
+      );
+    })
+    c.check_tails.ensures.gives
+
+pub chain::check_chain-returns-clause-after : goal.chain::check_chain-returns-clause-after
+chain::check_chain-returns-clause-after t c =
+    let base = c.args.base.now in
+    let locals = c.args.locals.now in
+    let old = graph_of c.args.world.now in
+    let first = graph_of c.check.new.world in
+    let new = graph_of c.check_tails.new.world in
+    on_ok_weaker c.check_tails.result
+    (λ (later : IsAfter base locals first new). after_both base locals old first new c.in_ok-id.ensures.after later)
+    c.check_tails.ensures.after
+
+pub chain::check_tails-loop-tail-init : goal.chain::check_tails-loop-tail-init
+chain::check_tails-loop-tail-init t c =
+    let base = c.args.base.now in
+    let locals = c.args.locals.now in
+    let old = graph_of c.args.world.now in
+    let all = plain_tails c.args.tails.now in (
+      after_none base locals old c.requires.ready,
+      subst (λ (left : Tails). LeadsOn (TailsHave (scope_of base)) old (seen_by base locals) (typ old c.args.first) old all left c.args.first)
+          (sym c.items-tail-items.ensures)
+          (record { is_type = type_in base old locals c.requires.ready c.args.first c.requires.first; leads = λ types of t has. has }),
+    )
+
+pub chain::check_tails-loop-tail-preserved : goal.chain::check_tails-loop-tail-preserved
+chain::check_tails-loop-tail-preserved t c =
+    let base = c.args.base.now in
+    let locals = c.args.locals.now in
+    let nodes = seen_by base locals in
+    let old = graph_of c.args.world.now in
+    let now = graph_of c.loop-tail.world in
+    let new = graph_of c.check_tail.new.world in
+    let before = c.loop-tail.invariant in
+    let step = c.in_ok-id.ensures in
+    let id = c.in_ok-id.id in (
+      after_both base locals old now new before.0 step.after,
+      one_tail (scope_of base) old c.requires.ready.sound nodes c.requires.ready.nodes now new before.0.later step.after.later
+          (typ old c.args.first) c.loop-tail.id id (plain_tails c.args.tails.now) c.items-tail-items.result.now c.loop-tail.tail-index
+          c.tail-item.result c.tail-item.is c.loop-tail-test.true before.1
+          (λ rest. tail_follows (scope_of base) now nodes new c.loop-tail.id id (plain_tail c.tail-item.result) rest step.gives.is_type
+          step.gives.has),
+    )
+
+pub chain::check_tails-returns-clause-gives : goal.chain::check_tails-returns-clause-gives
+chain::check_tails-returns-clause-gives t c =
+    let scope = scope_of c.args.base.now in
+    let items = c.items-tail-items.result.now in
+    let index = c.loop-tail.tail-index in
+    let result = typ (graph_of c.loop-tail.world) c.loop-tail.id in
+    let before = c.loop-tail.invariant.1 in record {
+      is_type = before.is_type;
+      has = λ types of. before.leads types of result
+          (subst (λ (rest : List CodeTail). TailsHave scope types result (tails_of (map plain_tail rest)) result)
+          (sym (drop_all index items c.loop-tail-test.false)) (itself (elements_of result.graph result.id)));
+    }
+
+pub chain::check_tails-returns-clause-after : goal.chain::check_tails-returns-clause-after
+chain::check_tails-returns-clause-after t c = c.loop-tail.invariant.0
+
+pub chain::check_tail-returns-in-Ok-clause-after : goal.chain::check_tail-returns-in-Ok-clause-after
+chain::check_tail-returns-in-Ok-clause-after t c =
+    let base = c.args.base.now in
+    let locals = c.args.locals.now in
+    let old = graph_of c.args.world.now in
+    after_grown base locals old c.args.world.now c.drop_field.new.world (after_none base locals old c.requires.ready)
+    c.in-Ok.ensures.grows c.in-Ok.ensures.sound
+
+pub chain::check_tail-returns-in-Ok-clause-gives : goal.chain::check_tail-returns-in-Ok-clause-gives
+chain::check_tail-returns-in-Ok-clause-gives t c =
+    let base = c.args.base.now in
+    let locals = c.args.locals.now in
+    let old = graph_of c.args.world.now in
+    let new = graph_of c.drop_field.new.world in
+    let id = c.in-Ok.id in
+    let is = c.in-Ok.ensures in
+    let ready = (after_grown base locals old c.args.world.now c.drop_field.new.world (after_none base locals old c.requires.ready)
+    is.grows is.sound).ready in
+    subst (λ (tail : Tail). Gives old (seen_by base locals) new (λ types t. TailHas (scope_of base) types (typ old c.args.first) tail t) id)
+    (sym (ap plain_tail c.in-Without.is ∙ tail_without c.in-Without.label))
+    (record { is_type = type_in base new locals ready id is.node; has = λ types of. (is.records, is.gives) })
+
+pub chain::check_tail-returns-in-Err-clause-fault : goal.chain::check_tail-returns-in-Err-clause-fault
+chain::check_tail-returns-in-Err-clause-fault t c = c.placed.ensures (table_of c.drop_field.new.world)
+    (misfit_of_named (graph_of c.args.world.now) (table_of c.drop_field.new.world) side.First c.args.first (BuiltIn RECORD) rule.Record
+    c.in-Err.stop c.in-Err.ensures.misfit)
+
+pub chain::check_tail-returns-in-Ok-take_field-clause-after : goal.chain::check_tail-returns-in-Ok-take_field-clause-after
+chain::check_tail-returns-in-Ok-take_field-clause-after t c =
+    let base = c.args.base.now in
+    let locals = c.args.locals.now in
+    let old = graph_of c.args.world.now in
+    after_grown base locals old c.args.world.now c.take_field.new.world (after_none base locals old c.requires.ready)
+    c.in-Ok-take_field.ensures.grows c.in-Ok-take_field.ensures.sound
+
+pub chain::check_tail-returns-in-Ok-take_field-clause-gives : goal.chain::check_tail-returns-in-Ok-take_field-clause-gives
+chain::check_tail-returns-in-Ok-take_field-clause-gives t c =
+    let base = c.args.base.now in
+    let locals = c.args.locals.now in
+    let old = graph_of c.args.world.now in
+    let new = graph_of c.take_field.new.world in
+    let id = c.in-Ok-take_field.id in
+    let is = c.in-Ok-take_field.ensures in
+    let ready = (after_grown base locals old c.args.world.now c.take_field.new.world (after_none base locals old c.requires.ready)
+    is.grows is.sound).ready in
+    subst (λ (tail : Tail). Gives old (seen_by base locals) new (λ types t. TailHas (scope_of base) types (typ old c.args.first) tail t) id)
+    (sym (ap plain_tail c.in-Select.is ∙ tail_select c.in-Select.label))
+    (record { is_type = type_in base new locals ready id is.node; has = λ types of. (is.have, is.gives) })
+
+pub chain::check_tail-returns-in-Err-take_field-clause-fault : goal.chain::check_tail-returns-in-Err-take_field-clause-fault
+chain::check_tail-returns-in-Err-take_field-clause-fault t c = c.placed-in-Err-take_field.ensures (table_of c.take_field.new.world)
+    (misfit_of_named (graph_of c.args.world.now) (table_of c.take_field.new.world) side.First c.args.first (HasFieldAt c.in-Select.label)
+    rule.Field c.in-Err-take_field.stop c.in-Err-take_field.ensures.misfit)
+
+pub chain::check_operand-returns-in-Ok-clause-after : goal.chain::check_operand-returns-in-Ok-clause-after
+chain::check_operand-returns-in-Ok-clause-after t c = after_grown c.args.base.now c.args.locals.now (graph_of c.args.world.now) c.check.new.world
+    c.operate.new.world c.in_ok-second.ensures.after c.operate.ensures.grows c.operate.ensures.sound
+
+pub chain::check_operand-returns-in-Ok-clause-gives : goal.chain::check_operand-returns-in-Ok-clause-gives
+chain::check_operand-returns-in-Ok-clause-gives t c =
+    let base = c.args.base.now in
+    let locals = c.args.locals.now in
+    let old = graph_of c.args.world.now in
+    let middle = graph_of c.check.new.world in
+    let new = graph_of c.operate.new.world in
+    let step = c.in_ok-second.ensures in
+    let ready = (after_grown base locals old c.check.new.world c.operate.new.world step.after c.operate.ensures.grows
+    c.operate.ensures.sound).ready in
+    operand_gives (scope_of base) old (seen_by base locals) c.requires.ready.sound c.args.first c.requires.first middle step.after.later new
+    (plain c.args.expr.now) c.in_ok-second.second step.gives c.args.op c.requires.met c.in-Ok.id
+    (type_in base new locals ready c.in-Ok.id c.in-Ok.ensures.node) c.in-Ok.ensures.gives
+
+pub chain::check_operand-returns-in-Err-clause-fault : goal.chain::check_operand-returns-in-Err-clause-fault
+chain::check_operand-returns-in-Err-clause-fault t c = c.placed.ensures (table_of c.operate.new.world)
+    (misfit_named (graph_of c.check.new.world) (table_of c.operate.new.world) c.args.first c.in_ok-second.second c.in-Err.stop
+    c.in-Err.ensures.misfit)
+
+pub branches::check_match-returns-clause-after : goal.branches::check_match-returns-clause-after
+branches::check_match-returns-clause-after t c = on_ok_weaker c.check_covering.result
+    (λ after. after_both c.args.base.now c.args.locals.now (graph_of c.args.world.now) (graph_of c.check.new.world)
+    (graph_of c.check_covering.new.world)
+    c.in_ok-matched.ensures.after after) c.check_covering.ensures.after
+
+pub branches::check_match-returns-clause-gives : goal.branches::check_match-returns-clause-gives
+branches::check_match-returns-clause-gives t c = IfOk-weaker c.check_covering.result _ _
+    (λ id gives. match_gives (scope_of c.args.base.now) (graph_of c.args.world.now) c.requires.ready.sound
+    (seen_by c.args.base.now c.args.locals.now) c.requires.ready.nodes
+    (plain c.args.value.now) c.in_ok-matched.matched (graph_of c.check.new.world) c.in_ok-matched.ensures.after.later
+    c.in_ok-matched.ensures.gives (plain_branches c.args.branches.now) (graph_of c.check_covering.new.world) id gives.is_type
+    gives.cover gives.have_types)
+    c.check_covering.ensures.gives
+
+pub branches::check_covering-sites_of-requires-clause-patterns : goal.branches::check_covering-sites_of-requires-clause-patterns
+branches::check_covering-sites_of-requires-clause-patterns t c = patterns_sound (declarations_of c.args.base.now)
+    (names_seen c.args.base.now c.args.locals.now) (plain_branches c.args.branches.now) c.requires.branches
+
+pub branches::check_covering-cover-requires : goal.branches::check_covering-cover-requires
+branches::check_covering-cover-requires t c = record {
+  rest = last_node (graph_of c.divide.new.world) (scope_of c.args.base.now)
+      c.in_ok-division.division.matched
+      c.in_ok-division.division.comings.items c.in_ok-division.division.rest c.in_ok-division.ensures.division;
+}
+
+pub branches::check_covering-union-requires : goal.branches::check_covering-union-requires
+branches::check_covering-union-requires t c = subst (λ (ids : List NodeId). AllOf (λ id. id.0 < length (graph_of c.check_bodies.new.world)) ids)
+    (sym c.as_slice-2.ensures.value)
+    c.in_ok-results.ensures.gives.are_nodes
+
+pub branches::check_covering-returns-clause-after : goal.branches::check_covering-returns-clause-after
+branches::check_covering-returns-clause-after t c = (after_grown c.args.base.now c.args.locals.now (graph_of c.args.world.now) c.check_bodies.new.world
+    c.union.new.world
+    (after_both c.args.base.now c.args.locals.now (graph_of c.args.world.now) (graph_of c.cover.new.world)
+    (graph_of c.check_bodies.new.world)
+    (after_growing c.args.base.now c.args.locals.now c.args.world.now c.sites_of.new.world c.divide.new.world
+    c.requires.ready c.sites_of.ensures.grows c.sites_of.ensures.sound c.divide.ensures.grows c.divide.ensures.sound
+    (graph_of c.cover.new.world) c.cover.ensures.graph) c.in_ok-results.ensures.after)
+    c.union.ensures.grows c.union.ensures.sound)
+
+pub branches::check_covering-returns-clause-gives : goal.branches::check_covering-returns-clause-gives
+branches::check_covering-returns-clause-gives t c =
+    let is = (later_two c.args.world.now c.sites_of.new.world c.divide.new.world c.sites_of.ensures.grows
+    c.sites_of.ensures.sound
+    c.divide.ensures.grows c.divide.ensures.sound) in
+    covering_gives c.args.base.now c.args.locals.now (graph_of c.args.world.now) (plain_branches c.args.branches.now)
+    c.args.matched
+    (cover_earlier c.args.base.now c.args.locals.now (graph_of c.args.world.now) c.requires.ready (graph_of c.divide.new.world)
+    is
+    c.args.matched c.requires.matched (plain_branches c.args.branches.now) c.in_ok-division.division.matched
+    c.in_ok-division.ensures.matched
+    (they_cover (graph_of c.divide.new.world) (scope_of c.args.base.now) (plain_branches c.args.branches.now)
+    c.in_ok-division.division.matched
+    c.in_ok-division.division.comings.items c.in_ok-division.division.rest
+    (c.in_ok-division.ensures.patterns ∙ ap (map sited_pattern) c.as_slice.ensures.value ∙ c.in_ok-sites.ensures.patterns)
+    c.in_ok-division.ensures.division c.in_ok-cover.ensures.nothing))
+    (graph_of c.check_bodies.new.world) c.in_ok-results.results.items
+    (bodies_earlier c.args.base.now c.args.locals.now (graph_of c.args.world.now) c.requires.ready
+    (graph_of c.divide.new.world) is
+    c.args.matched c.requires.matched (plain_branches c.args.branches.now) (graph_of c.cover.new.world) c.cover.ensures.graph
+    c.in_ok-division.division.matched c.in_ok-division.ensures.matched (graph_of c.check_bodies.new.world)
+    c.in_ok-results.results.items
+    c.in_ok-results.ensures.gives)
+    (graph_of c.union.new.world) c.in_ok-union.field-0
+    (type_in c.args.base.now (graph_of c.union.new.world) c.args.locals.now
+    (after_grown c.args.base.now c.args.locals.now (graph_of c.args.world.now) c.check_bodies.new.world c.union.new.world
+    (after_both c.args.base.now c.args.locals.now (graph_of c.args.world.now) (graph_of c.cover.new.world)
+    (graph_of c.check_bodies.new.world)
+    (after_growing c.args.base.now c.args.locals.now c.args.world.now c.sites_of.new.world c.divide.new.world
+    c.requires.ready c.sites_of.ensures.grows c.sites_of.ensures.sound c.divide.ensures.grows c.divide.ensures.sound
+    (graph_of c.cover.new.world) c.cover.ensures.graph) c.in_ok-results.ensures.after)
+    c.union.ensures.grows c.union.ensures.sound).ready
+    c.in_ok-union.field-0 c.in_ok-union.ensures.node)
+    (subst (λ (ids : List NodeId). IsInOne (map (typ (graph_of c.check_bodies.new.world)) ids) ⊆ elements_of
+    (graph_of c.union.new.world) c.in_ok-union.field-0)
+    c.as_slice-2.ensures.value c.in_ok-union.ensures.has)
+
+pub branches::check_some-sites_of-requires-clause-patterns : goal.branches::check_some-sites_of-requires-clause-patterns
+branches::check_some-sites_of-requires-clause-patterns t c = patterns_sound (declarations_of c.args.base.now)
+    (names_seen c.args.base.now c.args.locals.now) (plain_branches c.args.branches.now) c.requires.branches
+
+pub branches::check_some-returns-clause-after : goal.branches::check_some-returns-clause-after
+branches::check_some-returns-clause-after t c = on_ok_weaker c.check_bodies.result
+    (λ after. after_both c.args.base.now c.args.locals.now (graph_of c.args.world.now) (graph_of c.divide.new.world)
+    (graph_of c.check_bodies.new.world)
+    (after_growing c.args.base.now c.args.locals.now c.args.world.now c.sites_of.new.world c.divide.new.world
+    c.requires.ready c.sites_of.ensures.grows c.sites_of.ensures.sound c.divide.ensures.grows c.divide.ensures.sound
+    (graph_of c.divide.new.world) refl) after) c.check_bodies.ensures.after
+
+pub branches::check_some-returns-clause-gives : goal.branches::check_some-returns-clause-gives
+branches::check_some-returns-clause-gives t c = IfOk-weaker c.check_bodies.result _ _
+    (λ results gives. bodies_earlier c.args.base.now c.args.locals.now (graph_of c.args.world.now) c.requires.ready
+    (graph_of c.divide.new.world)
+    (later_two c.args.world.now c.sites_of.new.world c.divide.new.world c.sites_of.ensures.grows c.sites_of.ensures.sound
+    c.divide.ensures.grows c.divide.ensures.sound) c.args.matched c.requires.matched (plain_branches c.args.branches.now)
+    (graph_of c.divide.new.world) refl
+    c.in_ok-division.division.matched c.in_ok-division.ensures.matched (graph_of c.check_bodies.new.world) results.items gives)
+    c.check_bodies.ensures.gives
+
+pub branches::check_let-returns-in-Some-clause-after : goal.branches::check_let-returns-in-Some-clause-after
+branches::check_let-returns-in-Some-clause-after t c = (after_both c.args.base.now c.args.locals.now (graph_of c.args.world.now)
+    (graph_of c.check.new.world) (graph_of c.check_body.new.world) c.in_ok-matched.ensures.after
+    (after_both c.args.base.now c.args.locals.now (graph_of c.check.new.world) (graph_of c.cover.new.world)
+    (graph_of c.check_body.new.world) (after_growing c.args.base.now c.args.locals.now c.check.new.world c.with_site.new.world
+    c.remaining.new.world c.in_ok-matched.ensures.after.ready
+    c.with_site.ensures.grows c.with_site.ensures.sound c.remaining.ensures.grows c.remaining.ensures.sound
+    (graph_of c.cover.new.world) c.cover.ensures.graph)
+    c.in_ok-id.ensures.after))
+
+pub branches::check_let-returns-clause-after : goal.branches::check_let-returns-clause-after
+branches::check_let-returns-clause-after t c = (after_both c.args.base.now c.args.locals.now (graph_of c.args.world.now) (graph_of c.check.new.world)
+    (graph_of c.check_body.new.world) c.in_ok-matched.ensures.after
+    (after_both c.args.base.now c.args.locals.now (graph_of c.check.new.world) (graph_of c.cover.new.world)
+    (graph_of c.check_body.new.world) (after_growing c.args.base.now c.args.locals.now c.check.new.world c.with_site.new.world
+    c.remaining.new.world c.in_ok-matched.ensures.after.ready
+    c.with_site.ensures.grows c.with_site.ensures.sound c.remaining.ensures.grows c.remaining.ensures.sound
+    (graph_of c.cover.new.world) c.cover.ensures.graph)
+    c.in_ok-id.ensures.after))
+
+pub branches::check_let-returns-in-Some-clause-gives : goal.branches::check_let-returns-in-Some-clause-gives
+branches::check_let-returns-in-Some-clause-gives t c = let_gives (scope_of c.args.base.now) (graph_of c.args.world.now) c.requires.ready.sound
+    (seen_by c.args.base.now c.args.locals.now) c.requires.ready.nodes
+    (plain c.args.value.now) c.in_ok-matched.matched (graph_of c.check.new.world) c.in_ok-matched.ensures.after.later
+    c.in_ok-matched.ensures.gives
+    (graph_of c.remaining.new.world) (later_two c.check.new.world c.with_site.new.world c.remaining.new.world
+    c.with_site.ensures.grows c.with_site.ensures.sound
+    c.remaining.ensures.grows c.remaining.ensures.sound) c.in_ok-matched.ensures.after.ready.nodes
+    (plain_tree c.args.pattern.now) (plain c.args.rest.now)
+    (site_decides (graph_of c.with_site.new.world) (scope_of c.args.base.now) (plain_tree c.args.pattern.now)
+    c.in_ok-sited.sited.site (subst (λ (tree : Tree). IsSite (graph_of c.with_site.new.world) (scope_of c.args.base.now) tree
+    c.in_ok-sited.sited.site) c.in_ok-sited.ensures.pattern
+    c.in_ok-sited.ensures.sited.site))
+    (none_passes (graph_of c.check.new.world) (graph_of c.with_site.new.world) (graph_of c.remaining.new.world)
+    (later_of c.check.new.world c.with_site.new.world c.with_site.ensures.grows c.with_site.ensures.sound)
+    c.in_ok-matched.ensures.after.later.sound c.in_ok-matched.matched c.in_ok-matched.ensures.gives.is_type.is_node
+    (scope_of c.args.base.now) (plain_tree c.args.pattern.now) c.in_ok-left.left
+    (c.in_ok-left.ensures.all_left (scope_of c.args.base.now) (plain_tree c.args.pattern.now)
+    (subst (λ (tree : Tree). IsSite (graph_of c.with_site.new.world) (scope_of c.args.base.now) tree c.in_ok-sited.sited.site)
+    c.in_ok-sited.ensures.pattern
+    c.in_ok-sited.ensures.sited.site))
+    c.in_ok-cover.ensures.nothing)
+    (graph_of c.check_body.new.world) c.in-Some.id
+    (body_moved (scope_of c.args.base.now) (seen_by c.args.base.now c.args.locals.now) (graph_of c.check_body.new.world)
+    c.in_ok-matched.matched (plain c.args.rest.now) (graph_of c.cover.new.world) (graph_of c.remaining.new.world)
+    c.cover.ensures.graph (sited_pattern c.in_ok-sited.sited) (plain_tree c.args.pattern.now) c.in_ok-sited.ensures.pattern
+    c.in_ok-id.field-0 (Some c.in-Some.id) c.in-Some.is c.in_ok-id.ensures.gives)
+
+pub branches::check_let-returns-clause-gives : goal.branches::check_let-returns-clause-gives
+branches::check_let-returns-clause-gives t c =
+    let after = (after_both c.args.base.now c.args.locals.now (graph_of c.args.world.now) (graph_of c.check.new.world)
+    (graph_of c.check_body.new.world) c.in_ok-matched.ensures.after
+    (after_both c.args.base.now c.args.locals.now (graph_of c.check.new.world) (graph_of c.cover.new.world)
+    (graph_of c.check_body.new.world) (after_growing c.args.base.now c.args.locals.now c.check.new.world c.with_site.new.world
+    c.remaining.new.world c.in_ok-matched.ensures.after.ready
+    c.with_site.ensures.grows c.with_site.ensures.sound c.remaining.ensures.grows c.remaining.ensures.sound
+    (graph_of c.cover.new.world) c.cover.ensures.graph)
+    c.in_ok-id.ensures.after)) in
+    let_gives_none (scope_of c.args.base.now) (graph_of c.args.world.now) c.requires.ready.sound
+    (seen_by c.args.base.now c.args.locals.now) c.requires.ready.nodes
+    (plain c.args.value.now) c.in_ok-matched.matched (graph_of c.check.new.world) c.in_ok-matched.ensures.after.later
+    c.in_ok-matched.ensures.gives
+    (graph_of c.remaining.new.world) (later_two c.check.new.world c.with_site.new.world c.remaining.new.world
+    c.with_site.ensures.grows c.with_site.ensures.sound
+    c.remaining.ensures.grows c.remaining.ensures.sound) c.in_ok-matched.ensures.after.ready.nodes
+    (plain_tree c.args.pattern.now) (plain c.args.rest.now)
+    (site_decides (graph_of c.with_site.new.world) (scope_of c.args.base.now) (plain_tree c.args.pattern.now)
+    c.in_ok-sited.sited.site (subst (λ (tree : Tree). IsSite (graph_of c.with_site.new.world) (scope_of c.args.base.now) tree
+    c.in_ok-sited.sited.site) c.in_ok-sited.ensures.pattern
+    c.in_ok-sited.ensures.sited.site))
+    (none_passes (graph_of c.check.new.world) (graph_of c.with_site.new.world) (graph_of c.remaining.new.world)
+    (later_of c.check.new.world c.with_site.new.world c.with_site.ensures.grows c.with_site.ensures.sound)
+    c.in_ok-matched.ensures.after.later.sound c.in_ok-matched.matched c.in_ok-matched.ensures.gives.is_type.is_node
+    (scope_of c.args.base.now) (plain_tree c.args.pattern.now) c.in_ok-left.left
+    (c.in_ok-left.ensures.all_left (scope_of c.args.base.now) (plain_tree c.args.pattern.now)
+    (subst (λ (tree : Tree). IsSite (graph_of c.with_site.new.world) (scope_of c.args.base.now) tree c.in_ok-sited.sited.site)
+    c.in_ok-sited.ensures.pattern
+    c.in_ok-sited.ensures.sited.site))
+    c.in_ok-cover.ensures.nothing)
+    (graph_of c.check_body.new.world) EMPTY
+    (type_in c.args.base.now (graph_of c.check_body.new.world) c.args.locals.now after.ready EMPTY
+    (built_in_below c.args.base.now (graph_of c.check_body.new.world) c.args.locals.now after.ready EMPTY (lit< tt)))
+    (body_moved (scope_of c.args.base.now) (seen_by c.args.base.now c.args.locals.now) (graph_of c.check_body.new.world)
+    c.in_ok-matched.matched (plain c.args.rest.now) (graph_of c.cover.new.world) (graph_of c.remaining.new.world)
+    c.cover.ensures.graph (sited_pattern c.in_ok-sited.sited) (plain_tree c.args.pattern.now) c.in_ok-sited.ensures.pattern
+    c.in_ok-id.field-0 None c.in-None.is c.in_ok-id.ensures.gives)
+
+pub branches::check_try-union-requires : goal.branches::check_try-union-requires
+branches::check_try-union-requires t c = subst (λ (ids : List NodeId). AllOf (λ id. id.0 < length (graph_of c.check_some.new.world)) ids)
+    (sym (c.as_slice.ensures.value ∙ c.in_ok-add.ensures))
+    (both_nodes (graph_of c.check_some.new.world) c.in_ok-results.results.items (c.in_ok-id.id ∷ [])
+    c.in_ok-results.ensures.gives.are_nodes (
+      below_later (graph_of c.check.new.world) (graph_of c.check_some.new.world) c.in_ok-results.ensures.after.later
+          c.in_ok-id.id
+          c.in_ok-id.ensures.gives.is_type.is_node,
+      tt,
+    ))
+
+pub branches::check_try-returns-clause-after : goal.branches::check_try-returns-clause-after
+branches::check_try-returns-clause-after t c = (after_grown c.args.base.now c.args.locals.now (graph_of c.args.world.now) c.check_some.new.world
+    c.union.new.world
+    (after_both c.args.base.now c.args.locals.now (graph_of c.args.world.now) (graph_of c.check.new.world)
+    (graph_of c.check_some.new.world) c.in_ok-id.ensures.after c.in_ok-results.ensures.after)
+    c.union.ensures.grows c.union.ensures.sound)
+
+pub branches::check_try-returns-clause-gives : goal.branches::check_try-returns-clause-gives
+branches::check_try-returns-clause-gives t c =
+    let has : IsInOne (map (typ (graph_of c.check_some.new.world)) (c.in_ok-results.results.items ++ c.in_ok-id.id ∷ [])) ⊆
+    elements_of (graph_of c.union.new.world) c.in_ok-union.field-0 =
+    subst (λ (ids : List NodeId). IsInOne (map (typ (graph_of c.check_some.new.world)) ids) ⊆ elements_of
+    (graph_of c.union.new.world) c.in_ok-union.field-0)
+    (c.as_slice.ensures.value ∙ c.in_ok-add.ensures) c.in_ok-union.ensures.has in
+    try_gives (scope_of c.args.base.now) (graph_of c.args.world.now) c.requires.ready.sound
+    (seen_by c.args.base.now c.args.locals.now) c.requires.ready.nodes
+    (plain c.args.body.now) c.in_ok-id.id (graph_of c.check.new.world) c.in_ok-id.ensures.after.later c.in_ok-id.ensures.gives
+    (plain_branches c.args.branches.now) (graph_of c.union.new.world) c.in_ok-union.field-0
+    (type_in c.args.base.now (graph_of c.union.new.world) c.args.locals.now
+    (after_grown c.args.base.now c.args.locals.now (graph_of c.args.world.now) c.check_some.new.world c.union.new.world
+    (after_both c.args.base.now c.args.locals.now (graph_of c.args.world.now) (graph_of c.check.new.world)
+    (graph_of c.check_some.new.world) c.in_ok-id.ensures.after c.in_ok-results.ensures.after)
+    c.union.ensures.grows c.union.ensures.sound).ready
+    c.in_ok-union.field-0 c.in_ok-union.ensures.node)
+    (built_in_within (graph_of c.check.new.world) c.in_ok-id.ensures.after.ready.more c.in_ok-id.ensures.after.ready.begins
+    DATA (lit< tt))
+    (last_within (graph_of c.check.new.world) (graph_of c.check_some.new.world) (graph_of c.union.new.world)
+    c.in_ok-results.ensures.after.later
+    c.in_ok-id.ensures.after.later.sound c.in_ok-results.results.items c.in_ok-id.id c.in_ok-union.field-0
+    c.in_ok-id.ensures.gives.is_type.is_node has)
+    (bodies_from c.args.base.now c.args.locals.now (graph_of c.check.new.world) (plain_branches c.args.branches.now) DATA
+    (graph_of c.check_some.new.world)
+    c.in_ok-results.results.items c.in_ok-results.ensures.gives (graph_of c.union.new.world) c.in_ok-union.field-0
+    (before_last (graph_of c.check_some.new.world) (graph_of c.union.new.world) c.in_ok-results.results.items c.in_ok-id.id
+    c.in_ok-union.field-0 has))
+
+pub branches::check_map-returns-clause-after : goal.branches::check_map-returns-clause-after
+branches::check_map-returns-clause-after t c = (after_grown c.args.base.now c.args.locals.now (graph_of c.args.world.now) c.check_covering.new.world
+    c.list_of.new.world
+    (after_both c.args.base.now c.args.locals.now (graph_of c.args.world.now) (graph_of c.items.new.world)
+    (graph_of c.check_covering.new.world)
+    (after_later c.args.base.now c.args.locals.now (graph_of c.args.world.now) (graph_of c.check.new.world)
+    (graph_of c.items.new.world) c.in_ok-list.ensures.after
+    (subst (λ (graph : Graph). IsLater graph (graph_of c.items.new.world)) c.need_at.ensures.graph
+    (later_of c.need_at.new.world c.items.new.world c.items.ensures.grows c.items.ensures.sound))) c.in_ok-result.ensures.after)
+    c.list_of.ensures.grows c.list_of.ensures.sound)
+
+pub branches::check_map-returns-clause-gives : goal.branches::check_map-returns-clause-gives
+branches::check_map-returns-clause-gives t c = map_gives (scope_of c.args.base.now) (graph_of c.args.world.now) c.requires.ready.sound
+    (seen_by c.args.base.now c.args.locals.now) c.requires.ready.nodes
+    (plain c.args.value.now) c.in_ok-list.list (graph_of c.check.new.world) c.in_ok-list.ensures.after.later
+    c.in_ok-list.ensures.gives
+    (graph_of c.items.new.world) (subst (λ (graph : Graph). IsLater graph (graph_of c.items.new.world)) c.need_at.ensures.graph
+    (later_of c.need_at.new.world c.items.new.world c.items.ensures.grows c.items.ensures.sound))
+    c.in_ok-list.ensures.after.ready.nodes c.in_ok-matched.matched
+    (type_in c.args.base.now (graph_of c.items.new.world) c.args.locals.now
+    (after_later c.args.base.now c.args.locals.now (graph_of c.args.world.now) (graph_of c.check.new.world)
+    (graph_of c.items.new.world) c.in_ok-list.ensures.after
+    (subst (λ (graph : Graph). IsLater graph (graph_of c.items.new.world)) c.need_at.ensures.graph
+    (later_of c.need_at.new.world c.items.new.world c.items.ensures.grows c.items.ensures.sound))).ready
+    c.in_ok-matched.matched c.in_ok-matched.ensures.node)
+    (lists_in (graph_of c.need_at.new.world) (graph_of c.check.new.world) (graph_of c.items.new.world) c.need_at.ensures.graph
+    c.in_ok-list.list
+    c.args.base.now.tools.sequences c.in_ok-matched.matched c.in_ok-need_at.ensures.within
+    c.in_ok-list.ensures.after.ready.tools.are_sequences
+    c.in_ok-matched.ensures.has) (plain_branches c.args.branches.now)
+    (graph_of c.check_covering.new.world) (graph_of c.list_of.new.world) c.in_ok-result.result c.in_ok-list_of.field-0
+    c.in_ok-result.ensures.gives.is_type
+    (type_in c.args.base.now (graph_of c.list_of.new.world) c.args.locals.now
+    (after_grown c.args.base.now c.args.locals.now (graph_of c.args.world.now) c.check_covering.new.world c.list_of.new.world
+    (after_both c.args.base.now c.args.locals.now (graph_of c.args.world.now) (graph_of c.items.new.world)
+    (graph_of c.check_covering.new.world)
+    (after_later c.args.base.now c.args.locals.now (graph_of c.args.world.now) (graph_of c.check.new.world)
+    (graph_of c.items.new.world) c.in_ok-list.ensures.after
+    (subst (λ (graph : Graph). IsLater graph (graph_of c.items.new.world)) c.need_at.ensures.graph
+    (later_of c.need_at.new.world c.items.new.world c.items.ensures.grows c.items.ensures.sound))) c.in_ok-result.ensures.after)
+    c.list_of.ensures.grows c.list_of.ensures.sound).ready
+    c.in_ok-list_of.field-0 c.in_ok-list_of.ensures.node)
+    c.in_ok-result.ensures.gives.cover c.in_ok-result.ensures.gives.have_types c.in_ok-list_of.ensures.has
+
+pub branches::check_transform-union-requires : goal.branches::check_transform-union-requires
+branches::check_transform-union-requires t c = subst (λ (ids : List NodeId). AllOf (λ id. id.0 < length (graph_of c.check_some.new.world)) ids)
+    (sym c.as_slice.ensures.value) c.in_ok-results.ensures.gives.are_nodes
+
+pub branches::check_transform-returns-clause-after : goal.branches::check_transform-returns-clause-after
+branches::check_transform-returns-clause-after t c = (after_grown c.args.base.now c.args.locals.now (graph_of c.args.world.now) c.items-2.new.world
+    c.list_of.new.world
+    (after_grown c.args.base.now c.args.locals.now (graph_of c.args.world.now) c.union.new.world c.items-2.new.world
+    (after_grown c.args.base.now c.args.locals.now (graph_of c.args.world.now) c.check_some.new.world c.union.new.world
+    (after_both c.args.base.now c.args.locals.now (graph_of c.args.world.now) (graph_of c.items.new.world)
+    (graph_of c.check_some.new.world)
+    (after_later c.args.base.now c.args.locals.now (graph_of c.args.world.now) (graph_of c.check.new.world)
+    (graph_of c.items.new.world) c.in_ok-list.ensures.after
+    (subst (λ (graph : Graph). IsLater graph (graph_of c.items.new.world)) c.need_at.ensures.graph
+    (later_of c.need_at.new.world c.items.new.world c.items.ensures.grows c.items.ensures.sound)))
+    c.in_ok-results.ensures.after)
+    c.union.ensures.grows c.union.ensures.sound)
+    c.items-2.ensures.grows c.items-2.ensures.sound)
+    c.list_of.ensures.grows c.list_of.ensures.sound)
+
+pub branches::check_transform-returns-clause-gives : goal.branches::check_transform-returns-clause-gives
+branches::check_transform-returns-clause-gives t c = transform_gives (scope_of c.args.base.now) (graph_of c.args.world.now) c.requires.ready.sound
+    (seen_by c.args.base.now c.args.locals.now) c.requires.ready.nodes
+    (plain c.args.value.now) c.in_ok-list.list (graph_of c.check.new.world) c.in_ok-list.ensures.after.later
+    c.in_ok-list.ensures.gives
+    (graph_of c.items.new.world) (subst (λ (graph : Graph). IsLater graph (graph_of c.items.new.world)) c.need_at.ensures.graph
+    (later_of c.need_at.new.world c.items.new.world c.items.ensures.grows c.items.ensures.sound))
+    c.in_ok-list.ensures.after.ready.nodes c.in_ok-matched.matched
+    (type_in c.args.base.now (graph_of c.items.new.world) c.args.locals.now
+    (after_later c.args.base.now c.args.locals.now (graph_of c.args.world.now) (graph_of c.check.new.world)
+    (graph_of c.items.new.world) c.in_ok-list.ensures.after
+    (subst (λ (graph : Graph). IsLater graph (graph_of c.items.new.world)) c.need_at.ensures.graph
+    (later_of c.need_at.new.world c.items.new.world c.items.ensures.grows c.items.ensures.sound))).ready
+    c.in_ok-matched.matched c.in_ok-matched.ensures.node)
+    (lists_in (graph_of c.need_at.new.world) (graph_of c.check.new.world) (graph_of c.items.new.world) c.need_at.ensures.graph
+    c.in_ok-list.list
+    c.args.base.now.tools.sequences c.in_ok-matched.matched c.in_ok-need_at.ensures.within
+    c.in_ok-list.ensures.after.ready.tools.are_sequences
+    c.in_ok-matched.ensures.has) (plain_branches c.args.branches.now)
+    (graph_of c.items-2.new.world) (graph_of c.list_of.new.world) c.in_ok-item.item c.in_ok-list_of.field-0
+    (type_in c.args.base.now (graph_of c.items-2.new.world) c.args.locals.now
+    (after_grown c.args.base.now c.args.locals.now (graph_of c.args.world.now) c.union.new.world c.items-2.new.world
+    (after_grown c.args.base.now c.args.locals.now (graph_of c.args.world.now) c.check_some.new.world c.union.new.world
+    (after_both c.args.base.now c.args.locals.now (graph_of c.args.world.now) (graph_of c.items.new.world)
+    (graph_of c.check_some.new.world)
+    (after_later c.args.base.now c.args.locals.now (graph_of c.args.world.now) (graph_of c.check.new.world)
+    (graph_of c.items.new.world) c.in_ok-list.ensures.after
+    (subst (λ (graph : Graph). IsLater graph (graph_of c.items.new.world)) c.need_at.ensures.graph
+    (later_of c.need_at.new.world c.items.new.world c.items.ensures.grows c.items.ensures.sound)))
+    c.in_ok-results.ensures.after)
+    c.union.ensures.grows c.union.ensures.sound)
+    c.items-2.ensures.grows c.items-2.ensures.sound).ready
+    c.in_ok-item.item c.in_ok-item.ensures.node)
+    (type_in c.args.base.now (graph_of c.list_of.new.world) c.args.locals.now
+    (after_grown c.args.base.now c.args.locals.now (graph_of c.args.world.now) c.items-2.new.world c.list_of.new.world
+    (after_grown c.args.base.now c.args.locals.now (graph_of c.args.world.now) c.union.new.world c.items-2.new.world
+    (after_grown c.args.base.now c.args.locals.now (graph_of c.args.world.now) c.check_some.new.world c.union.new.world
+    (after_both c.args.base.now c.args.locals.now (graph_of c.args.world.now) (graph_of c.items.new.world)
+    (graph_of c.check_some.new.world)
+    (after_later c.args.base.now c.args.locals.now (graph_of c.args.world.now) (graph_of c.check.new.world)
+    (graph_of c.items.new.world) c.in_ok-list.ensures.after
+    (subst (λ (graph : Graph). IsLater graph (graph_of c.items.new.world)) c.need_at.ensures.graph
+    (later_of c.need_at.new.world c.items.new.world c.items.ensures.grows c.items.ensures.sound)))
+    c.in_ok-results.ensures.after)
+    c.union.ensures.grows c.union.ensures.sound)
+    c.items-2.ensures.grows c.items-2.ensures.sound)
+    c.list_of.ensures.grows c.list_of.ensures.sound).ready
+    c.in_ok-list_of.field-0 c.in_ok-list_of.ensures.node)
+    (bodies_from c.args.base.now c.args.locals.now (graph_of c.items.new.world) (plain_branches c.args.branches.now)
+    c.in_ok-matched.matched (graph_of c.check_some.new.world)
+    c.in_ok-results.results.items c.in_ok-results.ensures.gives (graph_of c.list_of.new.world) c.in_ok-list_of.field-0
+    (sequences_within (graph_of c.check_some.new.world) (graph_of c.union.new.world) (graph_of c.items-2.new.world)
+    (graph_of c.list_of.new.world)
+    c.in_ok-results.results.items c.args.base.now.tools.sequences c.in_ok-lists.lists c.in_ok-item.item c.in_ok-list_of.field-0
+    (after_both c.args.base.now c.args.locals.now (graph_of c.args.world.now) (graph_of c.items.new.world)
+    (graph_of c.check_some.new.world)
+    (after_later c.args.base.now c.args.locals.now (graph_of c.args.world.now) (graph_of c.check.new.world)
+    (graph_of c.items.new.world) c.in_ok-list.ensures.after
+    (subst (λ (graph : Graph). IsLater graph (graph_of c.items.new.world)) c.need_at.ensures.graph
+    (later_of c.need_at.new.world c.items.new.world c.items.ensures.grows c.items.ensures.sound)))
+    c.in_ok-results.ensures.after).ready.tools.are_sequences
+    c.in_ok-results.ensures.within
+    (subst (λ (ids : List NodeId). IsInOne (map (typ (graph_of c.check_some.new.world)) ids) ⊆ elements_of
+    (graph_of c.union.new.world) c.in_ok-lists.lists)
+    c.as_slice.ensures.value c.in_ok-lists.ensures.has)
+    (subst (λ (ids : List NodeId). elements_of (graph_of c.union.new.world) c.in_ok-lists.lists ⊆ IsInOne
+    (map (typ (graph_of c.check_some.new.world)) ids))
+    c.as_slice.ensures.value c.in_ok-lists.ensures.only)
+    c.in_ok-item.ensures.has c.in_ok-list_of.ensures.has))
+    c.in_ok-list_of.ensures.has c.in_ok-list_of.ensures.only
+
+pub bodies::check_bodies-loop-number-preserved : goal.bodies::check_bodies-loop-number-preserved
+bodies::check_bodies-loop-number-preserved t c =
+    let looked = there c.args.division.now.comings.items c.loop-number.number c.get.result c.in-Some.coming
+    (subst (λ (all : List Coming). IsItemAt all c.loop-number.number c.get.result) c.deref.ensures.value
+    c.get.ensures.lookup)
+    c.in-Some.is in
+    let further : Done c.args.base.now c.args.locals.now (graph_of c.args.world.now) c.args.division.now
+    (plain_branches c.args.branches.now)
+    c.items-branch-items.result.now c.args.limit (graph_of c.check_body.new.world) (c.loop-number.number + 1)
+    (c.loop-number.results.items ++ listed c.in_ok-id.field-0) =
+    one_done c.args.base.now c.args.locals.now (graph_of c.args.world.now) c.requires.ready c.args.division.now
+    (plain_branches c.args.branches.now) c.items-branch-items.result.now c.args.limit (graph_of c.loop-number.world)
+    c.loop-number.number
+    c.loop-number.results.items c.loop-number.invariant c.branch-item.result c.branch-item.is c.loop-number-test.true
+    c.in-Some.coming.now looked.0 looked.1 c.requires.limit (graph_of c.check_body.new.world) c.in_ok-id.field-0
+    c.in_ok-id.ensures.after
+    (subst (λ (body : Expr). BodyGives (scope_of c.args.base.now) (graph_of c.loop-number.world)
+    (seen_by c.args.base.now c.args.locals.now) (graph_of c.check_body.new.world)
+    (elements_of (graph_of c.loop-number.world) c.in-Some.coming.now.matched) (coming_pattern c.in-Some.coming.now) body
+    c.in_ok-id.field-0) (sym (branch_body c.branch-item.result)) c.in_ok-id.ensures.gives) c.in_ok-id.ensures.within in
+    elim c.match-branch-2.branch [
+      | bodies::check_bodies-in-Some-2+in_ok-add w ↦ rw (w.results-is)
+          (subst (λ (ids : List NodeId). Done c.args.base.now c.args.locals.now (graph_of c.args.world.now) c.args.division.now
+          (plain_branches c.args.branches.now) c.items-branch-items.result.now c.args.limit (graph_of c.check_body.new.world)
+          (c.loop-number.number + 1) ids)
+          (ap (λ found. c.loop-number.results.items ++ listed found) w.in-Some-2.is ∙ sym w.in_ok-add.ensures) further)
+      | bodies::check_bodies-in_default w ↦ rw (w.results-is)
+          (subst (λ (ids : List NodeId). Done c.args.base.now c.args.locals.now (graph_of c.args.world.now) c.args.division.now
+          (plain_branches c.args.branches.now) c.items-branch-items.result.now c.args.limit (graph_of c.check_body.new.world)
+          (c.loop-number.number + 1) ids)
+          (ap (λ found. c.loop-number.results.items ++ listed found) w.in_default.is ∙ append-nil c.loop-number.results.items)
+          further)
+    ]
+
+pub bodies::check_bodies-returns-clause-gives : goal.bodies::check_bodies-returns-clause-gives
+bodies::check_bodies-returns-clause-gives t c = all_done c.args.base.now c.args.locals.now (graph_of c.args.world.now) c.requires.ready
+    c.args.division.now
+    (plain_branches c.args.branches.now) c.items-branch-items.result.now c.args.limit (graph_of c.loop-number.world)
+    c.loop-number.number
+    c.loop-number.results.items c.loop-number.invariant c.loop-number-test.false
+
+pub bodies::check_body-returns-in-None-clause-gives : goal.bodies::check_body-returns-in-None-clause-gives
+bodies::check_body-returns-in-None-clause-gives t c = none_gives (graph_of c.args.world.now) (scope_of c.args.base.now) c.args.coming.sited.now
+    c.requires.sited (seen_by c.args.base.now c.args.locals.now) (graph_of c.taken.new.world) c.args.coming.matched
+    (plain c.args.body.now)
+    (none_taken (graph_of c.args.world.now) c.args.coming.matched c.args.coming.sited.now.site (table_of c.taken.new.world)
+    c.in_ok-taken.field-0 c.in_ok-taken.ensures.taken c.in-None.is (scope_of c.args.base.now)
+    (coming_pattern c.args.coming) c.requires.sited.site)
+
+pub bodies::check_body-returns-in_ok-keep_limit-in-Some-clause-gives : goal.bodies::check_body-returns-in_ok-keep_limit-in-Some-clause-gives
+bodies::check_body-returns-in_ok-keep_limit-in-Some-clause-gives t c = subst (λ (graph : Graph). BodyGives (scope_of c.args.base.now)
+    (graph_of c.args.world.now)
+    (seen_by c.args.base.now c.args.locals.now) graph (elements_of (graph_of c.args.world.now) c.args.coming.matched)
+    (coming_pattern c.args.coming) (plain c.args.body.now) (Some c.in_ok-id-in-Some.id)) (sym c.keep_limit.ensures.graph)
+    (one_gives c.args.base.now c.args.locals.now
+    c.in_ok-own-in-Some.own.items c.as_slice.result.now (c.as_slice.ensures.value ∙ c.in_ok-all-in-Some.ensures)
+    (graph_of c.args.world.now) c.args.coming.sited.now c.requires.sited c.args.coming.matched (graph_of c.captures-2.new.world)
+    (hold_here (graph_of c.args.world.now) (graph_of c.taken.new.world) (graph_of c.captures-2.new.world) c.taken.ensures.graph
+    (scope_of c.args.base.now) c.args.coming.sited.now c.requires.sited c.args.coming.matched c.in_ok-own-in-Some.own.items
+    c.in_ok-own-in-Some.ensures.hold) (plain c.args.body.now) c.requires.ready
+    (later_two c.args.world.now c.taken.new.world c.captures-2.new.world c.taken.ensures.grows c.taken.ensures.sound
+    c.captures-2.ensures.grows c.captures-2.ensures.sound) c.in_ok-own-in-Some.ensures.nodes (graph_of c.check.new.world)
+    c.in_ok-id-in-Some.id c.in_ok-id-in-Some.ensures.gives)
+
+pub bodies::check_body-returns-in_ok-keep_limit-in-Some-clause-after : goal.bodies::check_body-returns-in_ok-keep_limit-in-Some-clause-after
+bodies::check_body-returns-in_ok-keep_limit-in-Some-clause-after t c = after_same c.args.base.now c.args.locals.now (graph_of c.args.world.now)
+    (graph_of c.check.new.world) (graph_of c.keep_limit.new.world)
+    (after_all c.args.base.now (graph_of c.args.world.now) (graph_of c.captures-2.new.world) (graph_of c.check.new.world)
+    c.args.locals.now c.as_slice.result.now c.requires.ready
+    (later_two c.args.world.now c.taken.new.world c.captures-2.new.world c.taken.ensures.grows c.taken.ensures.sound
+    c.captures-2.ensures.grows c.captures-2.ensures.sound) c.in_ok-id-in-Some.ensures.after) c.keep_limit.ensures.graph
+
+pub function::check_function-promise_of-requires-clause-sound : goal.function::check_function-promise_of-requires-clause-sound
+function::check_function-promise_of-requires-clause-sound t c = (function_sound (declarations_of c.args.base.now)
+    (names_seen c.args.base.now c.args.locals.now)
+    c.args.function.now c.requires.sound).0
+
+pub function::check_function-returns-clause-after : goal.function::check_function-returns-clause-after
+function::check_function-returns-clause-after t c = after_both c.args.base.now c.args.locals.now (graph_of c.args.world.now)
+    (graph_of c.promise_of.new.world)
+    (graph_of c.check_promise.new.world)
+    (after_grown c.args.base.now c.args.locals.now (graph_of c.args.world.now) c.args.world.now
+    c.promise_of.new.world (after_none c.args.base.now c.args.locals.now (graph_of c.args.world.now) c.requires.ready)
+    c.promise_of.ensures.grows c.promise_of.ensures.sound) c.in_ok-check_promise.ensures.after
+
+pub function::check_function-returns-clause-gives : goal.function::check_function-returns-clause-gives
+function::check_function-returns-clause-gives t c = function_gives c.args.base.now (graph_of c.args.world.now) c.args.locals.now c.requires.ready
+    (graph_of c.promise_of.new.world) (graph_of c.check_promise.new.world)
+    (later_of c.args.world.now c.promise_of.new.world c.promise_of.ensures.grows c.promise_of.ensures.sound)
+    c.in_ok-check_promise.ensures.after (plain_function c.args.function.now) c.in_ok-promise.promise
+    (function_promise (scope_of c.args.base.now) (graph_of c.promise_of.new.world) c.args.function.now
+    c.in_ok-promise.promise.arrows.items c.in_ok-promise.promise.whole c.in_ok-promise.ensures.promise)
+    c.in_ok-check_promise.ensures.kept
+
+pub function::check_promise-sites_of-requires-clause-patterns : goal.function::check_promise-sites_of-requires-clause-patterns
+function::check_promise-sites_of-requires-clause-patterns t c = patterns_sound (declarations_of c.args.base.now)
+    (with_name (out-FunctionTree c.args.function.now).name (names_seen c.args.base.now c.args.locals.now))
+    (plain_branches (out-FunctionTree c.args.function.now).branches)
+    (function_sound (declarations_of c.args.base.now) (names_seen c.args.base.now c.args.locals.now) c.args.function.now
+    c.requires.sound).1
+
+pub function::check_promise-loop-argument-init : goal.function::check_promise-loop-argument-init
+function::check_promise-loop-argument-init t c = (
+  after_grown c.args.base.now c.in_ok-inner.inner.items (graph_of c.args.world.now) c.args.world.now c.sites_of.new.world
+      (after_none c.args.base.now c.in_ok-inner.inner.items (graph_of c.args.world.now)
+      (ready_named c.args.base.now (graph_of c.args.world.now) c.args.locals.now (out-FunctionTree c.args.function.now).name
+      c.args.promise.now.whole c.in_ok-inner.inner.items
+      c.in_ok-inner.ensures (whole_below (scope_of c.args.base.now) (graph_of c.args.world.now)
+      (plain_function c.args.function.now) c.args.promise.now.arrows.items c.args.promise.now.whole c.requires.promise)
+      c.requires.ready)) c.sites_of.ensures.grows c.sites_of.ensures.sound,
+  c.in_ok-sites.ensures.sited,
+  λ all. all,
+)
+
+pub function::check_promise-loop-argument-preserved : goal.function::check_promise-loop-argument-preserved
+function::check_promise-loop-argument-preserved t c =
+    let beyond : NodeId × NodeId = (record { 0 = 0 }, record { 0 = 0 }) in
+    let after : IsAfter c.args.base.now c.in_ok-inner.inner.items (graph_of c.loop-argument.world)
+    (graph_of c.check_arrow.new.world) =
+    subst (λ (names : Nodes). IsAfter c.args.base.now names (graph_of c.loop-argument.world)
+    (graph_of c.check_arrow.new.world)) c.as_slice.ensures.value
+    c.in_ok-check_arrow.ensures.after in (
+      after_both c.args.base.now c.in_ok-inner.inner.items (graph_of c.args.world.now) (graph_of c.loop-argument.world)
+          (graph_of c.check_arrow.new.world) c.loop-argument.invariant.0 after,
+      all_sited_later (graph_of c.loop-argument.world) (graph_of c.check_arrow.new.world) after.later
+          (scope_of c.args.base.now) c.in_ok-sites.sites.items c.loop-argument.invariant.1,
+      one_kept c.args.base.now c.in_ok-inner.inner.items (graph_of c.args.world.now)
+          (ready_named c.args.base.now (graph_of c.args.world.now) c.args.locals.now (out-FunctionTree c.args.function.now).name
+          c.args.promise.now.whole c.in_ok-inner.inner.items
+          c.in_ok-inner.ensures (whole_below (scope_of c.args.base.now) (graph_of c.args.world.now)
+          (plain_function c.args.function.now) c.args.promise.now.arrows.items c.args.promise.now.whole c.requires.promise)
+          c.requires.ready) (graph_of c.loop-argument.world)
+          c.loop-argument.invariant.0.later (plain_branches (out-FunctionTree c.args.function.now).branches)
+          c.as_slice-argument-items.result.now
+          (subst (λ (all : List (NodeId × NodeId)). ArePairs (graph_of c.args.world.now) all)
+          (sym c.as_slice-argument-items.ensures.value)
+          (arrows_below (scope_of c.args.base.now) (graph_of c.args.world.now) c.requires.ready.sound
+          (plain_function c.args.function.now) c.args.promise.now.arrows.items c.args.promise.now.whole
+          c.requires.promise))
+          c.loop-argument.argument-index (get_or c.as_slice-argument-items.result.now c.loop-argument.argument-index beyond)
+          (at_any c.as_slice-argument-items.result.now c.loop-argument.argument-index beyond
+          (get_or c.as_slice-argument-items.result.now c.loop-argument.argument-index beyond) c.loop-argument-test.true)
+          c.loop-argument-test.true c.loop-argument.invariant.2
+          (subst (λ (names : Nodes). KeptAt (scope_of c.args.base.now) (graph_of c.loop-argument.world)
+          (seen_by c.args.base.now names) (plain_branches (out-FunctionTree c.args.function.now).branches)
+          (get_or c.as_slice-argument-items.result.now c.loop-argument.argument-index beyond)) c.as_slice.ensures.value
+          c.in_ok-check_arrow.ensures.kept),
+    )
+
+pub function::check_promise-returns-clause-kept : goal.function::check_promise-returns-clause-kept
+function::check_promise-returns-clause-kept t c = promise_kept c.args.base.now (graph_of c.args.world.now) c.args.locals.now c.in_ok-inner.inner.items
+    c.args.function.now c.args.promise.now c.in_ok-inner.ensures
+    (subst (λ (all : List (NodeId × NodeId)). AllOf (KeptAt (scope_of c.args.base.now) (graph_of c.args.world.now)
+    (seen_by c.args.base.now c.in_ok-inner.inner.items) (plain_branches (out-FunctionTree c.args.function.now).branches)) all)
+    c.as_slice-argument-items.ensures.value
+    (none_left_have (KeptAt (scope_of c.args.base.now) (graph_of c.args.world.now)
+    (seen_by c.args.base.now c.in_ok-inner.inner.items) (plain_branches (out-FunctionTree c.args.function.now).branches))
+    c.as_slice-argument-items.result.now c.loop-argument.argument-index c.loop-argument-test.false c.loop-argument.invariant.2))
+
+pub function::check_arrow-cover-requires : goal.function::check_arrow-cover-requires
+function::check_arrow-cover-requires t c = record {
+  rest = last_node (graph_of c.divide.new.world) (scope_of c.args.base.now)
+      c.in_ok-division.division.matched
+      c.in_ok-division.division.comings.items c.in_ok-division.division.rest c.in_ok-division.ensures.division;
+}
+
+pub function::check_arrow-returns-clause-after : goal.function::check_arrow-returns-clause-after
+function::check_arrow-returns-clause-after t c = after_both c.args.base.now c.args.locals.now (graph_of c.args.world.now) (graph_of c.cover.new.world)
+    (graph_of c.check_bodies.new.world)
+    (after_same c.args.base.now c.args.locals.now (graph_of c.args.world.now)
+    (graph_of c.divide.new.world) (graph_of c.cover.new.world)
+    (after_grown c.args.base.now c.args.locals.now (graph_of c.args.world.now) c.args.world.now c.divide.new.world
+    (after_none c.args.base.now c.args.locals.now (graph_of c.args.world.now) c.requires.ready) c.divide.ensures.grows
+    c.divide.ensures.sound)
+    c.cover.ensures.graph) c.in_ok-check_bodies.ensures.after
+
+pub function::check_arrow-returns-clause-kept : goal.function::check_arrow-returns-clause-kept
+function::check_arrow-returns-clause-kept t c = arrow_given c.args.base.now c.args.locals.now (graph_of c.args.world.now) c.requires.ready
+    (graph_of c.divide.new.world) (graph_of c.check_bodies.new.world)
+    (later_of c.args.world.now c.divide.new.world c.divide.ensures.grows c.divide.ensures.sound)
+    (subst (λ (graph : Graph). IsLater graph (graph_of c.check_bodies.new.world)) c.cover.ensures.graph
+    c.in_ok-check_bodies.ensures.after.later) (plain_branches c.args.branches.now) c.args.arrow c.requires.argument
+    c.requires.result
+    c.in_ok-division.division.matched c.in_ok-division.ensures.matched
+    (they_cover (graph_of c.divide.new.world) (scope_of c.args.base.now) (plain_branches c.args.branches.now)
+    c.in_ok-division.division.matched c.in_ok-division.division.comings.items c.in_ok-division.division.rest
+    (c.in_ok-division.ensures.patterns ∙ c.requires.patterns) c.in_ok-division.ensures.division c.in_ok-cover.ensures.nothing)
+    (graph_of c.cover.new.world) c.cover.ensures.graph c.in_ok-check_bodies.field-0.items c.in_ok-check_bodies.ensures.gives
+    c.in_ok-check_bodies.ensures.within
+
+pub operands::check_exprs-check-requires : goal.operands::check_exprs-check-requires
+operands::check_exprs-check-requires t c =
+    let fall = rw c.items-expr-items.ensures at (room_falls (size (plain c.expr-item.result))
+    (size_exprs (exprs_of (map plain c.items-expr-items.result.now)))
+    (exprs_fall c.items-expr-items.result.now c.loop-expr.expr-index c.expr-item.result c.expr-item.is c.loop-expr-test.true)) in (
+      search (rules, fall, c.decreases),
+      (
+        search rules,
+        (let declared = declarations_of c.args.base.now in
+            let seen = names_seen c.args.base.now c.args.locals.now in
+            expr_at declared seen c.items-expr-items.result.now c.loop-expr.expr-index c.expr-item.result c.expr-item.is c.loop-expr-test.true
+            (subst (λ (all : Exprs). AreSound declared seen all) (sym c.items-expr-items.ensures) c.requires.sound)),
+      ),
+    )
+
+pub operands::check_items-check_item-requires : goal.operands::check_items-check_item-requires
+operands::check_items-check_item-requires t c =
+    let fall = rw c.items-item-items.ensures at (room_falls (size_item (plain_item c.item-item.result))
+    (size_items (items_of (map plain_item c.items-item-items.result.now)))
+    (items_fall c.items-item-items.result.now c.loop-item.item-index c.item-item.result c.item-item.is c.loop-item-test.true)) in (
+      search (rules, fall, c.decreases),
+      (
+        search rules,
+        (let declared = declarations_of c.args.base.now in
+            let seen = names_seen c.args.base.now c.args.locals.now in
+            item_at declared seen c.items-item-items.result.now c.loop-item.item-index c.item-item.result c.item-item.is c.loop-item-test.true
+            (subst (λ (all : Items). ItemsAreSound declared seen all) (sym c.items-item-items.ensures) c.requires.sound)),
+      ),
+    )
+
+pub operands::check_fields-check-requires : goal.operands::check_fields-check-requires
+operands::check_fields-check-requires t c =
+    let fall = rw c.items-field-items.ensures at (room_falls (suc (size (plain_field c.field-item.result).expr))
+    (size_fields (fields_of (map plain_field c.items-field-items.result.now)))
+    (fields_fall c.items-field-items.result.now c.loop-field.field-index c.field-item.result c.field-item.is c.loop-field-test.true)) in
+    let fall = rw (field_expr c.field-item.result) at fall in (
+      search (rules, fall, c.decreases),
+      (
+        search rules,
+        (let declared = declarations_of c.args.base.now in
+            let seen = names_seen c.args.base.now c.args.locals.now in
+            subst (λ (e : Expr). IsSound declared seen e) (field_expr c.field-item.result)
+            (field_at declared seen c.items-field-items.result.now c.loop-field.field-index c.field-item.result c.field-item.is
+            c.loop-field-test.true
+            (subst (λ (all : Fields). FieldsAreSound declared seen all) (sym c.items-field-items.ensures) c.requires.sound))),
+      ),
+    )
+
+pub chain::check_arguments-check_argument-requires : goal.chain::check_arguments-check_argument-requires
+chain::check_arguments-check_argument-requires t c =
+    let fall = room_falls (size (plain c.argument-item.result)) (size_exprs (exprs_of (map plain c.args.arguments.now)))
+    (exprs_fall c.args.arguments.now c.loop-argument.argument-index c.argument-item.result c.argument-item.is c.loop-argument-test.true) in (
+      search (rules, fall, c.decreases),
+      (
+        (c.loop-argument.invariant.0.ready),
+        (
+          (c.loop-argument.invariant.1.is_type.is_node),
+          (expr_at (declarations_of c.args.base.now) (names_seen c.args.base.now c.args.locals.now) c.args.arguments.now
+              c.loop-argument.argument-index c.argument-item.result c.argument-item.is c.loop-argument-test.true c.requires.sound),
+        ),
+      ),
+    )
+
+pub chain::check_tails-check_tail-requires : goal.chain::check_tails-check_tail-requires
+chain::check_tails-check_tail-requires t c =
+    let fall = rw c.items-tail-items.ensures at (room_falls (size_tail (plain_tail c.tail-item.result))
+    (size_tails (tails_of (map plain_tail c.items-tail-items.result.now)))
+    (tails_fall c.items-tail-items.result.now c.loop-tail.tail-index c.tail-item.result c.tail-item.is c.loop-tail-test.true)) in (
+      search (rules, fall, c.decreases),
+      (
+        (c.loop-tail.invariant.0.ready),
+        (
+          (c.loop-tail.invariant.1.is_type.is_node),
+          (let declared = declarations_of c.args.base.now in
+              let seen = names_seen c.args.base.now c.args.locals.now in
+              tail_at declared seen c.items-tail-items.result.now c.loop-tail.tail-index c.tail-item.result c.tail-item.is c.loop-tail-test.true
+              (subst (λ (all : Tails). TailsAreSound declared seen all) (sym c.items-tail-items.ensures) c.requires.sound)),
+        ),
+      ),
+    )
+
+pub branches::check_covering-check_bodies-requires : goal.branches::check_covering-check_bodies-requires
+branches::check_covering-check_bodies-requires t c = (
+  search (rules, c.decreases),
+  (
+    ((after_growing c.args.base.now c.args.locals.now c.args.world.now c.sites_of.new.world
+        c.divide.new.world
+        c.requires.ready c.sites_of.ensures.grows c.sites_of.ensures.sound c.divide.ensures.grows c.divide.ensures.sound
+        (graph_of c.cover.new.world) c.cover.ensures.graph).ready),
+    (
+      search rules,
+      (
+        (subst (λ (graph : Graph). IsDivision graph (scope_of c.args.base.now)
+            c.in_ok-division.division)
+            (sym c.cover.ensures.graph) c.in_ok-division.ensures.division),
+        (
+          ((c.in_ok-division.ensures.patterns ∙ ap (map sited_pattern) c.as_slice.ensures.value
+              ∙ c.in_ok-sites.ensures.patterns)),
+          search rules,
+        ),
+      ),
+    ),
+  ),
+)
+
+pub branches::check_some-check_bodies-requires : goal.branches::check_some-check_bodies-requires
+branches::check_some-check_bodies-requires t c = (
+  search (rules, c.decreases),
+  (
+    ((after_growing c.args.base.now c.args.locals.now c.args.world.now c.sites_of.new.world
+        c.divide.new.world
+        c.requires.ready c.sites_of.ensures.grows c.sites_of.ensures.sound c.divide.ensures.grows c.divide.ensures.sound
+        (graph_of c.divide.new.world) refl).ready),
+    (
+      search rules,
+      (
+        search rules,
+        (
+          ((c.in_ok-division.ensures.patterns ∙ ap (map sited_pattern) c.as_slice.ensures.value
+              ∙ c.in_ok-sites.ensures.patterns)),
+          (limit_later (graph_of c.args.world.now) (graph_of c.divide.new.world)
+              (later_two c.args.world.now c.sites_of.new.world c.divide.new.world c.sites_of.ensures.grows c.sites_of.ensures.sound
+              c.divide.ensures.grows c.divide.ensures.sound) c.args.limit c.requires.limit),
+        ),
+      ),
+    ),
+  ),
+)
+
+pub branches::check_let-check_body-requires : goal.branches::check_let-check_body-requires
+branches::check_let-check_body-requires t c = (
+  search (rules, c.decreases),
+  (
+    ((after_growing c.args.base.now c.args.locals.now c.check.new.world c.with_site.new.world
+        c.remaining.new.world c.in_ok-matched.ensures.after.ready
+        c.with_site.ensures.grows c.with_site.ensures.sound c.remaining.ensures.grows c.remaining.ensures.sound
+        (graph_of c.cover.new.world) c.cover.ensures.graph).ready),
+    (
+      (subst (λ (tree : Tree). IsSound (declarations_of c.args.base.now)
+          (names_of tree ++ names_seen c.args.base.now c.args.locals.now) (plain c.args.rest.now))
+          (sym c.in_ok-sited.ensures.pattern) c.requires.rest),
+      (
+        (subst (λ (graph : Graph). IsSited graph (scope_of c.args.base.now) c.in_ok-sited.sited)
+            (sym c.cover.ensures.graph)
+            (sited_later (graph_of c.with_site.new.world) (graph_of c.remaining.new.world)
+            (later_of c.with_site.new.world c.remaining.new.world c.remaining.ensures.grows c.remaining.ensures.sound)
+            (scope_of c.args.base.now) c.in_ok-sited.sited c.in_ok-sited.ensures.sited)),
+        (
+          (below_later (graph_of c.check.new.world) (graph_of c.cover.new.world)
+              (after_growing c.args.base.now c.args.locals.now c.check.new.world c.with_site.new.world c.remaining.new.world
+              c.in_ok-matched.ensures.after.ready
+              c.with_site.ensures.grows c.with_site.ensures.sound c.remaining.ensures.grows c.remaining.ensures.sound
+              (graph_of c.cover.new.world) c.cover.ensures.graph).later
+              c.in_ok-matched.matched c.in_ok-matched.ensures.gives.is_type.is_node),
+          search rules,
+        ),
+      ),
+    ),
+  ),
+)
+
+pub branches::check_try-check_some-requires : goal.branches::check_try-check_some-requires
+branches::check_try-check_some-requires t c = (
+  search (rules, c.decreases),
+  (
+    search rules,
+    (
+      (built_in_below c.args.base.now (graph_of c.check.new.world) c.args.locals.now
+          c.in_ok-id.ensures.after.ready DATA (lit< tt)),
+      (
+        search rules,
+        search rules,
+      ),
+    ),
+  ),
+)
+
+pub branches::check_map-check_covering-requires : goal.branches::check_map-check_covering-requires
+branches::check_map-check_covering-requires t c = (
+  search (rules, c.decreases),
+  (
+    ((after_later c.args.base.now c.args.locals.now (graph_of c.args.world.now)
+        (graph_of c.check.new.world) (graph_of c.items.new.world) c.in_ok-list.ensures.after
+        (subst (λ (graph : Graph). IsLater graph (graph_of c.items.new.world)) c.need_at.ensures.graph
+        (later_of c.need_at.new.world c.items.new.world c.items.ensures.grows c.items.ensures.sound))).ready),
+    (
+      search rules,
+      search rules,
+    ),
+  ),
+)
+
+pub branches::check_transform-check_some-requires : goal.branches::check_transform-check_some-requires
+branches::check_transform-check_some-requires t c = (
+  search (rules, c.decreases),
+  (
+    ((after_later c.args.base.now c.args.locals.now (graph_of c.args.world.now)
+        (graph_of c.check.new.world) (graph_of c.items.new.world) c.in_ok-list.ensures.after
+        (subst (λ (graph : Graph). IsLater graph (graph_of c.items.new.world)) c.need_at.ensures.graph
+        (later_of c.need_at.new.world c.items.new.world c.items.ensures.grows c.items.ensures.sound))).ready),
+    (
+      search rules,
+      (
+        search rules,
+        ((after_later c.args.base.now c.args.locals.now (graph_of c.args.world.now)
+            (graph_of c.check.new.world) (graph_of c.items.new.world) c.in_ok-list.ensures.after
+            (subst (λ (graph : Graph). IsLater graph (graph_of c.items.new.world)) c.need_at.ensures.graph
+            (later_of c.need_at.new.world c.items.new.world c.items.ensures.grows c.items.ensures.sound))).ready.tools.sequences),
+      ),
+    ),
+  ),
+)
+
+pub bodies::check_bodies-check_body-requires : goal.bodies::check_bodies-check_body-requires
+bodies::check_bodies-check_body-requires t c =
+    let base = c.args.base.now in
+    let locals = c.args.locals.now in
+    let old = graph_of c.args.world.now in
+    let new = graph_of c.loop-number.world in
+    let division = c.args.division.now in
+    let branches = plain_branches c.args.branches.now in
+    let items = c.items-branch-items.result.now in
+    let number = c.loop-number.number in
+    let done = c.loop-number.invariant in
+    let coming = c.in-Some.coming in
+    let fall = rw c.items-branch-items.ensures at (room_falls (suc (suc (size (plain_branch c.branch-item.result).body)))
+    (size_branches (branches_of (map plain_branch items)))
+    (branches_fall items number c.branch-item.result c.branch-item.is c.loop-number-test.true)) in
+    let fall = rw (branch_body c.branch-item.result) at fall in
+    let looked = there division.comings.items number c.get.result coming
+    (subst (λ (all : List Coming). IsItemAt all number c.get.result) c.deref.ensures.value c.get.ensures.lookup) c.in-Some.is in (
+      search (rules, fall, c.decreases),
+      (
+        done.after.ready,
+        (
+          subst (λ (body : Expr). IsSound (declarations_of base) (names_of (coming_pattern coming.now) ++ names_seen base locals) body)
+              (branch_body c.branch-item.result)
+              (is_sound base locals old c.requires.ready division branches items c.args.limit new number c.loop-number.results.items done
+              c.branch-item.result c.branch-item.is c.loop-number-test.true coming.now looked.0 looked.1 c.items-branch-items.ensures
+              c.requires.sound),
+          (
+            is_sited base locals old c.requires.ready division branches items c.args.limit new number c.loop-number.results.items done
+                c.branch-item.result c.branch-item.is c.loop-number-test.true coming.now looked.0 looked.1,
+            (
+              matched_below base locals old c.requires.ready division branches items c.args.limit new number c.loop-number.results.items
+                  done c.branch-item.result c.branch-item.is c.loop-number-test.true coming.now looked.0 looked.1,
+              limit_later old new done.after.later c.args.limit c.requires.limit,
+            ),
+          ),
+        ),
+      ),
+    )
+
+pub bodies::check_body-check-requires : goal.bodies::check_body-check-requires
+bodies::check_body-check-requires t c = (
+  search (rules, c.decreases),
+  (
+    (ready_all c.args.base.now (graph_of c.captures-2.new.world) c.args.locals.now
+        c.in_ok-own-in-Some.own.items c.as_slice.result.now (c.as_slice.ensures.value ∙ c.in_ok-all-in-Some.ensures)
+        c.in_ok-own-in-Some.ensures.nodes
+        (ready_later c.args.base.now (graph_of c.args.world.now) (graph_of c.captures-2.new.world)
+        (later_two c.args.world.now c.taken.new.world c.captures-2.new.world c.taken.ensures.grows c.taken.ensures.sound
+        c.captures-2.ensures.grows c.captures-2.ensures.sound) c.args.locals.now c.requires.ready)),
+    (body_is_sound c.args.base.now c.args.locals.now
+        c.in_ok-own-in-Some.own.items c.as_slice.result.now (c.as_slice.ensures.value ∙ c.in_ok-all-in-Some.ensures)
+        (graph_of c.args.world.now) c.args.coming.sited.now c.requires.sited c.args.coming.matched (graph_of c.captures-2.new.world)
+        (hold_here (graph_of c.args.world.now) (graph_of c.taken.new.world) (graph_of c.captures-2.new.world) c.taken.ensures.graph
+        (scope_of c.args.base.now) c.args.coming.sited.now c.requires.sited c.args.coming.matched c.in_ok-own-in-Some.own.items
+        c.in_ok-own-in-Some.ensures.hold) (plain c.args.body.now)
+        (element_at (table_of c.taken.new.world) c.in-Some.field-0)
+        (one_taken (graph_of c.args.world.now) c.args.coming.matched c.args.coming.sited.now.site (table_of c.taken.new.world)
+        c.in_ok-taken.field-0 c.in-Some.field-0 c.in_ok-taken.ensures.taken c.in-Some.is (scope_of c.args.base.now)
+        (coming_pattern c.args.coming) c.requires.sited.site) c.requires.sound),
+  ),
+)
+
+pub function::check_function-check_promise-requires : goal.function::check_function-check_promise-requires
+function::check_function-check_promise-requires t c = (
+  search (rules, c.decreases),
+  (
+    ((after_grown c.args.base.now c.args.locals.now (graph_of c.args.world.now)
+        c.args.world.now
+        c.promise_of.new.world (after_none c.args.base.now c.args.locals.now (graph_of c.args.world.now) c.requires.ready)
+        c.promise_of.ensures.grows c.promise_of.ensures.sound).ready),
+    (
+      search rules,
+      (function_promise (scope_of c.args.base.now) (graph_of c.promise_of.new.world)
+          c.args.function.now
+          c.in_ok-promise.promise.arrows.items c.in_ok-promise.promise.whole c.in_ok-promise.ensures.promise),
+    ),
+  ),
+)
+
+pub function::check_promise-check_arrow-requires : goal.function::check_promise-check_arrow-requires
+function::check_promise-check_arrow-requires t c = (
+  search (rules, ap size_function (function_is c.args.function.now), c.decreases),
+  (
+    search rules,
+    (
+      branches_sound c.args.base.now c.args.locals.now c.as_slice.result.now c.args.promise.now.whole c.args.function.now
+          (c.as_slice.ensures.value ∙ c.in_ok-inner.ensures) c.requires.sound,
+      (
+        search rules,
+        (
+          search rules,
+          (
+            (let beyond : NodeId × NodeId = (record { 0 = 0 }, record { 0 = 0 }) in
+                below_later (graph_of c.args.world.now) (graph_of c.loop-argument.world) c.loop-argument.invariant.0.later
+                (get_or c.as_slice-argument-items.result.now c.loop-argument.argument-index beyond).0
+                (pair_at (graph_of c.args.world.now) c.as_slice-argument-items.result.now
+                (subst (λ (all : List (NodeId × NodeId)). ArePairs (graph_of c.args.world.now) all)
+                (sym c.as_slice-argument-items.ensures.value)
+                (arrows_below (scope_of c.args.base.now) (graph_of c.args.world.now) c.requires.ready.sound
+                (plain_function c.args.function.now) c.args.promise.now.arrows.items c.args.promise.now.whole
+                c.requires.promise)) c.loop-argument.argument-index beyond
+                c.loop-argument-test.true).0),
+            (let beyond : NodeId × NodeId = (record { 0 = 0 }, record { 0 = 0 }) in
+                below_later (graph_of c.args.world.now) (graph_of c.loop-argument.world) c.loop-argument.invariant.0.later
+                (get_or c.as_slice-argument-items.result.now c.loop-argument.argument-index beyond).1
+                (pair_at (graph_of c.args.world.now) c.as_slice-argument-items.result.now
+                (subst (λ (all : List (NodeId × NodeId)). ArePairs (graph_of c.args.world.now) all)
+                (sym c.as_slice-argument-items.ensures.value)
+                (arrows_below (scope_of c.args.base.now) (graph_of c.args.world.now) c.requires.ready.sound
+                (plain_function c.args.function.now) c.args.promise.now.arrows.items c.args.promise.now.whole
+                c.requires.promise)) c.loop-argument.argument-index beyond
+                c.loop-argument-test.true).1),
+          ),
+        ),
+      ),
+    ),
+  ),
+)
+
+pub function::check_arrow-check_bodies-requires : goal.function::check_arrow-check_bodies-requires
+function::check_arrow-check_bodies-requires t c = (
+  search (rules, c.decreases),
+  (
+    ((after_same c.args.base.now c.args.locals.now (graph_of c.args.world.now)
+        (graph_of c.divide.new.world) (graph_of c.cover.new.world)
+        (after_grown c.args.base.now c.args.locals.now (graph_of c.args.world.now) c.args.world.now c.divide.new.world
+        (after_none c.args.base.now c.args.locals.now (graph_of c.args.world.now) c.requires.ready) c.divide.ensures.grows
+        c.divide.ensures.sound)
+        c.cover.ensures.graph).ready),
+    (
+      search rules,
+      (
+        (subst (λ (graph : Graph). IsDivision graph (scope_of c.args.base.now)
+            c.in_ok-division.division)
+            (sym c.cover.ensures.graph) c.in_ok-division.ensures.division),
+        (
+          (c.in_ok-division.ensures.patterns ∙ c.requires.patterns),
+          (below_later (graph_of c.args.world.now) (graph_of c.cover.new.world)
+              (after_same c.args.base.now c.args.locals.now (graph_of c.args.world.now)
+              (graph_of c.divide.new.world) (graph_of c.cover.new.world)
+              (after_grown c.args.base.now c.args.locals.now (graph_of c.args.world.now) c.args.world.now c.divide.new.world
+              (after_none c.args.base.now c.args.locals.now (graph_of c.args.world.now) c.requires.ready) c.divide.ensures.grows
+              c.divide.ensures.sound)
+              c.cover.ensures.graph).later c.args.arrow.1 c.requires.result),
+        ),
+      ),
+    ),
+  ),
+)

@@ -1,0 +1,179 @@
+-- What comes to a body, and what is known of its variables and its type.
+use Rattle.std.proofs.Common.{◌≡◌, ◌<◌, sym, subst, ap, ◌∙◌, List, [], ◌∷◌, ◌++◌, length, append_assoc, append-nil, Option, Some, None, MatchOption}
+use Rattle.cd_sets.specs.declared.node_id.NodeId.{NodeId}
+use Rattle.cd_syntax.specs.Name.{Name}
+use Rattle.cd_syntax.specs.TypeTree.{Tree}
+use Rattle.cd_model.specs.AllOf.{AllOf}
+use Rattle.cd_model.specs.Formula.{Graph, IsGraph}
+use Rattle.cd_model.specs.Scope.{Scope}
+use Rattle.cd_model.specs.Thing.{Thing}
+use Rattle.cd_matching.specs.Captures.{Captures}
+use Rattle.cd_program.specs.Expr.{Expr}
+use Rattle.cd_meaning.specs.Sets.{◌⊆◌, elements_of}
+use Rattle.cd_names.specs.ProgramFaults.{names_of}
+use Rattle.cd_typing.specs.Later.{IsLater}
+use Rattle.cd_typing.specs.Branches.{HoldCaptured}
+use Rattle.cd_typing.specs.Typing.{Has}
+use Rattle.cd_typing.proofs.Later.{later_in, earlier_in, below_later, later_still}
+use Rattle.cd_sites.proofs.WrittenTaken.{takes_once}
+use Rattle.cd_sites.specs.CapturedTypes.{types_of}
+use Rattle.cd_sites.specs.Sites.{IsSite}
+use Rattle.cd_sites.specs.declared.site.Site.{Site}
+use Rattle.cd_sites.specs.TakenElements.{IsTakenFrom, TakesNone}
+use Rattle.cd_elements.specs.Table.{Names, element_at}
+use Rattle.cd_elements.specs.declared.shape.ElementId.{ElementId}
+use Rattle.cd_empty.specs.Growth.{Grows}
+use Rattle.cd_empty.specs.Seen.{Seen, graph_of}
+use Rattle.cd_check.specs.declared.base.Base.{Base}
+use Rattle.cd_check.specs.declared.bodies.Limit.{Limit}
+use Rattle.cd_check.specs.declared.sites.Sited.{Sited}
+use Rattle.cd_check.specs.Inner.Bodies.{BodyGives}
+use Rattle.cd_check.specs.Inner.Divided.{IsSited, sited_pattern}
+use Rattle.cd_check.specs.Inner.Environment.{Nodes, AreNodes, AreNodesOf, Gives, declared}
+use Rattle.cd_check.specs.Inner.Giving.{ExprGives}
+use Rattle.cd_check.specs.Inner.Limits.{IsLimit, AreWithin, IsOneWithin}
+use Rattle.cd_check.specs.Inner.GoingOn.{listed}
+use Rattle.cd_check.specs.Inner.Ready.{IsReady, IsAfter, declarations_of, names_seen, scope_of, seen_by}
+use Rattle.cd_check.specs.Inner.SoundNames.{IsSound}
+use Rattle.cd_check.proofs.OwnNames.{body_sound, names_in}
+use Rattle.cd_check.proofs.OwnTypes.{body_gives}
+use Rattle.cd_check.proofs.ReadyLater.{ready_later, later_of}
+
+-- variables before others
+pub seen_all : (base : Base) (locals own all : Nodes) → all ≡ own ++ locals → seen_by base all ≡ own ++ seen_by base locals
+seen_all base locals own all same = ap (λ names. names ++ declared base.functions.now base.interfaces.now) same
+    ∙ append_assoc own locals (declared base.functions.now base.interfaces.now)
+
+pub both_nodes_of : (graph : Graph) (one other : Nodes) → AreNodesOf graph one → AreNodesOf graph other → AreNodesOf graph (one ++ other)
+both_nodes_of graph [] other are more = more
+both_nodes_of graph (node ∷ nodes) other are more = (are.0, both_nodes_of graph nodes other are.1 more)
+
+pub ready_with : (base : Base) (graph : Graph) (locals all : Nodes) → AreNodesOf graph (seen_by base all) → IsReady base graph locals
+    → IsReady base graph all
+ready_with base graph locals all are ready = record {
+  more = ready.more;
+  begins = ready.begins;
+  sound = ready.sound;
+  nodes = are;
+  named = ready.named;
+  names_sound = ready.names_sound;
+  tools = ready.tools;
+  yes = ready.yes;
+  no = ready.no;
+}
+
+pub ready_all : (base : Base) (graph : Graph) (locals own all : Nodes) → all ≡ own ++ locals → AreNodesOf graph own → IsReady base graph locals
+    → IsReady base graph all
+ready_all base graph locals own all same are ready = ready_with base graph locals all
+    (subst (AreNodesOf graph) (sym (seen_all base locals own all same)) (both_nodes_of graph own (seen_by base locals) are ready.nodes)) ready
+
+-- the graph is ready for the others again
+pub after_all : (base : Base) (old middle new : Graph) (locals all : Nodes) → IsReady base old locals → IsLater old middle
+    → IsAfter base all middle new → IsAfter base locals old new
+after_all base old middle new locals all ready is after = record {
+  later = later_still old middle new is after.later;
+  ready = ready_later base old new (later_still old middle new is after.later) locals ready;
+}
+
+abbrev IsNone : Option (Captures Name) → Type 0
+IsNone None = Unit {0}
+IsNone (Some captures) = ⊥
+
+-- nothing is taken
+pub none_gives : (graph : Graph) (scope : Scope) (sited : Sited) → IsSited graph scope sited → (nodes : Nodes) (new : Graph) (matched : NodeId)
+    → (body : Expr) → TakesNone scope (sited_pattern sited) (elements_of graph matched)
+    → BodyGives scope graph nodes new (elements_of graph matched) (sited_pattern sited) body None
+none_gives graph scope sited sound nodes new matched body none e captures first = subst IsNone
+    (takes_once graph scope (sited_pattern sited) sited.site sound.site e None (Some captures) first.element
+    (none e first.element first.in_set) first.takes) tt
+
+-- what is captured is held by types of a longer graph than that in which it is matched
+pub hold_here : (old same middle : Graph) → same ≡ old → (scope : Scope) (sited : Sited) → IsSited old scope sited → (matched : NodeId)
+    → (own : Nodes)
+    → ((scope : Scope) (written : Tree) → IsSite same scope written sited.site
+    → HoldCaptured scope (types_of middle own) [] written (elements_of same matched))
+    → HoldCaptured scope (types_of middle own) [] (sited_pattern sited) (elements_of old matched)
+hold_here old same middle is scope sited sound matched own hold = subst
+    (λ graph. IsSite graph scope (sited_pattern sited) sited.site
+    → HoldCaptured scope (types_of middle own) [] (sited_pattern sited) (elements_of graph matched)) is
+    (hold scope (sited_pattern sited)) sound.site
+
+module _ (base : Base) (locals own all : Nodes) (same : all ≡ own ++ locals) (old : Graph) (sited : Sited)
+    (sound : IsSited old (scope_of base) sited) (matched : NodeId) (middle : Graph)
+    (hold : HoldCaptured (scope_of base) (types_of middle own) [] (sited_pattern sited) (elements_of old matched)) (body : Expr) where
+  pub body_is_sound : (e : Thing) → IsTakenFrom (scope_of base) (sited_pattern sited) (elements_of old matched) e
+      → IsSound (declarations_of base) (names_of (sited_pattern sited) ++ names_seen base locals) body
+      → IsSound (declarations_of base) (names_seen base all) body
+  body_is_sound e taken named = subst (λ nodes. IsSound (declarations_of base) (names_in nodes) body) (sym (seen_all base locals own all same))
+      (body_sound (declarations_of base) middle (scope_of base) (sited_pattern sited) (elements_of old matched) own (seen_by base locals)
+      sound.bound hold e taken.0 taken.1 body named)
+
+  pub one_gives : IsReady base old locals → IsLater old middle → AreNodesOf middle own → (new : Graph) (id : NodeId)
+      → ExprGives base middle all new body id
+      → BodyGives (scope_of base) old (seen_by base locals) new (elements_of old matched) (sited_pattern sited) body (Some id)
+  one_gives ready is are new id gives =
+      let there = ready_later base old middle is locals ready in
+      body_gives (scope_of base) old ready.sound (seen_by base locals) ready.nodes middle is there.more there.begins own are
+      (elements_of old matched) (sited_pattern sited) hold new body id
+      (subst (λ nodes. Gives middle nodes new (λ types t. Has (scope_of base) types body t) id) (seen_all base locals own all same) gives)
+
+-- limits in longer graphs
+pub limit_later : (graph later : Graph) → IsLater graph later → (limit : Option Limit) → IsLimit graph limit → IsLimit later limit
+limit_later graph later is None below = tt
+limit_later graph later is (Some limit) below = below_later graph later is limit.node below
+
+each_within : (graph later : Graph) → IsLater graph later → IsGraph graph → (limit : NodeId) → limit.0 < length graph
+    → (ids : List NodeId) → AreNodes graph ids → AllOf (λ id. elements_of graph id ⊆ elements_of graph limit) ids
+    → AllOf (λ id. elements_of later id ⊆ elements_of later limit) ids
+each_within graph later is sound limit below [] are within = tt
+each_within graph later is sound limit below (id ∷ ids) are within = (
+  λ e element inside. later_in graph later is sound limit below e element
+      (within.0 e element (earlier_in graph later is sound id are.0 e element inside)),
+  each_within graph later is sound limit below ids are.1 within.1,
+)
+
+pub within_later : (graph later : Graph) → IsLater graph later → IsGraph graph → (limit : Option Limit) → IsLimit graph limit
+    → (ids : List NodeId) → AreNodes graph ids → AreWithin graph limit ids → AreWithin later limit ids
+within_later graph later is sound None below ids are within = tt
+within_later graph later is sound (Some limit) below ids are within = each_within graph later is sound limit.node below ids are within
+
+last_within : (Is : NodeId → Type 0) (ids : List NodeId) (id : NodeId) → AllOf Is ids → Is id → AllOf Is (ids ++ id ∷ [])
+last_within Is [] id all one = (one, tt)
+last_within Is (first ∷ ids) id all one = (all.0, last_within Is ids id all.1 one)
+
+-- one node more is within them, or none
+pub one_more_within : (graph : Graph) (limit : Option Limit) (ids : List NodeId) (found : Option NodeId) → AreWithin graph limit ids
+    → IsOneWithin graph limit found → AreWithin graph limit (ids ++ listed found)
+one_more_within graph None ids found within one = tt
+one_more_within graph (Some limit) ids (Some id) within one =
+    last_within (λ id. elements_of graph id ⊆ elements_of graph limit.node) ids id within one
+one_more_within graph (Some limit) ids None within one =
+    subst (λ all. AllOf (λ id. elements_of graph id ⊆ elements_of graph limit.node) all) (sym (append-nil ids)) within
+
+pub none_within : (graph : Graph) (limit : Option Limit) → AreWithin graph limit []
+none_within graph None = tt
+none_within graph (Some limit) = tt
+
+-- what is said where it was asked whether something is taken
+abbrev pub Taken : Graph → NodeId → Site → List Thing → Option ElementId → Type 0
+Taken graph matched site table found = MatchOption found
+    ((scope : Scope) (written : Tree) → IsSite graph scope written site → TakesNone scope written (elements_of graph matched))
+    (λ id. Names table id × ((scope : Scope) (written : Tree) → IsSite graph scope written site
+    → IsTakenFrom scope written (elements_of graph matched) (element_at table id)))
+
+pub none_taken : (graph : Graph) (matched : NodeId) (site : Site) (table : List Thing) (found : Option ElementId)
+    → Taken graph matched site table found → found ≡ None
+    → (scope : Scope) (written : Tree) → IsSite graph scope written site → TakesNone scope written (elements_of graph matched)
+none_taken graph matched site table found taken is = subst (λ (one : Option ElementId). Taken graph matched site table one) is taken
+
+pub one_taken : (graph : Graph) (matched : NodeId) (site : Site) (table : List Thing) (found : Option ElementId) (id : ElementId)
+    → Taken graph matched site table found → found ≡ Some id
+    → (scope : Scope) (written : Tree) → IsSite graph scope written site
+    → IsTakenFrom scope written (elements_of graph matched) (element_at table id)
+one_taken graph matched site table found id taken is = (subst (λ (one : Option ElementId). Taken graph matched site table one) is taken).1
+
+-- two steps of a world that grows
+pub later_two : (one two three : Seen) → Grows one two → IsGraph (graph_of two) → Grows two three → IsGraph (graph_of three)
+    → IsLater (graph_of one) (graph_of three)
+later_two one two three first first_sound second second_sound = later_still (graph_of one) (graph_of two) (graph_of three)
+    (later_of one two first first_sound) (later_of two three second second_sound)

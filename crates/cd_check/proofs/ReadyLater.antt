@@ -1,0 +1,64 @@
+-- A graph that is ready for a check stays so as it grows.
+use Rattle.std.proofs.Common.{◌≡◌, ◌<◌, Bool, true, false, List, [], ◌∷◌, ◌++◌, sym, subst, ap, ◌∙◌, append_assoc, length}
+use Rattle.cd_sets.specs.declared.node_id.NodeId.{NodeId}
+use Rattle.cd_model.specs.BuiltIns.{built_ins}
+use Rattle.cd_model.specs.Formula.{Graph, IsGraph}
+use Rattle.cd_resolve.specs.Named.{AreNamed, Names}
+use Rattle.cd_resolve.proofs.Kept.{names_kept}
+use Rattle.cd_meaning.specs.Sets.{elements_of}
+use Rattle.cd_meaning.specs.Sequences.{IsSequence, IsListOf}
+use Rattle.cd_typing.specs.Operators.{truth}
+use Rattle.cd_operators.specs.Tools.{AreTools, IsZero}
+use Rattle.cd_operators.specs.declared.tools.Tools.{Tools}
+use Rattle.cd_empty.specs.Growth.{Grows}
+use Rattle.cd_empty.specs.Seen.{Seen, graph_of}
+use Rattle.cd_check.specs.declared.base.Base.{Base}
+use Rattle.cd_check.specs.Inner.Environment.{Nodes, AreNodesOf}
+use Rattle.cd_typing.specs.Later.{IsLater}
+use Rattle.cd_check.specs.Inner.Ready.{IsTruth, IsReady}
+use Rattle.cd_typing.proofs.Later.{below_later, only_later, still_holds}
+
+pub later_of : (old new : Seen) → Grows old new → IsGraph (graph_of new) → IsLater (graph_of old) (graph_of new)
+later_of old new grows sound = record { more = grows.graph.0; is = grows.graph.1; sound = sound }
+
+module _ (graph later : Graph) (is : IsLater graph later) (sound : IsGraph graph) where
+  pub tools_later : (tools : Tools) → AreTools graph tools → AreTools later tools
+  tools_later tools are = record {
+    sequences = below_later graph later is tools.sequences are.sequences;
+    are_sequences = only_later graph later is sound tools.sequences are.sequences IsSequence are.are_sequences;
+    all_sequences = still_holds graph later is sound tools.sequences are.sequences IsSequence are.all_sequences;
+    lists = below_later graph later is tools.lists are.lists;
+    are_lists = only_later graph later is sound tools.lists are.lists (IsListOf IsSequence) are.are_lists;
+    all_lists = still_holds graph later is sound tools.lists are.lists (IsListOf IsSequence) are.all_lists;
+    zero = below_later graph later is tools.zero are.zero;
+    is_zero = only_later graph later is sound tools.zero are.zero IsZero are.is_zero;
+    all_zero = still_holds graph later is sound tools.zero are.zero IsZero are.all_zero;
+  }
+
+  pub truth_later : (value : Bool) (id : NodeId) → IsTruth graph value id → IsTruth later value id
+  truth_later value id truth_is = record {
+    is_node = below_later graph later is id truth_is.is_node;
+    only = only_later graph later is sound id truth_is.is_node (λ d. d ≡ truth value) truth_is.only;
+    has = still_holds graph later is sound id truth_is.is_node (λ d. d ≡ truth value) truth_is.has;
+  }
+
+  pub nodes_of_later : (nodes : Nodes) → AreNodesOf graph nodes → AreNodesOf later nodes
+  nodes_of_later [] are = tt
+  nodes_of_later (node ∷ nodes) are = (below_later graph later is node.1 are.0, nodes_of_later nodes are.1)
+
+  pub named_later : (names : Names) → AreNamed graph names → AreNamed later names
+  named_later names named = subst (λ whole. AreNamed whole names) (sym is.is) (names_kept graph is.more names sound named)
+
+pub ready_later : (base : Base) (graph later : Graph) → IsLater graph later → (locals : Nodes) → IsReady base graph locals
+    → IsReady base later locals
+ready_later base graph later is locals ready = record {
+  more = ready.more ++ is.more;
+  begins = is.is ∙ ap (λ start. start ++ is.more) ready.begins ∙ append_assoc built_ins ready.more is.more;
+  sound = is.sound;
+  nodes = nodes_of_later graph later is ready.sound _ ready.nodes;
+  named = named_later graph later is ready.sound _ ready.named;
+  names_sound = ready.names_sound;
+  tools = tools_later graph later is ready.sound base.tools ready.tools;
+  yes = truth_later graph later is ready.sound true base.yes ready.yes;
+  no = truth_later graph later is ready.sound false base.no ready.no;
+}

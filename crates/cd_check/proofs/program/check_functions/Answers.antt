@@ -1,0 +1,37 @@
+use Rattle.std.proofs.Common.{[]}
+use Rattle.cd_empty.specs.Seen.{graph_of}
+use Rattle.cd_check.specs.declared.program.Promised.{Promised}
+use Rattle.cd_check.specs.Inner.Giving.{PromiseKept}
+use Rattle.cd_check.specs.Inner.Programs.{IsPromised, IsSoundFunction, function_of}
+use Rattle.cd_check.specs.Inner.Ready.{scope_of, declarations_of, names_seen, seen_by}
+use Rattle.cd_check.proofs.After.{after_both}
+use Rattle.cd_check.proofs.FunctionsPromised.{promise_kept_earlier, promise_later}
+use Rattle.cd_check.proofs.NextOne.{one_left, one_shown}
+use Rattle.cd_check.proofs.program.check_functions.Goals as goal
+
+pub check_promise-requires-clause-promise : goal.check_promise-requires-clause-promise
+check_promise-requires-clause-promise c =
+    let base = c.args.base.now in
+    let old = graph_of c.args.world.now in
+    let so_far = c.loop-one.invariant in
+    promise_later (scope_of base) old (graph_of c.loop-one.world) so_far.0.later c.requires.ready.sound c.one-item.result
+    (one_left (IsPromised (scope_of base) old) c.args.promised.now c.loop-one.one-index c.one-item.result c.one-item.is
+    c.loop-one-test.true so_far.1).0
+
+pub loop-one-preserved : goal.loop-one-preserved
+loop-one-preserved c =
+    let base = c.args.base.now in
+    let old = graph_of c.args.world.now in
+    let now = graph_of c.loop-one.world in
+    let so_far = c.loop-one.invariant in
+    let all = c.args.promised.now in
+    let index = c.loop-one.one-index in
+    let one = c.one-item.result in
+    let promised = one_left (IsPromised (scope_of base) old) all index one c.one-item.is c.loop-one-test.true so_far.1 in (
+      after_both base [] old now (graph_of c.check_promise.new.world) so_far.0 c.in_ok-check_promise.ensures.after,
+      promised.1,
+      (one_left (IsSoundFunction (declarations_of base) (names_seen base [])) all index one c.one-item.is c.loop-one-test.true so_far.2).1,
+      one_shown (λ (one : Promised). PromiseKept base old [] (function_of one) one.promise) all index one c.one-item.is c.loop-one-test.true
+          (promise_kept_earlier (scope_of base) old now so_far.0.later c.requires.ready.sound (seen_by base []) c.requires.ready.nodes one
+          promised.0 c.in_ok-check_promise.ensures.kept) so_far.3,
+    )

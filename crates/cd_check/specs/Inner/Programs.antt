@@ -1,0 +1,50 @@
+-- The functions of a program, with what they promise.
+use Rattle.std.specs.Prelude.{◌≡◌, true, List}
+use Rattle.cd_sets.specs.declared.node_id.NodeId.{NodeId}
+use Rattle.cd_syntax.specs.Name.{Name}
+use Rattle.cd_syntax.specs.TypeTree.{Declarations}
+use Rattle.cd_model.specs.AllOf.{AllOf}
+use Rattle.cd_model.specs.BuiltIns.{DATA}
+use Rattle.cd_model.specs.Formula.{Graph}
+use Rattle.cd_model.specs.Scope.{Scope}
+use Rattle.cd_model.specs.Thing.{Atom}
+use Rattle.cd_program.specs.Expr.{FunctionTree, function}
+use Rattle.cd_program.specs.PlainExpr.{plain_function}
+use Rattle.cd_meaning.specs.Sets.{◌⊆◌, elements_of}
+use Rattle.cd_names.specs.ProgramFaults.{Seen}
+use Rattle.cd_check.specs.declared.program.Promised.{Promised}
+use Rattle.cd_check.specs.Inner.FunctionNames.{is_main}
+use Rattle.cd_check.specs.Inner.Promises.{HasPromise, ArePairs}
+use Rattle.cd_check.specs.Inner.SoundNames.{AreSoundSignatures, FunctionIsSound}
+
+abbrev pub function_of : Promised → FunctionTree
+function_of one = plain_function one.function.now
+
+abbrev pub SignaturesAreSound : Declarations → FunctionTree → Type 0
+SignaturesAreSound types (function at name name_at interface branches) =
+    AreSoundSignatures types interface
+
+abbrev pub IsPromised : Scope → Graph → Promised → Type 0
+IsPromised scope graph one =
+    HasPromise scope graph (function_of one) one.promise.arrows.items one.promise.whole
+
+abbrev pub IsSoundFunction : Declarations → Seen → Promised → Type 0
+IsSoundFunction types seen one = FunctionIsSound types seen (function_of one)
+
+-- the nodes of its arrows are of the graph
+abbrev pub HasArrows : Graph → Promised → Type 0
+HasArrows graph one = ArePairs graph one.promise.arrows.items
+
+abbrev pub ResultsAreData : Graph → List (NodeId × NodeId) → Type 0
+ResultsAreData graph arrows =
+    AllOf (λ arrow. elements_of graph arrow.1 ⊆ elements_of graph DATA) arrows
+
+-- what `main` gives is data
+abbrev pub MainGives : Graph → Promised → Type 0
+MainGives graph one = is_main (function_of one) ≡ true
+    → ResultsAreData graph one.promise.arrows.items
+
+-- the node holds the atom of this name alone
+pub record IsAtomNode (graph : Graph) (name : Name) (id : NodeId) : Type 0 where
+  pub only : elements_of graph id ⊆ (λ d. d ≡ Atom name)
+  pub has : (λ d. d ≡ Atom name) ⊆ elements_of graph id
