@@ -33,7 +33,6 @@ pub mod NextItem
 pub mod LastPart
 pub mod HeadsMade
 pub mod RowsOnce
-pub mod Comparing
 pub mod FieldsSorted
 pub mod RowsMade
 pub mod RowsFollowed

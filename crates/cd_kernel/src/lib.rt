@@ -2,7 +2,6 @@
 #![tactic(auto)]
 
 mod chain;
-mod compare;
 mod complete;
 mod copies;
 mod count;

@@ -4,8 +4,8 @@ ghost use Rattle.cd_matching.specs.PlainKernel.{plain_kernel_field};
 ghost use Rattle.cd_kernel.specs.Inner.Building.{inserted, sorted_over};
 ghost use Rattle.cd_kernel.specs.Inner.PlainSteps.{plain_kernel_fields};
 
-use crate::compare::compare;
 use cd_matching::kernel::KernelField;
+use cd_syntax::order::compare;
 use std::alloc::{AllocError, Global};
 use std::cmp::Ordering;
 

@@ -16,7 +16,6 @@ pub mod RestNodes
 pub mod FormulasJoined
 pub mod AskNodes
 pub mod Zips
-pub mod Comparing
 pub mod FoundCells
 pub mod UnionNodes
 pub mod LabelsPlaced

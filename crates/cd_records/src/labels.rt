@@ -6,9 +6,9 @@ ghost use Rattle.cd_needs.specs.PlainReasons.{plain_labels};
 ghost use Rattle.cd_needs.specs.RecordTypes.{plain_row};
 ghost use Rattle.cd_records.specs.Inner.Labels.{inserted, all_inserted, labels_in, row_labels};
 
-use crate::compare::compare;
 use cd_needs::row::{FieldCell, Row};
 use cd_syntax::name::Name;
+use cd_syntax::order::compare;
 use std::alloc::AllocError;
 use std::cmp::Ordering;
 

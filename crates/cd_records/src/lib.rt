@@ -5,7 +5,6 @@
 mod batch;
 mod both;
 mod choice;
-mod compare;
 mod fields;
 mod labels;
 mod leaving;

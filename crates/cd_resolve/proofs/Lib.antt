@@ -46,7 +46,6 @@ pub mod Solved
 pub mod EndsOfTrees
 pub mod EndsOfNames
 pub mod EndsOfEquations
-pub mod Comparing
 pub mod Counting
 pub mod Entering
 pub mod Sizes

@@ -5,9 +5,9 @@ ghost use Rattle.cd_graph.specs.PlainFormula.{plain_named};
 ghost use Rattle.cd_resolve.specs.Inner.Leaves.{inserted, sorted};
 ghost use Rattle.cd_resolve.specs.Inner.PlainState.{put, plain_one};
 
-use crate::compare::compare;
 use cd_graph::fields::Field;
 use cd_syntax::name::Name;
+use cd_syntax::order::compare;
 use std::alloc::{AllocError, Global};
 use std::cmp::Ordering;
 

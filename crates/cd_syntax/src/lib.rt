@@ -5,6 +5,7 @@ pub mod builtin;
 pub mod constant;
 mod make;
 pub mod name;
+pub mod order;
 pub mod sign;
 pub mod tokens;
 pub mod type_tree;

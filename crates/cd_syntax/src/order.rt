@@ -1,13 +1,13 @@
-//! Names compared with others.
+//! The order of names.
 ghost use Rattle.std.specs.Prelude.{◌≡◌};
 ghost use Rattle.std.specs.Ordering.{nat_cmp};
 ghost use Rattle.std.specs.Cmp.Lexicographic.{slice_cmp};
 
-use cd_syntax::name::Name;
+use crate::name::Name;
 use std::cmp::Ordering;
 
 /// The order of two names by their characters.
-pub(crate) fn compare(one: &Name, other: &Name) -> Ordering
+pub fn compare(one: &Name, other: &Name) -> Ordering
     ensures { result ≡ slice_cmp nat_cmp one.now other.now }
 {
     let mut others = other.as_str().chars();

@@ -2,8 +2,8 @@ use Rattle.std.proofs.Common.{◌≡◌}
 use Rattle.std.specs.Cmp.Lexicographic.{slice_cmp}
 use Rattle.std.specs.Ordering.{nat_cmp}
 use Rattle.std.specs.Str.{IsUtf8}
-use Rattle.cd_resolve.proofs.Comparing.{compared}
-use Rattle.cd_resolve.proofs.compare.compare.Given as goal
+use Rattle.cd_syntax.proofs.Comparing.{compared}
+use Rattle.cd_syntax.proofs.order.compare.Given as goal
 
 -- what is left of both is in the order of the whole
 abbrev pub invariant-loop-c : goal.invariant-loop-c

@@ -1,7 +1,7 @@
 use Rattle.std.proofs.Common.{◌∙◌}
 use Rattle.std.proofs.lemmas.Str.{IsUtf8-past_char}
-use Rattle.cd_kernel.proofs.Comparing.{below, above, along, ends_before, ends_after, end_together}
-use Rattle.cd_kernel.proofs.compare.compare.Goals as goal
+use Rattle.cd_syntax.proofs.Comparing.{below, above, along, ends_before, ends_after, end_together}
+use Rattle.cd_syntax.proofs.order.compare.Goals as goal
 
 -- the other ends first
 pub returns-in_default : goal.returns-in_default
