@@ -7,3 +7,4 @@ pub mod Counting
 pub mod Members
 pub mod Parts
 pub mod Same
+pub mod Bounds

@@ -97,7 +97,7 @@ impl IntSet {
     pub fn is_empty(&self) -> bool
         ensures { IsTrue result ↔ HoldsNothing self.now }
     {
-        self.some_member().is_none()
+        self.least().is_none()
     }
 
     /// The bounds of the interval with this number, counted from 0, in the list that contracts see.
@@ -109,8 +109,22 @@ impl IntSet {
             .map(|interval| (interval.low, interval.high))
     }
 
-    /// Some integer of the set, if there is one.
+    /// Some integer of the set, if there is one. Short ones are preferred: 0, or the bound next to it.
     pub fn some_member(&self) -> Option<i128>
+        ensures { MatchOption result (HoldsNothing self.now) (λ z. holds self.now z ≡ true) }
+    {
+        if self.contains(0) {
+            return Some(0);
+        }
+        match self.intervals.last() {
+            Some(&Interval { low, .. }) if low > 0 => Some(low),
+            Some(&Interval { high, .. }) => Some(high),
+            None => None,
+        }
+    }
+
+    // The least integer of the set, if there is one.
+    fn least(&self) -> Option<i128>
         ensures { MatchOption result (HoldsNothing self.now) (λ z. holds self.now z ≡ true) }
     {
         self.intervals.first().map(|interval| interval.low)
