@@ -28,7 +28,7 @@ use Rattle.cd_check.proofs.BodiesChecked.{ready_with}
 use Rattle.cd_check.proofs.BranchesGiven.{bodies_from}
 use Rattle.cd_check.proofs.FromReady.{type_in}
 use Rattle.cd_check.proofs.Itself.{later_itself}
-use Rattle.cd_check.proofs.Loops.{one_more_has}
+use Rattle.cd_check.proofs.NextOne.{one_shown}
 use Rattle.cd_check.proofs.OwnNames.{named_seen, names_in}
 use Rattle.cd_check.proofs.ProgramViews.{function_is}
 use Rattle.cd_check.proofs.Promises.{function_has}
@@ -149,8 +149,8 @@ pub one_kept : (base : Base) (locals : Nodes) (first : Graph) → IsReady base f
     → KeptSoFar base locals first branches arrows (drop (index + 1) arrows)
 one_kept base locals first ready graph is branches arrows are index arrow at within before kept =
     let below = all_at (λ (one : NodeId × NodeId). (one.0.0 < length first) × (one.1.0 < length first)) arrows index arrow at within are in
-    one_more_has (KeptAt (scope_of base) first (seen_by base locals) branches) arrows index arrow at within before
-    (kept_earlier (scope_of base) first graph is ready.sound (seen_by base locals) ready.nodes branches arrow below.0 below.1 kept)
+    one_shown (KeptAt (scope_of base) first (seen_by base locals) branches) arrows index arrow at within
+    (kept_earlier (scope_of base) first graph is ready.sound (seen_by base locals) ready.nodes branches arrow below.0 below.1 kept) before
 
 -- what stands at a place of a list is there whatever stands beyond its end
 pub at_any : {X : Type 0} (items : List X) (index : ℕ) (one other : X) → index < length items

@@ -9,7 +9,6 @@ mod BodiesTyped
 mod BranchesGiven
 mod Decided
 mod Divided
-mod ExprSizes
 mod ExprViews
 mod FewerOperands
 mod FormsWithBranches
@@ -25,7 +24,6 @@ mod ListsOfItems
 mod Looped
 mod Loops
 mod MoreNames
-mod NamedStops
 mod NamesFound
 mod NextOne
 mod OperandsMade
@@ -38,7 +36,6 @@ mod Promises
 mod PromisesKept
 mod ReadyLater
 mod RecordsLabelled
-mod SidesGiven
 mod SidesHeld
 mod Sizes
 mod SoundAt

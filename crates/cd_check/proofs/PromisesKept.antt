@@ -69,9 +69,9 @@ module _ (graph later : Graph) (is : IsLater graph later) (sound : IsGraph graph
         each arrows below.1 pairs are all.1,
       )
 
-  stands_later : (id : NodeId) (scope : Scope) (tree : Tree) → StandsFor graph id (in_scope scope tree) → StandsFor later id (in_scope scope tree)
-  stands_later id scope tree stands = subst (λ whole. StandsFor whole id (in_scope scope tree)) (sym is.is)
-      (stands_kept graph is.more id (in_scope scope tree) sound stands)
+  stands_later : (id : NodeId) (scope : Scope) (written : Tree) → StandsFor graph id (in_scope scope written) → StandsFor later id (in_scope scope written)
+  stands_later id scope written stands = subst (λ whole. StandsFor whole id (in_scope scope written)) (sym is.is)
+      (stands_kept graph is.more id (in_scope scope written) sound stands)
 
   module _ (scope : Scope) where
     pub written_later : (signatures : List Signature) (arrows : List (NodeId × NodeId)) → AreWritten scope signatures (arrows_in graph arrows)

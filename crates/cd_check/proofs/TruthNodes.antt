@@ -1,5 +1,5 @@
--- The nodes of the truth values.
-use Rattle.std.proofs.Common.{◌≡◌, ◌<◌, Bool, true, false, length}
+-- The nodes of the truth values hold these.
+use Rattle.std.proofs.Common.{◌≡◌, Bool, true, false}
 use Rattle.cd_model.specs.Formula.{Graph}
 use Rattle.cd_meaning.specs.Sets.{◌⊆◌, elements_of}
 use Rattle.cd_typing.specs.Operators.{truth}
@@ -12,8 +12,3 @@ pub truth_held : (base : Base) (graph : Graph) (locals : Nodes) → IsReady base
     → (λ d. d ≡ truth value) ⊆ elements_of graph (truth_node base value)
 truth_held base graph locals ready true = ready.yes.has
 truth_held base graph locals ready false = ready.no.has
-
-pub truth_below : (base : Base) (graph : Graph) (locals : Nodes) → IsReady base graph locals → (value : Bool)
-    → (truth_node base value).0 < length graph
-truth_below base graph locals ready true = ready.yes.is_node
-truth_below base graph locals ready false = ready.no.is_node

@@ -1,5 +1,5 @@
 mod LocalNames
-mod ExprSizes
+pub mod ExprSizes
 mod LeastTold
 mod FirstTold
 mod CheckedTrees

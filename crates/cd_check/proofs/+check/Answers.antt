@@ -13,9 +13,9 @@ use Rattle.cd_check.proofs.BranchesGiven.{bodies_earlier, cover_earlier, coverin
 use Rattle.cd_check.proofs.BranchesGiven.{built_in_below, none_passes, before_last, last_within, sequences_within}
 use Rattle.cd_check.proofs.Decided.{site_decides}
 use Rattle.cd_check.proofs.Divided.{they_cover, last_node, all_sited_later, sited_later}
-use Rattle.cd_check.proofs.ExprSizes.{size, size_exprs, size_item, size_items, size_fields, size_tail}
-use Rattle.cd_check.proofs.ExprSizes.{size_tails, size_branches, exprs_fall, items_fall, fields_fall, tails_fall}
-use Rattle.cd_check.proofs.ExprSizes.{branches_fall}
+use Rattle.cd_names.proofs.ExprSizes.{size, size_exprs, size_item, size_items, size_fields, size_tail}
+use Rattle.cd_names.proofs.ExprSizes.{size_tails, size_branches, exprs_fall, items_fall, fields_fall, tails_fall}
+use Rattle.cd_names.proofs.ExprSizes.{branches_fall}
 use Rattle.cd_check.proofs.ExprViews.{item_one, item_splice, tail_without, tail_select}
 use Rattle.cd_check.proofs.FewerOperands.{operand_gives}
 use Rattle.cd_check.proofs.FormsWithBranches.{try_gives, match_gives, transform_gives, map_gives, let_gives, let_gives_none}
@@ -26,7 +26,6 @@ use Rattle.cd_check.proofs.GivesSame.{gives_same}
 use Rattle.cd_check.proofs.KindViews.{kind_constant, kind_variable}
 use Rattle.cd_check.proofs.Looped.{one_expr, one_argument, one_item, one_tail, one_field}
 use Rattle.cd_check.proofs.Loops.{left_is, none_left_have}
-use Rattle.cd_check.proofs.NamedStops.{of_word}
 use Rattle.cd_check.proofs.NamesFound.{node_below, seen_has_node}
 use Rattle.cd_check.proofs.OperandsMade.{xml_gives, within_atom, within_record}
 use Rattle.cd_check.proofs.OperandsTyped.{item_steps, splice_steps}
@@ -36,7 +35,7 @@ use Rattle.cd_check.proofs.RecordsLabelled.{are_labels, are_once, parts_count}
 use Rattle.cd_check.proofs.SidesHeld.{holds_earlier}
 use Rattle.cd_check.proofs.Sizes.{room_falls}
 use Rattle.cd_check.proofs.SoundAt.{item_at, tail_at, expr_at, field_at}
-use Rattle.cd_check.proofs.StopsNamed.{misfit_named, misfit_of_named}
+use Rattle.cd_check.proofs.StopsNamed.{misfit_named, misfit_of_named, misfit_of_word_named}
 use Rattle.cd_check.proofs.Tests.{if_gives, is_truth, Side, short_gives, short_holds}
 use Rattle.cd_check.proofs.TruthNodes.{truth_held}
 use Rattle.cd_check.proofs.TypesLater.{types_later}
@@ -97,7 +96,7 @@ use Rattle.cd_check.proofs.BodiesDone.{is_sited}
 use Rattle.cd_check.proofs.BodiesDone.{matched_below}
 use Rattle.cd_check.proofs.FunctionsKept.{branches_sound}
 use Rattle.cd_check.proofs.ProgramViews.{function_is}
-use Rattle.cd_check.proofs.ExprSizes.{size_function}
+use Rattle.cd_names.proofs.ExprSizes.{size_function}
 use Rattle.cd_check.proofs.+check.Goals as goal
 
 pub test::check_if-returns-clause-after : goal.test::check_if-returns-clause-after
@@ -208,7 +207,7 @@ expr::check_call-returns-in-Ok-clause-gives t c =
 
 pub expr::check_call-returns-in-Err-clause-fault : goal.expr::check_call-returns-in-Err-clause-fault
 expr::check_call-returns-in-Err-clause-fault t c = c.placed.ensures (table_of c.call.new.world)
-    (of_word (graph_of c.check.new.world) (table_of c.call.new.world) c.args.word c.in_ok-id.id c.in-Err.stop c.in-Err.ensures.misfit)
+    (misfit_of_word_named (graph_of c.check.new.world) (table_of c.call.new.world) c.args.word c.in_ok-id.id c.in-Err.stop c.in-Err.ensures.misfit)
 
 pub operands::check_tuple-returns-clause-after : goal.operands::check_tuple-returns-clause-after
 operands::check_tuple-returns-clause-after t c = after_grown c.args.base.now c.args.locals.now (graph_of c.args.world.now) c.check_exprs.new.world c.tuple.new.world

@@ -3,9 +3,9 @@ use Rattle.cd_program.specs.Expr.{exprs_of, items_of, fields_of, tails_of, branc
 use Rattle.cd_program.specs.PlainExpr.{plain, plain_kind, plain_exprs, plain_items, plain_item}
 use Rattle.cd_program.specs.PlainExpr.{plain_fields, plain_field, plain_tails, plain_tail}
 use Rattle.cd_program.specs.PlainExpr.{plain_branches, plain_branch, plain_function}
-use Rattle.cd_check.proofs.ExprSizes.{size, size_kind, size_exprs, size_items, size_item}
-use Rattle.cd_check.proofs.ExprSizes.{size_fields, size_tails, size_tail}
-use Rattle.cd_check.proofs.ExprSizes.{size_branches, size_function}
+use Rattle.cd_names.proofs.ExprSizes.{size, size_kind, size_exprs, size_items, size_item}
+use Rattle.cd_names.proofs.ExprSizes.{size_fields, size_tails, size_tail}
+use Rattle.cd_names.proofs.ExprSizes.{size_branches, size_function}
 use Rattle.cd_typing.specs.Typ.{typ}
 use Rattle.cd_typing.specs.Typing.{HaveAll, ItemsHave, FieldsHave, ArgumentsHave, TailsHave}
 use Rattle.cd_empty.specs.Seen.{graph_of}
