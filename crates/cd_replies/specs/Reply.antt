@@ -8,6 +8,7 @@ use Rattle.cd_base.specs.declared.status.Status.TheVariants.{Syntax as IsSyntax}
 use Rattle.cd_base.specs.declared.status.Status.TheVariants.{TooDeep as IsTooDeep}
 use Rattle.cd_base.specs.declared.status.Status.TheVariants.{Naming as IsNaming}
 use Rattle.cd_base.specs.declared.status.Status.TheVariants.{NotBuilt as IsNotBuilt}
+use Rattle.cd_base.specs.declared.status.Status.TheVariants.{IllTyped as IsIllTyped}
 use Rattle.cd_syntax.specs.declared.tokens.LexError.{LexError}
 use Rattle.cd_syntax.specs.declared.tokens.LexError.TheVariants.{BadChar, OpenText, OpenComment}
 use Rattle.cd_syntax.specs.declared.tokens.LexError.TheVariants.{TooWide, Memory}
@@ -43,8 +44,7 @@ usage = complains Usage
     (codes "usage: cduce sub [--types FILE] T1 T2, member FILE DOC T, check FILE, "
     ++ codes "run [--steps N] FILE DOC, work N")
 
--- what isn't built, by its name: the first word of a command, or a file whose program isn't
--- checked yet
+-- a command that isn't built, by its first word
 abbrev pub not_built : Bytes → Reply
 not_built name = complains IsNotBuilt (name ++ codes ": not built")
 
@@ -95,3 +95,9 @@ refusal origin text (Lexical fault) = lexical origin text fault
 refusal origin text (Syntax place) = at_place IsSyntax origin text place (codes "syntax")
 refusal origin text (TooDeep place) = at_place IsTooDeep origin text place (codes "too deep")
 refusal origin text (Naming fault) = naming origin text fault
+
+-- what is said of a program that has no types: a rule that isn't met at this place, and an element
+-- that shows it
+abbrev pub ill_typed : (origin text : Bytes) → (place : ℕ) → (rule element : Bytes) → Reply
+ill_typed origin text place rule element =
+    at_place IsIllTyped origin text place (rule ++ codes ": " ++ element)

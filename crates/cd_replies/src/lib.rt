@@ -3,6 +3,7 @@
 
 pub mod file;
 pub mod message;
+pub mod naming;
 pub mod position;
 pub mod reader;
 pub mod refusal;

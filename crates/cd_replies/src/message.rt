@@ -51,8 +51,7 @@ pub fn usage(alloc: Global) -> Result<Message, AllocError>
     Ok(complaint(Status::Usage, String::from_str(alloc, USAGE)?))
 }
 
-/// What is said of what is not built, by its name: the first word of a command, or a file whose
-/// program is not checked yet.
+/// What is said of a command that is not built, by its first word.
 ///
 /// # Errors
 ///
@@ -185,6 +184,42 @@ fn at_place(
     let (line, column) = place(text, at);
     let told = format!(in alloc; "{origin}:{line}:{column}: {message}\n")?;
     Ok(complaint(status, told))
+}
+
+/// What is said of a program that has no types: the place of what does not meet a rule, the rule, and
+/// the text of an element that shows it.
+///
+/// # Errors
+///
+/// Want of memory.
+pub fn ill_typed(
+    alloc: Global,
+    origin: &str,
+    text: &str,
+    at: usize,
+    rule: &str,
+    element: &str,
+) -> Result<Message, AllocError>
+    ensures { IfOk result (λ message.
+        reply_of message ≡ reply.ill_typed origin.now text.now at rule.now element.now) }
+{
+    let message = format!(in alloc; "{rule}: {element}")?;
+    at_place(alloc, Status::IllTyped, origin, text, at, message.as_str())
+}
+
+/// That a program is accepted, on output.
+///
+/// # Errors
+///
+/// Want of memory.
+pub fn accepted(alloc: Global) -> Result<Message, AllocError>
+    ensures { IfOk result (λ message. reply_of message ≡ says IsDone (codes "accepted")) }
+{
+    Ok(Message {
+        status: Status::Done,
+        on_output: true,
+        text: String::from_str(alloc, "accepted\n")?,
+    })
 }
 
 /// Yes, on output.

@@ -18,12 +18,13 @@ use cd_base::files::Files;
 use cd_empty::World;
 use cd_replies::file::read_file;
 use cd_replies::message::{Message, no_text, refused};
+use cd_replies::naming::declare;
 use cd_replies::reader::read_declarations;
 use cd_replies::refusal::Refusal;
 use cd_resolve::Names;
 use cd_syntax::type_tree::Declarations;
 use compare::compare_nodes;
-use reading::{declare, node};
+use reading::node;
 use std::alloc::{AllocError, Global};
 
 mod compare;

@@ -1,47 +1,18 @@
 //! Nodes in a world of what texts read as.
 ghost use Rattle.std.specs.Prelude.{◌≡◌, ◌++◌, IfOk, MatchResult};
-ghost use Rattle.cd_syntax.specs.PlainTree.{plain_declarations};
-ghost use Rattle.cd_syntax.specs.WellMade.{AreWellMadeDeclarations};
 ghost use Rattle.cd_model.specs.Formula.{Graph as PlainGraph, IsGraph};
 ghost use Rattle.cd_resolve.specs.Named.{AreNamed, plain_names, declared_by};
 ghost use Rattle.cd_empty.specs.Seen.{graph_of};
 ghost use Rattle.cd_replies.specs.Message.{against};
-ghost use Rattle.cd_replies.specs.Naming.{AreNamedWell, RefusesNames, StandsForText};
+ghost use Rattle.cd_replies.specs.Naming.{AreNamedWell, StandsForText};
 ghost use Rattle.cd_replies.specs.Texts.{RefusesType};
 
 use cd_empty::World;
-use cd_replies::reader::{name_declarations, read_type};
+use cd_replies::reader::read_type;
 use cd_replies::refusal::Refusal;
 use cd_resolve::Names;
 use cd_sets::node_id::NodeId;
-use cd_syntax::type_tree::Declarations;
 use std::alloc::{AllocError, Global};
-
-/// Puts nodes of the declared names into a world and gives these names, or the naming fault that is
-/// told of the declarations.
-pub(crate) fn declare<'t>(
-    alloc: Global,
-    world: &mut World,
-    declared: &'t Declarations,
-) -> Result<Result<Names<'t>, Refusal>, AllocError>
-    requires { AreWellMadeDeclarations (plain_declarations declared.now) }
-    ensures graph { IfOk result (λ _. IsGraph (graph_of world.new)) }
-    ensures named { IfOk result (λ named. MatchResult named
-        (λ names. AreNamedWell (plain_declarations declared.now))
-        (λ refusal. RefusesNames (plain_declarations declared.now) (against refusal))) }
-    ensures list { IfOk result
-        (λ named. IfOk named (λ names. declared_by names ≡ plain_declarations declared.now)) }
-    ensures stand { IfOk result
-        (λ named. IfOk named (λ names. AreNamed (graph_of world.new) (plain_names names))) }
-{
-    match name_declarations(alloc, world.graph().len(), declared)? {
-        Ok(batch) => {
-            world.extend(batch.formulas)?;
-            Ok(Ok(batch.names))
-        }
-        Err(refusal) => Ok(Err(refusal)),
-    }
-}
 
 /// Puts a node of the type that a text reads as into a world, or finds what stands against the
 /// text.
