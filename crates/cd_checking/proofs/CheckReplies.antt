@@ -1,15 +1,23 @@
 -- Each answer of `check` is a reply.
-use Rattle.std.specs.Prelude.{◌++◌, codes}
+use Rattle.std.specs.Prelude.{codes}
+use Rattle.cd_program.specs.Expr.{Program}
 use Rattle.cd_replies.specs.Bytes.{Bytes}
 use Rattle.cd_replies.specs.Reply.{Reply}
 use Rattle.cd_replies.specs.Texts.{RefusesProgram}
 use Rattle.cd_replies.specs.Disk.{Disk}
-use Rattle.cd_checking.specs.CheckAnswer.{CheckAnswer, file_refused, unbuilt}
+use Rattle.cd_checking.specs.CheckAnswer.{CheckAnswer, ProgramAnswer, file_refused, on_program, accepted, ill_typed}
 use Rattle.cd_replies.proofs.Replies.{IsReply, line_some, file_is_reply}
+
+program_is_reply : (file text : Bytes) (program : Program) (reply : Reply) → ProgramAnswer file text program reply → IsReply reply
+program_is_reply file text program _ (accepted typed) = record {
+  text = λ out err. line_some (codes "accepted") out;
+  status = λ is. cc;
+}
+program_is_reply file text program _ (ill_typed place rule element exists) = record {
+  text = λ out err. line_some _ err;
+  status = λ is. cc;
+}
 
 pub check_is_reply : (disk : Disk) (file : Bytes) (reply : Reply) → CheckAnswer disk file reply → IsReply reply
 check_is_reply disk file _ (file_refused reply refusal) = file_is_reply RefusesProgram disk file reply refusal
-check_is_reply disk file _ (unbuilt program writes) = record {
-  text = λ out err. line_some (file ++ codes ": not built") err;
-  status = λ is. cc;
-}
+check_is_reply disk file _ (on_program text program has reply answers) = program_is_reply file text program reply answers

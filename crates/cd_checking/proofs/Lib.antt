@@ -1,2 +1,3 @@
 pub mod CheckReplies
 mod Answering
+mod Programs

@@ -1,20 +1,35 @@
--- The answers of `check`, as far as it is built: a program is read, with its names, and its types are
--- not yet checked.
+-- The answers of `check`.
+use Rattle.std.specs.Prelude.{ℕ, codes, encode_utf8_all}
+use Rattle.cd_base.specs.declared.status.Status.TheVariants.{Done}
+use Rattle.cd_model.specs.Thing.{Thing, IsElement}
+use Rattle.cd_model.specs.Canonical.{canonical}
 use Rattle.cd_program.specs.Expr.{Program}
+use Rattle.cd_typing.specs.Typed.{IsTyped}
+use Rattle.cd_operators.specs.declared.rule.Rule.{Rule}
+use Rattle.cd_operators.specs.RuleTexts.{text_of}
 use Rattle.cd_replies.specs.Bytes.{Bytes}
-use Rattle.cd_replies.specs.Reply.{Reply, not_built}
+use Rattle.cd_replies.specs.Reply as reply
+use Rattle.cd_replies.specs.Reply.{Reply, says}
 use Rattle.cd_replies.specs.Texts.{ReadsAsProgram, RefusesProgram}
 use Rattle.cd_replies.specs.Disk.{Disk, HasText, FileRefusal}
 
--- the file of this name has a text, which reads as this program
-pub record FileHasProgram (disk : Disk) (file : Bytes) (program : Program) : Type 0 where
-  pub text : Bytes
+-- the file of this name has this text, which reads as this program
+pub record FileHasProgram (disk : Disk) (file text : Bytes) (program : Program) : Type 0 where
   pub has : HasText disk file text
   pub reads : ReadsAsProgram text program
+
+-- the answers on a program that a file's text reads as
+pub data ProgramAnswer (file text : Bytes) (program : Program) : Reply → Type 0 where
+  -- the typing rules type it
+  accepted : IsTyped program → ProgramAnswer file text program (says Done (codes "accepted"))
+  -- a place where a rule is said not to be met, with the canonical text of an element. That no
+  -- types exist then isn't said yet
+  ill_typed : (place : ℕ) (rule : Rule) (element : Thing) → IsElement element
+      → ProgramAnswer file text program
+      (reply.ill_typed file text place (text_of rule) (encode_utf8_all (canonical element)))
 
 pub data CheckAnswer (disk : Disk) (file : Bytes) : Reply → Type 0 where
   file_refused : (reply : Reply) → FileRefusal RefusesProgram disk file reply
       → CheckAnswer disk file reply
-  -- the types of a program are not looked at yet
-  unbuilt : (program : Program) → FileHasProgram disk file program
-      → CheckAnswer disk file (not_built file)
+  on_program : (text : Bytes) (program : Program) → FileHasProgram disk file text program
+      → (reply : Reply) → ProgramAnswer file text program reply → CheckAnswer disk file reply

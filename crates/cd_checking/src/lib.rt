@@ -1,20 +1,27 @@
-//! The command `check`: whether a program is well typed. So far it is read, with its names, and no
-//! more.
+//! The command `check`: whether the typing rules type a program.
 #![tactic(auto)]
 
 ghost use Rattle.std.specs.Prelude.{◌≡◌, IfOk};
+ghost use Rattle.cd_program.specs.PlainProgram.{plain_program};
+ghost use Rattle.cd_program.specs.WellMade.{IsWellMadeProgram};
 ghost use Rattle.cd_replies.specs.Disk.{Disk, HasText};
 ghost use Rattle.cd_replies.specs.File.{ReadsThere};
 ghost use Rattle.cd_replies.specs.Message.{IsAnswer, reply_of};
-ghost use Rattle.cd_checking.specs.CheckAnswer.{CheckAnswer};
+ghost use Rattle.cd_replies.specs.Texts.{ReadsAsProgram};
+ghost use Rattle.cd_checking.specs.CheckAnswer.{CheckAnswer, ProgramAnswer};
 
 use cd_base::files::Files;
+use cd_check::{CheckError, check_types};
+use cd_empty::World;
+use cd_program::program::Program;
 use cd_replies::file::read_file;
-use cd_replies::message::{Message, no_text, not_built, refused};
+use cd_replies::message::{Message, accepted, ill_typed, no_text, refused};
+use cd_replies::naming::declare;
 use cd_replies::reader::read_program;
 use std::alloc::{AllocError, Global};
 
-/// What is said of the program of a file.
+/// What is said of the program of a file: that it is accepted, or a place where a rule of typing is
+/// not met.
 ///
 /// # Errors
 ///
@@ -38,10 +45,35 @@ fn of_text(alloc: Global, file: &str, text: &str) -> Result<Message, AllocError>
         → CheckAnswer disk file.now (reply_of message)) }
 {
     match read_program(alloc, text)? {
-        Ok(program) => {
-            drop(program);
-            not_built(alloc, file)
-        }
+        Ok(program) => of_program(alloc, file, text, &program),
         Err(refusal) => refused(alloc, file, text, refusal),
+    }
+}
+
+// What is said of a program that the file's text reads as.
+fn of_program(
+    alloc: Global,
+    file: &str,
+    text: &str,
+    program: &Program,
+) -> Result<Message, AllocError>
+    requires reads { ReadsAsProgram text.now (plain_program program.now) }
+    requires well_made { IsWellMadeProgram (plain_program program.now) }
+    ensures { IfOk result (λ message.
+        ProgramAnswer file.now text.now (plain_program program.now) (reply_of message)) }
+{
+    let mut world = World::new(alloc)?;
+    let names = match declare(alloc, &mut world, &program.types)? {
+        Ok(names) => names,
+        Err(_) => unreachable!(),
+    };
+    match check_types(alloc, &mut world, &names, program) {
+        Ok(()) => accepted(alloc),
+        Err(CheckError::IllTyped(fault)) => {
+            let element = world.elements().text(fault.element)?;
+            let rule = fault.rule.text();
+            ill_typed(alloc, file, text, fault.at, rule, element.as_str())
+        }
+        Err(CheckError::Memory) => Err(AllocError),
     }
 }

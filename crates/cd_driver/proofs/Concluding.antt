@@ -18,19 +18,14 @@ use Rattle.cd_driver.specs.Headline.{NothingFailed, IsAnswered, Headline, told_f
 use Rattle.cd_driver.specs.Inner.Telling.{Put, whole as put_whole, refused as put_refused, cut as put_cut}
 use Rattle.cd_replies.specs.declared.message.Message.{Message}
 use Rattle.cd_replies.specs.Message.{reply_of}
-use Rattle.cd_replies.specs.Texts.{RefusesProgram}
-use Rattle.cd_replies.proofs.Replies.{IsReply, line_some, file_is_reply}
-use Rattle.cd_checking.specs.CheckAnswer.{CheckAnswer, file_refused, unbuilt}
+use Rattle.cd_replies.proofs.Replies.{IsReply, line_some}
+use Rattle.cd_checking.proofs.CheckReplies.{check_is_reply}
 use Rattle.cd_member.proofs.MemberReplies.{member_is_reply}
 use Rattle.cd_sub.proofs.SubReplies.{sub_is_reply, sub_types_is_reply}
 
 -- each answer is a reply
 not_built_is_reply : (name : Bytes) (reply : Reply) → reply ≡ not_built name → IsReply reply
 not_built_is_reply name reply is = subst IsReply (sym is) (record { text = λ out err. line_some (name ++ codes ": not built") err; status = λ failed. cc })
-
-check_is_reply : (disk : Disk) (file : Bytes) (reply : Reply) → CheckAnswer disk file reply → IsReply reply
-check_is_reply disk file _ (file_refused reply refusal) = file_is_reply RefusesProgram disk file reply refusal
-check_is_reply disk file _ (unbuilt program writes) = not_built_is_reply file (not_built file) refl
 
 command_is_reply : (disk : Disk) (command : Command) (reply : Reply) → AnswerOf command disk reply → IsReply reply
 command_is_reply disk (Sub text1 text2) reply answers = sub_is_reply NoDeclaration text1 text2 reply answers

@@ -1,5 +1,5 @@
 -- The words and the files decide the status of an answer.
-use Rattle.std.proofs.Common.{◌≡◌, ◌<◌, ◌≤◌, List, Some, length, refl, sym, ap, subst, ◌∙◌, inl, inr, arith}
+use Rattle.std.proofs.Common.{◌≡◌, ◌⊎◌, ◌<◌, ◌≤◌, List, Some, length, refl, sym, ap, subst, ◌∙◌, inl, inr, arith}
 use Rattle.std.specs.Prelude.{codes}
 use Rattle.std.specs.Str.{IsUtf8, chars}
 use Rattle.cd_syntax.specs.TypeTree.{Declarations, NoDeclaration}
@@ -9,7 +9,8 @@ use Rattle.cd_model.specs.Thing.{Thing, IsElement}
 use Rattle.cd_model.specs.Written.{Written}
 use Rattle.cd_model.proofs.ApartAtWritten.{not_both}
 use Rattle.cd_replies.specs.Bytes.{Bytes}
-use Rattle.cd_driver.specs.Command.{Command, Sub, SubTypes, Member, Check, files_of}
+use Rattle.cd_base.specs.declared.status.Status.{Status}
+use Rattle.cd_driver.specs.Command.{Command, Sub, SubTypes, Member, Check, Give, files_of}
 use Rattle.cd_replies.specs.Texts.{Against, ReadsAs, Declares, RefusesType, RefusesDeclarations, RefusesProgram}
 use Rattle.cd_replies.specs.Within.{IsIn, IsOutside, IsWithin}
 use Rattle.cd_replies.specs.Reply.{Reply, refusal}
@@ -22,7 +23,8 @@ use Rattle.cd_member.specs.DocumentTexts.{RefusesDocument, FileWrites, IsValueIn
 use Rattle.cd_member.specs.MemberAnswer as member
 use Rattle.cd_member.specs.MemberAnswer.{FileDeclares, DocumentAnswer, MemberAnswer}
 use Rattle.cd_checking.specs.CheckAnswer as checking
-use Rattle.cd_checking.specs.CheckAnswer.{CheckAnswer, FileHasProgram}
+use Rattle.cd_checking.specs.CheckAnswer.{CheckAnswer, FileHasProgram, ProgramAnswer}
+use Rattle.cd_driver.specs.Decided.{DifferOnTypes, AreOneStatus}
 use Rattle.cd_driver.proofs.OneCommand.{one_command}
 use Rattle.cd_driver.proofs.OneRefusal.{one_type_refusal, one_declarations_refusal, reads_unrefused, declares_unrefused, reads_one, declares_one}
 use Rattle.cd_driver.proofs.OneRefusal.{one_program_refusal, program_unrefused}
@@ -70,6 +72,10 @@ one_content disk file (inr told) a b first second =
   where
     told_bytes : (all bytes : Bytes) → disk.told file ≡ Some all → Has disk file bytes → all ≡ bytes
     told_bytes all bytes told has = rw told at has.told
+
+-- a command decides a status, as far as it is so
+abbrev Decided : Disk → Command → (first second : Status) → Type 0
+Decided disk command first second = (first ≡ second) ⊎ ((file : Bytes) × (command ≡ Check file) × DifferOnTypes disk file first second)
 
 -- a known file decides the status of what is said of it, whatever may stand against its text
 module _ (disk : Disk) (file : Bytes) (known : IsKnown disk file) where
@@ -178,19 +184,29 @@ module _ (disk : Disk) (file : Bytes) (known : IsKnown disk file) where
   document_one type _ _ (member.no v writes outside) (member.no v' writes' outside') = refl
 
   -- a file that has a program is not refused
-  unrefused : {A : Type 0} (reply : Reply) (program : Program) → FileRefusal RefusesProgram disk file reply
-      → FileHasProgram disk file program → A
-  unrefused reply program refusal writes =
-      absurd (refused_or_not RefusesProgram reply writes.text refusal writes.has
-      (program_unrefused writes.text program writes.reads))
+  unrefused : {A : Type 0} (reply : Reply) (text : Bytes) (program : Program) → FileRefusal RefusesProgram disk file reply
+      → FileHasProgram disk file text program → A
+  unrefused reply text program refusal has =
+      absurd (refused_or_not RefusesProgram reply text refusal has.has (program_unrefused text program has.reads))
 
-  check_one : (r s : Reply) → CheckAnswer disk file r → CheckAnswer disk file s → r.status ≡ s.status
+  -- two answers on programs of the file have one status, or one accepts what the other one finds no types for
+  programs_one : (text text' : Bytes) (program program' : Program) → FileHasProgram disk file text program → FileHasProgram disk file text' program'
+      → (r s : Reply) → ProgramAnswer file text program r → ProgramAnswer file text' program' s → Decided disk (Check file) r.status s.status
+  programs_one text text' program program' has has' _ _ (checking.accepted typed) (checking.accepted typed') = inl refl
+  programs_one text text' program program' has has' _ _ (checking.accepted typed) (checking.ill_typed place rule element exists) =
+      inr (file, refl, record { text = text; program = program; has = has; typed = typed; differ = inl (refl, refl) })
+  programs_one text text' program program' has has' _ _ (checking.ill_typed place rule element exists) (checking.accepted typed) =
+      inr (file, refl, record { text = text'; program = program'; has = has'; typed = typed; differ = inr (refl, refl) })
+  programs_one text text' program program' has has' _ _ (checking.ill_typed place rule element exists) (checking.ill_typed _ _ _ _) = inl refl
+
+  check_one : (r s : Reply) → CheckAnswer disk file r → CheckAnswer disk file s → Decided disk (Check file) r.status s.status
   check_one _ _ (checking.file_refused r refusal) (checking.file_refused s refusal') =
-      file_one RefusesProgram (λ text a b first second. one_program_refusal file text a b first second) r s
-      refusal refusal'
-  check_one _ _ (checking.file_refused r refusal) (checking.unbuilt program writes) = unrefused r program refusal writes
-  check_one _ _ (checking.unbuilt program writes) (checking.file_refused s refusal) = unrefused s program refusal writes
-  check_one _ _ (checking.unbuilt program writes) (checking.unbuilt program' writes') = refl
+      inl (file_one RefusesProgram (λ text a b first second. one_program_refusal file text a b first second) r s
+      refusal refusal')
+  check_one _ _ (checking.file_refused r refusal) (checking.on_program text program has s answers) = unrefused r text program refusal has
+  check_one _ _ (checking.on_program text program has r answers) (checking.file_refused s refusal) = unrefused s text program refusal has
+  check_one _ _ (checking.on_program text program has r answers) (checking.on_program text' program' has' s answers') =
+      programs_one text text' program program' has has' r s answers answers'
 
 -- the file, the type text and the document decide the status of what `member` answers
 module _ (disk : Disk) (file document text : Bytes) (known : IsKnown disk file) (document_known : IsKnown disk document) where
@@ -227,18 +243,26 @@ module _ (disk : Disk) (file document text : Bytes) (known : IsKnown disk file) 
 
 -- a command and its files decide it
 command_decides : (disk : Disk) (command : Command) → AllOf (IsKnown disk) (files_of command)
-    → (r s : Reply) → AnswerOf command disk r → AnswerOf command disk s → r.status ≡ s.status
-command_decides disk (Sub text1 text2) known r s answers answers' = sub_one NoDeclaration text1 text2 r s answers answers'
-command_decides disk (SubTypes file text1 text2) known r s answers answers' = sub_types_one disk file known.0 text1 text2 r s answers answers'
-command_decides disk (Member file document text) known r s answers answers' = member_one disk file document text known.0 known.1.0 r s answers answers'
+    → (r s : Reply) → AnswerOf command disk r → AnswerOf command disk s → Decided disk command r.status s.status
+command_decides disk (Sub text1 text2) known r s answers answers' = inl (sub_one NoDeclaration text1 text2 r s answers answers')
+command_decides disk (SubTypes file text1 text2) known r s answers answers' = inl (sub_types_one disk file known.0 text1 text2 r s answers answers')
+command_decides disk (Member file document text) known r s answers answers' =
+    inl (member_one disk file document text known.0 known.1.0 r s answers answers')
 command_decides disk (Check file) known r s answers answers' = check_one disk file known.0 r s answers answers'
-command_decides disk command known r s is is' = ap (λ reply. reply.status) (is ∙ sym is')
+command_decides disk command known r s is is' = inl (ap (λ reply. reply.status) (is ∙ sym is'))
+
+-- and the words that give it do
+words_decide : (words : List Bytes) (disk : Disk) (command : Command) → Give words command → (first second : Status)
+    → Decided disk command first second → AreOneStatus words disk first second
+words_decide words disk command give first second (inl same) = inl same
+words_decide words disk command give first second (inr differ) = inr (differ.0, subst (Give words) differ.1 give, differ.2)
 
 pub one_status : (words : List Bytes) (disk : Disk) → FileIsKnown words disk
-    → (r s : Reply) → Answer words disk r → Answer words disk s → r.status ≡ s.status
-one_status words disk known r s (inl none) (inl none') = ap (λ reply. reply.status) (none.1 ∙ sym none'.1)
+    → (r s : Reply) → Answer words disk r → Answer words disk s → AreOneStatus words disk r.status s.status
+one_status words disk known r s (inl none) (inl none') = inl (ap (λ reply. reply.status) (none.1 ∙ sym none'.1))
 one_status words disk known r s (inl none) (inr given) = absurd (none.0 given.0 given.1)
 one_status words disk known r s (inr given) (inl none) = absurd (none.0 given.0 given.1)
 one_status words disk known r s (inr given) (inr given') =
-    command_decides disk given.0 (known given.0 given.1) r s given.2
-    (subst (λ command. AnswerOf command disk s) (one_command words given.0 given'.0 given.1 given'.1) given'.2)
+    words_decide words disk given.0 given.1 r.status s.status
+    (command_decides disk given.0 (known given.0 given.1) r s given.2
+    (subst (λ command. AnswerOf command disk s) (one_command words given.0 given'.0 given.1 given'.1) given'.2))

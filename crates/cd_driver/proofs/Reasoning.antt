@@ -19,8 +19,9 @@ use Rattle.cd_sub.specs.SubAnswer.{SubTypesAnswer, file_refused, on_texts}
 use Rattle.cd_member.specs.DocumentTexts.{RefusesDocument}
 use Rattle.cd_member.specs.MemberAnswer as member
 use Rattle.cd_member.specs.MemberAnswer.{FileDeclares, DocumentAnswer, MemberAnswer}
+use Rattle.cd_program.specs.Expr.{Program}
 use Rattle.cd_checking.specs.CheckAnswer as checking
-use Rattle.cd_checking.specs.CheckAnswer.{CheckAnswer}
+use Rattle.cd_checking.specs.CheckAnswer.{CheckAnswer, FileHasProgram, ProgramAnswer}
 use Rattle.cd_driver.specs.Answer.{Answer, AnswerOf}
 use Rattle.cd_driver.specs.Causes.{IsCause, Cause}
 use Rattle.cd_driver.specs.Reasons.{GiveTexts, alone, with_file, StandsAgainst, in_file, in_first, in_second, CommandIsNotBuilt, Reason}
@@ -84,12 +85,12 @@ module _ (words : List Bytes) (disk : Disk) (before after : World) (met : Met be
   document_reason file document text give declared declares type reads _ (member.document_refused reply refusal) =
       file_reason RefusesDocument document (record { command = Member file document text; give = give; is = inr (inl refl) })
       (λ notation has against stands. in_document file document text give declared declares type reads notation has stands) reply refusal
-  document_reason file document text give declared declares type reads _ (member.yes v writes inside) = inr (record {
+  document_reason file document text give declared declares type reads _ (member.yes v writes inside) = inr (inl (record {
     v = v;
     type = type;
     ask = record { disk = disk; met = met; file = file; document = document; text = text; give = give; declared = declared; declares = declares; type_is = reads; writes = writes };
     inside = inside;
-  })
+  }))
   document_reason file document text give declared declares type reads _ (member.no v writes outside) = inr (record {
     v = v;
     type = type;
@@ -107,19 +108,31 @@ module _ (words : List Bytes) (disk : Disk) (before after : World) (met : Met be
   member_reason file document text give _ (member.on_document declared declares type reads reply answers) =
       document_reason file document text give declared declares type reads reply answers
 
+  program_reason : (file : Bytes) → Give words (Check file) → (text : Bytes) (program : Program) → FileHasProgram disk file text program
+      → (reply : Reply) → ProgramAnswer file text program reply → Reason words before after reply.status
+  program_reason file give text program has _ (checking.accepted typed) = inr (inr (record {
+    program = program;
+    ask = record { disk = disk; met = met; file = file; give = give; text = text; has = has };
+    typed = typed;
+  }))
+  program_reason file give text program has _ (checking.ill_typed place rule element exists) = record {
+    program = program;
+    ask = record { disk = disk; met = met; file = file; give = give; text = text; has = has };
+  }
+
   check_reason : (file : Bytes) → Give words (Check file) → (reply : Reply) → CheckAnswer disk file reply
       → Reason words before after reply.status
   check_reason file give _ (checking.file_refused reply refusal) =
       file_reason RefusesProgram file (record { command = Check file; give = give; is = inl refl })
       (λ text has against stands. in_program file give text has stands) reply refusal
-  check_reason file give _ (checking.unbuilt program writes) =
-      inr (record { disk = disk; met = met; file = file; give = give; program = program; has = writes })
+  check_reason file give _ (checking.on_program text program has reply answers) =
+      program_reason file give text program has reply answers
 
   unbuilt_reason : (command : Command) → Give words command → CommandIsNotBuilt command → (reply : Reply) → reply ≡ not_built (name_of command)
       → Reason words before after reply.status
   unbuilt_reason command give unbuilt reply is =
       subst (λ reply. Reason words before after reply.status) (sym is)
-      (inl (record { command = command; give = give; unbuilt = unbuilt }))
+      (record { command = command; give = give; unbuilt = unbuilt })
 
   command_reason : (command : Command) → Give words command → (reply : Reply) → AnswerOf command disk reply → Reason words before after reply.status
   command_reason (Sub text1 text2) give reply answers = sub_reason NoDeclaration text1 text2 (alone text1 text2 give) reply answers

@@ -6,4 +6,5 @@ pub mod Ending
 pub mod Headline
 pub mod Causes
 pub mod Reasons
+pub mod Decided
 pub mod Inner

@@ -22,6 +22,7 @@ use Rattle.cd_replies.specs.Disk.{Disk, Met, Has, HasText, LARGEST}
 use Rattle.cd_driver.specs.Causes.{SinkFailed}
 use Rattle.cd_member.specs.DocumentTexts.{RefusesDocument, FileWrites, IsValueIn, IsValueOutside}
 use Rattle.cd_member.specs.MemberAnswer.{FileDeclares}
+use Rattle.cd_typing.specs.Typed.{IsTyped}
 use Rattle.cd_checking.specs.CheckAnswer.{FileHasProgram}
 
 -- the words ask about two type texts, which see these declarations: none, or those of a file
@@ -179,19 +180,31 @@ pub record IsNotBuilt (words : List Bytes) : Type 0 where
   pub give : Give words command
   pub unbuilt : CommandIsNotBuilt command
 
--- the words ask whether the program of a file is well typed, and the file, of those that were met,
--- has one, whose names are sound: no check of its types is built
-pub record IsUnchecked (words : List Bytes) (before after : World) : Type 0 where
+-- the words ask whether the program of a file has types, and this one is that of the file, of those
+-- that were met; its names are sound
+pub record AskCheck (words : List Bytes) (before after : World) (program : Program) : Type 0 where
   pub disk : Disk
   pub met : Met before.files after.files disk
   pub file : Bytes
   pub give : Give words (Check file)
+  pub text : Bytes
+  pub has : FileHasProgram disk file text program
+
+-- the program that the words ask about is typed by the typing rules
+pub record IsWellTyped (words : List Bytes) (before after : World) : Type 0 where
   pub program : Program
-  pub has : FileHasProgram disk file program
+  pub ask : AskCheck words before after program
+  pub typed : IsTyped program
+
+-- no types were found for the program that the words ask about. That it has none isn't said yet
+pub record HasNoTypesFound (words : List Bytes) (before after : World) : Type 0 where
+  pub program : Program
+  pub ask : AskCheck words before after program
 
 -- the reason for each status; want of memory is free, and the others don't come
 abbrev pub Reason : List Bytes → World → World → Status → Type 0
-Reason words before after status.Done = IsYes words before after ⊎ IsMember words before after
+Reason words before after status.Done =
+    IsYes words before after ⊎ (IsMember words before after ⊎ IsWellTyped words before after)
 Reason words before after status.No = IsNo words before after ⊎ IsNoMember words before after
 Reason words before after status.Usage = HaveNoForm words
 Reason words before after status.ReadFault = IsUnread words before after
@@ -203,5 +216,6 @@ Reason words before after status.Lexical = IsRefused words before after IsLexica
 Reason words before after status.Syntax = IsRefused words before after IsSyntax
 Reason words before after status.TooDeep = IsRefused words before after IsTooDeep
 Reason words before after status.Naming = IsRefused words before after IsNaming
-Reason words before after status.NotBuilt = IsNotBuilt words ⊎ IsUnchecked words before after
+Reason words before after status.IllTyped = HasNoTypesFound words before after
+Reason words before after status.NotBuilt = IsNotBuilt words
 Reason words before after other = ⊥

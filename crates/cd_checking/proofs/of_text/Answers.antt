@@ -1,20 +1,17 @@
 use Rattle.cd_program.specs.PlainProgram.{plain_program}
-use Rattle.cd_replies.specs.Reply.{not_built, refusal}
+use Rattle.cd_replies.specs.Reply.{refusal}
 use Rattle.cd_replies.specs.Message.{against}
 use Rattle.cd_replies.specs.Disk.{Disk, HasText, refused}
 use Rattle.cd_replies.proofs.Messages.{replies}
-use Rattle.cd_checking.specs.CheckAnswer.{CheckAnswer, file_refused, unbuilt}
+use Rattle.cd_checking.specs.CheckAnswer.{CheckAnswer, file_refused}
+use Rattle.cd_checking.proofs.Programs.{answers_program}
 use Rattle.cd_checking.proofs.of_text.Goals as goal
 
 -- the text reads as a program
 pub returns-in-Ok : goal.returns-in-Ok
 returns-in-Ok c =
-    let file = c.args.file.now in
-    let text = c.args.text.now in
     let reads = rw c.in-Ok.is at c.in_ok-program.ensures.read in
-    replies c.not_built.result (not_built file)
-    (λ reply. (disk : Disk) → HasText disk file text → CheckAnswer disk file reply) c.not_built.ensures
-    (λ disk has. unbuilt (plain_program c.in-Ok.program) (record { text = text; has = has; reads = reads }))
+    answers_program c.args.file.now c.args.text.now (plain_program c.in-Ok.program) reads c.of_program.result c.of_program.ensures
 
 -- or this stands against it
 pub returns-in-Err : goal.returns-in-Err
