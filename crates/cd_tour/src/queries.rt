@@ -7,7 +7,7 @@ pub(crate) struct Query {
 }
 
 /// Queries on the files of the folder in which the tour runs.
-pub(crate) const QUERIES: [Query; 13] = [
+pub(crate) const QUERIES: [Query; 17] = [
     Query {
         words: &["sub", "--types", "address.cd", "Book", "LaterBook"],
         meaning: "Each address book is one of the later version too, so those that are written stay valid.",
@@ -83,6 +83,22 @@ pub(crate) const QUERIES: [Query; 13] = [
     Query {
         words: &["sub", "--types", "book.cd", "Chapter", "Appendix"],
         meaning: "The second type is a name that the file does not declare.",
+    },
+    Query {
+        words: &["check", "page.cd"],
+        meaning: "In HTML a list has an item at least, and of a book with nobody this program would make a list that is empty.",
+    },
+    Query {
+        words: &["check", "pages.cd"],
+        meaning: "Here such a book gets a paragraph, so whatever the book, the page is valid.",
+    },
+    Query {
+        words: &["check", "contents.cd"],
+        meaning: "A section need not have a name, and its entry in the table of contents would lead nowhere.",
+    },
+    Query {
+        words: &["check", "downgrade.cd"],
+        meaning: "A phone of the later version need not say of which kind it is, so some books would not be of the first version.",
     },
 ];
 

@@ -64,3 +64,24 @@ pub(crate) fn difference(
     }
     Ok(Some(text))
 }
+
+/// Words, as the program takes them.
+pub(crate) fn owned(alloc: Global, words: &[&str]) -> Result<Vec<String>, AllocError> {
+    let mut made = Vec::new(alloc);
+    for word in words {
+        made.push(String::from_str(alloc, word)?)?;
+    }
+    Ok(made)
+}
+
+/// One file, of this name and with this text.
+pub(crate) fn one_file(
+    alloc: Global,
+    name: &str,
+    text: &str,
+) -> Result<Vec<(String, Vec<u8>)>, AllocError> {
+    let mut files = Vec::new(alloc);
+    let bytes = Vec::from_slice(alloc, text.as_bytes())?;
+    files.push((String::from_str(alloc, name)?, bytes))?;
+    Ok(files)
+}

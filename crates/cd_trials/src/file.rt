@@ -1,5 +1,6 @@
 //! A file of data: what may be in it, and how its rows are put and counted.
 use crate::place::place_differs;
+use crate::program::{accepted_differs, refused_differs};
 use crate::question::{apart_differs, within_differs};
 use crate::row::row_differs;
 use crate::values::{list, pair, text};
@@ -8,10 +9,12 @@ use std::io;
 use toml::Table;
 
 // The members of a file, of a row, of questions and of a place, with their types.
-const FILE: [(&str, &str); 3] = [
+const FILE: [(&str, &str); 5] = [
     ("row", "array"),
     ("questions", "array"),
     ("places", "array"),
+    ("accepted", "array"),
+    ("refused", "array"),
 ];
 
 const ROW: [(&str, &str); 9] = [
@@ -54,7 +57,7 @@ impl Tally {
     }
 }
 
-/// Puts the rows of a file, the pairs of its questions, and its places.
+/// Puts the rows of a file, the pairs of its questions, its places, and its programs.
 pub(crate) fn put_file(
     rt: &(impl Print + AllocGlobal),
     name: &str,
@@ -76,6 +79,24 @@ pub(crate) fn put_file(
         let row = row.as_table().context("a place is no table")?;
         check(row, &PLACE)?;
         tally.count(rt, name, place_differs(rt.alloc(), row)?)?;
+    }
+    put_programs(rt, name, file, tally)
+}
+
+// Puts the programs that are accepted, and those that are refused.
+fn put_programs(
+    rt: &(impl Print + AllocGlobal),
+    name: &str,
+    file: &Table,
+    tally: &mut Tally,
+) -> Result<()> {
+    for program in list(file.get("accepted")) {
+        let program = text(Some(program));
+        tally.count(rt, name, accepted_differs(rt.alloc(), program)?)?;
+    }
+    for refused in list(file.get("refused")) {
+        let (program, said) = pair(refused);
+        tally.count(rt, name, refused_differs(rt.alloc(), program, said)?)?;
     }
     Ok(())
 }

@@ -26,12 +26,14 @@
 //!
 //! A row of `places` has a `text`, a byte `at` which it is looked at, and the `line` and `column`
 //! of that byte. A pair of `within` should be answered yes, and one of `apart` no with any element
-//! that is right.
+//! that is right. Programs of `accepted` should be that by `check`, and of `refused` the texts are a
+//! program and what is said of it, after the name of its file.
 #![tactic(auto)]
 
 mod answer;
 mod file;
 mod place;
+mod program;
 mod question;
 mod row;
 mod values;

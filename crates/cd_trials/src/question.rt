@@ -1,5 +1,5 @@
 //! Whether a pair of types is answered rightly.
-use crate::answer::{Answer, answer_to, difference};
+use crate::answer::{Answer, answer_to, difference, one_file, owned};
 use cd_base::memory_files::MemoryFiles;
 use std::alloc::{AllocError, Global};
 
@@ -60,7 +60,7 @@ fn differs(
 // What the program answers, if it is asked whether the first type is within the second.
 fn answer(alloc: Global, types: &str, first: &str, second: &str) -> Result<Answer, AllocError> {
     let words = words_of(alloc, types, first, second)?;
-    let files = MemoryFiles::new(alloc, one_file(alloc, types)?, Vec::new(alloc));
+    let files = MemoryFiles::new(alloc, one_file(alloc, FILE, types)?, Vec::new(alloc));
     answer_to(alloc, words.as_slice(), files, &[])
 }
 
@@ -76,21 +76,4 @@ fn words_of(
     } else {
         owned(alloc, &["sub", "--types", FILE, first, second])
     }
-}
-
-// The words, as the program takes them.
-fn owned(alloc: Global, words: &[&str]) -> Result<Vec<String>, AllocError> {
-    let mut made = Vec::new(alloc);
-    for word in words {
-        made.push(String::from_str(alloc, word)?)?;
-    }
-    Ok(made)
-}
-
-// The file of declarations.
-fn one_file(alloc: Global, types: &str) -> Result<Vec<(String, Vec<u8>)>, AllocError> {
-    let mut files = Vec::new(alloc);
-    let bytes = Vec::from_slice(alloc, types.as_bytes())?;
-    files.push((String::from_str(alloc, FILE)?, bytes))?;
-    Ok(files)
 }
