@@ -1,0 +1,11 @@
+-- Safe runs: each result of a run is fine.
+use Rattle.std.specs.Prelude.{ℕ}
+use Rattle.cd_model.specs.Interfaces.{Interfaces}
+use Rattle.cd_model.specs.Thing.{Thing, Fields}
+use Rattle.cd_evaluation.specs.Runs.{Result, Run}
+use Rattle.cd_safety.specs.Sound.{IsFine}
+
+pub record IsSafe (fact : ℕ → Fields → Type 0) (interfaces : Interfaces) (wanted : Thing → Type 0)
+    (run : Run) : Type 0 where
+  pub fine : (units : ℕ) (result : Result) → run units result
+      → IsFine fact interfaces wanted result.outcome

@@ -1,0 +1,4 @@
+//! That an accepted program never gets stuck.
+#![tactic(auto)]
+
+pub mod laws;
