@@ -17,7 +17,7 @@ use Rattle.cd_matching.proofs.CapturedVariables.{nothing_else_answers}
 use Rattle.cd_variables.specs.Occurrences.{Occurrence, has, bound}
 use Rattle.cd_evaluation.specs.Code.{Code, declared_value, named}
 use Rattle.cd_evaluation.specs.Environment.{Env, with_all, with_capture, captured_env}
-use Rattle.cd_evaluation.specs.ProgramCode.{names_of}
+use Rattle.cd_names.specs.ProgramFaults.{names_of}
 
 -- names before those of an environment
 pub at_with_all : (own env : Env) (name : Name) → thing_at (with_all own env) name ≡ or_else (thing_at own name) (thing_at env name)

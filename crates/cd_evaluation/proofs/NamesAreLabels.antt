@@ -13,7 +13,7 @@ use Rattle.cd_model.proofs.Covered.{each_both}
 use Rattle.cd_matching.proofs.AllOf.{all_map}
 use Rattle.cd_variables.specs.Occurrences.{Occurrence, takes_away, bound, bound_in, bound_by_all, bound_by_signs, bound_by_fields, plain}
 use Rattle.cd_variables.specs.Occurrences.{plain_in, plain_of_all, gathered, gathered_in, gathered_of_all}
-use Rattle.cd_evaluation.specs.ProgramCode.{names_of}
+use Rattle.cd_names.specs.ProgramFaults.{names_of}
 
 abbrev HasLabel : Occurrence → Type 0
 HasLabel occurrence = IsLabel occurrence.name

@@ -1,5 +1,5 @@
 -- The code of a program: its functions by their places and names, and what its patterns take.
-use Rattle.std.specs.Prelude.{◌≡◌, Bool, List, map, Option, None, option_map, ◌⊎◌}
+use Rattle.std.specs.Prelude.{◌≡◌, Bool, Option, None, option_map, ◌⊎◌}
 use Rattle.cd_syntax.specs.Name.{Name}
 use Rattle.cd_syntax.specs.TypeTree.{Tree}
 use Rattle.cd_model.specs.Interfaces.{Interfaces, value_in_written}
@@ -11,17 +11,14 @@ use Rattle.cd_matching.specs.PatternsAlike.{Alike}
 use Rattle.cd_matching.specs.Takes.{IsRight, WrittenValueTakes}
 use Rattle.cd_matching.specs.WrittenPattern.{pattern_of}
 use Rattle.cd_program.specs.Expr.{Program}
-use Rattle.cd_variables.specs.Occurrences.{bound}
+use Rattle.cd_names.specs.ProgramFaults.{names_of}
 use Rattle.cd_typing.specs.Typed.{scope_of}
 use Rattle.cd_evaluation.specs.Environment.{Env, captured_env}
 use Rattle.cd_evaluation.specs.Code.{Code}
 use Rattle.cd_evaluation.specs.ProgramFunctions.{function_at, declared_at}
 use Rattle.cd_evaluation.specs.ProgramInterfaces.{interfaces_of}
 
--- the names that a pattern binds, in the order of the text
-abbrev pub names_of : Tree → List Name
-names_of pattern = map (λ occurrence. occurrence.name) (bound pattern)
-
+-- what a pattern captures makes an environment of the names that it binds, in the order of the text
 abbrev pub answer_of : Tree → Option (Captures Name) → Option Env
 answer_of pattern result =
     option_map (λ captures. captured_env (names_of pattern) captures) result

@@ -40,9 +40,7 @@ pub mod PatternBranches
 pub mod PatternResults
 pub mod PatternRuns
 pub mod PatternNames
-pub mod PatternsIn
 pub mod ProgramPatterns
-pub mod PatternsOfFunctions
 pub mod SafeRuns
 pub mod ClosuresTyped
 pub mod SafeNames
@@ -57,5 +55,3 @@ pub mod DataInTypes
 pub mod ProgramGiven
 pub mod ProgramSafe
 pub mod Examples
-pub mod KindsOfTwo
-pub mod PatternsOfTwo

@@ -19,7 +19,8 @@ use Rattle.cd_program.specs.Expr.{Signature, FunctionTree, Program}
 use Rattle.cd_typing.specs.Typed.{scope_of}
 use Rattle.cd_typing.specs.Typ.{Types}
 use Rattle.cd_evaluation.specs.Environment.{Env, with_all, captured_env}
-use Rattle.cd_evaluation.specs.ProgramCode.{names_of, answer_of, TakesAs, code_of}
+use Rattle.cd_evaluation.specs.ProgramCode.{answer_of, TakesAs, code_of}
+use Rattle.cd_names.specs.ProgramFaults.{names_of}
 use Rattle.cd_evaluation.specs.ProgramFunctions.{all_functions, function_at}
 use Rattle.cd_evaluation.specs.ProgramInterfaces.{interface_of, IsEnoughFor, arrows_of, count_of, interfaces_of}
 use Rattle.cd_evaluation.specs.Code.{Code, named}

@@ -24,7 +24,7 @@ use Rattle.cd_typing.specs.Typ.{Typ, IsType, Types, type_at, with_type, AreTypes
 use Rattle.cd_typing.specs.Typing.{FunctionHas}
 use Rattle.cd_evaluation.specs.Code.{Code, declared_value, named}
 use Rattle.cd_evaluation.specs.Environment.{Env, with_all, with_name, with_capture, captured_env}
-use Rattle.cd_evaluation.specs.ProgramCode.{names_of}
+use Rattle.cd_names.specs.ProgramFaults.{names_of}
 use Rattle.cd_evaluation.specs.ProgramInterfaces.{interface_of}
 use Rattle.cd_evaluation.proofs.NamesAreLabels.{names_are_labels}
 use Rattle.cd_safety.specs.GoodInterface.{HasGuardedInterface}
