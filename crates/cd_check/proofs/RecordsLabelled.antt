@@ -10,6 +10,7 @@ use Rattle.cd_model.specs.AllOf.{AllOf}
 use Rattle.cd_model.specs.Formula.{Graph}
 use Rattle.cd_model.specs.Scope.{Scope}
 use Rattle.cd_program.specs.Expr.{Field, Fields, NoField, AField, fields_of}
+use Rattle.cd_names.specs.Labels.{LacksLabel}
 use Rattle.cd_names.specs.ProgramFaults.{Seen}
 use Rattle.cd_forms.specs.Labels.{labels_of, AreLabels, AreOnce}
 use Rattle.cd_typing.specs.Typ.{Typ, typ, Types}
@@ -18,7 +19,7 @@ use Rattle.cd_typing.proofs.Subsets.{itself}
 use Rattle.cd_meaning.specs.Sets.{elements_of}
 use Rattle.cd_sites.specs.CapturedTypes.{types_of}
 use Rattle.cd_check.specs.Inner.Environment.{Nodes, AreOfTypes}
-use Rattle.cd_check.specs.Inner.SoundNames.{FieldsAreSound, LacksLabel}
+use Rattle.cd_check.specs.Inner.SoundNames.{FieldsAreSound}
 
 pub are_labels : (types : Declarations) (seen : Seen) (fields : Fields) → FieldsAreSound types seen fields → AreLabels fields
 are_labels types seen NoField sound = tt

@@ -15,3 +15,4 @@ mod PatternVariables
 mod GatheredApart
 mod LabelsOnce
 mod NamedPatterns
+pub mod FreeOfFaults

@@ -51,7 +51,12 @@ pub mod SafeBranches
 pub mod SafeExprs
 pub mod SafeCalls
 pub mod WellWrittenParts
+pub mod FunctionsNamed
+pub mod MainDeclared
 pub mod DataInTypes
 pub mod ProgramGiven
 pub mod ProgramSafe
+pub mod PartsShown
+pub mod SoundKinds
+pub mod AcceptedPrograms
 pub mod Examples

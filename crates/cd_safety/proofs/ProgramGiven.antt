@@ -1,7 +1,5 @@
 -- The code of an accepted program: its declared functions are typed and well written, and so the values of their names are good.
-use Rattle.std.proofs.Common.{◌≡◌, ℕ, Bool, true, false, List, [], ◌∷◌, inl, inr, Some, option_map, if◌then◌else◌, refl, sym, ap}
-use Rattle.std.proofs.Common.{subst}
-use Rattle.std.proofs.lemmas.Option.{none-some, same_Some}
+use Rattle.std.proofs.Common.{◌≡◌, ℕ, List, [], ◌∷◌, inl, inr, Some, option_map, refl, sym, ap, subst}
 use Rattle.cd_syntax.specs.Name.{Name}
 use Rattle.cd_model.specs.AllOf.{AllOf, AnyOf}
 use Rattle.cd_model.specs.Interfaces.{Interfaces}
@@ -16,7 +14,7 @@ use Rattle.cd_typing.specs.Typ.{Typ, Types, AreTypes}
 use Rattle.cd_typing.specs.Typed.{scope_of, IsOfInterface, AreDeclared, GivesData, HasOwnType}
 use Rattle.cd_evaluation.specs.Code.{Code, place_of, named}
 use Rattle.cd_evaluation.specs.ProgramCode.{code_of}
-use Rattle.cd_evaluation.specs.ProgramFunctions.{within_all, functions_within, all_functions, function_at, has_name, first_named}
+use Rattle.cd_evaluation.specs.ProgramFunctions.{within_all, functions_within, all_functions, function_at}
 use Rattle.cd_evaluation.specs.ProgramInterfaces.{interface_of, arrows_of, count_of, interfaces_of}
 use Rattle.cd_evaluation.proofs.CountIsEnough.{count_is_enough_at}
 use Rattle.cd_evaluation.proofs.FunctionsFound.{functions_found, declared_is_found}
@@ -34,34 +32,17 @@ use Rattle.cd_safety.specs.WellWritten.{IsSoundKind, FunctionIsWritten}
 use Rattle.cd_safety.proofs.ArrowsOf.{written_arrows}
 use Rattle.cd_safety.proofs.ClosuresTyped.{closure_in}
 use Rattle.cd_safety.proofs.EnvironmentsGood.{closure_good}
+use Rattle.cd_safety.proofs.FunctionsNamed.{of_named}
 use Rattle.cd_safety.proofs.ProgramPatterns.{enough, takes_as_written}
 use Rattle.cd_safety.proofs.SafeNames.{Fact, IsSafeCode, Sees}
 use Rattle.cd_safety.proofs.SortsByParts.{good_by_parts}
 use Rattle.cd_safety.proofs.WellWrittenParts.{function_written}
 
--- a fact of all functions is one of each of them, and of each that has a name
+-- a fact of all functions is one of each of them
 of_among : {X : Type 0} (fact : X → Type 0) (xs : List X) (x : X) → AnyOf (λ one. one ≡ x) xs → AllOf fact xs → fact x
 of_among fact [] x none each = absurd none
 of_among fact (one ∷ xs) x (inl same) each = subst fact same each.0
 of_among fact (one ∷ xs) x (inr later) each = of_among fact xs x later each.1
-
-pub record IsNamed (fact : FunctionTree → Type 0) (name : Name) (place : ℕ) : Type 0 where
-  pub f : FunctionTree
-  pub at_place : place_of f ≡ place
-  pub has_its_name : has_name name f ≡ true
-  pub is : fact f
-
-pub of_named : (fact : FunctionTree → Type 0) (functions : List FunctionTree) → AllOf fact functions → (name : Name) (place : ℕ)
-    → first_named functions name ≡ Some place → IsNamed fact name place
-of_named fact [] each name place found = absurd (none-some place found)
-of_named fact (f ∷ rest) each name place found =
-    by_test (has_name name f) refl found (of_named fact rest each.1 name place)
-  where
-    by_test : (c : Bool) → has_name name f ≡ c → (if c then Some (place_of f) else first_named rest name) ≡ Some place
-        → (first_named rest name ≡ Some place → IsNamed fact name place) → IsNamed fact name place
-    by_test true is same later =
-        record { f = f; at_place = same_Some (place_of f) place same; has_its_name = is; is = each.0 }
-    by_test false is same later = later same
 
 -- the arrows of a function's interface
 pub record HasInterface (scope : Scope) (f : FunctionTree) (t : Typ) : Type 0 where

@@ -28,8 +28,10 @@ use Rattle.cd_safety.specs.SafeProgram.{IsDocument, IsMain, ComesTo, RunsSafely,
 use Rattle.cd_safety.specs.Sound.{data_type, IsGood, IsFine}
 use Rattle.cd_safety.specs.ValueIn.{ValueIn, IsTypedValue}
 use Rattle.cd_safety.proofs.DataInTypes.{data_is_good, data_stands, value_is_data}
+use Rattle.cd_safety.proofs.FunctionsNamed.{of_named}
+use Rattle.cd_safety.proofs.MainDeclared.{gives_data}
 use Rattle.cd_safety.proofs.OperandsStandIn.{data_is_type}
-use Rattle.cd_safety.proofs.ProgramGiven.{of_named, HasInterface, interface_is, IsDeclaredFunction, all_declared, declared_in}
+use Rattle.cd_safety.proofs.ProgramGiven.{HasInterface, interface_is, IsDeclaredFunction, all_declared, declared_in}
 use Rattle.cd_safety.proofs.ProgramGiven.{declared_good, safe_code}
 use Rattle.cd_safety.proofs.SafeCalls.{calls_safe}
 use Rattle.cd_safety.proofs.SafeNames.{Fact}
@@ -78,13 +80,6 @@ module _ (arrows : List Arrow) (t : Typ) (is : IsIntersection arrows t) where
     record { functions_alone = functions_alone; into = λ pairs has. (maps pairs has).0 },
     each_maps some (λ pairs has. (maps pairs has).1),
   )
-
--- the function of a name has the name
-gives_data : (scope : Scope) (f : FunctionTree) → has_name (codes "main") f ≡ true → GivesData scope f
-    → (arrows : List Arrow) × AreWritten scope (interface_of f) arrows × AllOf (λ arrow. In arrow.result ⊆ BuiltIn DATA) arrows
-gives_data scope (function at None name_at interface branches) has_its_name gives = absurd cc
-gives_data scope (function at (Some own) name_at interface branches) has_its_name gives =
-    gives (ap Some ((bytes_eq-Decides own (codes "main")).0 has_its_name))
 
 module _ (program : Program) (accepted : IsAccepted program) where
   abbrev scope : Scope
@@ -182,4 +177,5 @@ module _ (program : Program) (accepted : IsAccepted program) where
       runs_safely main known.1 signature document is_document inside own
       (arrow_for scope (Maps main known.1 signature document is_document inside self) (interface_of main) own.arrows own.are_written
       (each_maps own.arrows self own.whole own.arrows (in_arrows own.arrows self own.whole)) signature among)
-      (arrow_for scope (λ arrow. In arrow.result ⊆ BuiltIn DATA) (interface_of main) gives.0 gives.1 gives.2 signature among)
+      (arrow_for scope (λ arrow. In arrow.result ⊆ BuiltIn DATA) (interface_of main) gives.arrows gives.are_written gives.give_data
+      signature among)

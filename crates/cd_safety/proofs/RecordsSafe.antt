@@ -11,6 +11,7 @@ use Rattle.cd_model.specs.Thing.{Thing, Record, IsElement, AreFields}
 use Rattle.cd_rules.specs.InRow.{thing_at}
 use Rattle.cd_matching.specs.Captures.{or_else}
 use Rattle.cd_program.specs.Expr.{Expr, Fields, NoField, AField}
+use Rattle.cd_names.specs.Labels.{LacksLabel}
 use Rattle.cd_meaning.specs.Sets.{◌⊆◌}
 use Rattle.cd_typing.specs.Typ.{Typ, In, IsType}
 use Rattle.cd_typing.specs.Results.{written_at, IsRecordOf}
@@ -21,7 +22,7 @@ use Rattle.cd_safety.specs.OutcomesStandIn.{AllStandIn}
 use Rattle.cd_safety.specs.Sound.{IsGood, AreGood}
 use Rattle.cd_safety.specs.StandsIn as stand
 use Rattle.cd_safety.specs.StandsIn.{FieldsStandIn}
-use Rattle.cd_safety.specs.WellWritten.{LacksLabel, AreWrittenOnce}
+use Rattle.cd_safety.specs.WellWritten.{AreWrittenOnce}
 use Rattle.cd_safety.proofs.FieldsAtLabels.{put_at}
 use Rattle.cd_safety.proofs.OperandsStandIn.{have_places, value_in}
 use Rattle.cd_safety.proofs.RecordsGood.{put_good}

@@ -12,6 +12,7 @@ use Rattle.cd_program.specs.Expr.{Tails, NoTail, ATail, Operand, Without, Select
 use Rattle.cd_program.specs.WellMade.{HaveTwo, IsWellMadeExpr, IsWellMadeExprKind, AreWellMadeExprs, AreWellMadeItems}
 use Rattle.cd_program.specs.WellMade.{AreWellMadeExprFields}
 use Rattle.cd_program.specs.WellMade.{AreWellMadeTails, AreWellMadeBranches, IsWellMadeFunction}
+use Rattle.cd_names.specs.Labels.{LabelsDiffer}
 use Rattle.cd_evaluation.specs.ProgramFunctions.{functions_in, functions_in_kind, functions_in_exprs, functions_in_items}
 use Rattle.cd_evaluation.specs.ProgramFunctions.{functions_in_fields}
 use Rattle.cd_evaluation.specs.ProgramFunctions.{functions_in_tails, functions_in_branches, functions_within}
@@ -21,7 +22,7 @@ use Rattle.cd_safety.specs.PatternsIn.{EachPattern, EachOfKind, EachOfExprs, Eac
 use Rattle.cd_safety.specs.PatternsIn.{EachOfFunction}
 use Rattle.cd_safety.specs.PatternTypes.{IsTypedPattern}
 use Rattle.cd_safety.specs.TypedClosure.{CapturesItsNames, IsGoodPattern}
-use Rattle.cd_safety.specs.WellWritten.{IsSoundKind, HasPart, LabelsDiffer, AreWrittenOnce, IsWellWritten, KindIsWritten, ExprsAreWritten}
+use Rattle.cd_safety.specs.WellWritten.{IsSoundKind, HasPart, AreWrittenOnce, IsWellWritten, KindIsWritten, ExprsAreWritten}
 use Rattle.cd_safety.specs.WellWritten.{ItemsAreWritten, FieldsAreWritten, TailsAreWritten, BranchesAreWritten, FunctionIsWritten}
 
 has_part : (exprs : Exprs) → HaveTwo exprs → HasPart exprs

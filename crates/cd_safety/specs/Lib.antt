@@ -21,5 +21,6 @@ pub mod Safe
 pub mod KindsIn
 pub mod Accepted
 pub mod SafeProgram
+pub mod TypedMain
 pub mod Examples
 pub mod TypedClosure

@@ -1,8 +1,7 @@
 -- What safety asks of expressions besides their types: constants are elements, runs of characters
 -- are of characters, tuples have a part, and no label is written twice.
-use Rattle.std.specs.Prelude.{◌≡◌, false, bytes_eq}
 use Rattle.std.specs.Char.{IsScalar}
-use Rattle.cd_syntax.specs.Name.{Name, IsLabel}
+use Rattle.cd_syntax.specs.Name.{IsLabel}
 use Rattle.cd_syntax.specs.TypeTree.{Tree}
 use Rattle.cd_model.specs.AllOf.{AllOf}
 use Rattle.cd_model.specs.Thing.{IsElement}
@@ -13,6 +12,7 @@ use Rattle.cd_program.specs.Expr.{Exprs, NoExpr, AnExpr, Items, NoItem, AnItem, 
 use Rattle.cd_program.specs.Expr.{Fields, NoField, AField, Tails, NoTail, ATail, Operand, Without}
 use Rattle.cd_program.specs.Expr.{Select, Branches, NoBranch, ABranch, FunctionTree, function}
 use Rattle.cd_program.specs.WellMade.{IsWellMadeName}
+use Rattle.cd_names.specs.Labels.{LacksLabel, LabelsDiffer}
 
 abbrev pub HaveCharacters : Items → Type 0
 HaveCharacters NoItem = Unit {0}
@@ -20,18 +20,10 @@ HaveCharacters (AnItem (One e) rest) = HaveCharacters rest
 HaveCharacters (AnItem (Splice e) rest) = HaveCharacters rest
 HaveCharacters (AnItem (Run characters) rest) = AllOf IsScalar characters × HaveCharacters rest
 
-abbrev pub LacksLabel : Name → Fields → Type 0
-LacksLabel label NoField = Unit {0}
-LacksLabel label (AField other at e rest) = (bytes_eq other label ≡ false) × LacksLabel label rest
-
 abbrev pub AreWrittenOnce : Fields → Type 0
 AreWrittenOnce NoField = Unit {0}
 AreWrittenOnce (AField label at e rest) = IsLabel label × LacksLabel label rest
     × AreWrittenOnce rest
-
-abbrev pub LabelsDiffer : Fields → Type 0
-LabelsDiffer NoField = Unit {0}
-LabelsDiffer (AField label at e rest) = LacksLabel label rest × LabelsDiffer rest
 
 -- what is asked of each expression alone
 abbrev pub IsSoundKind : Kind → Type 0

@@ -1,5 +1,5 @@
 -- Expressions whose names are sound, by their parts.
-use Rattle.std.specs.Prelude.{◌≡◌, true, false, List, [], ◌∷◌, ◌++◌, Option, Some, None, bytes_eq}
+use Rattle.std.specs.Prelude.{◌≡◌, true, List, [], ◌∷◌, ◌++◌, Option, Some, None}
 use Rattle.std.specs.Char.{IsScalar}
 use Rattle.std.specs.List.{list_any}
 use Rattle.cd_syntax.specs.Name.{Name, IsLabel}
@@ -15,12 +15,8 @@ use Rattle.cd_program.specs.Expr.{Run, Fields, NoField, AField, Tails, NoTail, A
 use Rattle.cd_program.specs.Expr.{Without, Select, Branches, NoBranch, ABranch, FunctionTree, function}
 use Rattle.cd_program.specs.Expr.{Signature}
 use Rattle.cd_resolve.specs.Faults.{Fault, IsFaultOfType}
+use Rattle.cd_names.specs.Labels.{LacksLabel}
 use Rattle.cd_names.specs.ProgramFaults.{Seen, is_seen, names_of, with_name, IsFaultOfPattern}
-
--- no two fields have one label
-abbrev pub LacksLabel : Name → Fields → Type 0
-LacksLabel label NoField = Unit {0}
-LacksLabel label (AField other at e rest) = (bytes_eq other label ≡ false) × LacksLabel label rest
 
 -- there is an expression
 abbrev pub HasFirst : Exprs → Type 0
