@@ -1,6 +1,5 @@
 -- The code of an accepted program: its declared functions are typed and well written, and so the values of their names are good.
-use Rattle.std.proofs.Common.{◌≡◌, ℕ, List, [], ◌∷◌, inl, inr, Some, option_map, refl, sym, ap, subst}
-use Rattle.cd_syntax.specs.Name.{Name}
+use Rattle.std.proofs.Common.{◌≡◌, ℕ, List, [], ◌∷◌, inl, inr, Some, option_map, sym, ap, subst}
 use Rattle.cd_model.specs.AllOf.{AllOf, AnyOf}
 use Rattle.cd_model.specs.Interfaces.{Interfaces}
 use Rattle.cd_model.specs.Scope.{Scope}

@@ -1,8 +1,7 @@
 -- An accepted program is safe: on a document in the argument of an arrow of `main` its runs are never stuck, they end with data in the
 -- result of the arrow, and they raise data alone.
-use Rattle.std.proofs.Common.{◌≡◌, ℕ, true, List, [], ◌∷◌, inl, inr, Some, None, sym, ap, subst, ◌∙◌, codes}
+use Rattle.std.proofs.Common.{◌≡◌, ℕ, true, List, [], ◌∷◌, inl, inr, Some, sym, subst, ◌∙◌, codes}
 use Rattle.std.proofs.lemmas.Option.{same_Some}
-use Rattle.std.proofs.lemmas.Slice.Eq.{bytes_eq-Decides}
 use Rattle.cd_model.specs.AllOf.{AllOf, AnyOf}
 use Rattle.cd_model.specs.BuiltIns.{DATA}
 use Rattle.cd_model.specs.Interfaces.{Interfaces, value_in_written}
@@ -11,12 +10,12 @@ use Rattle.cd_model.specs.Thing.{Thing, Function, Closure, Fields, NoField, Pair
 use Rattle.cd_model.specs.Written.{Written, in_written}
 use Rattle.cd_model.proofs.Closures.{data_are_elements}
 use Rattle.cd_matching.specs.WrittenPattern.{in_scope}
-use Rattle.cd_program.specs.Expr.{Signature, FunctionTree, function, Program}
+use Rattle.cd_program.specs.Expr.{Signature, FunctionTree, Program}
 use Rattle.cd_meaning.specs.Functions.{IsFunction, MapsInto, HasFunction, AllMapInto}
 use Rattle.cd_meaning.specs.Sets.{◌⊆◌}
 use Rattle.cd_typing.specs.Interfaces.{Arrow, IsWritten, AreWritten, IsIntersection}
 use Rattle.cd_typing.specs.Typ.{Typ, In, BuiltIn}
-use Rattle.cd_typing.specs.Typed.{scope_of, GivesData}
+use Rattle.cd_typing.specs.Typed.{scope_of}
 use Rattle.cd_evaluation.specs.Code.{Code, place_of}
 use Rattle.cd_evaluation.specs.Meaning.{calls}
 use Rattle.cd_evaluation.specs.ProgramCode.{code_of}

@@ -1,13 +1,9 @@
 -- Expressions whose names are sound, by their parts.
-use Rattle.std.specs.Prelude.{◌≡◌, true, List, [], ◌∷◌, ◌++◌, Option, Some, None}
-use Rattle.std.specs.Char.{IsScalar}
-use Rattle.std.specs.List.{list_any}
-use Rattle.cd_syntax.specs.Name.{Name, IsLabel}
+use Rattle.std.specs.Prelude.{◌≡◌, true, List, ◌++◌}
+use Rattle.cd_syntax.specs.Name.{IsLabel}
 use Rattle.cd_syntax.specs.TypeTree.{Tree, Declarations}
 use Rattle.cd_syntax.specs.WellMadePattern.{IsWellMadePattern, IsWellMadeConstant}
 use Rattle.cd_model.specs.AllOf.{AllOf}
-use Rattle.cd_model.specs.Thing.{IsElement}
-use Rattle.cd_matching.specs.Sequences.{thing_of}
 use Rattle.cd_program.specs.Expr.{Expr, expr, Kind, Constant, Variable, Tuple, Sequence, Record, Xml}
 use Rattle.cd_program.specs.Expr.{Function, Apply, Match, Try, Map, Transform, Let, If, Chain, Call}
 use Rattle.cd_program.specs.Expr.{Exprs, NoExpr, AnExpr, Items, NoItem, AnItem, Item, One, Splice}
