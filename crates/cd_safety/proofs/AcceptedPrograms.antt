@@ -23,9 +23,10 @@ use Rattle.cd_safety.specs.KindsIn.{KindsOfFunction}
 use Rattle.cd_safety.specs.PatternsIn.{EachOfFunction}
 use Rattle.cd_safety.specs.PatternTypes.{IsTypedPattern}
 use Rattle.cd_safety.specs.TypedClosure.{CapturesItsNames}
-use Rattle.cd_safety.specs.WellWritten.{IsSoundKind}
+use Rattle.cd_safety.specs.WellWritten.{InRange, HasLabelsOnce, IsSoundKind}
+use Rattle.cd_safety.proofs.KindsTogether.{of_functions as kinds_sound}
 use Rattle.cd_safety.proofs.PartsShown.{IsShown, AreShown, of_functions}
-use Rattle.cd_safety.proofs.SoundKinds.{sound_kind}
+use Rattle.cd_safety.proofs.SoundKinds.{labels_once, sound_kind}
 
 -- what the law of captured names says
 abbrev pub CapturedAreBound : Type 0
@@ -55,27 +56,27 @@ module _ (program : Program) (none : (fault : Fault) → IsFaultOfProgram progra
   interface_guarded (function at name name_at interface branches) free = arrows_guarded interface free
 
   module _ (captured : CapturedAreBound) where
-    shown : IsShown program.types IsSoundKind (CapturesItsNames scope) (HasGuardedInterface scope)
+    shown : IsShown program.types HasLabelsOnce (CapturesItsNames scope) (HasGuardedInterface scope)
     shown = record {
-      of_kind = sound_kind program.types;
+      of_kind = labels_once program.types;
       of_pattern = captured program.types scope;
       of_function = interface_guarded;
     }
 
     parts_shown : IsWellMadeProgram program
-        → AreShown program.types IsSoundKind (CapturesItsNames scope) (HasGuardedInterface scope)
-        (AllOf (KindsOfFunction IsSoundKind) program.functions)
+        → AreShown program.types HasLabelsOnce (CapturesItsNames scope) (HasGuardedInterface scope)
+        (AllOf (KindsOfFunction HasLabelsOnce) program.functions)
         (AllOf (EachOfFunction (CapturesItsNames scope)) program.functions) (all_functions program)
-    parts_shown made = of_functions program.types IsSoundKind (CapturesItsNames scope) (HasGuardedInterface scope) shown
+    parts_shown made = of_functions program.types HasLabelsOnce (CapturesItsNames scope) (HasGuardedInterface scope) shown
         (faults.all_functions program) program.functions made.1
         (λ f is fault has. none fault (faults.IsFaultOfProgram.in_function f fault is has))
 
-    pub program_accepted : IsTyped program → IsWellMadeProgram program → PlacesDiffer (all_functions program)
-        → AllOf (EachOfFunction (IsTypedPattern scope)) program.functions → IsAccepted program
-    program_accepted typed made places patterns = let parts = parts_shown made in record {
+    pub program_accepted : IsTyped program → IsWellMadeProgram program → AllOf (KindsOfFunction InRange) program.functions
+        → PlacesDiffer (all_functions program) → AllOf (EachOfFunction (IsTypedPattern scope)) program.functions → IsAccepted program
+    program_accepted typed made within places patterns = let parts = parts_shown made in record {
       typed = typed;
       well_made = made;
-      kinds = parts.kinds_are;
+      kinds = kinds_sound InRange HasLabelsOnce IsSoundKind sound_kind program.functions within parts.kinds_are;
       patterns = patterns;
       names = parts.patterns_are;
       guarded = parts.functions_are;

@@ -60,3 +60,4 @@ pub mod PartsShown
 pub mod SoundKinds
 pub mod AcceptedPrograms
 pub mod Examples
+mod KindsTogether

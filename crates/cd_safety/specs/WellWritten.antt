@@ -25,6 +25,17 @@ AreWrittenOnce NoField = Unit {0}
 AreWrittenOnce (AField label at e rest) = IsLabel label × LacksLabel label rest
     × AreWrittenOnce rest
 
+-- constants are elements, and runs are of characters
+abbrev pub InRange : Kind → Type 0
+InRange (Constant is) = IsElement (thing_of is)
+InRange (Sequence items) = HaveCharacters items
+InRange kind = Unit {0}
+
+-- no record has a label twice
+abbrev pub HasLabelsOnce : Kind → Type 0
+HasLabelsOnce (Record fields) = LabelsDiffer fields
+HasLabelsOnce kind = Unit {0}
+
 -- what is asked of each expression alone
 abbrev pub IsSoundKind : Kind → Type 0
 IsSoundKind (Constant is) = IsElement (thing_of is)

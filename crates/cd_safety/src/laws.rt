@@ -8,10 +8,12 @@ ghost use Rattle.cd_typing.specs.Typed.{IsTyped, scope_of};
 ghost use Rattle.cd_evaluation.specs.ProgramFunctions.{all_functions, PlacesDiffer};
 ghost use Rattle.cd_safety.specs.Accepted.{IsAccepted};
 ghost use Rattle.cd_safety.specs.Examples.{identity, identity_program};
+ghost use Rattle.cd_safety.specs.KindsIn.{KindsOfFunction};
 ghost use Rattle.cd_safety.specs.PatternsIn.{EachOfFunction};
 ghost use Rattle.cd_safety.specs.PatternTypes.{IsTypedPattern};
 ghost use Rattle.cd_safety.specs.SafeProgram.{IsMain, IsSafeProgram};
 ghost use Rattle.cd_safety.specs.TypedMain.{ArrowsGiveData};
+ghost use Rattle.cd_safety.specs.WellWritten.{InRange};
 
 use cd_names::laws::captured_names_are_bound;
 
@@ -21,11 +23,13 @@ pub fn accepted_programs_are_safe()
     ensures { (program : Program) → IsAccepted program → IsSafeProgram program }
 {}
 
-/// A program with types, whose names are sound, is accepted where the types of its patterns are
-/// nodes of a graph.
+/// A program with types, whose names are sound, is accepted where its constants and characters are
+/// in range, no two functions begin at one place, and the types of its patterns are nodes of a
+/// graph.
 pub fn typed_programs_are_accepted()
     ensures { (program : Program) → IsTyped program → IsWellMadeProgram program
         → ((fault : Fault) → IsFaultOfProgram program fault → ⊥)
+        → AllOf (KindsOfFunction InRange) program.functions
         → PlacesDiffer (all_functions program)
         → AllOf (EachOfFunction (IsTypedPattern (scope_of program))) program.functions
         → IsAccepted program }
