@@ -11,4 +11,4 @@ mod TokensInOrder
 mod FunctionPlaces
 mod PatternStarts
 mod DifferentPlaces
-mod PlacesOfPrograms
+pub mod PlacesOfPrograms
