@@ -11,14 +11,14 @@ use Rattle.cd_asking.specs.Inner.Asked.{set_at, done_by, plain_task, IsStep}
 use Rattle.cd_asking.specs.Inner.Shapes.{Shape, Record, members, shape_of, fields_with}
 use Rattle.cd_asking.specs.Inner.Tasks.{after, answered, size, size_of_fields, weight}
 use Rattle.cd_asking.specs.MappedArrows.{maps_at}
+use Rattle.cd_asking.specs.Mappings.{Mappings}
 use Rattle.cd_asking.specs.declared.asker.Asker.{Asker}
-use Rattle.cd_asking.specs.declared.mapped.Mapped.{Mapped}
 use Rattle.cd_asking.specs.declared.node_sets.SetId.{SetId}
 use Rattle.cd_asking.specs.declared.row.Answered.{Answered}
 use Rattle.cd_asking.specs.declared.task.Next.{Next}
 use Rattle.cd_asking.specs.declared.task.Task.{Task}
 
-module _ (graph : Graph) (maps : List Mapped) (values : Values) (old new : Asker) where
+module _ (graph : Graph) (maps : Mappings) (values : Values) (old new : Asker) where
   -- the next step makes those of the nodes of a set that hold a value
   abbrev pub Asks : SetId → Thing → Next → Type 0
   Asks set is next = IsStep (names values) (nodes graph) (maps_at maps) (table values) new
