@@ -10,7 +10,7 @@ use Rattle.cd_cells.specs.declared.cell.ValueId.{ValueId}
 use Rattle.cd_asking.specs.Inner.Along.{after_alike, GoesTo, IsAlong}
 use Rattle.cd_asking.specs.Inner.Asked.{set_at, Grow, Grows, Found}
 use Rattle.cd_asking.specs.Inner.Entries.{LeadBoth}
-use Rattle.cd_asking.specs.Inner.Shapes.{members, shape_of}
+use Rattle.cd_asking.specs.Inner.Shapes.{Closed, members, shape_of}
 use Rattle.cd_asking.specs.Inner.Tasks as task
 use Rattle.cd_asking.specs.Inner.Tasks.{Covers, again, paired, size}
 use Rattle.cd_asking.specs.declared.asker.Asker.{Asker}
@@ -23,12 +23,12 @@ use Rattle.cd_asking.proofs.Steps.{to_first, to_second}
 falls_along : (a b work : ℕ) → (3 + (a + b)) + 1 < work → b + 1 < work
 falls_along a b work less = omega arith
 
-module _ (names : List Name) (graph : Graph) (table : List Thing) (old new : Asker) (grows : Grows old new) where
+module _ (names : List Name) (graph : Graph) (closed : Closed) (table : List Thing) (old new : Asker) (grows : Grows old new) where
   pub one_more_alike : (leads : PairLeads) (first : SetId) (id one second : ValueId) (answer : SetId)
       → LeadBoth graph old.sets (set_at old.sets leads.second) leads → first.0 < length old.sets → second.0 < length table
       → thing_at table id.0 ≡ thing.Pair (thing_at table one.0) (thing_at table second.0)
-      → Found graph (shape_of graph (thing_at table one.0)) (set_at old.sets leads.first) new.sets answer → answer.0 ≡ first.0
-      → (count : ℕ) → GoesTo names graph table old new (after_alike id leads.second first count) (after_alike second leads.second first (suc count))
+      → Found graph (shape_of graph closed (thing_at table one.0)) (set_at old.sets leads.first) new.sets answer → answer.0 ≡ first.0
+      → (count : ℕ) → GoesTo names graph closed table old new (after_alike id leads.second first count) (after_alike second leads.second first (suc count))
   one_more_alike leads first id one second answer both first_within within is found same count nodes work step =
       let ids = set_at old.sets leads.second in
       let a = thing_at table one.0 in
@@ -36,18 +36,18 @@ module _ (names : List Name) (graph : Graph) (table : List Thing) (old new : Ask
       let ids_stay : set_at new.sets leads.second ≡ ids = stays old.sets new.sets grows.0 leads.second both.1 in
       let first_stays : set_at new.sets first ≡ set_at old.sets first = stays old.sets new.sets grows.0 first first_within in
       let same_id : answer ≡ first = ap (λ n. record { 0 = n }) same in
-      let first_is : set_at new.sets first ≡ members graph (shape_of graph a) (set_at old.sets leads.first) =
+      let first_is : set_at new.sets first ≡ members graph (shape_of graph closed a) (set_at old.sets leads.first) =
       ap (set_at new.sets) (sym same_id) ∙ found.1 in
-      let pair_is : paired graph ids (set_at old.sets first) (members graph (shape_of graph b) ids) ≡ members graph (shape_of graph (thing.Pair a b)) ids =
-      to_second graph ids ids b (set_at old.sets first) both.3
-      ∙ ap (task.after graph (task.OfSecond b ids)) (sym first_stays ∙ first_is)
-      ∙ to_first graph ids (set_at old.sets leads.first) a b both.2 in
+      let pair_is : paired graph ids (set_at old.sets first) (members graph (shape_of graph closed b) ids) ≡ members graph (shape_of graph closed (thing.Pair a b)) ids =
+      to_second graph closed ids ids b (set_at old.sets first) both.3
+      ∙ ap (task.after graph closed (task.OfSecond b ids)) (sym first_stays ∙ first_is)
+      ∙ to_first graph closed ids (set_at old.sets leads.first) a b both.2 in
       let falls = step.falls in
       record {
-        makes = ap (λ set. again (suc count) (paired graph set (set_at new.sets first)) (members graph (shape_of graph b) set)) ids_stay
-            ∙ ap (λ first. again (suc count) (paired graph ids first) (members graph (shape_of graph b) ids)) first_stays
+        makes = ap (λ set. again (suc count) (paired graph set (set_at new.sets first)) (members graph (shape_of graph closed b) set)) ids_stay
+            ∙ ap (λ first. again (suc count) (paired graph ids first) (members graph (shape_of graph closed b) ids)) first_stays
             ∙ ap (again count (paired graph ids (set_at old.sets first))) pair_is
-            ∙ ap (λ t. again count (paired graph ids (set_at old.sets first)) (members graph (shape_of graph t) ids)) (sym is)
+            ∙ ap (λ t. again count (paired graph ids (set_at old.sets first)) (members graph (shape_of graph closed t) ids)) (sym is)
             ∙ step.makes;
         falls = falls_along (size a) (size b) work (subst (λ t. size t + 1 < work) is falls);
         numbers = (within, still_within old.sets new.sets grows.0 leads.second.0 both.1, (still_within old.sets new.sets grows.0 leads.second.0 both.1, still_within old.sets new.sets grows.0 first.0 first_within));
@@ -78,12 +78,12 @@ both_stay graph old new grow leads both =
       subst (λ next. Covers graph task.Second next next) (sym second) both.3,
     )
 
-module _ (names : List Name) (graph : Graph) (table : List Thing) (start : Asker) (leads : PairLeads) (first : SetId) (from : ValueId) where
+module _ (names : List Name) (graph : Graph) (closed : Closed) (table : List Thing) (start : Asker) (leads : PairLeads) (first : SetId) (from : ValueId) where
   module _ (now next : Asker) (grows : Grows now next) (id : ValueId) (count : ℕ)
-      (before : IsAlong names graph table start now leads first from id count) where
+      (before : IsAlong names graph closed table start now leads first from id count) where
     pub goes_along : (second : ValueId) → second.0 < length table
-        → ((count : ℕ) → GoesTo names graph table now next (after_alike id leads.second first count) (after_alike second leads.second first (suc count)))
-        → IsAlong names graph table start next leads first from second (suc count)
+        → ((count : ℕ) → GoesTo names graph closed table now next (after_alike id leads.second first count) (after_alike second leads.second first (suc count)))
+        → IsAlong names graph closed table start next leads first from second (suc count)
     goes_along second within goes = record {
       within = within;
       grows = grows_on start now next before.grows grows;
@@ -92,5 +92,5 @@ module _ (names : List Name) (graph : Graph) (table : List Thing) (start : Asker
       goes = λ nodes work step. goes count nodes work (before.goes nodes work step);
     }
 
-    pub stops_along : GoesTo names graph table start next (after_alike from leads.second first 1) (after_alike id leads.second first count)
-    stops_along nodes work step = step_grows names graph table now next grows nodes work (after_alike id leads.second first count) (before.goes nodes work step)
+    pub stops_along : GoesTo names graph closed table start next (after_alike from leads.second first 1) (after_alike id leads.second first count)
+    stops_along nodes work step = step_grows names graph closed table now next grows nodes work (after_alike id leads.second first count) (before.goes nodes work step)

@@ -1,5 +1,5 @@
 -- What is known stays right when the graph and the names grow.
-use Rattle.std.proofs.Common.{◌≡◌, ℕ, ◌<◌, Option, List, [], ◌∷◌, ◌++◌, length, map, refl, sym, ap, ◌∙◌, subst, arith, length-append}
+use Rattle.std.proofs.Common.{◌≡◌, ℕ, ◌<◌, Option, List, [], ◌∷◌, ◌++◌, length, map, refl, sym, ap, ◌∙◌, subst, arith, length-append, append-nil}
 use Rattle.std.proofs.lemmas.List.{get_or_append_left}
 use Rattle.std.proofs.lemmas.Option.{unwrap_or-slice_get}
 use Rattle.cd_sets.specs.declared.node_id.NodeId.{NodeId}
@@ -7,6 +7,8 @@ use Rattle.cd_syntax.specs.Name.{Name, IsLabel}
 use Rattle.cd_model.specs.AllOf.{AllOf}
 use Rattle.cd_model.specs.Formula.{Graph, formula_at, Nothing}
 use Rattle.cd_cells.specs.Cells.{name_at}
+use Rattle.cd_cells.specs.Table.{names, Grows}
+use Rattle.cd_cells.specs.declared.values.Values.{Values}
 use Rattle.cd_cells.proofs.InGrown.{name_in_grown}
 use Rattle.cd_asking.specs.Known.{KnowsOf}
 use Rattle.cd_asking.specs.Inner.Rows.{row_at}
@@ -146,3 +148,17 @@ knows_in_grown graph more names more_names asker right = record {
   answers = each_by _ _ asker.answers.entries (answer_in_grown graph more asker.sets right.nodes names more_names asker.rows) right.answers;
   recent = slots_stay _ _ (recent_in_grown graph more asker.sets right.nodes names more_names asker.rows) asker.recent right.recent;
 }
+
+-- and when one of them grows
+pub knows_in_grown_graph : (graph more : Graph) (names : List Name) (asker : Asker) → KnowsOf graph names asker → KnowsOf (graph ++ more) names asker
+knows_in_grown_graph graph more names asker right =
+    subst (λ names. KnowsOf (graph ++ more) names asker) (append-nil names) (knows_in_grown graph more names [] asker right)
+
+pub knows_in_grown_names : (graph : Graph) (names more : List Name) (asker : Asker) → KnowsOf graph names asker → KnowsOf graph (names ++ more) asker
+knows_in_grown_names graph names more asker right =
+    subst (λ graph. KnowsOf graph (names ++ more) asker) (append-nil graph) (knows_in_grown graph [] names more asker right)
+
+-- as when values are added to a table
+pub knows_in_grown_values : (graph : Graph) (old new : Values) (asker : Asker) → Grows old new → KnowsOf graph (names old) asker → KnowsOf graph (names new) asker
+knows_in_grown_values graph old new asker grows right =
+    subst (λ names. KnowsOf graph names asker) (sym grows.labels.1) (knows_in_grown_names graph (names old) grows.labels.0 asker right)

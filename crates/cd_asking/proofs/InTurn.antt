@@ -7,7 +7,7 @@ use Rattle.cd_model.specs.Formula.{Graph}
 use Rattle.cd_model.specs.Thing.{Thing}
 use Rattle.cd_cells.specs.Cells.{thing_at}
 use Rattle.cd_cells.specs.declared.cell.ValueId.{ValueId}
-use Rattle.cd_asking.specs.Inner.Shapes.{members, shape_of}
+use Rattle.cd_asking.specs.Inner.Shapes.{Closed, members, shape_of}
 use Rattle.cd_asking.specs.Inner.Tasks.{after, finish, size, weight}
 use Rattle.cd_asking.specs.Inner.Asked.{set_at, plain_task, IsTask, IsStep, Grows}
 use Rattle.cd_asking.specs.Known.{KnowsOf}
@@ -38,27 +38,27 @@ module _ (names : List Name) (table : List Thing) (old new : Asker) (grow : Grow
   tasks_within : (tasks : List Task) → AllOf (IsTask names (length table) old) tasks → AllOf (IsTask names (length table) new) tasks
   tasks_within tasks each = each_by _ _ tasks (task_within old new grow names (length table)) each
 
-module _ (names : List Name) (graph : Graph) (table : List Thing) (start : Asker) (nodes : List NodeId) where
+module _ (names : List Name) (graph : Graph) (closed : Closed) (table : List Thing) (start : Asker) (nodes : List NodeId) where
   abbrev Running : Asker → List Task → Next → Type 0
-  Running = IsRunning names graph table start nodes
+  Running = IsRunning names graph closed table start nodes
 
   module _ (asker after_it : Asker) (grow : Grows asker after_it) (right : KnowsOf graph names after_it) where
     -- some tasks are left, and a step makes what is to be done first
     on : (tasks : List Task) (answer : List NodeId) (next : Next) (work : ℕ) → Grows start asker
-        → AllOf (IsTask names (length table) asker) tasks → finished names table asker graph tasks answer ≡ nodes
-        → IsStep names graph table after_it answer work next → Running after_it tasks next
+        → AllOf (IsTask names (length table) asker) tasks → finished names table asker graph closed tasks answer ≡ nodes
+        → IsStep names graph closed table after_it answer work next → Running after_it tasks next
     on tasks answer next work grew each makes step = record {
       grows = grows_on start asker after_it grew grow;
       right = right;
       each = tasks_within names table asker after_it grow tasks each;
       numbers = step.numbers;
-      makes = ap (finished names table after_it graph tasks) step.makes
-          ∙ ap (λ all. finish graph all answer) (tasks_stay names table asker after_it grow tasks each) ∙ makes;
+      makes = ap (finished names table after_it graph closed tasks) step.makes
+          ∙ ap (λ all. finish graph closed all answer) (tasks_stay names table asker after_it grow tasks each) ∙ makes;
     }
 
     fewer : (tasks : List Task) (answer : List NodeId) (next : Next) (work most : ℕ)
         → AllOf (IsTask names (length table) asker) tasks
-        → IsStep names graph table after_it answer work next → total names table asker tasks + work ≤ most
+        → IsStep names graph closed table after_it answer work next → total names table asker tasks + work ≤ most
         → steps_left names table after_it tasks next < most
     fewer tasks answer next work most each step bound =
         let same = total_stays names table asker after_it grow tasks each in
@@ -66,7 +66,7 @@ module _ (names : List Name) (graph : Graph) (table : List Thing) (start : Asker
 
     module _ (tasks new : List Task) (before : Next) (id : ValueId) (set : SetId) (task : Task) (next : Next) (was : Running asker tasks before)
         (before_is : before ≡ Ask id set task) (put : ArePut tasks task new)
-        (step : IsStep names graph table after_it (members graph (shape_of graph (thing_at table id.0)) (set_at asker.sets set))
+        (step : IsStep names graph closed table after_it (members graph (shape_of graph closed (thing_at table id.0)) (set_at asker.sets set))
         (size (thing_at table id.0)) next) where
       running : Running asker tasks (Ask id set task)
       running = subst (Running asker tasks) before_is was
@@ -75,7 +75,7 @@ module _ (names : List Name) (graph : Graph) (table : List Thing) (start : Asker
       asked =
           let are = put names table asker running.each running.numbers.2 in
           on new _ next _ running.grows are.0
-          (are.2 graph _ ∙ last_done names table asker graph tasks task _ ∙ running.makes) step
+          (are.2 graph closed _ ∙ last_done names table asker graph closed tasks task _ ∙ running.makes) step
 
       pub asked_falls : steps_left names table after_it new next < steps_left names table asker tasks before
       asked_falls =
@@ -86,7 +86,7 @@ module _ (names : List Name) (graph : Graph) (table : List Thing) (start : Asker
 
     module _ (tasks rest : List Task) (task : Task) (before : Next) (answer : SetId) (next : Next) (was : Running asker tasks before)
         (before_is : before ≡ Answer answer) (is : tasks ≡ rest ++ task ∷ [])
-        (step : IsStep names graph table after_it (after graph (plain_task names table asker task) (set_at asker.sets answer))
+        (step : IsStep names graph closed table after_it (after graph closed (plain_task names table asker task) (set_at asker.sets answer))
         (weight (plain_task names table asker task)) next) where
       now_running : Running asker tasks (Answer answer)
       now_running = subst (Running asker tasks) before_is was
@@ -96,8 +96,8 @@ module _ (names : List Name) (graph : Graph) (table : List Thing) (start : Asker
 
       pub answered : Running after_it rest next
       answered = on rest _ next _ now_running.grows each_is.0
-          (sym (last_done names table asker graph rest task (set_at asker.sets answer))
-          ∙ ap (λ tasks. finished names table asker graph tasks (set_at asker.sets answer)) (sym is) ∙ now_running.makes) step
+          (sym (last_done names table asker graph closed rest task (set_at asker.sets answer))
+          ∙ ap (λ tasks. finished names table asker graph closed tasks (set_at asker.sets answer)) (sym is) ∙ now_running.makes) step
 
       pub answered_falls : steps_left names table after_it rest next < steps_left names table asker tasks before
       answered_falls =

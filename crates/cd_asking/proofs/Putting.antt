@@ -6,6 +6,7 @@ use Rattle.cd_syntax.specs.Name.{Name}
 use Rattle.cd_model.specs.AllOf.{AllOf}
 use Rattle.cd_model.specs.Formula.{Graph}
 use Rattle.cd_model.specs.Thing.{Thing}
+use Rattle.cd_asking.specs.Inner.Shapes.{Closed}
 use Rattle.cd_asking.specs.Inner.Tasks.{after, again, paired, finish, weight}
 use Rattle.cd_asking.specs.Inner.Asked.{set_at, plain_task, IsTask}
 use Rattle.cd_asking.specs.Inner.Running.{finished, total, ArePut, pairs_of}
@@ -34,20 +35,20 @@ module _ (names : List Name) (table : List Thing) (asker : Asker) where
       swap : (a b c : ℕ) → a + (b + c) ≡ b + (a + c)
       swap a b c = omega arith
 
-  pub last_done : (graph : Graph) (tasks : List Task) (task : Task) (answer : List NodeId)
-      → finished names table asker graph (tasks ++ task ∷ []) answer
-      ≡ finished names table asker graph tasks (after graph (plain_task names table asker task) answer)
-  last_done graph tasks task answer =
-      ap (λ all. finish graph all answer) (map-append (plain_task names table asker) tasks (task ∷ []))
-      ∙ last_first graph (map (plain_task names table asker) tasks) (plain_task names table asker task) answer
+  pub last_done : (graph : Graph) (closed : Closed) (tasks : List Task) (task : Task) (answer : List NodeId)
+      → finished names table asker graph closed (tasks ++ task ∷ []) answer
+      ≡ finished names table asker graph closed tasks (after graph closed (plain_task names table asker task) answer)
+  last_done graph closed tasks task answer =
+      ap (λ all. finish graph closed all answer) (map-append (plain_task names table asker) tasks (task ∷ []))
+      ∙ last_first graph closed (map (plain_task names table asker) tasks) (plain_task names table asker task) answer
 
 pub put_last : (old : List Task) (task : Task) (new : List Task) → new ≡ old ++ task ∷ [] → ArePut old task new
 put_last old task new is names table asker each one =
     subst (λ (new : List Task). AllOf (IsTask names (length table) asker) new
     × (total names table asker new ≤ weight (plain_task names table asker task) + total names table asker old)
-    × ((graph : Graph) (answer : List NodeId)
-    → finished names table asker graph new answer ≡ finished names table asker graph (old ++ task ∷ []) answer)) (sym is)
-    (each_more _ old task each one, (let same = total_more names table asker old task in omega (arith, same)), λ graph answer. refl)
+    × ((graph : Graph) (closed : Closed) (answer : List NodeId)
+    → finished names table asker graph closed new answer ≡ finished names table asker graph closed (old ++ task ∷ []) answer)) (sym is)
+    (each_more _ old task each one, (let same = total_more names table asker old task in omega (arith, same)), λ graph closed answer. refl)
 
 -- pairs in a row after others are pairs in a row
 again_more : {X : Type 0} (n m : ℕ) (step : X → X) (x : X) → again (n + m) step x ≡ again n step (again m step x)
@@ -72,11 +73,11 @@ module _ (names : List Name) (table : List Thing) (asker : Asker) (set first : S
   pairs_before rest zero each = subst Sound (append-nil rest) each
   pairs_before rest (suc n) each = (each_first _ rest (OfPairs set first (suc n)) each).0
 
-  pub pairs_done : (graph : Graph) (rest : List Task) (n : ℕ) (answer : List NodeId)
-      → finished names table asker graph (rest ++ pairs_of set first n) answer
-      ≡ finished names table asker graph rest (again n (paired graph (set_at asker.sets set) (set_at asker.sets first)) answer)
-  pairs_done graph rest zero answer = ap (λ (all : List Task). finished names table asker graph all answer) (append-nil rest)
-  pairs_done graph rest (suc n) answer = last_done names table asker graph rest (OfPairs set first (suc n)) answer
+  pub pairs_done : (graph : Graph) (closed : Closed) (rest : List Task) (n : ℕ) (answer : List NodeId)
+      → finished names table asker graph closed (rest ++ pairs_of set first n) answer
+      ≡ finished names table asker graph closed rest (again n (paired graph (set_at asker.sets set) (set_at asker.sets first)) answer)
+  pairs_done graph closed rest zero answer = ap (λ (all : List Task). finished names table asker graph closed all answer) (append-nil rest)
+  pairs_done graph closed rest (suc n) answer = last_done names table asker graph closed rest (OfPairs set first (suc n)) answer
 
 pub put_all : (rest : List Task) (set first : SetId) (n count all : ℕ) (old new : List Task) → old ≡ rest ++ pairs_of set first n
     → n + count ≡ all → new ≡ rest ++ OfPairs set first all ∷ [] → ArePut old (OfPairs set first count) new
@@ -88,13 +89,13 @@ put_all rest set first n count all old new old_is sum new_is names table asker e
     let total_new = ap (total names table asker) new_is ∙ total_more names table asker rest (OfPairs set first all) in (
       subst (AllOf (IsTask names (length table) asker)) (sym new_is) (each_more _ rest (OfPairs set first all) before one),
       (omega (arith, bound, total_old, total_new)),
-      λ graph answer.
+      λ graph closed answer.
           let step = paired graph (set_at asker.sets set) (set_at asker.sets first) in
-          ap (λ (new : List Task). finished names table asker graph new answer) new_is
-          ∙ last_done names table asker graph rest (OfPairs set first all) answer
-          ∙ ap (λ (all : ℕ). finished names table asker graph rest (again all step answer)) (sym sum)
-          ∙ ap (finished names table asker graph rest) (again_more n count step answer)
-          ∙ sym (pairs_done names table asker set first graph rest n (again count step answer))
-          ∙ ap (λ (old : List Task). finished names table asker graph old (again count step answer)) (sym old_is)
-          ∙ sym (last_done names table asker graph old (OfPairs set first count) answer),
+          ap (λ (new : List Task). finished names table asker graph closed new answer) new_is
+          ∙ last_done names table asker graph closed rest (OfPairs set first all) answer
+          ∙ ap (λ (all : ℕ). finished names table asker graph closed rest (again all step answer)) (sym sum)
+          ∙ ap (finished names table asker graph closed rest) (again_more n count step answer)
+          ∙ sym (pairs_done names table asker set first graph closed rest n (again count step answer))
+          ∙ ap (λ (old : List Task). finished names table asker graph closed old (again count step answer)) (sym old_is)
+          ∙ sym (last_done names table asker graph closed old (OfPairs set first count) answer),
     )

@@ -14,7 +14,7 @@ use Rattle.cd_cells.specs.declared.cell.ValueId.{ValueId}
 use Rattle.cd_cells.specs.declared.cell.Part.{Part}
 use Rattle.cd_asking.specs.Inner.Rows.{row_at}
 use Rattle.cd_asking.specs.Inner.Shapes as plain
-use Rattle.cd_asking.specs.Inner.Shapes.{members, shape_of, fields_with}
+use Rattle.cd_asking.specs.Inner.Shapes.{Closed, members, shape_of, fields_with}
 use Rattle.cd_asking.specs.Inner.Tasks as task
 use Rattle.cd_asking.specs.Inner.Tasks.{Covers, First, Second, Tag, Attributes, Content, At, after, answered, among, size, size_of_fields, weight, again, paired}
 use Rattle.cd_asking.specs.Inner.Asked.{set_at, done_by, left_to_do, plain_task, IsRow, IsStep, Grow, Grows, Found}
@@ -44,7 +44,7 @@ attributes_fall b c = omega arith
 field_falls : (a b : ℕ) → a + b < 1 + (a + b)
 field_falls a b = omega arith
 
-module _ (names : List Name) (graph : Graph) (table : List Thing) where
+module _ (names : List Name) (graph : Graph) (closed : Closed) (table : List Thing) where
   module _ (old new : Asker) (grows : Grows old new) (set next : SetId) (within : set.0 < length old.sets) (below : next.0 < length new.sets) where
     abbrev ids : List NodeId
     ids = set_at old.sets set
@@ -65,58 +65,58 @@ module _ (names : List Name) (graph : Graph) (table : List Thing) where
     set_stays = stays_at set within
 
     pub pair_step : (first second : ValueId) → first.0 < length table → second.0 < length table → Covers graph First ids there
-        → IsStep names graph table new (members graph (shape_of graph (thing.Pair (thing_of first) (thing_of second))) ids)
+        → IsStep names graph closed table new (members graph (shape_of graph closed (thing.Pair (thing_of first) (thing_of second))) ids)
         (size (thing.Pair (thing_of first) (thing_of second))) (Ask first next (code.OfSecond second set))
     pair_step first second is is_too covers = record {
-      makes = ap (λ set. after graph (task.OfSecond (thing_of second) set) (members graph (shape_of graph (thing_of first)) there)) set_stays
-          ∙ to_first graph ids there (thing_of first) (thing_of second) covers;
+      makes = ap (λ set. after graph closed (task.OfSecond (thing_of second) set) (members graph (shape_of graph closed (thing_of first)) there)) set_stays
+          ∙ to_first graph closed ids there (thing_of first) (thing_of second) covers;
       falls = pair_falls (size (thing_of first)) (size (thing_of second));
       numbers = (is, below, (is_too, within_new set within));
     }
 
     pub second_step : (second : ValueId) (first : SetId) → second.0 < length table → first.0 < length old.sets → Covers graph Second ids there
-        → IsStep names graph table new (after graph (task.OfSecond (thing_of second) ids) (set_at old.sets first))
+        → IsStep names graph closed table new (after graph closed (task.OfSecond (thing_of second) ids) (set_at old.sets first))
         (weight (task.OfSecond (thing_of second) ids)) (Ask second next (code.OfPairs set first 1))
     second_step second first is is_too covers = record {
-      makes = ap (λ set. after graph (task.OfPairs set (set_at new.sets first) 1) (members graph (shape_of graph (thing_of second)) there)) set_stays
-          ∙ ap (λ first. after graph (task.OfPairs ids first 1) (members graph (shape_of graph (thing_of second)) there)) (stays_at first is_too)
-          ∙ to_second graph ids there (thing_of second) (set_at old.sets first) covers;
+      makes = ap (λ set. after graph closed (task.OfPairs set (set_at new.sets first) 1) (members graph (shape_of graph closed (thing_of second)) there)) set_stays
+          ∙ ap (λ first. after graph closed (task.OfPairs ids first 1) (members graph (shape_of graph closed (thing_of second)) there)) (stays_at first is_too)
+          ∙ to_second graph closed ids there (thing_of second) (set_at old.sets first) covers;
       falls = second_falls (size (thing_of second));
       numbers = (is, below, (within_new set within, within_new first is_too));
     }
 
     pub xml_step : (tag attributes content : ValueId) → tag.0 < length table → attributes.0 < length table → content.0 < length table
         → Covers graph Tag ids there
-        → IsStep names graph table new (members graph (shape_of graph (thing.Xml (thing_of tag) (thing_of attributes) (thing_of content))) ids)
+        → IsStep names graph closed table new (members graph (shape_of graph closed (thing.Xml (thing_of tag) (thing_of attributes) (thing_of content))) ids)
         (size (thing.Xml (thing_of tag) (thing_of attributes) (thing_of content))) (Ask tag next (code.OfAttributes attributes content set))
     xml_step tag attributes content is are is_too covers = record {
-      makes = ap (λ set. after graph (task.OfAttributes (thing_of attributes) (thing_of content) set) (members graph (shape_of graph (thing_of tag)) there)) set_stays
-          ∙ to_tag graph ids there (thing_of tag) (thing_of attributes) (thing_of content) covers;
+      makes = ap (λ set. after graph closed (task.OfAttributes (thing_of attributes) (thing_of content) set) (members graph (shape_of graph closed (thing_of tag)) there)) set_stays
+          ∙ to_tag graph closed ids there (thing_of tag) (thing_of attributes) (thing_of content) covers;
       falls = xml_falls (size (thing_of tag)) (size (thing_of attributes)) (size (thing_of content));
       numbers = (is, below, (are, is_too, within_new set within));
     }
 
     pub attributes_step : (attributes content : ValueId) (tag : SetId) → attributes.0 < length table → content.0 < length table → tag.0 < length old.sets
         → Covers graph Attributes ids there
-        → IsStep names graph table new (after graph (task.OfAttributes (thing_of attributes) (thing_of content) ids) (set_at old.sets tag))
+        → IsStep names graph closed table new (after graph closed (task.OfAttributes (thing_of attributes) (thing_of content) ids) (set_at old.sets tag))
         (weight (task.OfAttributes (thing_of attributes) (thing_of content) ids)) (Ask attributes next (code.OfContent content set tag))
     attributes_step attributes content tag are is is_too covers = record {
-      makes = ap (λ set. after graph (task.OfContent (thing_of content) set (set_at new.sets tag)) (members graph (shape_of graph (thing_of attributes)) there)) set_stays
-          ∙ ap (λ tag. after graph (task.OfContent (thing_of content) ids tag) (members graph (shape_of graph (thing_of attributes)) there)) (stays_at tag is_too)
-          ∙ to_attributes graph ids there (thing_of attributes) (thing_of content) (set_at old.sets tag) covers;
+      makes = ap (λ set. after graph closed (task.OfContent (thing_of content) set (set_at new.sets tag)) (members graph (shape_of graph closed (thing_of attributes)) there)) set_stays
+          ∙ ap (λ tag. after graph closed (task.OfContent (thing_of content) ids tag) (members graph (shape_of graph closed (thing_of attributes)) there)) (stays_at tag is_too)
+          ∙ to_attributes graph closed ids there (thing_of attributes) (thing_of content) (set_at old.sets tag) covers;
       falls = attributes_fall (size (thing_of attributes)) (size (thing_of content));
       numbers = (are, below, (is, within_new set within, within_new tag is_too));
     }
 
     pub content_step : (content : ValueId) (tag attributes : SetId) → content.0 < length table → tag.0 < length old.sets → attributes.0 < length old.sets
         → Covers graph Content ids there
-        → IsStep names graph table new (after graph (task.OfContent (thing_of content) ids (set_at old.sets tag)) (set_at old.sets attributes))
+        → IsStep names graph closed table new (after graph closed (task.OfContent (thing_of content) ids (set_at old.sets tag)) (set_at old.sets attributes))
         (weight (task.OfContent (thing_of content) ids (set_at old.sets tag))) (Ask content next (code.OfXml set tag attributes))
     content_step content tag attributes is is_too are covers = record {
-      makes = ap (λ set. after graph (task.OfXml set (set_at new.sets tag) (set_at new.sets attributes)) (members graph (shape_of graph (thing_of content)) there)) set_stays
-          ∙ ap (λ tag. after graph (task.OfXml ids tag (set_at new.sets attributes)) (members graph (shape_of graph (thing_of content)) there)) (stays_at tag is_too)
-          ∙ ap (λ fields. after graph (task.OfXml ids (set_at old.sets tag) fields) (members graph (shape_of graph (thing_of content)) there)) (stays_at attributes are)
-          ∙ to_content graph ids there (thing_of content) (set_at old.sets tag) (set_at old.sets attributes) covers;
+      makes = ap (λ set. after graph closed (task.OfXml set (set_at new.sets tag) (set_at new.sets attributes)) (members graph (shape_of graph closed (thing_of content)) there)) set_stays
+          ∙ ap (λ tag. after graph closed (task.OfXml ids tag (set_at new.sets attributes)) (members graph (shape_of graph closed (thing_of content)) there)) (stays_at tag is_too)
+          ∙ ap (λ fields. after graph closed (task.OfXml ids (set_at old.sets tag) fields) (members graph (shape_of graph closed (thing_of content)) there)) (stays_at attributes are)
+          ∙ to_content graph closed ids there (thing_of content) (set_at old.sets tag) (set_at old.sets attributes) covers;
       falls = second_falls (size (thing_of content));
       numbers = (is, below, (within_new set within, within_new tag is_too, within_new attributes are));
     }
@@ -125,8 +125,8 @@ module _ (names : List Name) (graph : Graph) (table : List Thing) where
     pub field_step : (row : RowId) (id : ValueId) (field : Part) (left : Bor (List Part)) → id.0 ≡ field.value
         → IsPart names (length table) field → AllOf (IsPart names (length table)) left.now → IsRow names old.sets old.rows row
         → Covers graph (At (name_at names field.label)) ids there
-        → IsStep names graph table new (members graph (plain.Record (answered (map (done_by names old.sets) (row_at old.rows row))
-        ++ fields_with graph (fields_of names table (field ∷ left.now)))) ids)
+        → IsStep names graph closed table new (members graph (plain.Record (answered (map (done_by names old.sets) (row_at old.rows row))
+        ++ fields_with graph closed (fields_of names table (field ∷ left.now)))) ids)
         (size_of_fields (fields_of names table (field ∷ left.now))) (Ask id next (code.OfField set row field.label left))
     field_step row id field left id_is part parts row_is_one covers =
         let value : Thing = thing_at table field.value in
@@ -137,11 +137,11 @@ module _ (names : List Name) (graph : Graph) (table : List Thing) where
         let done_same : map (done_by names new.sets) (row_at new.rows row) ≡ done =
         row_is old.sets new.sets grows.0 names old.rows new.rows grows.1 row row_is_one in
         record {
-          makes = ap (λ set. after graph (task.OfField set (map (done_by names new.sets) (row_at new.rows row)) label fields)
-              (members graph (shape_of graph (thing_at table id.0)) there)) set_stays
-              ∙ ap (λ done. after graph (task.OfField ids done label fields) (members graph (shape_of graph (thing_at table id.0)) there)) done_same
-              ∙ ap (λ value. after graph (task.OfField ids done label fields) (members graph (shape_of graph value) there)) value_is
-              ∙ to_field graph ids there done label value fields covers;
+          makes = ap (λ set. after graph closed (task.OfField set (map (done_by names new.sets) (row_at new.rows row)) label fields)
+              (members graph (shape_of graph closed (thing_at table id.0)) there)) set_stays
+              ∙ ap (λ done. after graph closed (task.OfField ids done label fields) (members graph (shape_of graph closed (thing_at table id.0)) there)) done_same
+              ∙ ap (λ value. after graph closed (task.OfField ids done label fields) (members graph (shape_of graph closed value) there)) value_is
+              ∙ to_field graph closed ids there done label value fields covers;
           falls = subst (λ is. size is + size_of_fields fields < 1 + (size value + size_of_fields fields)) (sym value_is)
               (field_falls (size value) (size_of_fields fields));
           numbers = (
@@ -151,10 +151,10 @@ module _ (names : List Name) (graph : Graph) (table : List Thing) where
           );
         }
 
-module _ (names : List Name) (graph : Graph) (table : List Thing) where
+module _ (names : List Name) (graph : Graph) (closed : Closed) (table : List Thing) where
   -- the same step, of the same nodes and as much work
   pub same_step : (asker : Asker) (nodes others : List NodeId) (work more : ℕ) (next : Next) → nodes ≡ others → work ≡ more
-      → IsStep names graph table asker nodes work next → IsStep names graph table asker others more next
+      → IsStep names graph closed table asker nodes work next → IsStep names graph closed table asker others more next
   same_step asker nodes others work more next same_nodes same_work step = record {
     makes = step.makes ∙ same_nodes;
     falls = subst (λ work. left_to_do names table asker next < work) same_work step.falls;
@@ -163,7 +163,7 @@ module _ (names : List Name) (graph : Graph) (table : List Thing) where
 
   -- a step stays one when sets and rows are added
   pub step_grows : (old new : Asker) → Grows old new → (nodes : List NodeId) (work : ℕ) (next : Next)
-      → IsStep names graph table old nodes work next → IsStep names graph table new nodes work next
+      → IsStep names graph closed table old nodes work next → IsStep names graph closed table new nodes work next
   step_grows old new grows nodes work (Answer answer) step = record {
     makes = stays old.sets new.sets grows.0 answer step.numbers ∙ step.makes;
     falls = step.falls;
@@ -171,8 +171,8 @@ module _ (names : List Name) (graph : Graph) (table : List Thing) where
   }
   step_grows old new grows nodes work (Ask id set task) step =
       let stay = task_stays old new grows names table task step.numbers.2 in record {
-        makes = ap (λ task. after graph task (members graph (shape_of graph (thing_at table id.0)) (set_at new.sets set))) stay
-            ∙ ap (λ ids. after graph (plain_task names table old task) (members graph (shape_of graph (thing_at table id.0)) ids))
+        makes = ap (λ task. after graph closed task (members graph (shape_of graph closed (thing_at table id.0)) (set_at new.sets set))) stay
+            ∙ ap (λ ids. after graph closed (plain_task names table old task) (members graph (shape_of graph closed (thing_at table id.0)) ids))
             (stays old.sets new.sets grows.0 set step.numbers.1)
             ∙ step.makes;
         falls = subst (λ task. size (thing_at table id.0) + weight task < work) (sym stay) step.falls;
@@ -185,48 +185,48 @@ module _ (names : List Name) (graph : Graph) (table : List Thing) where
 
   -- a value that is asked answers at once
   pub at_once : (old middle new : Asker) → Grows old middle → (nodes : List NodeId) (work : ℕ) (id : ValueId) (set : SetId) (task : Task)
-      (value : Thing) (answer : SetId) (next : Next) → IsStep names graph table old nodes work (Ask id set task)
-      → value ≡ thing_at table id.0 → Found graph (shape_of graph value) (set_at old.sets set) middle.sets answer
-      → IsStep names graph table new (after graph (plain_task names table middle task) (set_at middle.sets answer)) (weight (plain_task names table middle task)) next
-      → IsStep names graph table new nodes work next
+      (value : Thing) (answer : SetId) (next : Next) → IsStep names graph closed table old nodes work (Ask id set task)
+      → value ≡ thing_at table id.0 → Found graph (shape_of graph closed value) (set_at old.sets set) middle.sets answer
+      → IsStep names graph closed table new (after graph closed (plain_task names table middle task) (set_at middle.sets answer)) (weight (plain_task names table middle task)) next
+      → IsStep names graph closed table new nodes work next
   at_once old middle new grows nodes work id set task value answer next asked value_is found step =
       let stay = task_stays old middle grows names table task asked.numbers.2 in
       let lighter = ap weight stay in
       let falls = step.falls in
       let before = asked.falls in record {
-        makes = step.makes ∙ ap (λ task. after graph task (set_at middle.sets answer)) stay
-            ∙ ap (after graph (plain_task names table old task)) found.1
-            ∙ ap (λ value. after graph (plain_task names table old task) (members graph (shape_of graph value) (set_at old.sets set))) value_is
+        makes = step.makes ∙ ap (λ task. after graph closed task (set_at middle.sets answer)) stay
+            ∙ ap (after graph closed (plain_task names table old task)) found.1
+            ∙ ap (λ value. after graph closed (plain_task names table old task) (members graph (shape_of graph closed value) (set_at old.sets set))) value_is
             ∙ asked.makes;
         falls = omega (arith, lighter, falls, before);
         numbers = step.numbers;
       }
 
 -- the second part of a pair, where its set was found before the first part answered
-pub second_later : (names : List Name) (graph : Graph) (table : List Thing) (old middle new : Asker) → Grows old middle → Grows middle new
+pub second_later : (names : List Name) (graph : Graph) (closed : Closed) (table : List Thing) (old middle new : Asker) → Grows old middle → Grows middle new
     → (set next : SetId) → set.0 < length old.sets → next.0 < length middle.sets → (second : ValueId) (first : SetId) → second.0 < length table
     → first.0 < length new.sets → Covers graph Second (set_at old.sets set) (set_at middle.sets next)
-    → IsStep names graph table new (after graph (plain_task names table new (code.OfSecond second set)) (set_at new.sets first))
+    → IsStep names graph closed table new (after graph closed (plain_task names table new (code.OfSecond second set)) (set_at new.sets first))
     (weight (plain_task names table new (code.OfSecond second set))) (Ask second next (code.OfPairs set first 1))
-second_later names graph table old middle new first_grows grows set next within below second first is is_too covers =
+second_later names graph closed table old middle new first_grows grows set next within below second first is is_too covers =
     let all = grows_on old middle new first_grows grows in
     let inside = still_within old.sets new.sets all.0 set.0 within in
     let same_set = stays old.sets new.sets all.0 set within in
     let covers_new = subst (λ (ids : List NodeId). Covers graph Second ids (set_at new.sets next)) (sym same_set)
     (subst (λ (ids : List NodeId). Covers graph Second (set_at old.sets set) ids) (sym (stays middle.sets new.sets grows.0 next below)) covers) in
-    second_step names graph table new new (grows_none new) set next inside (still_within middle.sets new.sets grows.0 next.0 below) second first is is_too covers_new
+    second_step names graph closed table new new (grows_none new) set next inside (still_within middle.sets new.sets grows.0 next.0 below) second first is is_too covers_new
 
 -- what is so of the value of an option
 pub some_found : {X : Type 0} (o : Option X) (P : Type 0) (Q : X → Type 0) (x : X) → o ≡ Some x → MatchOption o P Q → Q x
 some_found o P Q x is found = subst (λ o. MatchOption o P Q) is found
 
 -- one field more has answered
-pub field_done : (graph : Graph) (done : List (Name × List NodeId)) (label : Name) (answer : List NodeId) (left : Fields) (set : List NodeId)
-    → members graph (plain.Record (answered (done ++ (label, answer) ∷ []) ++ fields_with graph left)) set
-    ≡ after graph (task.OfField set done label left) answer
-field_done graph done label answer left set = ap (λ fields. members graph (plain.Record fields) set)
-    (ap (λ all. all ++ fields_with graph left) (map-append _ done ((label, answer) ∷ []))
-    ∙ append_assoc (answered done) ((label, among answer) ∷ []) (fields_with graph left))
+pub field_done : (graph : Graph) (closed : Closed) (done : List (Name × List NodeId)) (label : Name) (answer : List NodeId) (left : Fields) (set : List NodeId)
+    → members graph (plain.Record (answered (done ++ (label, answer) ∷ []) ++ fields_with graph closed left)) set
+    ≡ after graph closed (task.OfField set done label left) answer
+field_done graph closed done label answer left set = ap (λ fields. members graph (plain.Record fields) set)
+    (ap (λ all. all ++ fields_with graph closed left) (map-append _ done ((label, answer) ∷ []))
+    ∙ append_assoc (answered done) ((label, among answer) ∷ []) (fields_with graph closed left))
 
 -- after so many pairs of a row, which have made this, the others make what all make
 abbrev pub Runs : Graph → (set first : List NodeId) → (all : ℕ) → (start : List NodeId) → (done : ℕ) → (last : List NodeId) → Type 0
@@ -258,25 +258,25 @@ one_pair graph names old sets new set first last next grow at_set at_first is = 
     ∙ ap (members graph (plain.Pair (among (set_at old first)) (among (set_at sets last)))) (stays old sets grow set at_set)
 
 -- a field of a record has answered, which is the last one of a row
-pub field_answered : (names : List Name) (graph : Graph) (table : List Thing) (sets : List (List NodeId)) (set : SetId) (done : List Answered)
+pub field_answered : (names : List Name) (graph : Graph) (closed : Closed) (table : List Thing) (sets : List (List NodeId)) (set : SetId) (done : List Answered)
     (field : Answered) (left : Fields)
-    → members graph (plain.Record (answered (map (done_by names sets) (done ++ field ∷ [])) ++ fields_with graph left)) (set_at sets set)
-    ≡ after graph (task.OfField (set_at sets set) (map (done_by names sets) done) (name_at names field.label) left) (set_at sets field.nodes)
-field_answered names graph table sets set done field left =
-    ap (λ done. members graph (plain.Record (answered done ++ fields_with graph left)) (set_at sets set)) (map-append (done_by names sets) done (field ∷ []))
-    ∙ field_done graph (map (done_by names sets) done) (name_at names field.label) (set_at sets field.nodes) left (set_at sets set)
+    → members graph (plain.Record (answered (map (done_by names sets) (done ++ field ∷ [])) ++ fields_with graph closed left)) (set_at sets set)
+    ≡ after graph closed (task.OfField (set_at sets set) (map (done_by names sets) done) (name_at names field.label) left) (set_at sets field.nodes)
+field_answered names graph closed table sets set done field left =
+    ap (λ done. members graph (plain.Record (answered done ++ fields_with graph closed left)) (set_at sets set)) (map-append (done_by names sets) done (field ∷ []))
+    ∙ field_done graph closed (map (done_by names sets) done) (name_at names field.label) (set_at sets field.nodes) left (set_at sets set)
 
 -- what is asked of a record, where the sets and the fields that have answered are these
-pub row_answered : (names : List Name) (graph : Graph) (table : List Thing) (asker : Asker) (sets others : List (List NodeId)) (set : SetId)
+pub row_answered : (names : List Name) (graph : Graph) (closed : Closed) (table : List Thing) (asker : Asker) (sets others : List (List NodeId)) (set : SetId)
     (done more : List Answered) (left : List Part) → sets ≡ others → done ≡ more → (next : Next)
-    → IsStep names graph table asker (members graph (plain.Record (answered (map (done_by names sets) done) ++ fields_with graph (fields_of names table left)))
+    → IsStep names graph closed table asker (members graph (plain.Record (answered (map (done_by names sets) done) ++ fields_with graph closed (fields_of names table left)))
     (set_at sets set)) (size_of_fields (fields_of names table left)) next
-    → IsStep names graph table asker (members graph (plain.Record (answered (map (done_by names others) more) ++ fields_with graph (fields_of names table left)))
+    → IsStep names graph closed table asker (members graph (plain.Record (answered (map (done_by names others) more) ++ fields_with graph closed (fields_of names table left)))
     (set_at others set)) (size_of_fields (fields_of names table left)) next
-row_answered names graph table asker sets others set done more left same_sets same_done next step = record {
+row_answered names graph closed table asker sets others set done more left same_sets same_done next step = record {
   makes = step.makes
-      ∙ ap (λ sets. members graph (plain.Record (answered (map (done_by names sets) done) ++ fields_with graph (fields_of names table left))) (set_at sets set)) same_sets
-      ∙ ap (λ done. members graph (plain.Record (answered (map (done_by names others) done) ++ fields_with graph (fields_of names table left))) (set_at others set)) same_done;
+      ∙ ap (λ sets. members graph (plain.Record (answered (map (done_by names sets) done) ++ fields_with graph closed (fields_of names table left))) (set_at sets set)) same_sets
+      ∙ ap (λ done. members graph (plain.Record (answered (map (done_by names others) done) ++ fields_with graph closed (fields_of names table left))) (set_at others set)) same_done;
   falls = step.falls;
   numbers = step.numbers;
 }

@@ -1,2 +1,4 @@
 pub mod Known
+pub mod Mappings
+pub mod MappedArrows
 pub mod Inner

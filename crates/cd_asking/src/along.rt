@@ -4,6 +4,7 @@ ghost use Rattle.cd_graph.specs.Nodes.{nodes};
 ghost use Rattle.cd_cells.specs.Table.{table, names};
 ghost use Rattle.cd_model.specs.AllOf.{AllOf};
 ghost use Rattle.cd_model.specs.Thing.{IsValue};
+ghost use Rattle.cd_asking.specs.MappedArrows.{maps_at};
 ghost use Rattle.cd_asking.specs.Known.{KnowsOf};
 ghost use Rattle.cd_asking.specs.Inner.Along.{after_alike, GoesTo};
 ghost use Rattle.cd_asking.specs.Inner.Asked.{set_at, Grows};
@@ -11,6 +12,7 @@ ghost use Rattle.cd_asking.specs.Inner.Entries.{LeadBoth};
 
 use crate::asker::{Asker, PairLeads};
 use crate::leaf::leaf;
+use crate::maps::Maps;
 use crate::node_sets::SetId;
 use cd_cells::{Look, ValueId, Values};
 use cd_graph::Graph;
@@ -22,6 +24,7 @@ use std::alloc::AllocError;
 pub(crate) fn along(
     asker: &mut Asker,
     graph: &Graph,
+    maps: &Maps,
     values: &Values,
     leads: PairLeads,
     first: SetId,
@@ -34,8 +37,8 @@ pub(crate) fn along(
     requires first { first.0 < length asker.old.sets }
     requires right { KnowsOf (nodes graph.now) (names values.now) asker.old }
     ensures goes { let set = leads.second in
-        IfOk result (λ ran. GoesTo (names values.now) (nodes graph.now) (table values.now)
-        asker.old asker.new (after_alike id set first 1)
+        IfOk result (λ ran. GoesTo (names values.now) (nodes graph.now) (maps_at maps.now)
+        (table values.now) asker.old asker.new (after_alike id set first 1)
         (after_alike ran.0 set first ran.1)) }
     ensures within { IfOk result (λ ran. ran.0.0 < length (table values.now)) }
     ensures right { KnowsOf (nodes graph.now) (names values.now) asker.new }
@@ -43,7 +46,7 @@ pub(crate) fn along(
 {
     let mut id = id;
     for count in 1..u64::MAX {
-        match next_alike(asker, graph, values, leads, first, id)? {
+        match next_alike(asker, graph, maps, values, leads, first, id)? {
             Some(second) => id = second,
             None => return Ok((id, count)),
         }
@@ -56,6 +59,7 @@ pub(crate) fn along(
 fn next_alike(
     asker: &mut Asker,
     graph: &Graph,
+    maps: &Maps,
     values: &Values,
     leads: PairLeads,
     first: SetId,
@@ -71,18 +75,18 @@ fn next_alike(
         (λ next. IfSome next (λ second. second.0 < length (table values.now))) }
     ensures goes { let set = leads.second in
         IfOk result (λ next. IfSome next (λ second. (count : ℕ)
-        → GoesTo (names values.now) (nodes graph.now) (table values.now) asker.old asker.new
-        (after_alike id set first count) (after_alike second set first (suc count)))) }
+        → GoesTo (names values.now) (nodes graph.now) (maps_at maps.now) (table values.now)
+        asker.old asker.new (after_alike id set first count) (after_alike second set first (suc count)))) }
     ensures right { KnowsOf (nodes graph.now) (names values.now) asker.new }
     ensures grows { Grows asker.old asker.new }
 {
-    if let Some(second) = next_letter(asker, graph, values, leads, first, id) {
+    if let Some(second) = next_letter(asker, graph, maps, values, leads, first, id) {
         return Ok(Some(second));
     }
     let Look::Pair(one, second) = values.look(id) else {
         return Ok(None);
     };
-    match leaf(asker, graph, values, values.look(one), leads.first)? {
+    match leaf(asker, graph, maps, values, values.look(one), leads.first)? {
         Some(answer) if answer.0 == first.0 => Ok(Some(second)),
         _ => Ok(None),
     }
@@ -93,6 +97,7 @@ fn next_alike(
 fn next_letter(
     asker: &Asker,
     graph: &Graph,
+    maps: &Maps,
     values: &Values,
     leads: PairLeads,
     first: SetId,
@@ -105,8 +110,8 @@ fn next_letter(
     requires right { KnowsOf (nodes graph.now) (names values.now) asker.now }
     ensures within { IfSome result (λ second. second.0 < length (table values.now)) }
     ensures goes { let set = leads.second in IfSome result (λ second. (count : ℕ)
-        → GoesTo (names values.now) (nodes graph.now) (table values.now) asker.now asker.now
-        (after_alike id set first count) (after_alike second set first (suc count))) }
+        → GoesTo (names values.now) (nodes graph.now) (maps_at maps.now) (table values.now)
+        asker.now asker.now (after_alike id set first count) (after_alike second set first (suc count))) }
 {
     let Look::Pair(one, second) = values.look(id) else {
         return None;

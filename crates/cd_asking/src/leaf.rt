@@ -5,6 +5,7 @@ ghost use Rattle.cd_cells.specs.Cells.{fields_of};
 ghost use Rattle.cd_cells.specs.Looked.{looked};
 ghost use Rattle.cd_cells.specs.Table.{table, names};
 ghost use Rattle.cd_model.specs.Thing.{IsValue};
+ghost use Rattle.cd_asking.specs.MappedArrows.{maps_at};
 ghost use Rattle.cd_asking.specs.Known.{KnowsOf};
 ghost use Rattle.cd_asking.specs.Inner.Shapes as shapes;
 ghost use Rattle.cd_asking.specs.Inner.Shapes.{shape_of, fields_with};
@@ -14,6 +15,7 @@ ghost use Rattle.cd_asking.specs.Inner.Asked.{HasParts};
 use crate::asker::Asker;
 use crate::case::Case;
 use crate::finding::find_members;
+use crate::maps::Maps;
 use crate::node_sets::SetId;
 use crate::row::RowId;
 use crate::shape::Shape;
@@ -26,6 +28,7 @@ use std::alloc::AllocError;
 pub(crate) fn leaf(
     asker: &mut Asker,
     graph: &Graph,
+    maps: &Maps,
     values: &Values,
     look: Look<'_>,
     set: SetId,
@@ -35,14 +38,14 @@ pub(crate) fn leaf(
     requires right { KnowsOf (nodes graph.now) (names values.now) asker.old }
     ensures found { let is = looked (names values.now) (table values.now) look.entry in
         IfOk result (λ answer. MatchOption answer (HasParts look.entry)
-        (Found (nodes graph.now) (shape_of (nodes graph.now) is) (set_at asker.old.sets set)
-        asker.new.sets)) }
+        (Found (nodes graph.now) (shape_of (nodes graph.now) (maps_at maps.now) is)
+        (set_at asker.old.sets set) asker.new.sets)) }
     ensures right { KnowsOf (nodes graph.now) (names values.now) asker.new }
     ensures grows { Grows asker.old asker.new }
 {
     match look {
         Look::Char(c) => Ok(Some(asker.letter(graph, values, set, c)?)),
-        look => leaf_at_any(asker, graph, values, look, set),
+        look => leaf_at_any(asker, graph, maps, values, look, set),
     }
 }
 
@@ -50,6 +53,7 @@ pub(crate) fn leaf(
 fn leaf_at_any(
     asker: &mut Asker,
     graph: &Graph,
+    maps: &Maps,
     values: &Values,
     look: Look<'_>,
     set: SetId,
@@ -59,14 +63,14 @@ fn leaf_at_any(
     requires right { KnowsOf (nodes graph.now) (names values.now) asker.old }
     ensures found { let is = looked (names values.now) (table values.now) look.entry in
         IfOk result (λ answer. MatchOption answer (HasParts look.entry)
-        (Found (nodes graph.now) (shape_of (nodes graph.now) is) (set_at asker.old.sets set)
-        asker.new.sets)) }
+        (Found (nodes graph.now) (shape_of (nodes graph.now) (maps_at maps.now) is)
+        (set_at asker.old.sets set) asker.new.sets)) }
     ensures right { KnowsOf (nodes graph.now) (names values.now) asker.new }
     ensures grows { Grows asker.old asker.new }
 {
     match asker.sets.get(set) {
         [] => Ok(Some(set)),
-        [_, ..] => leaf_at_some(asker, graph, values, look, set),
+        [_, ..] => leaf_at_some(asker, graph, maps, values, look, set),
     }
 }
 
@@ -74,6 +78,7 @@ fn leaf_at_any(
 pub(crate) fn leaf_at_some(
     asker: &mut Asker,
     graph: &Graph,
+    maps: &Maps,
     values: &Values,
     look: Look<'_>,
     set: SetId,
@@ -83,8 +88,8 @@ pub(crate) fn leaf_at_some(
     requires right { KnowsOf (nodes graph.now) (names values.now) asker.old }
     ensures found { let is = looked (names values.now) (table values.now) look.entry in
         IfOk result (λ answer. MatchOption answer (HasParts look.entry)
-        (Found (nodes graph.now) (shape_of (nodes graph.now) is) (set_at asker.old.sets set)
-        asker.new.sets)) }
+        (Found (nodes graph.now) (shape_of (nodes graph.now) (maps_at maps.now) is)
+        (set_at asker.old.sets set) asker.new.sets)) }
     ensures right { KnowsOf (nodes graph.now) (names values.now) asker.new }
     ensures grows { Grows asker.old asker.new }
 {
@@ -94,8 +99,14 @@ pub(crate) fn leaf_at_some(
         Look::Atom(name) => Ok(Some(asker.answer(graph, values, set, Case::Atom(name))?)),
         Look::Pair(_, _) => Ok(None),
         Look::Xml(_, _, _) => Ok(None),
-        Look::Record(parts) => empty(asker, graph, values, set, parts),
-        Look::Closure(_, _) => Ok(Some(basic(asker, graph, values, set, Shape::Function)?)),
+        Look::Record(parts) => empty(asker, graph, maps, values, set, parts),
+        Look::Closure(function, _) => Ok(Some(basic(
+            asker,
+            graph,
+            values,
+            set,
+            Shape::Closure(maps, function),
+        )?)),
     }
 }
 
@@ -122,6 +133,7 @@ fn basic(
 fn empty(
     asker: &mut Asker,
     graph: &Graph,
+    maps: &Maps,
     values: &Values,
     set: SetId,
     parts: &[Part],
@@ -129,7 +141,7 @@ fn empty(
     requires set { set.0 < length asker.old.sets }
     requires right { KnowsOf (nodes graph.now) (names values.now) asker.old }
     ensures found { IfOk result (λ answer. MatchOption answer (0 < length parts.now)
-        (Found (nodes graph.now) (shapes.Record (fields_with (nodes graph.now)
+        (Found (nodes graph.now) (shapes.Record (fields_with (nodes graph.now) (maps_at maps.now)
         (fields_of (names values.now) (table values.now) parts.now))) (set_at asker.old.sets set)
         asker.new.sets)) }
     ensures right { KnowsOf (nodes graph.now) (names values.now) asker.new }

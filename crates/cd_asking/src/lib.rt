@@ -10,6 +10,8 @@ mod finding;
 pub mod laws;
 mod leaf;
 mod led;
+pub mod mapped;
+pub mod maps;
 mod node;
 mod node_sets;
 mod row;
@@ -19,4 +21,6 @@ mod step;
 mod task;
 mod tasks;
 
+pub use asker::Asker;
 pub use asking::is_in;
+pub use maps::Maps;

@@ -15,6 +15,7 @@ ghost use Rattle.cd_asking.specs.Inner.Shapes.{in_field as field_holds};
 ghost use Rattle.cd_asking.specs.Inner.Tasks.{among};
 ghost use Rattle.cd_asking.specs.Inner.Asked.{plain_shape, HasLabel, held};
 
+use crate::maps::Maps;
 use crate::node::node_formula;
 use cd_graph::fields::{Field, Fields};
 use cd_graph::{Formula, Formulas, Graph};
@@ -34,7 +35,8 @@ pub(crate) enum Shape<'s> {
     Pair(&'s [NodeId], &'s [NodeId]),
     Xml(&'s [NodeId], &'s [NodeId], &'s [NodeId]),
     Record(&'s [Held<'s>]),
-    Function,
+    /// A closure of a function with this number, by the arrows that it is in.
+    Closure(&'s Maps, usize),
 }
 
 /// A field by its label and the nodes that hold its value.
@@ -106,7 +108,7 @@ fn in_formula(shape: &Shape<'_>, formula: &Formula) -> bool
         Formula::Pair(one, other) => in_pair(shape, *one, *other),
         Formula::Xml(one, other, last) => in_xml(shape, *one, *other, *last),
         Formula::Record(fields) => in_record(shape, fields),
-        Formula::Arrow(_, _) => false,
+        Formula::Arrow(from, to) => in_arrow(shape, *from, *to),
     }
 }
 
@@ -206,6 +208,16 @@ fn in_record(shape: &Shape<'_>, type_is: &Fields) -> bool
 {
     match shape {
         Shape::Record(fields) => in_named(fields, type_is) && in_rest(fields, type_is),
+        _ => false,
+    }
+}
+
+// Whether it is a closure that is in an arrow.
+fn in_arrow(shape: &Shape<'_>, from: NodeId, to: NodeId) -> bool
+    ensures { result ≡ in_basic (plain_shape shape.now) (formula.Arrow from to) }
+{
+    match shape {
+        Shape::Closure(maps, function) => maps.holds(*function, from, to),
         _ => false,
     }
 }

@@ -7,6 +7,7 @@ ghost use Rattle.cd_cells.specs.Table.{table, names};
 ghost use Rattle.cd_model.specs.AllOf.{AllOf};
 ghost use Rattle.cd_model.specs.Thing as thing;
 ghost use Rattle.cd_model.specs.Thing.{IsValue};
+ghost use Rattle.cd_asking.specs.MappedArrows.{maps_at};
 ghost use Rattle.cd_asking.specs.Known.{KnowsOf};
 ghost use Rattle.cd_asking.specs.Inner.Rows.{row_at};
 ghost use Rattle.cd_asking.specs.Inner.Asked.{set_at, shape_by, IsCase, IsCaseWithin, IsField};
@@ -22,6 +23,7 @@ use crate::along::along;
 use crate::asker::{Asker, PairLeads};
 use crate::case::Case;
 use crate::leaf::{leaf, leaf_at_some};
+use crate::maps::Maps;
 use crate::node_sets::SetId;
 use crate::row::{Answered, RowId};
 use crate::task::{Next, Task};
@@ -33,6 +35,7 @@ use std::alloc::AllocError;
 pub(crate) fn ask<'v>(
     asker: &mut Asker,
     graph: &Graph,
+    maps: &Maps,
     values: &'v Values,
     id: ValueId,
     set: SetId,
@@ -42,13 +45,13 @@ pub(crate) fn ask<'v>(
     requires values { AllOf IsValue (table values.now) }
     requires right { KnowsOf (nodes graph.now) (names values.now) asker.old }
     ensures step { let is = thing_at (table values.now) id.0 in
-        IfOk result (Asks graph.now values.now asker.old asker.new set is) }
+        IfOk result (Asks graph.now maps.now values.now asker.old asker.new set is) }
     ensures right { KnowsOf (nodes graph.now) (names values.now) asker.new }
     ensures grows { Grows asker.old asker.new }
 {
     match asker.sets.get(set) {
         [] => Ok(Next::Answer(set)),
-        [_, ..] => ask_some(asker, graph, values, id, set),
+        [_, ..] => ask_some(asker, graph, maps, values, id, set),
     }
 }
 
@@ -56,6 +59,7 @@ pub(crate) fn ask<'v>(
 fn ask_some<'v>(
     asker: &mut Asker,
     graph: &Graph,
+    maps: &Maps,
     values: &'v Values,
     id: ValueId,
     set: SetId,
@@ -65,17 +69,17 @@ fn ask_some<'v>(
     requires values { AllOf IsValue (table values.now) }
     requires right { KnowsOf (nodes graph.now) (names values.now) asker.old }
     ensures step { let is = thing_at (table values.now) id.0 in
-        IfOk result (Asks graph.now values.now asker.old asker.new set is) }
+        IfOk result (Asks graph.now maps.now values.now asker.old asker.new set is) }
     ensures right { KnowsOf (nodes graph.now) (names values.now) asker.new }
     ensures grows { Grows asker.old asker.new }
 {
     match values.look(id) {
-        Look::Pair(first, second) => ask_pair(asker, graph, values, set, first, second),
+        Look::Pair(first, second) => ask_pair(asker, graph, maps, values, set, first, second),
         Look::Xml(tag, attributes, content) => {
-            ask_xml(asker, graph, values, set, tag, (attributes, content))
+            ask_xml(asker, graph, maps, values, set, tag, (attributes, content))
         }
-        Look::Record(parts) => ask_record(asker, graph, values, set, parts),
-        look => answer_leaf(asker, graph, values, look, set),
+        Look::Record(parts) => ask_record(asker, graph, maps, values, set, parts),
+        look => answer_leaf(asker, graph, maps, values, look, set),
     }
 }
 
@@ -83,6 +87,7 @@ fn ask_some<'v>(
 fn answer_leaf<'v>(
     asker: &mut Asker,
     graph: &Graph,
+    maps: &Maps,
     values: &'v Values,
     look: Look<'v>,
     set: SetId,
@@ -92,11 +97,11 @@ fn answer_leaf<'v>(
     requires set { set.0 < length asker.old.sets }
     requires right { KnowsOf (nodes graph.now) (names values.now) asker.old }
     ensures step { let is = looked (names values.now) (table values.now) look.entry in
-        IfOk result (Asks graph.now values.now asker.old asker.new set is) }
+        IfOk result (Asks graph.now maps.now values.now asker.old asker.new set is) }
     ensures right { KnowsOf (nodes graph.now) (names values.now) asker.new }
     ensures grows { Grows asker.old asker.new }
 {
-    match leaf_at_some(asker, graph, values, look, set)? {
+    match leaf_at_some(asker, graph, maps, values, look, set)? {
         Some(answer) => Ok(Next::Answer(answer)),
         None => unreachable!(),
     }
@@ -106,6 +111,7 @@ fn answer_leaf<'v>(
 fn answer_case<'v>(
     asker: &mut Asker,
     graph: &Graph,
+    maps: &Maps,
     values: &'v Values,
     set: SetId,
     case: Case,
@@ -115,7 +121,7 @@ fn answer_case<'v>(
     requires parts { IsCaseWithin (names values.now) asker.old.sets asker.old.rows case }
     requires right { KnowsOf (nodes graph.now) (names values.now) asker.old }
     ensures step { let is = shape_by (names values.now) asker.old.sets asker.old.rows case in
-        IfOk result (AsksShape graph.now values.now asker.old asker.new set is) }
+        IfOk result (AsksShape graph.now maps.now values.now asker.old asker.new set is) }
     ensures right { KnowsOf (nodes graph.now) (names values.now) asker.new }
     ensures grows { Grows asker.old asker.new }
 {
@@ -127,6 +133,7 @@ fn answer_case<'v>(
 fn ask_pair<'v>(
     asker: &mut Asker,
     graph: &Graph,
+    maps: &Maps,
     values: &'v Values,
     set: SetId,
     first: ValueId,
@@ -139,13 +146,13 @@ fn ask_pair<'v>(
     requires right { KnowsOf (nodes graph.now) (names values.now) asker.old }
     ensures step { let all = table values.now in
         let is = thing.Pair (thing_at all first.0) (thing_at all second.0) in
-        IfOk result (Asks graph.now values.now asker.old asker.new set is) }
+        IfOk result (Asks graph.now maps.now values.now asker.old asker.new set is) }
     ensures right { KnowsOf (nodes graph.now) (names values.now) asker.new }
     ensures grows { Grows asker.old asker.new }
 {
     let leads = asker.pair_leads(graph, values, set)?;
-    match leaf(asker, graph, values, values.look(first), leads.first)? {
-        Some(answer) => ask_along(asker, graph, values, set, leads, (answer, second)),
+    match leaf(asker, graph, maps, values, values.look(first), leads.first)? {
+        Some(answer) => ask_along(asker, graph, maps, values, set, leads, (answer, second)),
         None => Ok(Next::Ask(first, leads.first, Task::OfSecond(second, set))),
     }
 }
@@ -154,6 +161,7 @@ fn ask_pair<'v>(
 fn ask_xml<'v>(
     asker: &mut Asker,
     graph: &Graph,
+    maps: &Maps,
     values: &'v Values,
     set: SetId,
     tag: ValueId,
@@ -167,13 +175,13 @@ fn ask_xml<'v>(
     requires right { KnowsOf (nodes graph.now) (names values.now) asker.old }
     ensures step { let all = table values.now in
         let is = thing.Xml (thing_at all tag.0) (thing_at all rest.0.0) (thing_at all rest.1.0) in
-        IfOk result (Asks graph.now values.now asker.old asker.new set is) }
+        IfOk result (Asks graph.now maps.now values.now asker.old asker.new set is) }
     ensures right { KnowsOf (nodes graph.now) (names values.now) asker.new }
     ensures grows { Grows asker.old asker.new }
 {
     let leads = asker.xml_leads(graph, values, set)?;
-    match leaf(asker, graph, values, values.look(tag), leads.tag)? {
-        Some(answer) => ask_attributes(asker, graph, values, set, answer, rest),
+    match leaf(asker, graph, maps, values, values.look(tag), leads.tag)? {
+        Some(answer) => ask_attributes(asker, graph, maps, values, set, answer, rest),
         None => Ok(Next::Ask(tag, leads.tag, Task::OfAttributes(rest.0, rest.1, set))),
     }
 }
@@ -182,6 +190,7 @@ fn ask_xml<'v>(
 fn ask_record<'v>(
     asker: &mut Asker,
     graph: &Graph,
+    maps: &Maps,
     values: &'v Values,
     set: SetId,
     parts: &'v [Part],
@@ -190,17 +199,18 @@ fn ask_record<'v>(
     requires set { set.0 < length asker.old.sets }
     requires right { KnowsOf (nodes graph.now) (names values.now) asker.old }
     ensures step { let is = fields_of (names values.now) (table values.now) parts.now in
-        IfOk result (Asks graph.now values.now asker.old asker.new set (thing.Record is)) }
+        IfOk result (Asks graph.now maps.now values.now asker.old asker.new set (thing.Record is)) }
     ensures right { KnowsOf (nodes graph.now) (names values.now) asker.new }
     ensures grows { Grows asker.old asker.new }
 {
-    ask_rest(asker, graph, values, set, RowId(0), parts)
+    ask_rest(asker, graph, maps, values, set, RowId(0), parts)
 }
 
 // The next field of a record is asked, or else the record answers.
 fn ask_rest<'v>(
     asker: &mut Asker,
     graph: &Graph,
+    maps: &Maps,
     values: &'v Values,
     set: SetId,
     row: RowId,
@@ -211,13 +221,14 @@ fn ask_rest<'v>(
     requires set { set.0 < length asker.old.sets }
     requires right { KnowsOf (nodes graph.now) (names values.now) asker.old }
     ensures step { let done = row_at asker.old.rows row in
-        IfOk result (AsksRecord graph.now values.now asker.old asker.new set done left.now) }
+        IfOk result (AsksRecord graph.now maps.now values.now asker.old asker.new set done
+        left.now) }
     ensures right { KnowsOf (nodes graph.now) (names values.now) asker.new }
     ensures grows { Grows asker.old asker.new }
 {
     match left {
-        [] => answer_case(asker, graph, values, set, Case::Record(row)),
-        [field, rest @ ..] => ask_field(asker, graph, values, (set, row), *field, rest),
+        [] => answer_case(asker, graph, maps, values, set, Case::Record(row)),
+        [field, rest @ ..] => ask_field(asker, graph, maps, values, (set, row), *field, rest),
     }
 }
 
@@ -225,6 +236,7 @@ fn ask_rest<'v>(
 fn ask_field<'v>(
     asker: &mut Asker,
     graph: &Graph,
+    maps: &Maps,
     values: &'v Values,
     known: (SetId, RowId),
     field: Part,
@@ -236,7 +248,7 @@ fn ask_field<'v>(
     requires set { known.0.0 < length asker.old.sets }
     requires right { KnowsOf (nodes graph.now) (names values.now) asker.old }
     ensures step { let done = row_at asker.old.rows known.1 in
-        IfOk result (AsksRecord graph.now values.now asker.old asker.new known.0 done
+        IfOk result (AsksRecord graph.now maps.now values.now asker.old asker.new known.0 done
         (field ∷ left.now)) }
     ensures right { KnowsOf (nodes graph.now) (names values.now) asker.new }
     ensures grows { Grows asker.old asker.new }
@@ -251,6 +263,7 @@ fn ask_field<'v>(
 pub(crate) fn go_on<'v>(
     asker: &mut Asker,
     graph: &Graph,
+    maps: &Maps,
     values: &'v Values,
     task: Task<'v>,
     answer: SetId,
@@ -259,25 +272,35 @@ pub(crate) fn go_on<'v>(
     requires answer { answer.0 < length asker.old.sets }
     requires values { AllOf IsValue (table values.now) }
     requires right { KnowsOf (nodes graph.now) (names values.now) asker.old }
-    ensures step { IfOk result (Does graph.now values.now asker.old asker.new task.entry answer) }
+    ensures step { IfOk result
+        (Does graph.now maps.now values.now asker.old asker.new task.entry answer) }
     ensures right { KnowsOf (nodes graph.now) (names values.now) asker.new }
     ensures grows { Grows asker.old asker.new }
 {
     match task {
-        Task::OfSecond(second, set) => ask_second(asker, graph, values, second, set, answer),
+        Task::OfSecond(second, set) => ask_second(asker, graph, maps, values, second, set, answer),
         Task::OfPairs(set, first, count) => {
-            answer_pairs(asker, graph, values, (set, first), count, answer)
+            answer_pairs(asker, graph, maps, values, (set, first), count, answer)
         }
         Task::OfAttributes(attributes, content, set) => {
-            ask_attributes(asker, graph, values, set, answer, (attributes, content))
+            ask_attributes(
+                asker,
+                graph,
+                maps,
+                values,
+                set,
+                answer,
+                (attributes, content),
+            )
         }
         Task::OfContent(content, set, tag) => {
-            ask_content(asker, graph, values, set, content, (tag, answer))
+            ask_content(asker, graph, maps, values, set, content, (tag, answer))
         }
         Task::OfXml(set, tag, attributes) => {
             answer_case(
                 asker,
                 graph,
+                maps,
                 values,
                 set,
                 Case::Xml(tag, attributes, answer),
@@ -288,7 +311,7 @@ pub(crate) fn go_on<'v>(
                 label,
                 nodes: answer,
             };
-            ask_next_field(asker, graph, values, (set, row), field, left)
+            ask_next_field(asker, graph, maps, values, (set, row), field, left)
         }
     }
 }
@@ -297,6 +320,7 @@ pub(crate) fn go_on<'v>(
 fn ask_second<'v>(
     asker: &mut Asker,
     graph: &Graph,
+    maps: &Maps,
     values: &'v Values,
     second: ValueId,
     set: SetId,
@@ -308,12 +332,12 @@ fn ask_second<'v>(
     requires values { AllOf IsValue (table values.now) }
     requires right { KnowsOf (nodes graph.now) (names values.now) asker.old }
     ensures step { let task = OfSecond second set in
-        IfOk result (Does graph.now values.now asker.old asker.new task first) }
+        IfOk result (Does graph.now maps.now values.now asker.old asker.new task first) }
     ensures right { KnowsOf (nodes graph.now) (names values.now) asker.new }
     ensures grows { Grows asker.old asker.new }
 {
     let leads = asker.pair_leads(graph, values, set)?;
-    ask_along(asker, graph, values, set, leads, (first, second))
+    ask_along(asker, graph, maps, values, set, leads, (first, second))
 }
 
 // The second part of a pair is asked, where the first part is in these nodes. Pairs after it that
@@ -321,6 +345,7 @@ fn ask_second<'v>(
 fn ask_along<'v>(
     asker: &mut Asker,
     graph: &Graph,
+    maps: &Maps,
     values: &'v Values,
     set: SetId,
     leads: PairLeads,
@@ -331,8 +356,8 @@ fn ask_along<'v>(
     requires leads { LeadBoth (nodes graph.now) asker.old.sets (set_at asker.old.sets set) leads }
     requires values { AllOf IsValue (table values.now) }
     requires right { KnowsOf (nodes graph.now) (names values.now) asker.old }
-    ensures goes { IfOk result (GoesTo (names values.now) (nodes graph.now) (table values.now)
-        asker.old asker.new (Ask pair.1 leads.second (OfPairs set pair.0 1))) }
+    ensures goes { IfOk result (GoesTo (names values.now) (nodes graph.now) (maps_at maps.now)
+        (table values.now) asker.old asker.new (Ask pair.1 leads.second (OfPairs set pair.0 1))) }
     ensures right { KnowsOf (nodes graph.now) (names values.now) asker.new }
     ensures grows { Grows asker.old asker.new }
 {
@@ -340,14 +365,15 @@ fn ask_along<'v>(
     if leads.second.0 != set.0 {
         return Ok(Next::Ask(second, leads.second, Task::OfPairs(set, first, 1)));
     }
-    let (id, count) = along(asker, graph, values, leads, first, second)?;
-    end_along(asker, graph, values, (leads.second, first), count, id)
+    let (id, count) = along(asker, graph, maps, values, leads, first, second)?;
+    end_along(asker, graph, maps, values, (leads.second, first), count, id)
 }
 
 // The second part of the last one of pairs in a row is asked.
 fn end_along<'v>(
     asker: &mut Asker,
     graph: &Graph,
+    maps: &Maps,
     values: &'v Values,
     pair: (SetId, SetId),
     count: u64,
@@ -358,14 +384,14 @@ fn end_along<'v>(
     requires first { pair.1.0 < length asker.old.sets }
     requires values { AllOf IsValue (table values.now) }
     requires right { KnowsOf (nodes graph.now) (names values.now) asker.old }
-    ensures goes { IfOk result (GoesTo (names values.now) (nodes graph.now) (table values.now)
-        asker.old asker.new (Ask id pair.0 (OfPairs pair.0 pair.1 count))) }
+    ensures goes { IfOk result (GoesTo (names values.now) (nodes graph.now) (maps_at maps.now)
+        (table values.now) asker.old asker.new (Ask id pair.0 (OfPairs pair.0 pair.1 count))) }
     ensures right { KnowsOf (nodes graph.now) (names values.now) asker.new }
     ensures grows { Grows asker.old asker.new }
 {
     let (set, first) = pair;
-    match leaf(asker, graph, values, values.look(id), set)? {
-        Some(answer) => answer_pairs(asker, graph, values, pair, count, answer),
+    match leaf(asker, graph, maps, values, values.look(id), set)? {
+        Some(answer) => answer_pairs(asker, graph, maps, values, pair, count, answer),
         None => Ok(Next::Ask(id, set, Task::OfPairs(set, first, count))),
     }
 }
@@ -374,6 +400,7 @@ fn end_along<'v>(
 fn answer_pairs<'v>(
     asker: &mut Asker,
     graph: &Graph,
+    maps: &Maps,
     values: &'v Values,
     pair: (SetId, SetId),
     count: u64,
@@ -384,7 +411,7 @@ fn answer_pairs<'v>(
     requires answer { answer.0 < length asker.old.sets }
     requires right { KnowsOf (nodes graph.now) (names values.now) asker.old }
     ensures step { let task = OfPairs pair.0 pair.1 count in
-        IfOk result (Does graph.now values.now asker.old asker.new task answer) }
+        IfOk result (Does graph.now maps.now values.now asker.old asker.new task answer) }
     ensures right { KnowsOf (nodes graph.now) (names values.now) asker.new }
     ensures grows { Grows asker.old asker.new }
 {
@@ -404,6 +431,7 @@ fn answer_pairs<'v>(
 fn ask_attributes<'v>(
     asker: &mut Asker,
     graph: &Graph,
+    maps: &Maps,
     values: &'v Values,
     set: SetId,
     tag: SetId,
@@ -415,13 +443,20 @@ fn ask_attributes<'v>(
     requires values { AllOf IsValue (table values.now) }
     requires right { KnowsOf (nodes graph.now) (names values.now) asker.old }
     ensures step { let task = OfAttributes rest.0 rest.1 set in
-        IfOk result (Does graph.now values.now asker.old asker.new task tag) }
+        IfOk result (Does graph.now maps.now values.now asker.old asker.new task tag) }
     ensures right { KnowsOf (nodes graph.now) (names values.now) asker.new }
     ensures grows { Grows asker.old asker.new }
 {
     let leads = asker.xml_leads(graph, values, set)?;
-    match leaf(asker, graph, values, values.look(rest.0), leads.attributes)? {
-        Some(answer) => ask_content(asker, graph, values, set, rest.1, (tag, answer)),
+    match leaf(
+        asker,
+        graph,
+        maps,
+        values,
+        values.look(rest.0),
+        leads.attributes,
+    )? {
+        Some(answer) => ask_content(asker, graph, maps, values, set, rest.1, (tag, answer)),
         None => {
             let task = Task::OfContent(rest.1, set, tag);
             Ok(Next::Ask(rest.0, leads.attributes, task))
@@ -433,6 +468,7 @@ fn ask_attributes<'v>(
 fn ask_content<'v>(
     asker: &mut Asker,
     graph: &Graph,
+    maps: &Maps,
     values: &'v Values,
     set: SetId,
     content: ValueId,
@@ -443,7 +479,7 @@ fn ask_content<'v>(
     requires answer { known.1.0 < length asker.old.sets }
     requires right { KnowsOf (nodes graph.now) (names values.now) asker.old }
     ensures step { let task = OfContent content set known.0 in
-        IfOk result (Does graph.now values.now asker.old asker.new task known.1) }
+        IfOk result (Does graph.now maps.now values.now asker.old asker.new task known.1) }
     ensures right { KnowsOf (nodes graph.now) (names values.now) asker.new }
     ensures grows { Grows asker.old asker.new }
 {
@@ -456,6 +492,7 @@ fn ask_content<'v>(
 fn ask_next_field<'v>(
     asker: &mut Asker,
     graph: &Graph,
+    maps: &Maps,
     values: &'v Values,
     known: (SetId, RowId),
     field: Answered,
@@ -467,11 +504,12 @@ fn ask_next_field<'v>(
     requires set { known.0.0 < length asker.old.sets }
     requires right { KnowsOf (nodes graph.now) (names values.now) asker.old }
     ensures step { let done = row_at asker.old.rows known.1 ++ field ∷ [] in
-        IfOk result (AsksRecord graph.now values.now asker.old asker.new known.0 done left.now) }
+        IfOk result (AsksRecord graph.now maps.now values.now asker.old asker.new known.0 done
+        left.now) }
     ensures right { KnowsOf (nodes graph.now) (names values.now) asker.new }
     ensures grows { Grows asker.old asker.new }
 {
     let (set, row) = known;
     let row = asker.longer(graph, values, row, field)?;
-    ask_rest(asker, graph, values, set, row, left)
+    ask_rest(asker, graph, maps, values, set, row, left)
 }

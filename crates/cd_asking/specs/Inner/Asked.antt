@@ -10,9 +10,10 @@ use Rattle.cd_model.specs.Thing.{Thing}
 use Rattle.cd_cells.specs.Cells.{thing_at, name_at, fields_of, IsPart}
 use Rattle.cd_asking.specs.Inner.Rows.{row_at}
 use Rattle.cd_asking.specs.Inner.Shapes as plain
-use Rattle.cd_asking.specs.Inner.Shapes.{Nodes, members, shape_of}
+use Rattle.cd_asking.specs.Inner.Shapes.{Nodes, Closed, members, shape_of}
 use Rattle.cd_asking.specs.Inner.Tasks as child
 use Rattle.cd_asking.specs.Inner.Tasks.{among, answered, after, size, weight}
+use Rattle.cd_asking.specs.MappedArrows.{maps_at}
 use Rattle.cd_cells.specs.declared.cell.Look.{Look}
 use Rattle.cd_cells.specs.declared.cell.Look.TheVariants as look
 use Rattle.cd_asking.specs.declared.asker.Asker.{Asker}
@@ -24,7 +25,7 @@ use Rattle.cd_asking.specs.declared.led.Child.TheVariants.{First, Second, Tag, A
 use Rattle.cd_asking.specs.declared.led.Child.TheVariants.{Content, At}
 use Rattle.cd_asking.specs.declared.shape.Shape.{Shape as CodeShape}
 use Rattle.cd_asking.specs.declared.shape.Shape.TheVariants.{Integer, Character, Atom, Pair}
-use Rattle.cd_asking.specs.declared.shape.Shape.TheVariants.{Xml, Record, Function}
+use Rattle.cd_asking.specs.declared.shape.Shape.TheVariants.{Xml, Record, Closure}
 use Rattle.cd_asking.specs.declared.shape.Held.{Held}
 use Rattle.cd_asking.specs.declared.case.Case.{Case}
 use Rattle.cd_asking.specs.declared.case.Case.TheVariants as case
@@ -58,7 +59,7 @@ plain_shape (Pair first second) = plain.Pair (among first.now) (among second.now
 plain_shape (Xml tag attributes content) =
     plain.Xml (among tag.now) (among attributes.now) (among content.now)
 plain_shape (Record fields) = plain.Record (map held fields.now)
-plain_shape Function = plain.Function
+plain_shape (Closure maps function) = plain.Function (maps_at maps.now function)
 
 -- the name of an atom is a label
 abbrev pub HasLabel : CodeShape → Type 0
@@ -170,11 +171,11 @@ module _ (names : List Name) where
       (name_at names label) (fields_of names table left.now)
 
   -- what is done next makes this of the sets
-  abbrev pub made : Graph → List Thing → Asker → Next → List NodeId
-  made graph table asker (Answer answer) = set_at asker.sets answer
-  made graph table asker (Ask id set task) =
-      after graph (plain_task table asker task)
-      (members graph (shape_of graph (thing_at table id.0)) (set_at asker.sets set))
+  abbrev pub made : Graph → Closed → List Thing → Asker → Next → List NodeId
+  made graph closed table asker (Answer answer) = set_at asker.sets answer
+  made graph closed table asker (Ask id set task) =
+      after graph closed (plain_task table asker task)
+      (members graph (shape_of graph closed (thing_at table id.0)) (set_at asker.sets set))
 
   -- and has so much to do
   abbrev pub left_to_do : List Thing → Asker → Next → ℕ
@@ -204,8 +205,8 @@ module _ (names : List Name) where
       (id.0 < values) × (set.0 < length asker.sets) × IsTask values asker task
 
 -- What is done next makes these nodes, takes fewer steps than so many, and is over what there is
-pub record IsStep (names : List Name) (graph : Graph) (table : List Thing) (asker : Asker)
-    (nodes : List NodeId) (work : ℕ) (next : Next) : Type 0 where
-  pub makes : made names graph table asker next ≡ nodes
+pub record IsStep (names : List Name) (graph : Graph) (closed : Closed) (table : List Thing)
+    (asker : Asker) (nodes : List NodeId) (work : ℕ) (next : Next) : Type 0 where
+  pub makes : made names graph closed table asker next ≡ nodes
   pub falls : left_to_do names table asker next < work
   pub numbers : IsNext names (length table) asker next

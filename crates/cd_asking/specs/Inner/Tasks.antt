@@ -10,7 +10,8 @@ use Rattle.cd_model.specs.Formula.{Formula, Formulas, NoFormula, AFormula, Graph
 use Rattle.cd_model.specs.Formula.{field_of}
 use Rattle.cd_model.specs.Thing as thing
 use Rattle.cd_model.specs.Thing.{Thing, Fields, NoField}
-use Rattle.cd_asking.specs.Inner.Shapes.{Nodes, Pair, Xml, Record, is_in, fields_with, members}
+use Rattle.cd_asking.specs.Inner.Shapes.{Nodes, Closed, Pair, Xml, Record, is_in, fields_with}
+use Rattle.cd_asking.specs.Inner.Shapes.{members}
 
 -- a child of a value
 pub data Child : Type 0 where
@@ -91,24 +92,26 @@ again (suc n) step x = again n step (step x)
 abbrev pub paired : Graph → (set first second : List NodeId) → List NodeId
 paired graph set first second = members graph (Pair (among first) (among second)) set
 
-abbrev pub after : Graph → Task → (answer : List NodeId) → List NodeId
-after graph (OfSecond second set) answer =
-    members graph (Pair (among answer) (is_in graph second)) set
-after graph (OfPairs set first count) answer = again count (paired graph set first) answer
-after graph (OfAttributes attributes content set) answer =
-    members graph (Xml (among answer) (is_in graph attributes) (is_in graph content)) set
-after graph (OfContent content set tag) answer =
-    members graph (Xml (among tag) (among answer) (is_in graph content)) set
-after graph (OfXml set tag attributes) answer =
+abbrev pub after : Graph → Closed → Task → (answer : List NodeId) → List NodeId
+after graph closed (OfSecond second set) answer =
+    members graph (Pair (among answer) (is_in graph closed second)) set
+after graph closed (OfPairs set first count) answer = again count (paired graph set first) answer
+after graph closed (OfAttributes attributes content set) answer =
+    members graph
+    (Xml (among answer) (is_in graph closed attributes) (is_in graph closed content)) set
+after graph closed (OfContent content set tag) answer =
+    members graph (Xml (among tag) (among answer) (is_in graph closed content)) set
+after graph closed (OfXml set tag attributes) answer =
     members graph (Xml (among tag) (among attributes) (among answer)) set
-after graph (OfField set done label left) answer =
-    let fields = answered done ++ (label, among answer) ∷ fields_with graph left in
+after graph closed (OfField set done label left) answer =
+    let fields = answered done ++ (label, among answer) ∷ fields_with graph closed left in
     members graph (Record fields) set
 
 -- what all tasks make of an answer, the last one first
-abbrev pub finish : Graph → List Task → (answer : List NodeId) → List NodeId
-finish graph [] answer = answer
-finish graph (task ∷ tasks) answer = after graph task (finish graph tasks answer)
+abbrev pub finish : Graph → Closed → List Task → (answer : List NodeId) → List NodeId
+finish graph closed [] answer = answer
+finish graph closed (task ∷ tasks) answer =
+    after graph closed task (finish graph closed tasks answer)
 
 -- how many steps a value may take, and what a task leaves to do
 abbrev mutual

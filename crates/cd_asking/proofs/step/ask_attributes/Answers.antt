@@ -2,6 +2,7 @@ use Rattle.std.proofs.lemmas.Result.{IfOk-weaker}
 use Rattle.cd_graph.specs.Nodes.{nodes}
 use Rattle.cd_cells.specs.Looked.{looked}
 use Rattle.cd_cells.specs.Table.{table, names}
+use Rattle.cd_asking.specs.MappedArrows.{maps_at}
 use Rattle.cd_asking.specs.Inner.Shapes.{shape_of}
 use Rattle.cd_asking.specs.Inner.Asked.{set_at, Found, HasParts}
 use Rattle.cd_asking.specs.declared.node_sets.SetId.{SetId}
@@ -11,19 +12,19 @@ use Rattle.cd_asking.proofs.step.ask_attributes.Goals as goal
 
 pub returns-in-Some-clause-step : goal.returns-in-Some-clause-step
 returns-in-Some-clause-step c =
-    let asked = attributes_step (names c.args.values.now) (nodes c.args.graph.now) (table c.args.values.now)
+    let asked = attributes_step (names c.args.values.now) (nodes c.args.graph.now) (maps_at c.args.maps.now) (table c.args.values.now)
     c.args.asker.now c.xml_leads.new.self c.xml_leads.ensures.grows c.args.set c.in_ok-leads.leads.attributes c.requires.task.2 c.in_ok-leads.ensures.leads.1
     c.args.rest.0 c.args.rest.1 c.args.tag c.requires.task.0 c.requires.task.1 c.requires.answer c.in_ok-leads.ensures.leads.4 in
     let Holds : SetId → Type 0 = Found (nodes c.args.graph.now)
-    (shape_of (nodes c.args.graph.now) (looked (names c.args.values.now) (table c.args.values.now) c.look.result))
+    (shape_of (nodes c.args.graph.now) (maps_at c.args.maps.now) (looked (names c.args.values.now) (table c.args.values.now) c.look.result))
     (set_at c.xml_leads.new.self.sets c.in_ok-leads.leads.attributes) c.leaf.new.asker.sets in
     let found = some_found c.in_ok-answer.field-0 (HasParts c.look.result) Holds c.in-Some.answer c.in-Some.is c.in_ok-answer.ensures.found in
-    IfOk-weaker c.ask_content.result _ _ (λ next step. at_once (names c.args.values.now) (nodes c.args.graph.now) (table c.args.values.now)
+    IfOk-weaker c.ask_content.result _ _ (λ next step. at_once (names c.args.values.now) (nodes c.args.graph.now) (maps_at c.args.maps.now) (table c.args.values.now)
     c.xml_leads.new.self c.leaf.new.asker c.ask_content.new.asker c.leaf.ensures.grows _ _ c.args.rest.0 c.in_ok-leads.leads.attributes (OfContent c.args.rest.1 c.args.set c.args.tag)
     _ c.in-Some.answer next asked c.look.ensures.thing found step) c.ask_content.ensures.step
 
 pub returns-in-None-clause-step : goal.returns-in-None-clause-step
-returns-in-None-clause-step c = step_grows (names c.args.values.now) (nodes c.args.graph.now) (table c.args.values.now) c.xml_leads.new.self c.leaf.new.asker c.leaf.ensures.grows _ _ _
-    (attributes_step (names c.args.values.now) (nodes c.args.graph.now) (table c.args.values.now)
+returns-in-None-clause-step c = step_grows (names c.args.values.now) (nodes c.args.graph.now) (maps_at c.args.maps.now) (table c.args.values.now) c.xml_leads.new.self c.leaf.new.asker c.leaf.ensures.grows _ _ _
+    (attributes_step (names c.args.values.now) (nodes c.args.graph.now) (maps_at c.args.maps.now) (table c.args.values.now)
     c.args.asker.now c.xml_leads.new.self c.xml_leads.ensures.grows c.args.set c.in_ok-leads.leads.attributes c.requires.task.2 c.in_ok-leads.ensures.leads.1
     c.args.rest.0 c.args.rest.1 c.args.tag c.requires.task.0 c.requires.task.1 c.requires.answer c.in_ok-leads.ensures.leads.4)

@@ -5,8 +5,8 @@ use Rattle.cd_member.proofs.Documents.{writes_data, writes_value, stands_against
 use Rattle.cd_member.proofs.document.of_text.Goals as goal
 
 -- the value of a document is data
-pub is_in-requires-clause-data : goal.is_in-requires-clause-data
-is_in-requires-clause-data c =
+pub holds-requires-clause-data : goal.holds-requires-clause-data
+holds-requires-clause-data c =
     writes_data c.args.text.now (thing_at (table c.read_value.new.values) c.in-Ok.id.0) c.in-Ok.ensures.value
 
 pub returns-in-Ok : goal.returns-in-Ok
@@ -14,7 +14,7 @@ returns-in-Ok c =
     let v = thing_at (table c.read_value.new.values) c.in-Ok.id.0 in
     let writes = c.in-Ok.ensures.value in
     document_is_answered c.args.document.now c.args.text.now (nodes c.args.graph.now) c.args.node v writes
-    (writes_value c.args.text.now v c.utf8.text writes) c.in_ok-is_in-in-Ok.field-0 c.in_ok-is_in-in-Ok.ensures c.yes_or_no.result c.yes_or_no.ensures
+    (writes_value c.args.text.now v c.utf8.text writes) c.in_ok-holds-in-Ok.field-0 c.in_ok-holds-in-Ok.ensures c.yes_or_no.result c.yes_or_no.ensures
 
 pub returns : goal.returns
 returns c =
