@@ -1,0 +1,5 @@
+mod Literals
+pub mod Growing
+mod TruthNames
+pub mod ItemsAlong
+mod FieldsSelected

@@ -1,0 +1,3 @@
+-- What serves private functions. No public clause speaks of it.
+pub mod Pairs
+pub mod FieldsFound
