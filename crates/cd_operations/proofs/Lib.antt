@@ -1,5 +1,11 @@
 mod Literals
+mod Labels
 pub mod Growing
 mod TruthNames
 pub mod ItemsAlong
 mod FieldsSelected
+mod TextWritten
+mod CharactersPushed
+mod Turning
+mod Prepending
+mod Joining

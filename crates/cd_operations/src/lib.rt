@@ -1,11 +1,14 @@
 //! What operators, words and other forms do with values of a table.
 #![tactic(auto)]
 
+mod added;
 pub mod constants;
 pub mod ending;
+pub mod joins;
 mod names;
 pub mod operators;
 mod pairs;
+mod prepended;
 pub mod records;
 pub mod sequences;
 pub mod texts;

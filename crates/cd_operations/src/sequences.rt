@@ -3,15 +3,13 @@ ghost use Rattle.std.specs.Prelude.{◌≡◌, ◌<◌, [], Some, None, length, 
 ghost use Rattle.cd_matching.specs.Sequences.{items, sequence_of};
 ghost use Rattle.cd_cells.specs.Cells.{thing_at};
 ghost use Rattle.cd_cells.specs.Table.{table, IsAt, Grows};
-ghost use Rattle.cd_evaluation.specs.Evaluation as evaluation;
 ghost use Rattle.cd_evaluation.specs.Lists.{before};
 ghost use Rattle.cd_operations.specs.Along.{items_along, turned};
-ghost use Rattle.cd_operations.specs.Endings.{plain_ending, IsEnding};
 
-use crate::ending::Ending;
+use crate::added::pair;
 use crate::pairs::{is_nil, pair_at};
 use cd_cells::{ValueId, Values};
-use std::alloc::{AllocError, Global};
+use std::alloc::AllocError;
 
 /// Whether a value is a sequence: pairs that end in `nil`.
 pub fn is_sequence(values: &Values, value: ValueId) -> bool
@@ -32,7 +30,11 @@ pub fn is_sequence(values: &Values, value: ValueId) -> bool
 /// # Errors
 ///
 /// Want of memory.
-pub fn reversed(values: &mut Values, done: ValueId, onto: ValueId) -> Result<ValueId, AllocError>
+pub fn reversed(
+    values: &mut Values,
+    done: ValueId,
+    onto: ValueId,
+) -> Result<ValueId, AllocError>
     requires done { done.0 < length (table values.old) }
     requires onto { onto.0 < length (table values.old) }
     ensures is { let old = table values.old in IfOk result (λ id. IsAt (table values.new) id.0
@@ -42,7 +44,13 @@ pub fn reversed(values: &mut Values, done: ValueId, onto: ValueId) -> Result<Val
         ≡ before (items_along (thing_at old done.0)) (items_along (thing_at old onto.0))) }
     ensures grows { Grows values.old values.new }
 {
-    Err(AllocError)
+    let mut left = done;
+    let mut made = onto;
+    while let Some((first, rest)) = pair_at(values, left) {
+        made = pair(values, first, made)?;
+        left = rest;
+    }
+    Ok(made)
 }
 
 /// The items of a sequence put one by one before those that are done, which are kept from the last
@@ -74,21 +82,6 @@ pub fn in_order(values: &mut Values, done: ValueId) -> Result<ValueId, AllocErro
         (sequence_of (before (items_along (thing_at (table values.old) done.0)) []))) }
     ensures grows { Grows values.old values.new }
 {
-    Err(AllocError)
-}
-
-/// The items of all results of `transform`, which are kept from the last one. It is stuck where one
-/// of them is no sequence.
-///
-/// # Errors
-///
-/// Want of memory.
-pub fn joined(alloc: Global, values: &mut Values, results: ValueId) -> Result<Ending, AllocError>
-    requires { results.0 < length (table values.old) }
-    ensures is { IfOk result (λ ending. plain_ending (table values.new) ending
-        ≡ evaluation.joined (before (items_along (thing_at (table values.old) results.0)) [])) }
-    ensures within { IfOk result (IsEnding (length (table values.new))) }
-    ensures grows { Grows values.old values.new }
-{
-    Err(AllocError)
+    let nil = values.nil()?;
+    Ok(reversed(values, done, nil)?)
 }

@@ -35,5 +35,8 @@ pub fn truth(values: &mut Values, is_true: bool) -> Result<ValueId, AllocError>
     ensures is { IfOk result (λ id. IsAt (table values.new) id.0 (operators.truth is_true)) }
     ensures grows { Grows values.old values.new }
 {
-    Err(AllocError)
+    if is_true {
+        return values.atom("true");
+    }
+    values.atom("false")
 }

@@ -6,7 +6,7 @@ ghost use Rattle.cd_evaluation.specs.Operations as operations;
 ghost use Rattle.cd_operations.specs.Endings.{plain_ending, IsEnding};
 
 use crate::ending::Ending;
-use cd_cells::{ValueId, Values};
+use cd_cells::{Look, ValueId, Values};
 use std::alloc::AllocError;
 
 /// The XML value of a tag, attributes and a content. It is stuck where the tag is no atom, or the
@@ -31,5 +31,11 @@ pub fn element(
     ensures within { IfOk result (IsEnding (length (table values.new))) }
     ensures grows { Grows values.old values.new }
 {
-    Err(AllocError)
+    let Look::Atom(_) = values.look(tag) else {
+        return Ok(Ending::Stuck);
+    };
+    let Look::Record(_) = values.look(attributes) else {
+        return Ok(Ending::Stuck);
+    };
+    Ok(Ending::Done(values.xml(tag, attributes, content)?))
 }

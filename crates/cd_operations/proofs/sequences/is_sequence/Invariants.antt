@@ -1,7 +1,7 @@
 use Rattle.std.proofs.Common.{◌<◌, Bool, length}
 use Rattle.cd_cells.specs.Cells.{thing_at}
 use Rattle.cd_cells.specs.Table.{table}
-use Rattle.cd_operations.proofs.ItemsAlong.{IsAnswer}
+use Rattle.cd_operations.specs.Inner.Joins.{IsAnswer}
 use Rattle.cd_operations.proofs.sequences.is_sequence.Given as goal
 
 -- the answer for the rest is that for the whole
