@@ -2,3 +2,4 @@
 pub mod Pairs
 pub mod FieldsFound
 pub mod Joins
+pub mod Computing

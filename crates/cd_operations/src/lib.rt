@@ -2,8 +2,10 @@
 #![tactic(auto)]
 
 mod added;
+mod arithmetic;
 pub mod constants;
 pub mod ending;
+mod integers;
 pub mod joins;
 mod names;
 pub mod operators;
