@@ -9,3 +9,5 @@ mod CharactersPushed
 mod Turning
 mod Prepending
 mod Joining
+mod FieldsMerged
+mod PartsMerged

@@ -3,3 +3,4 @@ pub mod Pairs
 pub mod FieldsFound
 pub mod Joins
 pub mod Computing
+pub mod Merging

@@ -7,6 +7,7 @@ pub mod constants;
 pub mod ending;
 mod integers;
 pub mod joins;
+mod merging;
 mod names;
 pub mod operators;
 mod pairs;
