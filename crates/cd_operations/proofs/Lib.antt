@@ -11,3 +11,4 @@ mod Prepending
 mod Joining
 mod FieldsMerged
 mod PartsMerged
+mod PartsPut
