@@ -12,3 +12,4 @@ mod Joining
 mod FieldsMerged
 mod PartsMerged
 mod PartsPut
+mod PairsCompared

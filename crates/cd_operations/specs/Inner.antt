@@ -4,3 +4,4 @@ pub mod FieldsFound
 pub mod Joins
 pub mod Computing
 pub mod Merging
+pub mod Comparing

@@ -5,6 +5,7 @@ mod added;
 mod arithmetic;
 pub mod constants;
 pub mod ending;
+mod equality;
 mod integers;
 pub mod joins;
 mod merging;

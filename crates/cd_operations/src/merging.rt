@@ -80,8 +80,8 @@ fn last_part<'v>(values: &Values, both: Both<'v>) -> Option<(Part, Both<'v>)>
     Some((other, Both { first, second }))
 }
 
-// The first part, and those after it.
-fn split(parts: &[Part]) -> Option<(Part, &[Part])>
+/// The first part, and those after it.
+pub(crate) fn split(parts: &[Part]) -> Option<(Part, &[Part])>
     ensures { MatchOption result (parts.now ≡ [])
         (λ first. parts.now ≡ first.0 ∷ first.1.now) }
 {
