@@ -13,3 +13,4 @@ mod FieldsMerged
 mod PartsMerged
 mod PartsPut
 mod PairsCompared
+mod DigitsRead

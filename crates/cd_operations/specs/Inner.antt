@@ -5,3 +5,4 @@ pub mod Joins
 pub mod Computing
 pub mod Merging
 pub mod Comparing
+pub mod Spelling

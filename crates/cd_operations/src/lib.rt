@@ -15,6 +15,7 @@ mod pairs;
 mod prepended;
 pub mod records;
 pub mod sequences;
+mod spelling;
 pub mod texts;
 pub mod truths;
 pub mod words;
