@@ -14,3 +14,5 @@ mod PartsMerged
 mod PartsPut
 mod PairsCompared
 mod DigitsRead
+mod CharactersRead
+mod Decimals

@@ -14,3 +14,7 @@ false_characters = refl
 pub nil_characters : chars (codes "nil") ≡ codes "nil"
 unfolding chars
 nil_characters = refl
+
+pub invalid_characters : chars (codes "Invalid_int") ≡ codes "Invalid_int"
+unfolding chars
+invalid_characters = refl
