@@ -1,0 +1,18 @@
+mod Literals
+mod Labels
+pub mod Growing
+mod TruthNames
+pub mod ItemsAlong
+mod FieldsSelected
+mod TextWritten
+mod CharactersPushed
+mod Turning
+mod Prepending
+mod Joining
+mod FieldsMerged
+mod PartsMerged
+mod PartsPut
+mod PairsCompared
+mod DigitsRead
+mod CharactersRead
+mod Decimals

@@ -1,0 +1,8 @@
+-- What serves private functions. No public clause speaks of it.
+pub mod Pairs
+pub mod FieldsFound
+pub mod Joins
+pub mod Computing
+pub mod Merging
+pub mod Comparing
+pub mod Spelling

@@ -1,0 +1,4 @@
+pub mod Endings
+pub mod Along
+pub mod FieldsOf
+pub mod Inner

@@ -1,0 +1,24 @@
+//! What operators, words and other forms do with values of a table.
+#![tactic(auto)]
+
+mod added;
+mod arithmetic;
+pub mod constants;
+pub mod ending;
+mod equality;
+mod integers;
+pub mod joins;
+mod merging;
+mod names;
+pub mod operators;
+mod pairs;
+mod prepended;
+pub mod records;
+pub mod sequences;
+mod spelling;
+pub mod texts;
+pub mod truths;
+pub mod words;
+pub mod xml;
+
+pub use ending::Ending;
