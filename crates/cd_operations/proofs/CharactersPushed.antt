@@ -6,7 +6,7 @@ use Rattle.cd_model.specs.Thing.{Thing, Character, Pair}
 use Rattle.cd_cells.specs.declared.values.Values.{Values}
 use Rattle.cd_cells.specs.Cells.{thing_at}
 use Rattle.cd_cells.specs.Table.{table, IsAt, Grows}
-use Rattle.cd_operations.specs.Along.{items_along, turned}
+use Rattle.cd_operations.specs.Along.{turned}
 use Rattle.cd_operations.proofs.Growing.{itself, at_grown, further}
 
 abbrev lettered : List ℕ → Thing → Thing

@@ -1,9 +1,9 @@
 -- The characters of a text become pairs, the last one first.
-use Rattle.std.proofs.Common.{◌≡◌, ◌∙◌, ap, subst, sym, refl, arith, ℕ, ◌<◌, List, [], ◌∷◌, ◌++◌, length, encode_utf8, append-nil, append_assoc}
+use Rattle.std.proofs.Common.{◌≡◌, ◌∙◌, ap, subst, sym, arith, ℕ, ◌<◌, List, [], ◌∷◌, ◌++◌, length, encode_utf8, append-nil, append_assoc}
 use Rattle.std.specs.Str.{chars, IsUtf8}
 use Rattle.std.proofs.Math.Utf8.{encodes}
 use Rattle.std.proofs.lemmas.Str.{chars_from_encodes}
-use Rattle.cd_model.specs.Thing.{Thing, Character, Pair}
+use Rattle.cd_model.specs.Thing.{Character, Pair}
 use Rattle.cd_matching.specs.Sequences.{nil, text_of}
 use Rattle.cd_cells.specs.declared.values.Values.{Values}
 use Rattle.cd_cells.specs.Cells.{thing_at}

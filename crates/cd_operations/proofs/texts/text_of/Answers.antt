@@ -7,7 +7,7 @@ use Rattle.cd_operations.proofs.texts.text_of.Goals as goal
 pub loop-c-init : goal.loop-c-init
 loop-c-init c =
     let rest = ap (λ it. chars_rest (rev_source it)) c.into_iter-c-iterator.ensures.into_iter_gives ∙ ap chars_rest c.rev-c-items.ensures.source
-        ∙ c.chars.ensures.rest in
+    ∙ c.chars.ensures.rest in
     written_start _ _ _ _ _ rest c.in_ok-made.ensures.grows c.in_ok-made.ensures.is
 
 pub pair-requires-clause-first : goal.pair-requires-clause-first
