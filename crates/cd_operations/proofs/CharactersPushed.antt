@@ -1,13 +1,13 @@
 -- The characters of a text are put before what is done, the first one first.
-use Rattle.std.proofs.Common.{◌≡◌, ◌∙◌, ap, subst, sym, refl, arith, ℕ, ◌<◌, List, [], ◌∷◌, ◌++◌, length, map, encode_utf8}
+use Rattle.std.proofs.Common.{◌≡◌, ◌∙◌, ap, subst, sym, arith, ℕ, List, [], ◌∷◌, ◌++◌, length, map, encode_utf8}
 use Rattle.std.specs.Str.{chars, IsUtf8}
 use Rattle.std.proofs.lemmas.Str.{chars_past_char, IsUtf8-past_char, chars-nil}
 use Rattle.cd_model.specs.Thing.{Thing, Character, Pair}
 use Rattle.cd_cells.specs.declared.values.Values.{Values}
 use Rattle.cd_cells.specs.Cells.{thing_at}
 use Rattle.cd_cells.specs.Table.{table, IsAt, Grows}
-use Rattle.cd_operations.specs.Along.{items_along, turned}
-use Rattle.cd_operations.proofs.Growing.{itself, at_grown, further}
+use Rattle.cd_operations.specs.Along.{turned}
+use Rattle.cd_operations.proofs.Growing.{at_grown, further}
 
 abbrev lettered : List ℕ → Thing → Thing
 lettered text onto = turned (map Character text) onto
@@ -19,16 +19,6 @@ pub record ArePut (old : Values) (text : List ℕ) (done : ℕ) (now : Values) (
   pub goes : turned (map Character (chars rest)) value ≡ turned (map Character text) (thing_at (table old) done)
   pub grows : Grows old now
   pub utf8 : IsUtf8 rest
-
-pub put_start : (values : Values) (done : ℕ) (text bytes : List ℕ) → IsUtf8 bytes → chars bytes ≡ text → done < length (table values)
-    → ArePut values text done values done bytes
-put_start values done text bytes utf8 is within = record {
-  value = thing_at (table values) done;
-  at = record { within = within; is = refl };
-  goes = ap (λ (cs : List ℕ). lettered cs (thing_at (table values) done)) is;
-  grows = itself values;
-  utf8 = utf8;
-}
 
 pub put_on : (old one two three : Values) (done before letter id : ℕ) (text rest later : List ℕ) (c : ℕ)
     → ArePut old text done one before rest → rest ≡ encode_utf8 c ++ later → Grows one two → IsAt (table two) letter (Character c)
@@ -44,10 +34,6 @@ put_on old one two three done before letter id text rest later c now is grows at
       grows = further old two three (further old one two now.grows grows) then;
       utf8 = IsUtf8-past_char rest later c now.utf8 is;
     }
-
-pub put_within : (old one two : Values) (done before : ℕ) (text rest : List ℕ) → ArePut old text done one before rest → Grows one two
-    → before < length (table two)
-put_within old one two done before text rest now grows = (at_grown one two grows before now.value now.at).within
 
 pub put_end : (old now : Values) (done made : ℕ) (text rest : List ℕ) → ArePut old text done now made rest → length rest ≡ 0
     → IsAt (table now) made (turned (map Character text) (thing_at (table old) done))

@@ -1,6 +1,6 @@
 -- The items of sequences, and those along other things.
-use Rattle.std.proofs.Common.{◌≡◌, ◌∙◌, refl, sym, ap, subst, inl, inr, Bool, true, false, List, [], ◌∷◌, ◌++◌, Option, Some, None, option_map, bytes_eq, append-nil}
-use Rattle.std.specs.Prelude.{codes, if◌then◌else◌}
+use Rattle.std.proofs.Common.{◌≡◌, ◌∙◌, refl, sym, ap, inl, inr, true, false, List, [], ◌∷◌, ◌++◌, Option, Some, None, option_map, bytes_eq, append-nil}
+use Rattle.std.specs.Prelude.{codes}
 use Rattle.std.proofs.lemmas.Bool.{cases_Bool}
 use Rattle.std.proofs.lemmas.Slice.Eq.{bytes_eq-Decides}
 use Rattle.cd_model.specs.Thing.{Thing, Atom, Pair}
@@ -15,13 +15,6 @@ pub at_end : (v : Thing) → items_along v ≡ [] → IsAnswer v (is_empty v)
 at_end (Pair first rest) none = absurd cc
 at_end (Atom name) none = refl
 at_end _ none = refl
-
-pub at_pair : (v first rest : Thing) (is : Bool) → v ≡ Pair first rest → IsAnswer rest is → IsAnswer v is
-at_pair v first rest is pair same = subst (λ v. IsAnswer v is) (sym pair) (by_test is same)
-  where
-    by_test : (is : Bool) → IsAnswer rest is → IsAnswer (Pair first rest) is
-    by_test true same = ap (option_map (λ rest. first ∷ rest)) same
-    by_test false same = ap (option_map (λ rest. first ∷ rest)) same
 
 -- a sequence is that of its items
 pub some_is : (one other : List Thing) → Some one ≡ Some other → one ≡ other

@@ -1,20 +1,20 @@
 -- Sequences are joined, from the last one.
-use Rattle.std.proofs.Common.{◌≡◌, ◌∙◌, ap, ap₂, sym, refl, subst, arith, ℕ, ◌<◌, Bool, true, false, List, [], ◌∷◌, ◌++◌, Option, Some, None, option_map, length, append-nil, append_assoc}
-use Rattle.cd_model.specs.Thing.{Thing, Pair}
+use Rattle.std.proofs.Common.{◌≡◌, ◌∙◌, ap, ap₂, sym, refl, subst, arith, ℕ, ◌<◌, true, List, [], ◌∷◌, ◌++◌, Option, Some, None, length}
+use Rattle.cd_model.specs.Thing.{Thing}
 use Rattle.cd_matching.specs.Sequences.{nil, items, sequence_of}
 use Rattle.cd_meaning.specs.Sequences.{followed_by}
 use Rattle.cd_cells.specs.declared.cell.ValueId.{ValueId}
 use Rattle.cd_cells.specs.declared.values.Values.{Values}
 use Rattle.cd_cells.specs.Cells.{thing_at}
 use Rattle.cd_cells.specs.Table.{table, IsAt, Grows}
-use Rattle.cd_evaluation.specs.Runs.{Outcome, Done, Stuck}
+use Rattle.cd_evaluation.specs.Runs.{Done}
 use Rattle.cd_evaluation.specs.Lists.{before, both_items, all_items, listed}
 use Rattle.cd_evaluation.specs.Evaluation.{joined}
 use Rattle.cd_evaluation.specs.Operations.{flattened}
 use Rattle.cd_operations.specs.Along.{items_along}
 use Rattle.cd_operations.specs.Inner.Pairs.{IsPairAt}
 use Rattle.cd_operations.specs.Inner.Joins.{IsAnswer, Prepends}
-use Rattle.cd_operations.proofs.Growing.{itself, further, within_grown, thing_grown}
+use Rattle.cd_operations.proofs.Growing.{further, within_grown, thing_grown}
 use Rattle.cd_operations.proofs.ItemsAlong.{sequence_of_items, followed_sequence, before_twice}
 
 -- the items of one more sequence before others
@@ -91,17 +91,6 @@ module _ (old one two : Values) (results left made : ℕ) (parts : ValueId × Va
             grows = further old one two so_far.grows grows;
           }
 
-  pub not_joined : Prepends (table one) parts.0.0 made (table two) None
-      → Stuck ≡ listed (all_items (before (items_along (thing_at (table old) results)) []))
-  not_joined none = ap listed
-      (ap (λ first. gathered_by first (λ ds. gathered (items_along (thing_at (table one) parts.1.0)) (ds ++ so_far.all))) (sym none)
-      ∙ goes_on)
-
-pub all_joined : (old now : Values) (results left made : ℕ) → IsJoining old results now left made → items_along (thing_at (table now) left) ≡ []
-    → Done (thing_at (table now) made) ≡ listed (all_items (before (items_along (thing_at (table old) results)) []))
-all_joined old now results left made so_far none =
-    ap Done so_far.at.is ∙ ap listed (ap (λ vs. gathered vs so_far.all) (sym none) ∙ so_far.goes)
-
 -- two sequences
 pub both_joined : (old : List Thing) (first second : ℕ) (new : List Thing) (answer : Option ValueId) (id : ValueId) → answer ≡ Some id
     → Prepends old first second new answer → IsAnswer (thing_at old second) true
@@ -114,13 +103,6 @@ both_joined old first second new answer id same prepends is = by_items (subst (P
         let all = items_along (thing_at old second) in
         ap Done (at.is ∙ ap (followed_by ds) (sequence_of_items (thing_at old second) all is) ∙ followed_sequence ds all)
         ∙ ap listed (ap₂ both_items (sym found) (sym is))
-
-pub no_second : (v w : Thing) → IsAnswer w false → Stuck ≡ listed (both_items (items v) (items w))
-no_second v w not = ap listed (by_first (items v) ∙ ap (both_items (items v)) (sym not))
-  where
-    by_first : (first : Option (List Thing)) → None ≡ both_items first None
-    by_first None = refl
-    by_first (Some ds) = refl
 
 -- a sequence of sequences
 pub flat : (v : Thing) (results : List Thing) → IsAnswer v true → results ≡ before (items_along v) []

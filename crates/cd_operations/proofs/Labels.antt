@@ -1,5 +1,5 @@
 -- The names of some atoms are labels.
-use Rattle.std.proofs.Common.{◌≡◌, refl, sym, subst, true≢false, bytes_eq}
+use Rattle.std.proofs.Common.{refl, sym, subst, true≢false}
 use Rattle.std.specs.Prelude.{codes}
 use Rattle.std.specs.Str.{chars}
 use Rattle.std.proofs.lemmas.Slice.Eq.{bytes_eq-Decides}

@@ -1,11 +1,10 @@
 -- Pairs of parts are added to those that are left to be compared.
-use Rattle.std.proofs.Common.{rules, ◌≡◌, ◌∙◌, refl, sym, ap, ap₂, subst, arith, ℕ, ◌+◌, ◌-◌, ◌<◌, ◌≤◌, ◌==◌, Bool, true, false, List, [], ◌∷◌, ◌++◌, length, bytes_eq}
+use Rattle.std.proofs.Common.{rules, ◌≡◌, ◌∙◌, refl, sym, ap, ap₂, subst, arith, ◌+◌, ◌-◌, ◌<◌, ◌≤◌, ◌==◌, Bool, true, false, List, [], ◌∷◌, ◌++◌, length, bytes_eq}
 use Rattle.std.specs.Prelude.{◌&&◌}
-use Rattle.std.specs.List.{list_all}
 use Rattle.std.proofs.lemmas.List.Folds.{list_all-append}
 use Rattle.cd_syntax.specs.Name.{Name}
 use Rattle.cd_model.specs.AllOf.{AllOf}
-use Rattle.cd_model.specs.Thing.{Thing, Pair, Xml, Record, Fields, NoField, Field}
+use Rattle.cd_model.specs.Thing.{Thing, Pair, Xml, Record, Fields}
 use Rattle.cd_cells.specs.declared.cell.Part.{Part}
 use Rattle.cd_cells.specs.declared.cell.ValueId.{ValueId}
 use Rattle.cd_cells.specs.Cells.{thing_at, name_at, fields_of, IsPart}
@@ -61,22 +60,6 @@ module _ (table : List Thing) where
   weight_append [] pair = omega arith
   weight_append (one ∷ pairs) pair = omega (arith, weight_append pairs pair)
 
-  -- nothing is added
-  pub answered : (equal is : Bool) (most : ℕ) (pairs : Pairs) → is ≡ equal → AreComparable table pairs → Adds table equal most pairs pairs is
-  answered equal is most pairs same are = record {
-    answer = ap (λ is. is && all_same table pairs) same;
-    comparable = are;
-    lighter = omega arith;
-  }
-
-  pub refused : (equal : Bool) (most : ℕ) (old new : Pairs) → equal ≡ false → AreComparable table new
-      → weight_of_pairs table new ≤ most + weight_of_pairs table old → Adds table equal most old new false
-  refused equal most old new not are lighter = record {
-    answer = ap (λ equal. equal && all_same table old) (sym not);
-    comparable = are;
-    lighter = lighter;
-  }
-
   pub adds_two : (w : Thing) (first second one last : ValueId) (old middle new : Pairs)
       → Pair (thing_at table one.0) (thing_at table last.0) ≡ w → first.0 < length table → second.0 < length table
       → one.0 < length table → last.0 < length table → AreComparable table old
@@ -91,8 +74,13 @@ module _ (table : List Thing) where
         ∙ ap (λ w. same (Pair (thing_at table first.0) (thing_at table second.0)) w && all_same table old) is;
     comparable = subst (AreComparable table) (sym pushed_too) (comparable_append middle (first, one)
         (subst (AreComparable table) (sym pushed) (comparable_append old (second, last) are second_in last_in)) first_in one_in);
-    lighter = omega (arith, ap (weight_of_pairs table) pushed_too, weight_append middle (first, one),
-        ap (weight_of_pairs table) pushed, weight_append old (second, last));
+    lighter = omega (
+      arith,
+      ap (weight_of_pairs table) pushed_too,
+      weight_append middle (first, one),
+      ap (weight_of_pairs table) pushed,
+      weight_append old (second, last),
+    );
   }
 
   pub adds_three : (w : Thing) (tag attributes content one more last : ValueId) (old first second new : Pairs)
@@ -114,9 +102,15 @@ module _ (table : List Thing) where
         (subst (AreComparable table) (sym then) (comparable_append first (attributes, more)
         (subst (AreComparable table) (sym pushed) (comparable_append old (content, last) are content_in last_in)) attributes_in more_in))
         tag_in one_in);
-    lighter = omega (arith, ap (weight_of_pairs table) finally, weight_append second (tag, one),
-        ap (weight_of_pairs table) then, weight_append first (attributes, more),
-        ap (weight_of_pairs table) pushed, weight_append old (content, last));
+    lighter = omega (
+      arith,
+      ap (weight_of_pairs table) finally,
+      weight_append second (tag, one),
+      ap (weight_of_pairs table) then,
+      weight_append first (attributes, more),
+      ap (weight_of_pairs table) pushed,
+      weight_append old (content, last),
+    );
   }
 
   -- fields
@@ -136,18 +130,6 @@ module _ (table : List Thing) where
           ≡ (equality.same_fields (fields parts) (fields others) && all_same table old)
       pub lighter : weight_of_fields (fields left) + weight_of_pairs table pairs ≤ weight_of_fields (fields parts) + weight_of_pairs table old
 
-    pub going_starts : AreParts parts → AreParts others → AreComparable table old → IsGoingOver parts others old
-    going_starts are are_too comparable = record {
-      left_are = are;
-      right_are = are_too;
-      comparable = comparable;
-      answer = refl;
-      lighter = omega arith;
-    }
-
-    abbrev answer_by : Bool
-    answer_by = equality.same_fields (fields parts) (fields others) && all_same table old
-
     -- the first parts of both
     module _ (left right rest later : List Part) (one other : Part) (pairs : Pairs) (is : left ≡ one ∷ rest) (is_too : right ≡ other ∷ later)
         (so_far : IsGoingOver left right pairs) where
@@ -164,35 +146,19 @@ module _ (table : List Thing) where
             (omega (arith, first_is, both.left_are.0.1)) (omega (arith, second_is, both.right_are.0.1)));
         answer =
             let value : same_at table (first, second) ≡ same (thing_at table one.value) (thing_at table other.value) =
-                ap₂ (λ n m. same (thing_at table n) (thing_at table m)) first_is second_is in
+            ap₂ (λ n m. same (thing_at table n) (thing_at table m)) first_is second_is in
             ap (λ all. equality.same_fields (fields rest) (fields later) && all) (ap (all_same table) pushed ∙ same_append pairs (first, second))
             ∙ of_one (all_same table pairs) (same_at table (first, second)) (equality.same_fields (fields rest) (fields later))
             ∙ ap₂ (λ named value. (named && (value && equality.same_fields (fields rest) (fields later))) && all_same table pairs) named value
             ∙ both.answer;
-        lighter = omega (arith, both.lighter, ap (weight_of_pairs table) pushed, weight_append pairs (first, second),
-            ap (λ n. weight (thing_at table n)) first_is);
+        lighter = omega (
+          arith,
+          both.lighter,
+          ap (weight_of_pairs table) pushed,
+          weight_append pairs (first, second),
+          ap (λ n. weight (thing_at table n)) first_is,
+        );
       }
-
-      pub other_names : false ≡ bytes_eq (name_at names one.label) (name_at names other.label)
-          → Adds table (equality.same_fields (fields parts) (fields others)) (weight_of_fields (fields parts)) old pairs false
-      other_names not = record {
-        answer =
-            ap (λ named. (named && (same (thing_at table one.value) (thing_at table other.value)
-            && equality.same_fields (fields rest) (fields later))) && all_same table pairs) not
-            ∙ both.answer;
-        comparable = both.comparable;
-        lighter = omega (arith, both.lighter);
-      }
-
-    pub more_left : (left right rest : List Part) (one : Part) (pairs : Pairs) → left ≡ one ∷ rest → right ≡ [] → IsGoingOver left right pairs
-        → Adds table (equality.same_fields (fields parts) (fields others)) (weight_of_fields (fields parts)) old pairs false
-    more_left left right rest one pairs is none so_far =
-        let both = subst (λ right. IsGoingOver (one ∷ rest) right pairs) none (subst (λ left. IsGoingOver left right pairs) is so_far) in
-        record {
-          answer = both.answer;
-          comparable = both.comparable;
-          lighter = omega (arith, both.lighter);
-        }
 
     pub all_over : (left right : List Part) (pairs : Pairs) → left ≡ [] → IsGoingOver left right pairs
         → Adds table (equality.same_fields (fields parts) (fields others)) (weight_of_fields (fields parts)) old pairs (length right == 0)
@@ -214,49 +180,7 @@ module _ (table : List Thing) where
     pub comparable : AreComparable table pairs
     pub answer : all_same table pairs ≡ same v w
 
-  pub comparing_starts : (v w : Thing) (most : ℕ) (old new : Pairs) → old ≡ [] → Adds table (same v w) most old new true → IsComparing v w new
-  comparing_starts v w most old new none adds =
-      let first = subst (λ old. Adds table (same v w) most old new true) none adds in record {
-        comparable = first.comparable;
-        answer = first.answer ∙ with_true (same v w);
-      }
-    where
-      with_true : (b : Bool) → (b && true) ≡ b
-      with_true true = refl
-      with_true false = refl
-
-  pub not_same : (v w : Thing) (most : ℕ) (old new : Pairs) → old ≡ [] → Adds table (same v w) most old new false → false ≡ same v w
-  not_same v w most old new none adds =
-      (subst (λ old. Adds table (same v w) most old new false) none adds).answer ∙ with_true (same v w)
-    where
-      with_true : (b : Bool) → (b && true) ≡ b
-      with_true true = refl
-      with_true false = refl
-
-  last_pair : (left : Pairs) (pair : ValueId × ValueId) → AreComparable table (left ++ pair ∷ [])
-      → AreComparable table left × (pair.0.0 < length table) × (pair.1.0 < length table)
-  last_pair [] pair are = (tt, are.0.0, are.0.1)
-  last_pair (one ∷ left) pair are = let rest = last_pair left pair are.1 in ((are.0, rest.0), rest.1, rest.2)
-
   module _ (v w : Thing) (stack left new : Pairs) (pair : ValueId × ValueId) (popped : stack ≡ left ++ pair ∷ []) (so_far : IsComparing v w stack) where
-    pub left_comparable : AreComparable table left × (pair.0.0 < length table) × (pair.1.0 < length table)
-    left_comparable = last_pair left pair (subst (AreComparable table) popped so_far.comparable)
-
-    commuted : (a b : Bool) → (a && b) ≡ (b && (a && true))
-    commuted true true = refl
-    commuted true false = refl
-    commuted false true = refl
-    commuted false false = refl
-
-    one_more : (same_at table pair && all_same table left) ≡ same v w
-    one_more = commuted (same_at table pair) (all_same table left) ∙ sym (same_append left pair) ∙ ap (all_same table) (sym popped) ∙ so_far.answer
-
-    pub compares_on : (most : ℕ) → Adds table (same_at table pair) most left new true → IsComparing v w new
-    compares_on most adds = record { comparable = adds.comparable; answer = adds.answer ∙ one_more }
-
-    pub differs : (most : ℕ) → Adds table (same_at table pair) most left new false → false ≡ same v w
-    differs most adds = adds.answer ∙ one_more
-
     pub falls : (is : Bool) → Adds table (same_at table pair) (weight (thing_at table pair.0.0) - 1) left new is
         → weight_of_pairs table new < weight_of_pairs table stack
     falls is adds = omega (arith, adds.lighter, some_weight (thing_at table pair.0.0), ap (weight_of_pairs table) popped, weight_append left pair)
@@ -266,12 +190,3 @@ module _ (table : List Thing) where
         some_weight (Xml tag attributes content) = omega arith
         some_weight (Record fields) = omega arith
         some_weight _ = omega arith
-
-  pub all_compared : (v w : Thing) (pairs : Pairs) → IsComparing v w pairs → pairs ≡ [] → true ≡ same v w
-  all_compared v w pairs so_far none = ap (all_same table) (sym none) ∙ so_far.answer
-
-  pub parts_in_table : (names : List Name) (bound : ℕ) (parts : List Part) → bound < length table → AllOf (IsPart names bound) parts
-      → AllOf (IsPart names (length table)) parts
-  parts_in_table names bound [] within are = tt
-  parts_in_table names bound (part ∷ parts) within are =
-      ((are.0.0, omega (arith, are.0.1, within)), parts_in_table names bound parts within are.1)

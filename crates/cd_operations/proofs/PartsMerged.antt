@@ -1,12 +1,12 @@
 -- The parts of two records become those of one.
-use Rattle.std.proofs.Common.{◌≡◌, ◌∙◌, refl, sym, ap, ap₂, subst, arith, ℕ, ◌+◌, ◌<◌, List, [], ◌∷◌, ◌++◌, Option, Some, None, length}
+use Rattle.std.proofs.Common.{◌≡◌, ◌∙◌, refl, sym, ap, ap₂, subst, arith, List, [], ◌∷◌, ◌++◌, Some, None, length}
 use Rattle.std.specs.declared.cmp.Ordering.TheVariants.{Less, Equal, Greater}
 use Rattle.cd_syntax.specs.Name.{Name}
 use Rattle.cd_model.specs.AllOf.{AllOf}
 use Rattle.cd_model.specs.Thing.{Thing, Fields, NoField, Field, LabelsRise}
 use Rattle.cd_cells.specs.declared.cell.Part.{Part}
 use Rattle.cd_cells.specs.declared.values.Values.{Values}
-use Rattle.cd_cells.specs.Cells.{thing_at, name_at, fields_of, IsPart}
+use Rattle.cd_cells.specs.Cells.{thing_at, name_at, IsPart}
 use Rattle.cd_cells.specs.Table.{table, names}
 use Rattle.cd_evaluation.specs.Environment.{with_all}
 use Rattle.cd_evaluation.specs.RecordFields.{merged}
@@ -20,13 +20,6 @@ module _ (values : Values) where
 
   abbrev value_of : Part → Thing
   value_of part = thing_at (table values) part.value
-
-  -- the parts after the first one
-  abbrev pub IsSplit : List Part → Part → List Part → Type 0
-  IsSplit parts first rest = parts ≡ first ∷ rest
-
-  none_of_record : AreOfRecord values []
-  none_of_record = record { parts_are = tt; rise = tt }
 
   split_record : (parts rest : List Part) (first : Part) → parts ≡ first ∷ rest → AreOfRecord values parts
       → AreOfRecord values (first ∷ rest)
@@ -122,22 +115,11 @@ module _ (values : Values) where
         shorter = omega (arith, ap length is, ap length is_too, ap length same, ap length same_rest);
       }
 
-  pub nothing_next : (both : Both) → both.first.now ≡ [] → both.second.now ≡ [] → fields_of_both values both ≡ NoField
-  nothing_next both none none_too = ap₂ (λ one other. merged (fields_by values one) (fields_by values other)) none none_too
-
   -- these parts are made, and the fields of both are left
   pub record IsMerging (first second made : List Part) (both : Both) : Type 0 where
     pub parts_are : AllOf (IsPart (names values) (length (table values))) made
     pub left : AreOfRecords values both
     pub goes : with_all (fields_by values made) (fields_of_both values both) ≡ merged (fields_by values first) (fields_by values second)
-
-  pub merging_starts : (made : List Part) (both : Both) → made ≡ [] → AreOfRecords values both
-      → IsMerging both.first.now both.second.now made both
-  merging_starts made both none of = subst (λ made. IsMerging both.first.now both.second.now made both) (sym none) record {
-    parts_are = tt;
-    left = of;
-    goes = refl;
-  }
 
   parts_append : (parts : List Part) (one : Part) → AllOf (IsPart (names values) (length (table values))) parts
       → IsPart (names values) (length (table values)) one → AllOf (IsPart (names values) (length (table values))) (parts ++ one ∷ [])

@@ -1,14 +1,13 @@
 -- The parts of a record of the table, and those with one more, or without one.
-use Rattle.std.proofs.Common.{◌≡◌, ◌∙◌, refl, sym, ap, ap₂, subst, arith, ℕ, zero, suc, ◌<◌, ◌≤◌, Bool, true, false, List, [], ◌∷◌, Option, Some, None, length, bytes_eq, inl, inr, true≢false}
+use Rattle.std.proofs.Common.{◌≡◌, ◌∙◌, refl, sym, ap, subst, Bool, true, false, List, [], ◌∷◌, Option, Some, None, length, bytes_eq, true≢false}
 use Rattle.std.specs.Prelude.{not, filter, cond, if◌then◌else◌}
-use Rattle.std.specs.Ordering.{nat_cmp, is_lt, ordering_reverse}
+use Rattle.std.specs.Ordering.{is_lt, ordering_reverse}
 use Rattle.std.specs.declared.cmp.Ordering.TheVariants.{Less}
 use Rattle.std.proofs.lemmas.Cmp.{nat_list_cmp_total}
 use Rattle.std.proofs.lemmas.Slice.Eq.{bytes_eq-Decides}
-use Rattle.cd_syntax.specs.Name.{Name, IsLabel, IsAbove}
+use Rattle.cd_syntax.specs.Name.{Name}
 use Rattle.cd_model.specs.AllOf.{AllOf}
-use Rattle.cd_model.specs.Thing as thing
-use Rattle.cd_model.specs.Thing.{Thing, Fields, NoField, Field, Record, LabelsRise, IsValue}
+use Rattle.cd_model.specs.Thing.{Thing, Fields, NoField, Field, Record, LabelsRise}
 use Rattle.cd_cells.specs.declared.cell.Part.{Part}
 use Rattle.cd_cells.specs.declared.values.Values.{Values}
 use Rattle.cd_cells.specs.Cells.{thing_at, name_at, IsPart}
@@ -21,31 +20,7 @@ use Rattle.cd_operations.specs.Inner.FieldsFound.{is_of}
 use Rattle.cd_operations.specs.Inner.Merging.{fields_by, AreOfRecord}
 use Rattle.cd_operations.proofs.FieldsMerged.{order, rise_before}
 
-value_is : (table : List Thing) (number : ℕ) → AllOf IsValue table → number < length table → IsValue (thing_at table number)
-value_is [] number are within = absurd (omega arith)
-value_is (first ∷ rest) zero are within = are.0
-value_is (first ∷ rest) (suc number) are within = value_is rest number are.1 (omega arith)
-
-parts_below : (names : List Name) (low high : ℕ) (parts : List Part) → low ≤ high → AllOf (IsPart names low) parts → AllOf (IsPart names high) parts
-parts_below names low high [] below are = tt
-parts_below names low high (part ∷ parts) below are =
-    ((are.0.0, omega (arith, are.0.1, below)), parts_below names low high parts below are.1)
-
 module _ (values : Values) where
-  -- what is looked at
-  pub looked_record : (id : ℕ) (parts : List Part) → AllOf IsValue (table values) → id < length (table values)
-      → Record (fields_by values parts) ≡ thing_at (table values) id → AllOf (IsPart (names values) id) parts → AreOfRecord values parts
-  looked_record id parts are within is parts_are =
-      let record_is : IsValue (Record (fields_by values parts)) = subst IsValue (sym is) (value_is (table values) id are within) in
-      record {
-        parts_are = parts_below (names values) id (length (table values)) parts (omega (arith, within)) parts_are;
-        rise = record_is.0;
-      }
-
-  pub one_part : (part : Part) → IsLabel (name_at (names values) part.label) → part.value < length (table values)
-      → AreOfRecord values (part ∷ [])
-  one_part part label within = record { parts_are = ((label, within), tt); rise = (tt, tt) }
-
   module _ (label : Name) where
     abbrev other : Part → Bool
     other part = not (is_of (names values) label part)

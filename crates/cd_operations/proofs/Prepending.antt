@@ -1,7 +1,6 @@
 -- The items of a sequence are collected on a stack, and put before an end.
-use Rattle.std.proofs.Common.{◌≡◌, ◌∙◌, ap, ap₂, sym, refl, subst, arith, ℕ, ◌<◌, Bool, true, false, List, [], ◌∷◌, ◌++◌, Option, Some, None, length, map, append-nil, append_assoc}
+use Rattle.std.proofs.Common.{◌≡◌, ◌∙◌, ap, ap₂, sym, refl, subst, ℕ, ◌<◌, Bool, List, [], ◌∷◌, ◌++◌, length, append-nil}
 use Rattle.std.proofs.lemmas.List.{map-append}
-use Rattle.cd_model.specs.AllOf.{AllOf}
 use Rattle.cd_model.specs.Thing.{Thing, Pair}
 use Rattle.cd_meaning.specs.Sequences.{followed_by}
 use Rattle.cd_cells.specs.declared.cell.ValueId.{ValueId}
@@ -9,14 +8,10 @@ use Rattle.cd_cells.specs.declared.values.Values.{Values}
 use Rattle.cd_cells.specs.Cells.{thing_at}
 use Rattle.cd_cells.specs.Table.{table, IsAt, Grows}
 use Rattle.cd_operations.specs.Along.{items_along}
-use Rattle.cd_operations.specs.Inner.Pairs.{IsPairAt, is_empty}
+use Rattle.cd_operations.specs.Inner.Pairs.{is_empty}
 use Rattle.cd_operations.specs.Inner.Joins.{IsAnswer, things_of, AreWithin, Collects}
-use Rattle.cd_operations.proofs.Growing.{itself, further, within_grown, thing_grown}
-use Rattle.cd_operations.proofs.ItemsAlong.{at_end, at_pair}
-
-within_append : (bound : ℕ) (ids more : List ValueId) → AreWithin bound ids → AreWithin bound more → AreWithin bound (ids ++ more)
-within_append bound [] more are are_more = are_more
-within_append bound (id ∷ ids) more are are_more = (are.0, within_append bound ids more are.1 are_more)
+use Rattle.cd_operations.proofs.Growing.{further, within_grown, thing_grown}
+use Rattle.cd_operations.proofs.ItemsAlong.{at_end}
 
 within_before : (bound : ℕ) (ids : List ValueId) (last : ValueId) → AreWithin bound (ids ++ last ∷ [])
     → AreWithin bound ids × (last.0 < bound)
@@ -30,28 +25,6 @@ pub record IsCollecting (table : List Thing) (v : Thing) (rest : ℕ) (ids : Lis
   pub within : AreWithin (length table) ids
   pub goes : things_of table ids ++ items_along (thing_at table rest) ≡ items_along v
   pub leads : (is : Bool) → IsAnswer (thing_at table rest) is → IsAnswer v is
-
-pub collecting_starts : (table : List Thing) (all : ℕ) (ids : List ValueId) → all < length table → ids ≡ []
-    → IsCollecting table (thing_at table all) all ids
-collecting_starts table all ids within none = subst (IsCollecting table (thing_at table all) all) (sym none) record {
-  rest_within = within;
-  within = tt;
-  goes = refl;
-  leads = λ is same. same;
-}
-
-pub collects_on : (table : List Thing) (v : Thing) (rest : ℕ) (ids new : List ValueId) (parts : ValueId × ValueId)
-    → IsCollecting table v rest ids → IsPairAt table rest parts → new ≡ ids ++ parts.0 ∷ [] → IsCollecting table v parts.1.0 new
-collects_on table v rest ids new parts so_far pair pushed = subst (IsCollecting table v parts.1.0) (sym pushed) record {
-  rest_within = omega (arith, so_far.rest_within, pair.rest);
-  within = within_append (length table) ids (parts.0 ∷ []) so_far.within (omega (arith, so_far.rest_within, pair.first), tt);
-  goes =
-      let later = items_along (thing_at table parts.1.0) in
-      ap (λ things. things ++ later) (map-append (λ (id : ValueId). thing_at table id.0) ids (parts.0 ∷ []))
-      ∙ append_assoc (things_of table ids) (thing_at table parts.0.0 ∷ []) later
-      ∙ ap (λ one. things_of table ids ++ items_along one) (sym pair.is) ∙ so_far.goes;
-  leads = λ is same. so_far.leads is (at_pair (thing_at table rest) _ _ is pair.is same);
-}
 
 pub collected : (table : List Thing) (v : Thing) (rest : ℕ) (ids : List ValueId) (is : Bool) → IsCollecting table v rest ids
     → items_along (thing_at table rest) ≡ [] → is ≡ is_empty (thing_at table rest) → Collects table v ids is
@@ -85,23 +58,11 @@ pub record IsPutting (old : Values) (ids : List ValueId) (end : ℕ) (now : Valu
       ≡ followed_by (things_of (table old) ids) (thing_at (table old) end)
   pub grows : Grows old now
 
-pub putting_starts : (values : Values) (ids : List ValueId) (end : ℕ) → AreWithin (length (table values)) ids → end < length (table values)
-    → IsPutting values ids end values ids end
-putting_starts values ids end are within = record {
-  left_within = are;
-  made_within = within;
-  goes = refl;
-  grows = itself values;
-}
-
 -- the last one is taken off
 module _ (old one : Values) (ids : List ValueId) (end : ℕ) (stack left : List ValueId) (made : ℕ) (top : ValueId)
     (popped : stack ≡ left ++ top ∷ []) (putting : IsPutting old ids end one stack made) where
   still : IsPutting old ids end one (left ++ top ∷ []) made
   still = subst (λ (all : List ValueId). IsPutting old ids end one all made) popped putting
-
-  pub top_within : top.0 < length (table one)
-  top_within = (within_before (length (table one)) left top still.left_within).1
 
   pub puts_on : (two : Values) (id : ℕ) → Grows one two
       → IsAt (table two) id (Pair (thing_at (table one) top.0) (thing_at (table one) made)) → IsPutting old ids end two left id
@@ -118,10 +79,3 @@ module _ (old one : Values) (ids : List ValueId) (end : ℕ) (stack left : List 
             ∙ still.goes;
         grows = further old one two still.grows grows;
       }
-
-pub all_put : (old now : Values) (ids left : List ValueId) (end made : ℕ) → IsPutting old ids end now left made → left ≡ []
-    → IsAt (table now) made (followed_by (things_of (table old) ids) (thing_at (table old) end))
-all_put old now ids left end made putting none = record {
-  within = putting.made_within;
-  is = ap (λ all. followed_by (things_of (table now) all) (thing_at (table now) made)) (sym none) ∙ putting.goes;
-}

@@ -1,10 +1,10 @@
 -- The characters of a text become pairs, the last one first.
-use Rattle.std.proofs.Common.{◌≡◌, ◌∙◌, ap, subst, sym, refl, arith, ℕ, ◌<◌, List, [], ◌∷◌, ◌++◌, length, encode_utf8, append-nil, append_assoc}
+use Rattle.std.proofs.Common.{◌≡◌, ◌∙◌, ap, subst, sym, arith, ℕ, List, [], ◌∷◌, ◌++◌, length, encode_utf8, append_assoc}
 use Rattle.std.specs.Str.{chars, IsUtf8}
 use Rattle.std.proofs.Math.Utf8.{encodes}
 use Rattle.std.proofs.lemmas.Str.{chars_from_encodes}
-use Rattle.cd_model.specs.Thing.{Thing, Character, Pair}
-use Rattle.cd_matching.specs.Sequences.{nil, text_of}
+use Rattle.cd_model.specs.Thing.{Character, Pair}
+use Rattle.cd_matching.specs.Sequences.{text_of}
 use Rattle.cd_cells.specs.declared.values.Values.{Values}
 use Rattle.cd_cells.specs.Cells.{thing_at}
 use Rattle.cd_cells.specs.Table.{table, IsAt, Grows}
@@ -16,15 +16,6 @@ pub record IsWritten (old : Values) (text : List ℕ) (now : Values) (made : ℕ
   pub spells : text ≡ rest ++ encodes done
   pub is : IsAt (table now) made (text_of done)
   pub grows : Grows old now
-
-pub written_start : (old now : Values) (made : ℕ) (text rest : List ℕ) → rest ≡ text → Grows old now → IsAt (table now) made nil
-    → IsWritten old text now made rest
-written_start old now made text rest is grows at = record {
-  done = [];
-  spells = sym is ∙ sym (append-nil rest);
-  is = at;
-  grows = grows;
-}
 
 pub written_on : (old one two three : Values) (before letter id : ℕ) (text rest later : List ℕ) (c : ℕ)
     → IsWritten old text one before rest → rest ≡ later ++ encode_utf8 c → Grows one two → IsAt (table two) letter (Character c)
@@ -39,10 +30,6 @@ written_on old one two three before letter id text rest later c now is grows at 
       subst (IsAt (table three) id) pair added;
   grows = further old two three (further old one two now.grows grows) then;
 }
-
-pub written_within : (old one two : Values) (before : ℕ) (text rest : List ℕ) → IsWritten old text one before rest → Grows one two
-    → before < length (table two)
-written_within old one two before text rest now grows = (at_grown one two grows before (text_of now.done) now.is).within
 
 pub written_end : (old now : Values) (made : ℕ) (text rest : List ℕ) → IsUtf8 text → IsWritten old text now made rest → length rest ≡ 0
     → IsAt (table now) made (text_of (chars text))

@@ -102,7 +102,12 @@ pub(crate) fn merged(
         (fields_of (thing_at old first.0)) (fields_of (thing_at old second.0))))) }
     ensures grows { Grows values.old values.new }
 {
-    let made = merge(alloc, values, parts_at(values, first), parts_at(values, second))?;
+    let made = merge(
+        alloc,
+        values,
+        parts_at(values, first),
+        parts_at(values, second),
+    )?;
     Ok(values.record_of(made.as_slice())?)
 }
 

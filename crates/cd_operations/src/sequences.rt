@@ -30,11 +30,7 @@ pub fn is_sequence(values: &Values, value: ValueId) -> bool
 /// # Errors
 ///
 /// Want of memory.
-pub fn reversed(
-    values: &mut Values,
-    done: ValueId,
-    onto: ValueId,
-) -> Result<ValueId, AllocError>
+pub fn reversed(values: &mut Values, done: ValueId, onto: ValueId) -> Result<ValueId, AllocError>
     requires done { done.0 < length (table values.old) }
     requires onto { onto.0 < length (table values.old) }
     ensures is { let old = table values.old in IfOk result (λ id. IsAt (table values.new) id.0

@@ -53,11 +53,7 @@ pub(crate) fn text_of(values: &mut Values, text: &str) -> Result<ValueId, AllocE
 }
 
 /// The text of an integer.
-pub(crate) fn decimal_of(
-    alloc: Global,
-    values: &mut Values,
-    n: i128,
-) -> Result<ValueId, AllocError>
+pub(crate) fn decimal_of(alloc: Global, values: &mut Values, n: i128) -> Result<ValueId, AllocError>
     ensures is { IfOk result (λ id.
         IsAt (table values.new) id.0 (sequences.text_of (signed_decimal n))) }
     ensures grows { Grows values.old values.new }

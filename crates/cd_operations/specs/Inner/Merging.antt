@@ -1,8 +1,7 @@
 -- Two records are merged, field by field.
 use Rattle.std.specs.Prelude.{◌≡◌, ◌<◌, ◌+◌, List, None, length}
-use Rattle.cd_syntax.specs.Name.{Name}
 use Rattle.cd_model.specs.AllOf.{AllOf}
-use Rattle.cd_model.specs.Thing.{Thing, Fields, NoField, Field, LabelsRise}
+use Rattle.cd_model.specs.Thing.{Fields, Field, LabelsRise}
 use Rattle.cd_cells.specs.declared.cell.Part.{Part}
 use Rattle.cd_cells.specs.declared.values.Values.{Values}
 use Rattle.cd_cells.specs.Cells.{thing_at, name_at, fields_of, IsPart}

@@ -1,4 +1,4 @@
-use Rattle.std.proofs.Common.{◌∙◌, ap, sym, subst, Bool}
+use Rattle.std.proofs.Common.{sym, subst, Bool}
 use Rattle.cd_cells.specs.Cells.{fields_of}
 use Rattle.cd_cells.specs.Table.{table, names}
 use Rattle.cd_evaluation.specs.Equality as equality

@@ -11,6 +11,6 @@ pub returns-clause-is : goal.returns-clause-is
 returns-clause-is c =
     let value = thing_grown _ _ c.in_ok-nil.ensures.grows _ c.requires in
     let items = c.in_ok-results.ensures.items
-        ∙ ap₂ (λ all onto. before (items_along all) (items_along onto)) value c.in_ok-nil.ensures.is.is in
+    ∙ ap₂ (λ all onto. before (items_along all) (items_along onto)) value c.in_ok-nil.ensures.is.is in
     subst (λ outcome. IfOk c.joined.result (λ ending. plain_ending (table c.joined.new.values) ending ≡ outcome))
     (flat _ _ c.if-not-is_sequence.ensures items) c.joined.ensures.is

@@ -1,4 +1,4 @@
-use Rattle.std.proofs.Common.{◌≡◌, ◌∙◌, ap, sym, subst}
+use Rattle.std.proofs.Common.{◌∙◌, ap, sym, subst}
 use Rattle.std.specs.Str.{chars}
 use Rattle.cd_model.specs.Thing.{Record}
 use Rattle.cd_evaluation.specs.Runs.{Done}
@@ -24,6 +24,6 @@ returns-clause-is c =
     let values = c.args.values.now in
     let label = chars c.args.label.now in
     let same = ap (fields_by values) c.as_slice.ensures.value
-        ∙ others_are values label _ _ c.parts_at.ensures.record c.in_ok-made.ensures
-        ∙ ap (fields.without label) c.parts_at.ensures.fields in
+    ∙ others_are values label _ _ c.parts_at.ensures.record c.in_ok-made.ensures
+    ∙ ap (fields.without label) c.parts_at.ensures.fields in
     ap Done (c.in_ok-record_of.ensures.is.is ∙ ap Record same) ∙ dropped_record label _ _ c.in-Record.ensures.thing

@@ -1,24 +1,12 @@
-use Rattle.std.proofs.Common.{◌∙◌, ap, sym, subst, map}
-use Rattle.std.specs.Str.{chars, IsUtf8}
-use Rattle.std.specs.Str.Iter.{chars_rest}
+use Rattle.std.proofs.Common.{◌∙◌, ap, map}
+use Rattle.std.specs.Str.{chars}
 use Rattle.cd_model.specs.Thing.{Character}
 use Rattle.cd_cells.specs.Cells.{thing_at}
 use Rattle.cd_cells.specs.Table.{table}
 use Rattle.cd_operations.specs.Along.{items_along}
 use Rattle.cd_operations.proofs.ItemsAlong.{turned_items}
-use Rattle.cd_operations.proofs.CharactersPushed.{put_start, put_on, put_within, put_end}
+use Rattle.cd_operations.proofs.CharactersPushed.{put_on, put_end}
 use Rattle.cd_operations.proofs.texts.characters.Goals as goal
-
-pub loop-c-init : goal.loop-c-init
-loop-c-init c =
-    let is = ap chars_rest c.into_iter-c-iterator.ensures.into_iter_gives ∙ c.chars-c-items.ensures.rest in
-    put_start _ _ _ _ (subst IsUtf8 (sym is) c.utf8.text) (ap chars is) c.requires
-
-pub pair-requires-clause-first : goal.pair-requires-clause-first
-pair-requires-clause-first c = c.in_ok-letter.ensures.is.within
-
-pub pair-requires-clause-second : goal.pair-requires-clause-second
-pair-requires-clause-second c = put_within _ _ _ _ _ _ _ c.loop-c.invariant c.in_ok-letter.ensures.grows
 
 pub loop-c-preserved : goal.loop-c-preserved
 loop-c-preserved c =
