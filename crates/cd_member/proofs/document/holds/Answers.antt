@@ -1,8 +1,6 @@
 use Rattle.std.proofs.lemmas.Result.{IfOk-weaker}
-use Rattle.cd_asking.specs.MappedArrows.{MapsRight}
 use Rattle.cd_cells.specs.Cells.{thing_at}
 use Rattle.cd_cells.specs.Table.{table}
-use Rattle.cd_graph.specs.Nodes.{nodes}
 use Rattle.cd_model.proofs.Closures.{none_in_data}
 use Rattle.cd_member.proofs.document.holds.Goals as goal
 
@@ -11,4 +9,4 @@ pub returns : goal.returns
 returns c =
     let v = thing_at (table c.args.values.now) c.args.id.0 in
     IfOk-weaker c.is_in.result _ _ (λ answer is interfaces.
-    is interfaces (none_in_data (MapsRight (nodes c.args.graph.now) interfaces c.maps) v c.requires.data)) c.is_in.ensures
+    is interfaces (none_in_data _ v c.requires.data)) c.is_in.ensures
