@@ -3,13 +3,12 @@ use Rattle.std.proofs.Common.{arith, ◌≢◌, ℕ, suc, ◌<◌, ◌≤◌, Li
 use Rattle.std.specs.Prelude.{flat_map}
 use Rattle.cd_model.specs.AllOf.{AllOf}
 use Rattle.cd_syntax.specs.TypeTree.{Tree}
-use Rattle.cd_syntax.proofs.SoundTokens.{of_both as of_two_lists}
 use Rattle.cd_program.specs.Expr.{FunctionTree}
 use Rattle.cd_evaluation.specs.Code.{place_of}
 use Rattle.cd_evaluation.specs.ProgramFunctions.{functions_within, within_all, PlacesDiffer}
 use Rattle.cd_placed.specs.Patterns.{start_of, patterns_of_function, patterns_of_functions, StartsDiffer}
 use Rattle.cd_placed.proofs.Rising.{Rises, parted, ordered, Follows, itself}
-use Rattle.cd_placed.proofs.Rules.{joined}
+use Rattle.cd_placed.proofs.Rules.{joined, both_parts}
 use Rattle.cd_placed.proofs.FunctionPlaces.{of_both, places_of_function}
 use Rattle.cd_placed.proofs.PatternStarts.{starts_of_function}
 
@@ -87,7 +86,7 @@ between : (middle : ℕ) (first inner second : List FunctionTree) → PlacesDiff
 between middle [] inner second differ others below before after = apart middle inner second others differ below after
 between middle (f ∷ rest) inner second differ others below before after =
     let Other = λ (other : FunctionTree). place_of f ≢ place_of other in
-    let parts = of_two_lists Other rest second differ.0 in
+    let parts = both_parts Other rest second differ.0 in
     let apart_from = each (λ g. place_of g < middle) Other (λ g less same. omega (arith, less, same, before.0)) inner below in (
       joined Other rest (inner ++ second) parts.0 (joined Other inner second apart_from parts.1),
       between middle rest inner second differ.1 others below before.1 after,

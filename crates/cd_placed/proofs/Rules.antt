@@ -14,6 +14,11 @@ pub joined : {A : Type 0} (fact : A → Type 0) (all more : List A) → AllOf fa
 joined fact [] more are so = so
 joined fact (first ∷ rest) more are so = (are.0, joined fact rest more are.1 so)
 
+pub both_parts : {A : Type 0} (fact : A → Type 0) (first second : List A) → AllOf fact (first ++ second)
+    → AllOf fact first × AllOf fact second
+both_parts fact [] second all = (tt, all)
+both_parts fact (one ∷ first) second all = let rest = both_parts fact first second all.1 in ((all.0, rest.0), rest.1)
+
 abbrev pub parts_of : List Placed → List Part
 parts_of values = map (λ part. part.1) values
 
