@@ -1,0 +1,16 @@
+mod Lists
+mod Joining
+mod Shifting
+mod Nodes
+mod FieldsInTurn
+mod Efforts
+mod Falling
+mod Closures
+mod Keeping
+mod FieldsFound
+mod Growth
+mod TextFromEnd
+mod Gathering
+mod Stepping
+mod TypesOfFields
+mod InTurn
