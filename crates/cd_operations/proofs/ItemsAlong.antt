@@ -8,7 +8,7 @@ use Rattle.cd_matching.specs.Sequences.{items, sequence_of}
 use Rattle.cd_meaning.specs.Sequences.{followed_by}
 use Rattle.cd_evaluation.specs.Lists.{before}
 use Rattle.cd_operations.specs.Along.{items_along, turned}
-use Rattle.cd_operations.specs.Inner.Pairs.{is_empty}
+use Rattle.cd_operations.specs.Pairs.{is_empty}
 use Rattle.cd_operations.specs.Inner.Joins.{IsAnswer}
 
 pub at_end : (v : Thing) → items_along v ≡ [] → IsAnswer v (is_empty v)

@@ -8,7 +8,7 @@ use Rattle.cd_cells.specs.declared.values.Values.{Values}
 use Rattle.cd_cells.specs.Cells.{thing_at}
 use Rattle.cd_cells.specs.Table.{table, IsAt, Grows}
 use Rattle.cd_operations.specs.Along.{items_along}
-use Rattle.cd_operations.specs.Inner.Pairs.{is_empty}
+use Rattle.cd_operations.specs.Pairs.{is_empty}
 use Rattle.cd_operations.specs.Inner.Joins.{IsAnswer, things_of, AreWithin, Collects}
 use Rattle.cd_operations.proofs.Growing.{further, within_grown, thing_grown}
 use Rattle.cd_operations.proofs.ItemsAlong.{at_end}

@@ -1,4 +1,5 @@
 pub mod Endings
 pub mod Along
+pub mod Pairs
 pub mod FieldsOf
 pub mod Inner

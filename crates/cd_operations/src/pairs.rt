@@ -3,14 +3,14 @@ ghost use Rattle.std.specs.Prelude.{◌≡◌, ◌<◌, [], length, MatchOption}
 ghost use Rattle.cd_cells.specs.Cells.{thing_at};
 ghost use Rattle.cd_cells.specs.Table.{table};
 ghost use Rattle.cd_operations.specs.Along.{items_along};
-ghost use Rattle.cd_operations.specs.Inner.Pairs.{IsPairAt, is_empty};
+ghost use Rattle.cd_operations.specs.Pairs.{IsPairAt, is_empty};
 
 use crate::names::is_named;
 use cd_cells::{Look, ValueId, Values};
 
 /// The parts of a pair.
 #[inline]
-pub(crate) fn pair_at(values: &Values, id: ValueId) -> Option<(ValueId, ValueId)>
+pub fn pair_at(values: &Values, id: ValueId) -> Option<(ValueId, ValueId)>
     requires { id.0 < length (table values.now) }
     ensures { MatchOption result (items_along (thing_at (table values.now) id.0) ≡ [])
         (IsPairAt (table values.now) id.0) }
@@ -23,7 +23,7 @@ pub(crate) fn pair_at(values: &Values, id: ValueId) -> Option<(ValueId, ValueId)
 
 /// Whether a value is the empty sequence.
 #[tactic(auto, using(crate::proofs::Literals::nil_characters))]
-pub(crate) fn is_nil(values: &Values, id: ValueId) -> bool
+pub fn is_nil(values: &Values, id: ValueId) -> bool
     requires { id.0 < length (table values.now) }
     ensures { result ≡ is_empty (thing_at (table values.now) id.0) }
 {
