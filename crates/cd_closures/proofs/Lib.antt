@@ -1,0 +1,9 @@
+mod ArrowsCollected
+mod NodesPut
+mod Deciding
+mod WholesHold
+mod InterfacesWritten
+mod Adding
+mod TablesGrow
+mod FunctionsAdded
+mod MapsMade

@@ -1,0 +1,67 @@
+-- Nodes that hold just the functions in all arrows of an interface.
+use Rattle.std.specs.Prelude.{◌≡◌, ◌<◌, ℕ, Bool, List, [], ◌∷◌, map, length}
+use Rattle.cd_sets.specs.declared.node_id.NodeId.{NodeId}
+use Rattle.cd_model.specs.AllOf.{AllOf}
+use Rattle.cd_model.specs.BuiltIns.{EMPTY, ANY}
+use Rattle.cd_model.specs.Formula.{Graph, Formula, Arrow, And, formulas_of, formula_at, nodes, IsIn}
+use Rattle.cd_model.specs.Interfaces.{Interfaces, OfWritten, admits}
+use Rattle.cd_model.specs.Scope.{Scope}
+use Rattle.cd_model.specs.StandsFor.{StandsFor}
+use Rattle.cd_model.specs.Thing.{Thing, Function, Pairs, IsElement}
+use Rattle.cd_model.specs.Types.{closure_maps}
+use Rattle.cd_matching.specs.WrittenPattern.{in_scope}
+use Rattle.cd_program.specs.Expr.{Signature}
+use Rattle.cd_evaluation.specs.ProgramInterfaces.{IsEnoughFor, written_arrow}
+
+-- numbers two by two
+abbrev pub two_by_two : List NodeId → List (NodeId × NodeId)
+two_by_two (first ∷ second ∷ rest) = (first, second) ∷ two_by_two rest
+two_by_two rest = []
+
+-- the meet of all functions and of arrows
+abbrev pub arrow_formula : NodeId × NodeId → Formula
+arrow_formula arrow = Arrow arrow.0 arrow.1
+
+abbrev pub arrow_formulas : List (NodeId × NodeId) → List Formula
+arrow_formulas arrows = Arrow EMPTY ANY ∷ map arrow_formula arrows
+
+abbrev pub AreNodes : Graph → List (NodeId × NodeId) → Type 0
+AreNodes graph arrows =
+    AllOf (λ arrow. (arrow.0.0 < length graph) × (arrow.1.0 < length graph)) arrows
+
+pub record IsMeet (graph : Graph) (arrows : List (NodeId × NodeId)) (id : NodeId) : Type 0 where
+  pub is_node : id.0 < length graph
+  pub formula : formula_at graph id ≡ And (formulas_of (arrow_formulas arrows))
+
+module _ (scope : Scope) where
+  -- the nodes stand for the types of the arrows that are written
+  abbrev pub AreWritten : Graph → List Signature → List (NodeId × NodeId) → Type 0
+  AreWritten graph [] [] = Unit {0}
+  AreWritten graph (signature ∷ signatures) (arrow ∷ arrows) =
+      StandsFor graph arrow.0 (in_scope scope signature.takes)
+      × StandsFor graph arrow.1 (in_scope scope signature.gives)
+      × AreWritten graph signatures arrows
+  AreWritten graph signatures arrows = ⊥
+
+  -- one function with this interface, and which function elements that admits
+  abbrev pub alone : (count : ℕ) → List Signature → Interfaces
+  alone count interface = OfWritten count (λ at. map (written_arrow scope) interface)
+
+  abbrev pub Admitted : List Signature → Pairs → Type 0
+  Admitted interface pairs =
+      (count : ℕ) → IsEnoughFor scope count interface → admits (alone count interface) 0 pairs
+
+  -- the node holds just the functions in all arrows of the interface
+  pub record IsWhole (graph : Graph) (interface : List Signature) (id : NodeId) : Type 0 where
+    pub is_node : id.0 < length graph
+    pub has : (count : ℕ) (pairs : Pairs) → IsEnoughFor scope count interface
+        → IsElement (Function pairs) → admits (alone count interface) 0 pairs
+        → IsIn graph (Function pairs) id
+    pub only : (e : Thing) → IsElement e → IsIn graph e id
+        → (pairs : Pairs) × (e ≡ Function pairs) × Admitted interface pairs
+
+  -- the answer says whether the closures of a function with this interface are in an arrow
+  abbrev pub IsRight : Graph → List Signature → (argument result : NodeId) → Bool → Type 0
+  IsRight graph interface argument result answer =
+      (count : ℕ) → IsEnoughFor scope count interface
+      → closure_maps (nodes graph) (admits (alone count interface)) 0 argument result answer

@@ -1,0 +1,3 @@
+pub mod SoundInterfaces
+pub mod MapsOf
+pub mod Inner
