@@ -1,0 +1,2 @@
+mod PartsFound
+mod SlotsFilled
