@@ -1,0 +1,22 @@
+mod VariableNumbers
+mod EnvironmentsJoined
+mod BindingsStay
+mod PartsPut
+mod RightTests
+mod EnvironmentsCaptured
+mod KernelTakes
+mod CodeTakes
+mod ConstantsAlike
+mod KernelsMade
+mod CodesStay
+pub mod CodesMade
+mod CopiesMade
+mod ProgramPatterns
+pub mod SoundParts
+mod ProgramCoded
+mod ValuesGrow
+mod NamesBound
+mod TreeStarts
+pub mod ReadyStays
+mod TakenParts
+mod ProgramReady
