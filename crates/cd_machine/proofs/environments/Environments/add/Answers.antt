@@ -1,0 +1,31 @@
+use Rattle.std.proofs.Common.{arith, ◌≡◌, ◌++◌, ◌∷◌, [], ap, ◌∙◌, sym, subst, length, length-append, ◌+◌, List}
+use Rattle.cd_cells.specs.declared.cell.Part.{Part}
+use Rattle.cd_machine.specs.declared.environments.Node.{Node}
+use Rattle.cd_machine.specs.Inner.Nodes.{parts_at, lists, AreOrdered}
+use Rattle.cd_machine.proofs.NodesAdded.{one_more, how_many, still_ordered}
+use Rattle.cd_machine.proofs.environments.Environments.add.Goals as goal
+use Rattle.cd_machine.proofs.environments.Environments.add.Goals.{In_ok-push}
+
+-- how many environments there are
+count : (c : In_ok-push) → length c.args.self.now ≡ 1 + length c.self.inside.nodes.items
+count c = ap length (sym c.self.view_is) ∙ how_many ([] ∷ []) c.self.inside.nodes.items
+
+ordered : (c : In_ok-push) → AreOrdered 0 c.push.new.self.items
+ordered c = subst (AreOrdered 0) (sym c.in_ok-push.ensures.items)
+    (still_ordered 0 c.self.inside.nodes.items (record { part = c.args.part; around = c.args.around.0 }) c.self.invariant (omega (arith, count c, c.requires)))
+
+pub invariant_of-self-in_err-small : goal.invariant_of-self-in_err-small
+invariant_of-self-in_err-small c = ordered (goal.at.invariant_of-self-in_err-small c).In_ok-push
+
+pub invariant_of-self-2 : goal.invariant_of-self-2
+invariant_of-self-2 c = ordered (goal.at.invariant_of-self-2 c).In_ok-push
+
+pub returns-clause-number : goal.returns-clause-number
+returns-clause-number c =
+    let made = count (goal.at.returns-clause-number c).In_ok-push in
+    let longer : length c.push.new.self.items ≡ length c.self.inside.nodes.items + 1 = ap length c.in_ok-push.ensures.items ∙ length-append c.self.inside.nodes.items _ in
+    omega (arith, made, longer, c.len.ensures, c.in_ok-small.ensures {u = tt})
+
+pub returns-clause-added : goal.returns-clause-added
+returns-clause-added c = ap lists c.in_ok-push.ensures.items ∙ one_more ([] ∷ []) c.self.inside.nodes.items (record { part = c.args.part; around = c.args.around.0 })
+    ∙ ap (λ (all : List (List Part)). all ++ (c.args.part ∷ parts_at all c.args.around.0) ∷ []) c.self.view_is

@@ -1,0 +1,2 @@
+pub mod PlainRan
+pub mod Inner
