@@ -67,6 +67,11 @@ impl Environments {
         }
     }
 
+    /// The allocator of their memory.
+    pub(crate) fn allocator(&self) -> Global {
+        *self.nodes.allocator()
+    }
+
     /// Adds an environment: a name with its value, and what stands around it.
     pub(crate) fn add(&mut self, part: Part, around: EnvId) -> Result<EnvId, AllocError>
         requires { around.0 < length self.old }

@@ -119,20 +119,9 @@ fn resume_with<'p>(
         Frame::Mapping(branches, env, done, left) => {
             map_next(code, values, environments, branches, env, (done, left), id)
         }
-        Frame::Sifting(branches, env) => {
-            sift(alloc, code, values, environments, branches, env, id)
-        }
+        Frame::Sifting(branches, env) => sift(code, values, environments, branches, env, id),
         Frame::Joining(branches, env, done, left) => {
-            sift_next(
-                alloc,
-                code,
-                values,
-                environments,
-                branches,
-                env,
-                (done, left),
-                id,
-            )
+            sift_next(code, values, environments, branches, env, (done, left), id)
         }
     }
 }

@@ -21,11 +21,10 @@ use cd_code::Code;
 use cd_operations::pairs::pair_at;
 use cd_operations::sequences::is_sequence;
 use cd_program::expr::Branches;
-use std::alloc::{AllocError, Global};
+use std::alloc::AllocError;
 
 /// The first item of the sequence of `transform`.
 pub(crate) fn sift<'p>(
-    alloc: Global,
     code: &mut Code<'p>,
     values: &mut Values,
     environments: &mut Environments,
@@ -48,13 +47,12 @@ pub(crate) fn sift<'p>(
         return Ok(Turn::give(Outcome::Stuck));
     }
     let none = values.nil()?;
-    Ok(sift_on(alloc, code, values, environments, branches, env, none, id)?)
+    Ok(sift_on(code, values, environments, branches, env, none, id)?)
 }
 
 /// The next item of the sequence, after this result of the last one: results that are done, and items
 /// that are left.
 pub(crate) fn sift_next<'p>(
-    alloc: Global,
     code: &mut Code<'p>,
     values: &mut Values,
     environments: &mut Environments,
@@ -80,13 +78,12 @@ pub(crate) fn sift_next<'p>(
 {
     let (done, left) = parts;
     let done = values.pair(id, done)?;
-    Ok(sift_on(alloc, code, values, environments, branches, env, done, left)?)
+    Ok(sift_on(code, values, environments, branches, env, done, left)?)
 }
 
 // The next of the items that are left, after these results. An item that no branch takes gives no
 // items.
 fn sift_on<'p>(
-    alloc: Global,
     code: &mut Code<'p>,
     values: &mut Values,
     environments: &mut Environments,
@@ -109,7 +106,10 @@ fn sift_on<'p>(
         code.new values.new environments.new) }
 {
     match pair_at(values, left) {
-        None => Ok(Turn::give(joined(alloc, values, done)?)),
+        None => {
+            let alloc = environments.allocator();
+            Ok(Turn::give(joined(alloc, values, done)?))
+        }
         Some((one, rest)) => {
             let none = values.nil()?;
             let entry = choose(code, values, environments, branches, one, env)?;
