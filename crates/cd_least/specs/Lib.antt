@@ -1,0 +1,4 @@
+pub mod Misses
+pub mod Faults
+pub mod ProgramFaults
+pub mod Least
