@@ -18,15 +18,17 @@ pub record FileHasProgram (disk : Disk) (file text : Bytes) (program : Program) 
   pub has : HasText disk file text
   pub reads : ReadsAsProgram text program
 
+-- a place where a rule is said not to be met, with the canonical text of an element
+pub data TellsRule (file text : Bytes) : Reply → Type 0 where
+  unmet : (place : ℕ) (rule : Rule) (element : Thing) → IsElement element → TellsRule file text
+      (reply.ill_typed file text place (text_of rule) (encode_utf8_all (canonical element)))
+
 -- the answers on a program that a file's text reads as
 pub data ProgramAnswer (file text : Bytes) (program : Program) : Reply → Type 0 where
   -- the typing rules type it
   accepted : IsTyped program → ProgramAnswer file text program (says Done (codes "accepted"))
-  -- a place where a rule is said not to be met, with the canonical text of an element. That no
-  -- types exist then isn't said yet
-  ill_typed : (place : ℕ) (rule : Rule) (element : Thing) → IsElement element
-      → ProgramAnswer file text program
-      (reply.ill_typed file text place (text_of rule) (encode_utf8_all (canonical element)))
+  -- a rule is told. That no types exist then isn't said yet
+  ill_typed : (reply : Reply) → TellsRule file text reply → ProgramAnswer file text program reply
 
 pub data CheckAnswer (disk : Disk) (file : Bytes) : Reply → Type 0 where
   file_refused : (reply : Reply) → FileRefusal RefusesProgram disk file reply

@@ -1,14 +1,17 @@
 //! The command `check`: whether the typing rules type a program.
 #![tactic(auto)]
 
-ghost use Rattle.std.specs.Prelude.{◌≡◌, IfOk};
+ghost use Rattle.std.specs.Prelude.{◌≡◌, IfOk, MatchOption};
 ghost use Rattle.cd_program.specs.PlainProgram.{plain_program};
 ghost use Rattle.cd_program.specs.WellMade.{IsWellMadeProgram};
+ghost use Rattle.cd_typing.specs.Typed.{IsTyped};
 ghost use Rattle.cd_replies.specs.Disk.{Disk, HasText};
 ghost use Rattle.cd_replies.specs.File.{ReadsThere};
 ghost use Rattle.cd_replies.specs.Message.{IsAnswer, reply_of};
 ghost use Rattle.cd_replies.specs.Texts.{ReadsAsProgram};
-ghost use Rattle.cd_checking.specs.CheckAnswer.{CheckAnswer, ProgramAnswer};
+ghost use Rattle.cd_check.specs.Faults.{IsNamed};
+ghost use Rattle.cd_empty.specs.Seen.{table_of};
+ghost use Rattle.cd_checking.specs.CheckAnswer.{CheckAnswer, ProgramAnswer, TellsRule};
 
 use cd_base::files::Files;
 use cd_check::{CheckError, check_types};
@@ -62,18 +65,58 @@ fn of_program(
     ensures { IfOk result (λ message.
         ProgramAnswer file.now text.now (plain_program program.now) (reply_of message)) }
 {
+    match no_types(alloc, file, text, program)? {
+        None => accepted(alloc),
+        Some(message) => Ok(message),
+    }
+}
+
+/// What is said of a program, which this text of a file reads as, if no types are found for it: the
+/// place of what does not meet a rule, the rule, and an element that shows it. Else the typing rules
+/// type it.
+///
+/// # Errors
+///
+/// Want of memory.
+pub fn no_types(
+    alloc: Global,
+    file: &str,
+    text: &str,
+    program: &Program,
+) -> Result<Option<Message>, AllocError>
+    requires reads { ReadsAsProgram text.now (plain_program program.now) }
+    requires well_made { IsWellMadeProgram (plain_program program.now) }
+    ensures { IfOk result (λ found. MatchOption found (IsTyped (plain_program program.now))
+        (λ message. TellsRule file.now text.now (reply_of message))) }
+{
     let mut world = World::new(alloc)?;
     let names = match declare(alloc, &mut world, &program.types)? {
         Ok(names) => names,
         Err(_) => unreachable!(),
     };
     match check_types(alloc, &mut world, &names, program) {
-        Ok(()) => accepted(alloc),
-        Err(CheckError::IllTyped(fault)) => {
+        Ok(()) => Ok(None),
+        Err(error) => Ok(Some(unmet(alloc, file, text, &world, error)?)),
+    }
+}
+
+// What is said of a rule that is not met.
+fn unmet(
+    alloc: Global,
+    file: &str,
+    text: &str,
+    world: &World,
+    error: CheckError,
+) -> Result<Message, AllocError>
+    requires { IsNamed (table_of world.now) error }
+    ensures { IfOk result (λ message. TellsRule file.now text.now (reply_of message)) }
+{
+    match error {
+        CheckError::IllTyped(fault) => {
             let element = world.elements().text(fault.element)?;
             let rule = fault.rule.text();
             ill_typed(alloc, file, text, fault.at, rule, element.as_str())
         }
-        Err(CheckError::Memory) => Err(AllocError),
+        CheckError::Memory => Err(AllocError),
     }
 }

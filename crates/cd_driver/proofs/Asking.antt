@@ -1,5 +1,5 @@
 -- Words, the commands that they give, and numbers in decimal digits.
-use Rattle.std.proofs.Common.{◌≡◌, ℕ, ◌+◌, ◌*◌, ◌-◌, ◌<◌, ◌≤◌, true, List, [], ◌∷◌, length, get_or, Result, Ok, refl, arith, rules}
+use Rattle.std.proofs.Common.{◌≡◌, ℕ, ◌+◌, ◌*◌, ◌-◌, ◌<◌, ◌≤◌, true, List, [], ◌∷◌, length, get_or, Result, Ok, refl, inl, inr, arith, rules}
 use Rattle.std.specs.Prelude.{fold, codes, String, string_bytes}
 use Rattle.std.specs.Global.{Global}
 use Rattle.std.specs.Char.{is_ascii_digit}
@@ -8,8 +8,8 @@ use Rattle.std.specs.Str.Parse.{ParsesUnsigned}
 use Rattle.std.proofs.lemmas.Str.Parse.{IsNumeralModel, numerals_by_fold, digits_value_short, parse_gives}
 use Rattle.cd_syntax.specs.Digits.{AreDigits, decimal_value}
 use Rattle.cd_replies.specs.Bytes.{Bytes}
-use Rattle.cd_driver.specs.Command.{texts, Give, Check, Work, Run, RunSteps, Member, SubTypes}
-use Rattle.cd_driver.specs.Inner.Request.{GiveNotBuilt, WritesUnits, WritesSize}
+use Rattle.cd_driver.specs.Command.{texts, Give, GiveRun, Check, Work, Member, SubTypes, UNITS}
+use Rattle.cd_driver.specs.Inner.Request.{GiveNotBuilt, WritesSize}
 
 digits_model : IsNumeralModel (λ digits. list_all is_ascii_digit digits ≡ true) decimal_value
 digits_model = numerals_by_fold _ (search rules) (λ n digits. fold (λ m c. m * 10 + (c - 48)) n digits) (search rules)
@@ -24,6 +24,12 @@ parse_number word r parses are short =
     let small = digits_value_short digits_model word 6 are.0 short in
     parse_gives digits_model 32 word r parses are.0 (not_empty word are.1) (omega (arith, small))
 
+-- and that which up to 18 digits write
+pub parse_units : {E : Type 0} (word : List ℕ) (r : Result ℕ E) → ParsesUnsigned 64 10 word r → AreDigits word → length word ≤ 18 → r ≡ Ok (decimal_value word)
+parse_units word r parses are short =
+    let small = digits_value_short digits_model word 18 are.0 short in
+    parse_gives digits_model 64 word r parses are.0 (not_empty word are.1) (omega (arith, small))
+
 -- words that give a command that is built
 pub asks_sub_types : (name option a b c : Bytes) → name ≡ codes "sub" → option ≡ codes "--types"
     → Give (name ∷ option ∷ a ∷ b ∷ c ∷ []) (SubTypes a b c)
@@ -35,15 +41,15 @@ asks_member name a b c is = rw is refl
 pub asks_check : (name a : Bytes) → name ≡ codes "check" → Give (name ∷ a ∷ []) (Check a)
 asks_check name a is = rw is refl
 
+pub asks_run : (name a b : Bytes) → name ≡ codes "run" → GiveRun (name ∷ a ∷ b ∷ []) UNITS a b
+asks_run name a b is = inl (rw is refl, refl)
+
+pub asks_run_steps : (name option a b c : Bytes) (units : ℕ) → name ≡ codes "run" → option ≡ codes "--steps" → AreDigits a → length a ≤ 18
+    → units ≡ decimal_value a → GiveRun (name ∷ option ∷ a ∷ b ∷ c ∷ []) units b c
+asks_run_steps name option a b c units is steps digits short value =
+    inr (a, rw (is, steps) refl, record { digits = digits; short = short; value = value })
+
 -- and one that isn't
-pub asks_run : (name a b : Bytes) → name ≡ codes "run" → GiveNotBuilt (name ∷ a ∷ b ∷ []) (codes "run")
-asks_run name a b is = (Run a b, rw is refl, λ disk reply says. says)
-
-pub asks_run_steps : (name option a b c : Bytes) → name ≡ codes "run" → option ≡ codes "--steps" → WritesUnits a
-    → GiveNotBuilt (name ∷ option ∷ a ∷ b ∷ c ∷ []) (codes "run")
-asks_run_steps name option a b c is steps units =
-    (RunSteps units.0 b c, (a, rw (is, steps) refl, units.1), λ disk reply says. says)
-
 pub asks_work : (name a : Bytes) → name ≡ codes "work" → WritesSize a → GiveNotBuilt (name ∷ a ∷ []) (codes "work")
 asks_work name a is size = (Work size.0, (a, rw is refl, size.1), λ disk reply says. says)
 

@@ -1,16 +1,17 @@
 -- What is said to a command is said to the words that give it.
-use Rattle.std.proofs.Common.{◌≡◌, List, [], ◌∷◌, Result, Ok, Err, refl, inl, inr}
+use Rattle.std.proofs.Common.{◌≡◌, List, [], ◌∷◌, ℕ, Result, Ok, Err, refl, subst, inl, inr}
 use Rattle.std.specs.Prelude.{IfOk}
 use Rattle.std.specs.declared.alloc.AllocError.{AllocError}
 use Rattle.cd_base.specs.FilesState.{FilesState}
 use Rattle.cd_replies.specs.Bytes.{Bytes}
-use Rattle.cd_driver.specs.Command.{Command, Give, HaveNoForm, files_of}
+use Rattle.cd_driver.specs.Command.{Command, Run, RunSteps, Give, GiveRun, HaveNoForm, files_of}
 use Rattle.cd_replies.specs.Reply.{usage, not_built}
 use Rattle.cd_replies.specs.Disk.{unmarked, told_disk}
 use Rattle.cd_driver.specs.Answer.{Answer, AnswerOf}
 use Rattle.cd_replies.specs.Message.{IsAnswer, reply_of}
 use Rattle.cd_replies.specs.File.{ReadsThere, ReadsAmong}
 use Rattle.cd_driver.specs.FilesRead.{ReadsFilesOf}
+use Rattle.cd_running.specs.RunAnswer.{RunAnswer}
 use Rattle.cd_driver.specs.Inner.Request.{GiveNotBuilt}
 use Rattle.cd_replies.specs.declared.message.Message.{Message}
 
@@ -44,3 +45,16 @@ pub reads_files : (words : List Bytes) (old new : FilesState) (command : Command
     → ReadsFilesOf words old new
 reads_files words old new command give (inl same) = inl same
 reads_files words old new command give (inr fails) = inr (command, give, fails)
+
+-- a run, whose units the words write or not
+pub answers_run : (words : List Bytes) (old new : FilesState) (units : ℕ) (file document : Bytes) → GiveRun words units file document
+    → (r : Result Message AllocError) → IsAnswer (λ disk. RunAnswer disk units file document) old new r → IsAnswer (λ disk. Answer words disk) old new r
+answers_run words old new units file document (inl give) r answers =
+    answers_command words old new (Run file document) give.0 r
+    (subst (λ units. IsAnswer (λ disk. RunAnswer disk units file document) old new r) give.1 answers)
+answers_run words old new units file document (inr give) r answers = answers_command words old new (RunSteps units file document) give r answers
+
+pub reads_run : (words : List Bytes) (old new : FilesState) (units : ℕ) (file document : Bytes) → GiveRun words units file document
+    → ReadsAmong old new (file ∷ document ∷ []) → ReadsFilesOf words old new
+reads_run words old new units file document (inl give) among = reads_files words old new (Run file document) give.0 among
+reads_run words old new units file document (inr give) among = reads_files words old new (RunSteps units file document) give among

@@ -8,7 +8,7 @@ use Rattle.cd_base.specs.FilesState.{FilesState}
 use Rattle.cd_base.specs.SinkState.{SinkState, Puts}
 use Rattle.cd_syntax.specs.TypeTree.{NoDeclaration}
 use Rattle.cd_replies.specs.Bytes.{Bytes}
-use Rattle.cd_driver.specs.Command.{Command, Sub, SubTypes, Member, Check, name_of}
+use Rattle.cd_driver.specs.Command.{Command, Sub, SubTypes, Member, Check, Run, RunSteps, UNITS, name_of}
 use Rattle.cd_replies.specs.Reply.{Reply, not_built}
 use Rattle.cd_driver.specs.World.{World, world}
 use Rattle.cd_replies.specs.Disk.{Disk, Met, unmarked, marked}
@@ -21,6 +21,7 @@ use Rattle.cd_replies.specs.Message.{reply_of}
 use Rattle.cd_replies.proofs.Replies.{IsReply, line_some}
 use Rattle.cd_checking.proofs.CheckReplies.{check_is_reply}
 use Rattle.cd_member.proofs.MemberReplies.{member_is_reply}
+use Rattle.cd_running.proofs.RunReplies.{run_is_reply}
 use Rattle.cd_sub.proofs.SubReplies.{sub_is_reply, sub_types_is_reply}
 
 -- each answer is a reply
@@ -32,6 +33,8 @@ command_is_reply disk (Sub text1 text2) reply answers = sub_is_reply NoDeclarati
 command_is_reply disk (SubTypes file text1 text2) reply answers = sub_types_is_reply disk file text1 text2 reply answers
 command_is_reply disk (Member file document text) reply answers = member_is_reply disk file document text reply answers
 command_is_reply disk (Check file) reply answers = check_is_reply disk file reply answers
+command_is_reply disk (Run file document) reply answers = run_is_reply disk UNITS file document reply answers
+command_is_reply disk (RunSteps units file document) reply answers = run_is_reply disk units file document reply answers
 command_is_reply disk command reply is = not_built_is_reply (name_of command) reply is
 
 pub answer_is_reply : (words : List Bytes) (disk : Disk) (reply : Reply) → Answer words disk reply → IsReply reply

@@ -20,7 +20,7 @@ use Rattle.cd_documents.proofs.Refusing.{wrong_refused, deep_refused}
 use Rattle.cd_replies.specs.Bytes.{Bytes}
 use Rattle.cd_replies.specs.Reply.{refusal}
 use Rattle.cd_replies.specs.Texts.{Against, Lexical}
-use Rattle.cd_member.specs.DocumentTexts.{RefusesDocument, lexical, syntax, too_deep, IsValueIn, IsValueOutside}
+use Rattle.cd_replies.specs.Documents.{RefusesDocument, lexical, syntax, too_deep, IsValueIn, IsValueOutside}
 
 -- what the machine makes of the tokens of a text
 abbrev Outcome : List Token → Result (Option Thing) Fault

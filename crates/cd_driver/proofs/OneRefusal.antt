@@ -111,6 +111,12 @@ same_program tokens first second one other ends =
     ∙ ap (λ functions. program_of second.types functions first.end) same.1
     ∙ ap (program_of second.types second.functions) ends
 
+-- a text reads as one program
+pub reads_one_program : (text : Bytes) (first second : Program) → ReadsAsProgram text first → ReadsAsProgram text second → first ≡ second
+reads_one_program text first second one other =
+    let same = one_list (chars text) other.tokens one.tokens other.spelled one.spelled in
+    same_program one.tokens first second one.written (subst (λ ts. IsProgram 1000 ts second) same other.written) (one.ends ∙ sym other.ends)
+
 -- what is said of what stands against a text has one status
 pub one_type_refusal : (declared : Declarations) (origin text : Bytes) (a b : Against) → RefusesType declared text a → RefusesType declared text b
     → (refusal origin text a).status ≡ (refusal origin text b).status

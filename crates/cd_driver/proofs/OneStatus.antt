@@ -1,33 +1,47 @@
 -- The words and the files decide the status of an answer.
-use Rattle.std.proofs.Common.{◌≡◌, ◌⊎◌, ◌<◌, ◌≤◌, List, Some, length, refl, sym, ap, subst, ◌∙◌, inl, inr, arith}
+use Rattle.std.proofs.Common.{true, false, ◌≡◌, ◌≢◌, ◌⊎◌, ◌<◌, ◌≤◌, ℕ, List, [], ◌∷◌, Some, length, refl, sym, ap, subst, ◌∙◌, inl, inr, arith}
 use Rattle.std.specs.Prelude.{codes}
 use Rattle.std.specs.Str.{IsUtf8, chars}
 use Rattle.cd_syntax.specs.TypeTree.{Declarations, NoDeclaration}
-use Rattle.cd_program.specs.Expr.{Program}
-use Rattle.cd_model.specs.AllOf.{AllOf}
-use Rattle.cd_model.specs.Thing.{Thing, IsElement}
-use Rattle.cd_model.specs.Written.{Written}
+use Rattle.cd_program.specs.Expr.{Program, Signature}
+use Rattle.cd_model.specs.AllOf.{AllOf, AnyOf}
+use Rattle.cd_model.specs.Thing.{Thing, Closure, NoField, IsElement}
+use Rattle.cd_model.specs.Written.{Written, in_written}
 use Rattle.cd_model.proofs.ApartAtWritten.{not_both}
 use Rattle.cd_replies.specs.Bytes.{Bytes}
 use Rattle.cd_base.specs.declared.status.Status.{Status}
-use Rattle.cd_driver.specs.Command.{Command, Sub, SubTypes, Member, Check, Give, files_of}
-use Rattle.cd_replies.specs.Texts.{Against, ReadsAs, Declares, RefusesType, RefusesDeclarations, RefusesProgram}
+use Rattle.cd_base.specs.declared.status.Status.TheVariants.{IllTyped}
+use Rattle.cd_syntax.specs.declared.tokens.LexError.TheVariants.{Memory}
+use Rattle.cd_driver.specs.Command.{Command, Sub, SubTypes, Member, Check, Run, RunSteps, UNITS, Give, files_of, program_of}
+use Rattle.cd_replies.specs.Texts.{Against, Lexical, ReadsAs, Declares, ReadsAsProgram, RefusesType, RefusesDeclarations, RefusesProgram}
 use Rattle.cd_replies.specs.Within.{IsIn, IsOutside, IsWithin}
-use Rattle.cd_replies.specs.Reply.{Reply, refusal}
+use Rattle.cd_replies.specs.Reply.{Reply, refusal, not_input as no_input}
 use Rattle.cd_replies.specs.Disk.{Disk, Has, HasText, LARGEST, FileRefusal, unread, large, encoding, refused}
 use Rattle.cd_sub.specs.SubAnswer.{SubAnswer, yes, no, first_refused, second_refused}
 use Rattle.cd_sub.specs.SubAnswer.{SubTypesAnswer, file_refused, on_texts}
 use Rattle.cd_driver.specs.Answer.{Answer, AnswerOf, IsKnown, FileIsKnown}
 use Rattle.cd_documents.specs.Reading.{WritesValue}
-use Rattle.cd_member.specs.DocumentTexts.{RefusesDocument, FileWrites, IsValueIn, IsValueOutside}
+use Rattle.cd_replies.specs.Documents.{RefusesDocument, FileWrites, IsValueIn, IsValueOutside}
 use Rattle.cd_member.specs.MemberAnswer as member
 use Rattle.cd_member.specs.MemberAnswer.{FileDeclares, DocumentAnswer, MemberAnswer}
 use Rattle.cd_checking.specs.CheckAnswer as checking
-use Rattle.cd_checking.specs.CheckAnswer.{CheckAnswer, FileHasProgram, ProgramAnswer}
+use Rattle.cd_checking.specs.CheckAnswer.{CheckAnswer, FileHasProgram, ProgramAnswer, TellsRule, unmet}
+use Rattle.cd_evaluation.specs.Code.{place_of}
+use Rattle.cd_evaluation.specs.ProgramCode.{code_of}
+use Rattle.cd_evaluation.specs.ProgramFunctions.{function_at}
+use Rattle.cd_evaluation.specs.ProgramInterfaces.{interface_of}
+use Rattle.cd_evaluation.specs.Runs.{Outcome, Result}
+use Rattle.cd_evaluation.proofs.OneResult.{one_meaning}
+use Rattle.cd_evaluation.proofs.ProgramTakes.{takes_once}
+use Rattle.cd_safety.specs.SafeProgram.{IsMain, ComesTo}
+use Rattle.cd_running.specs.Ending.{Tells, done, raised, overflow, spent}
+use Rattle.cd_running.specs.Input.{IsInput, IsNoInput, argument}
+use Rattle.cd_running.specs.RunAnswer as run
+use Rattle.cd_running.specs.RunAnswer.{FileHasTyped, Given, HasRun, RunAnswer}
 use Rattle.cd_driver.specs.Decided.{DifferOnTypes, AreOneStatus}
 use Rattle.cd_driver.proofs.OneCommand.{one_command}
 use Rattle.cd_driver.proofs.OneRefusal.{one_type_refusal, one_declarations_refusal, reads_unrefused, declares_unrefused, reads_one, declares_one}
-use Rattle.cd_driver.proofs.OneRefusal.{one_program_refusal, program_unrefused}
+use Rattle.cd_driver.proofs.OneRefusal.{one_program_refusal, program_unrefused, reads_one_program}
 use Rattle.cd_driver.proofs.OneDocument.{one_document_refusal, writes_unrefused, writes_one, value_not_both}
 
 -- no types are within each other and separated by an element
@@ -63,6 +77,27 @@ module _ (declared : Declarations) (text1 text2 : Bytes) where
   sub_one _ _ (second_refused c c_is against stands) (first_refused other stands') = absurd (reads_unrefused declared text1 c c_is other stands')
   sub_one _ _ (second_refused c c_is against stands) (second_refused a a_is other stands') = one_type_refusal declared (codes "T2") text2 against other stands stands'
 
+-- a rule of typing that is told has its status, and other replies have not
+rule_status : (file text : Bytes) (reply : Reply) → TellsRule file text reply → reply.status ≡ IllTyped
+rule_status file text _ (unmet place rule element exists) = refl
+
+refusal_is_other : (origin text : Bytes) (against : Against) → (refusal origin text against).status ≢ IllTyped
+refusal_is_other origin text (Lexical Memory) is = cc
+refusal_is_other origin text against is = cc
+
+file_is_other : (refuses : Bytes → Against → Type 0) (disk : Disk) (name : Bytes) (reply : Reply) → FileRefusal refuses disk name reply
+    → reply.status ≢ IllTyped
+file_is_other refuses disk name _ (unread marked) is = cc
+file_is_other refuses disk name _ (large bytes has so) is = cc
+file_is_other refuses disk name _ (encoding bytes has size so) is = cc
+file_is_other refuses disk name _ (refused text has against stands) is = refusal_is_other name text against is
+
+ending_is_other : (outcome : Outcome) (reply : Reply) → Tells outcome reply → reply.status ≢ IllTyped
+ending_is_other _ _ (done v) is = cc
+ending_is_other _ _ (raised v) is = cc
+ending_is_other _ _ overflow is = cc
+ending_is_other _ _ spent is = cc
+
 -- a file that is known has one content at most
 one_content : (disk : Disk) (file : Bytes) → IsKnown disk file → (a b : Bytes) → Has disk file a → Has disk file b → a ≡ b
 one_content disk file (inl marked) a b first second = absurd (first.read marked)
@@ -75,7 +110,8 @@ one_content disk file (inr told) a b first second =
 
 -- a command decides a status, as far as it is so
 abbrev Decided : Disk → Command → (first second : Status) → Type 0
-Decided disk command first second = (first ≡ second) ⊎ ((file : Bytes) × (command ≡ Check file) × DifferOnTypes disk file first second)
+Decided disk command first second =
+    (first ≡ second) ⊎ ((file : Bytes) × (program_of command ≡ Some file) × DifferOnTypes disk file first second)
 
 -- a known file decides the status of what is said of it, whatever may stand against its text
 module _ (disk : Disk) (file : Bytes) (known : IsKnown disk file) where
@@ -193,11 +229,14 @@ module _ (disk : Disk) (file : Bytes) (known : IsKnown disk file) where
   programs_one : (text text' : Bytes) (program program' : Program) → FileHasProgram disk file text program → FileHasProgram disk file text' program'
       → (r s : Reply) → ProgramAnswer file text program r → ProgramAnswer file text' program' s → Decided disk (Check file) r.status s.status
   programs_one text text' program program' has has' _ _ (checking.accepted typed) (checking.accepted typed') = inl refl
-  programs_one text text' program program' has has' _ _ (checking.accepted typed) (checking.ill_typed place rule element exists) =
-      inr (file, refl, record { text = text; program = program; has = has; typed = typed; differ = inl (refl, refl) })
-  programs_one text text' program program' has has' _ _ (checking.ill_typed place rule element exists) (checking.accepted typed) =
-      inr (file, refl, record { text = text'; program = program'; has = has'; typed = typed; differ = inr (refl, refl) })
-  programs_one text text' program program' has has' _ _ (checking.ill_typed place rule element exists) (checking.ill_typed _ _ _ _) = inl refl
+  programs_one text text' program program' has has' _ _ (checking.accepted typed) (checking.ill_typed s tells) =
+      let differ = inl (λ is. cc, rule_status file text' s tells) in
+      inr (file, refl, record { text = text; program = program; has = has; typed = typed; differ = differ })
+  programs_one text text' program program' has has' _ _ (checking.ill_typed r tells) (checking.accepted typed) =
+      let differ = inr (rule_status file text r tells, λ is. cc) in
+      inr (file, refl, record { text = text'; program = program'; has = has'; typed = typed; differ = differ })
+  programs_one text text' program program' has has' _ _ (checking.ill_typed r tells) (checking.ill_typed s tells') =
+      inl (rule_status file text r tells ∙ sym (rule_status file text' s tells'))
 
   check_one : (r s : Reply) → CheckAnswer disk file r → CheckAnswer disk file s → Decided disk (Check file) r.status s.status
   check_one _ _ (checking.file_refused r refusal) (checking.file_refused s refusal') =
@@ -241,6 +280,137 @@ module _ (disk : Disk) (file document text : Bytes) (known : IsKnown disk file) 
       document_one disk document document_known type r s answers
       (subst (λ type. DocumentAnswer disk document type s) same answers')
 
+-- a document is in an argument of `main`, or in none
+in_or_none : (program : Program) (v : Thing) (signatures : List Signature)
+    → AnyOf (λ signature. in_written v (argument program signature) true) signatures
+    → AllOf (λ signature. in_written v (argument program signature) false) signatures → ⊥
+in_or_none program v [] inside outside = inside
+in_or_none program v (signature ∷ rest) (inl inside) outside = not_both (argument program signature) v inside outside.0
+in_or_none program v (signature ∷ rest) (inr inside) outside = in_or_none program v rest inside outside.1
+
+-- an outcome is told in one way
+told_once : (outcome : Outcome) (r s : Reply) → Tells outcome r → Tells outcome s → r.status ≡ s.status
+told_once _ _ _ (done v) (done _) = refl
+told_once _ _ _ (raised v) (raised _) = refl
+told_once _ _ _ overflow overflow = refl
+told_once _ _ _ spent spent = refl
+
+-- the program and the document decide the status of what `run` answers, as far as types are found
+module _ (disk : Disk) (units : ℕ) (command : Command) (file document : Bytes) (about : program_of command ≡ Some file)
+    (known : IsKnown disk file) (document_known : IsKnown disk document) where
+  -- the program, its `main` and the value are one
+  programs_same : (one other : Given disk file document) → one.program ≡ other.program
+  programs_same one other =
+      let same = same_two disk file known other.has.text one.has.text other.has.has.has.has one.has.has.has.has in
+      reads_one_program one.has.text one.program other.program one.has.has.reads
+      (subst (λ text. ReadsAsProgram text other.program) same other.has.has.reads)
+
+  mains_same : (one other : Given disk file document) → one.main ≡ other.main
+  mains_same one other =
+      let moved = subst (λ program. IsMain program other.main) (sym (programs_same one other)) other.is_main in
+      let places : Some (place_of one.main) ≡ Some (place_of other.main) = sym one.is_main.declared ∙ moved.declared in
+      let at : place_of one.main ≡ place_of other.main = cc in
+      let found : Some one.main ≡ Some other.main =
+      sym one.is_main.found ∙ ap (function_at one.program) at ∙ moved.found in
+      cc
+
+  values_same : (one other : Given disk file document) → one.value ≡ other.value
+  values_same one other = one_value disk document document_known one.value other.value one.writes other.writes
+
+  unprogrammed : {A : Type 0} (reply : Reply) (program : Program) → FileRefusal RefusesProgram disk file reply → FileHasTyped disk file program → A
+  unprogrammed reply program refusal has = unrefused disk file known reply has.text program refusal has.has
+
+  -- types are found in the one answer, and not in the other
+  typed_or_not : (r s : Reply) (text : Bytes) (program : Program) → FileHasTyped disk file program → r.status ≢ IllTyped → TellsRule file text s
+      → Decided disk command r.status s.status
+  typed_or_not r s text program has other tells = inr (
+    file,
+    about,
+    record {
+      text = has.text;
+      program = program;
+      has = has.has;
+      typed = has.typed;
+      differ = inl (other, rule_status file text s tells);
+    },
+  )
+
+  not_or_typed : (r s : Reply) (text : Bytes) (program : Program) → FileHasTyped disk file program → TellsRule file text r → s.status ≢ IllTyped
+      → Decided disk command r.status s.status
+  not_or_typed r s text program has tells other = inr (
+    file,
+    about,
+    record {
+      text = has.text;
+      program = program;
+      has = has.has;
+      typed = has.typed;
+      differ = inr (rule_status file text r tells, other);
+    },
+  )
+
+  -- a document is taken, or not
+  taken_or_not : {A : Type 0} (one other : Given disk file document) → IsNoInput one.program one.main one.value
+      → IsInput other.program other.main other.value → A
+  taken_or_not one other outside inside =
+      absurd (in_or_none one.program one.value (interface_of one.main)
+      (subst (λ program. IsInput program one.main one.value) (sym (programs_same one other))
+      (subst (λ main. IsInput other.program main one.value) (sym (mains_same one other))
+      (subst (IsInput other.program other.main) (sym (values_same one other)) inside)))
+      outside)
+
+  -- a run has one result
+  result_same : (first second : Result) → HasRun disk units file document first → HasRun disk units file document second → first ≡ second
+  result_same first second one other =
+      let moved = subst (λ program. ComesTo program one.given.main one.given.value units second) (sym (programs_same one.given other.given))
+      (subst (λ main. ComesTo other.given.program main one.given.value units second) (sym (mains_same one.given other.given))
+      (subst (λ v. ComesTo other.given.program other.given.main v units second) (sym (values_same one.given other.given)) other.comes)) in
+      one_meaning (code_of one.given.program) (takes_once one.given.program) (Closure (place_of one.given.main) NoField) one.given.value units
+      first second one.comes moved
+
+  run_one : (r s : Reply) → RunAnswer disk units file document r → RunAnswer disk units file document s → Decided disk command r.status s.status
+  run_one _ _ (run.file_refused r refusal) (run.file_refused s refusal') =
+      inl (file_one disk file known RefusesProgram (λ text a b first second. one_program_refusal file text a b first second) r s refusal refusal')
+  run_one _ _ (run.file_refused r refusal) (run.program_refused text program has s tells) = unrefused disk file known r text program refusal has
+  run_one _ _ (run.file_refused r refusal) (run.document_refused program has s refusal') = unprogrammed r program refusal has
+  run_one _ _ (run.file_refused r refusal) (run.not_input given outside) = unprogrammed r given.program refusal given.has
+  run_one _ _ (run.file_refused r refusal) (run.ran result has s tells) = unprogrammed r has.given.program refusal has.given.has
+  run_one _ _ (run.program_refused text program has r tells) (run.file_refused s refusal) = unrefused disk file known s text program refusal has
+  run_one _ _ (run.program_refused text program has r tells) (run.program_refused text' program' has' s tells') =
+      inl (rule_status file text r tells ∙ sym (rule_status file text' s tells'))
+  run_one _ _ (run.program_refused text program has r tells) (run.document_refused program' has' s refusal) =
+      not_or_typed r s text program' has' tells (file_is_other RefusesDocument disk document s refusal)
+  run_one _ _ (run.program_refused text program has r tells) (run.not_input given outside) =
+      not_or_typed r (no_input document) text given.program given.has tells (λ is. cc)
+  run_one _ _ (run.program_refused text program has r tells) (run.ran result has' s tells') =
+      not_or_typed r s text has'.given.program has'.given.has tells (ending_is_other result.outcome s tells')
+  run_one _ _ (run.document_refused program has r refusal) (run.file_refused s refusal') = unprogrammed s program refusal' has
+  run_one _ _ (run.document_refused program has r refusal) (run.program_refused text program' has' s tells) =
+      typed_or_not r s text program has (file_is_other RefusesDocument disk document r refusal) tells
+  run_one _ _ (run.document_refused program has r refusal) (run.document_refused program' has' s refusal') =
+      inl (file_one disk document document_known RefusesDocument (λ text a b first second. one_document_refusal text document a b first second)
+      r s refusal refusal')
+  run_one _ _ (run.document_refused program has r refusal) (run.not_input given outside) =
+      unwritten disk document document_known r given.value refusal given.writes
+  run_one _ _ (run.document_refused program has r refusal) (run.ran result has' s tells) =
+      unwritten disk document document_known r has'.given.value refusal has'.given.writes
+  run_one _ _ (run.not_input given outside) (run.file_refused s refusal) = unprogrammed s given.program refusal given.has
+  run_one _ _ (run.not_input given outside) (run.program_refused text program has s tells) =
+      typed_or_not (no_input document) s text given.program given.has (λ is. cc) tells
+  run_one _ _ (run.not_input given outside) (run.document_refused program has s refusal) =
+      unwritten disk document document_known s given.value refusal given.writes
+  run_one _ _ (run.not_input given outside) (run.not_input given' outside') = inl refl
+  run_one _ _ (run.not_input given outside) (run.ran result has s tells) = taken_or_not given has.given outside has.input
+  run_one _ _ (run.ran result has r tells) (run.file_refused s refusal) = unprogrammed s has.given.program refusal has.given.has
+  run_one _ _ (run.ran result has r tells) (run.program_refused text program has' s tells') =
+      typed_or_not r s text has.given.program has.given.has (ending_is_other result.outcome r tells) tells'
+  run_one _ _ (run.ran result has r tells) (run.document_refused program has' s refusal) =
+      unwritten disk document document_known s has.given.value refusal has.given.writes
+  run_one _ _ (run.ran result has r tells) (run.not_input given outside) = taken_or_not given has.given outside has.input
+  run_one _ _ (run.ran result has r tells) (run.ran result' has' s tells') =
+      let same = result_same result result' has has' in
+      inl (told_once result.outcome r s tells (subst (λ result. Tells result.outcome s) (sym same) tells'))
+
 -- a command and its files decide it
 command_decides : (disk : Disk) (command : Command) → AllOf (IsKnown disk) (files_of command)
     → (r s : Reply) → AnswerOf command disk r → AnswerOf command disk s → Decided disk command r.status s.status
@@ -249,13 +419,17 @@ command_decides disk (SubTypes file text1 text2) known r s answers answers' = in
 command_decides disk (Member file document text) known r s answers answers' =
     inl (member_one disk file document text known.0 known.1.0 r s answers answers')
 command_decides disk (Check file) known r s answers answers' = check_one disk file known.0 r s answers answers'
+command_decides disk (Run file document) known r s answers answers' =
+    run_one disk UNITS (Run file document) file document refl known.0 known.1.0 r s answers answers'
+command_decides disk (RunSteps units file document) known r s answers answers' =
+    run_one disk units (RunSteps units file document) file document refl known.0 known.1.0 r s answers answers'
 command_decides disk command known r s is is' = inl (ap (λ reply. reply.status) (is ∙ sym is'))
 
 -- and the words that give it do
 words_decide : (words : List Bytes) (disk : Disk) (command : Command) → Give words command → (first second : Status)
     → Decided disk command first second → AreOneStatus words disk first second
 words_decide words disk command give first second (inl same) = inl same
-words_decide words disk command give first second (inr differ) = inr (differ.0, subst (Give words) differ.1 give, differ.2)
+words_decide words disk command give first second (inr differ) = inr (command, differ.0, give, differ.1, differ.2)
 
 pub one_status : (words : List Bytes) (disk : Disk) → FileIsKnown words disk
     → (r s : Reply) → Answer words disk r → Answer words disk s → AreOneStatus words disk r.status s.status

@@ -1,5 +1,5 @@
 -- The cause of each status is its reason.
-use Rattle.std.proofs.Common.{◌≡◌, List, Some, inl, inr, refl, sym, subst}
+use Rattle.std.proofs.Common.{◌≡◌, ℕ, List, [], ◌∷◌, Some, inl, inr, refl, sym, subst}
 use Rattle.std.specs.Prelude.{codes}
 use Rattle.cd_base.specs.declared.status.Status.{Status}
 use Rattle.cd_base.specs.declared.status.Status.TheVariants.{WriteFault, NoMemory}
@@ -9,23 +9,31 @@ use Rattle.cd_syntax.specs.declared.tokens.LexError.TheVariants.{Memory}
 use Rattle.cd_syntax.specs.TypeTree.{Declarations, NoDeclaration}
 use Rattle.cd_model.specs.Written.{Written}
 use Rattle.cd_replies.specs.Bytes.{Bytes}
-use Rattle.cd_driver.specs.Command.{Command, Sub, SubTypes, Member, Check, Give, name_of}
+use Rattle.cd_driver.specs.Command.{Command, Sub, SubTypes, Member, Check, Run, RunSteps, Work, UNITS, Give, GiveRun, name_of}
+use Rattle.cd_driver.specs.Command.{files_of, program_of}
+use Rattle.cd_model.specs.AllOf.{AnyOf}
+use Rattle.cd_model.specs.Thing.{Thing}
 use Rattle.cd_replies.specs.Texts.{Against, Lexical, ReadsAs, RefusesDeclarations, RefusesProgram}
 use Rattle.cd_replies.specs.Reply.{Reply, refusal, not_built}
 use Rattle.cd_driver.specs.World.{World}
 use Rattle.cd_replies.specs.Disk.{Disk, Met, HasText, unmarked, marked, FileRefusal, unread, large, encoding, refused}
 use Rattle.cd_sub.specs.SubAnswer.{SubAnswer, yes, no, first_refused, second_refused}
 use Rattle.cd_sub.specs.SubAnswer.{SubTypesAnswer, file_refused, on_texts}
-use Rattle.cd_member.specs.DocumentTexts.{RefusesDocument}
+use Rattle.cd_replies.specs.Documents.{RefusesDocument}
 use Rattle.cd_member.specs.MemberAnswer as member
 use Rattle.cd_member.specs.MemberAnswer.{FileDeclares, DocumentAnswer, MemberAnswer}
 use Rattle.cd_program.specs.Expr.{Program}
 use Rattle.cd_checking.specs.CheckAnswer as checking
-use Rattle.cd_checking.specs.CheckAnswer.{CheckAnswer, FileHasProgram, ProgramAnswer}
+use Rattle.cd_checking.specs.CheckAnswer.{CheckAnswer, FileHasProgram, ProgramAnswer, TellsRule, unmet}
+use Rattle.cd_evaluation.specs.Runs as outcome
+use Rattle.cd_evaluation.specs.Runs.{Outcome, Result}
+use Rattle.cd_running.specs.Ending.{Tells, done, raised, overflow, spent}
+use Rattle.cd_running.specs.RunAnswer as run
+use Rattle.cd_running.specs.RunAnswer.{HasRun, RunAnswer}
 use Rattle.cd_driver.specs.Answer.{Answer, AnswerOf}
 use Rattle.cd_driver.specs.Causes.{IsCause, Cause}
 use Rattle.cd_driver.specs.Reasons.{GiveTexts, alone, with_file, StandsAgainst, in_file, in_first, in_second, CommandIsNotBuilt, Reason}
-use Rattle.cd_driver.specs.Reasons.{NamesFile, in_declarations, in_type, in_document, in_program}
+use Rattle.cd_driver.specs.Reasons.{NamesFile, AskRun, HasEnded, in_declarations, in_type, in_document, in_program, in_run}
 
 -- a file that is marked is the latest whose read failed
 read_failed : (before after : FilesState) (disk : Disk) (name : Bytes) → Met before after disk → disk.marked ≡ Some name
@@ -108,25 +116,81 @@ module _ (words : List Bytes) (disk : Disk) (before after : World) (met : Met be
   member_reason file document text give _ (member.on_document declared declares type reads reply answers) =
       document_reason file document text give declared declares type reads reply answers
 
+  -- a rule of typing is told of the program of a command
+  rule_reason : (command : Command) (file : Bytes) → Give words command → program_of command ≡ Some file → (text : Bytes) (program : Program)
+      → FileHasProgram disk file text program → (reply : Reply) → TellsRule file text reply → Reason words before after reply.status
+  rule_reason command file give about text program has _ (unmet place rule element exists) = record {
+    command = command;
+    program = program;
+    ask = record { disk = disk; met = met; give = give; file = file; about = about; text = text; has = has };
+  }
+
   program_reason : (file : Bytes) → Give words (Check file) → (text : Bytes) (program : Program) → FileHasProgram disk file text program
       → (reply : Reply) → ProgramAnswer file text program reply → Reason words before after reply.status
-  program_reason file give text program has _ (checking.accepted typed) = inr (inr (record {
+  program_reason file give text program has _ (checking.accepted typed) = inr (inr (inl (record {
+    file = file;
     program = program;
-    ask = record { disk = disk; met = met; file = file; give = give; text = text; has = has };
+    ask = record { disk = disk; met = met; give = give; file = file; about = refl; text = text; has = has };
     typed = typed;
-  }))
-  program_reason file give text program has _ (checking.ill_typed place rule element exists) = record {
-    program = program;
-    ask = record { disk = disk; met = met; file = file; give = give; text = text; has = has };
-  }
+  })))
+  program_reason file give text program has _ (checking.ill_typed reply tells) = rule_reason (Check file) file give refl text program has reply tells
 
   check_reason : (file : Bytes) → Give words (Check file) → (reply : Reply) → CheckAnswer disk file reply
       → Reason words before after reply.status
   check_reason file give _ (checking.file_refused reply refusal) =
       file_reason RefusesProgram file (record { command = Check file; give = give; is = inl refl })
-      (λ text has against stands. in_program file give text has stands) reply refusal
+      (λ text has against stands. in_program (Check file) file give refl text has stands) reply refusal
   check_reason file give _ (checking.on_program text program has reply answers) =
       program_reason file give text program has reply answers
+
+  -- a run, of a command that asks for it
+  module _ (units : ℕ) (file document : Bytes) (asks : GiveRun words units file document) (command : Command) (give : Give words command)
+      (about : program_of command ≡ Some file) (files : files_of command ≡ file ∷ document ∷ []) where
+    names_file : NamesFile words file
+    names_file = record { command = command; give = give; is = subst (AnyOf (λ name. name ≡ file)) (sym files) (inl refl) }
+
+    names_document : NamesFile words document
+    names_document = record { command = command; give = give; is = subst (AnyOf (λ name. name ≡ document)) (sym files) (inr (inl refl)) }
+
+    ask : AskRun words before after disk units file document
+    ask = record { met = met; give = asks }
+
+    ended : (kind : Outcome → Type 0) (result : Result) → HasRun disk units file document result → kind result.outcome → HasEnded words before after kind
+    ended kind result has is = record {
+      disk = disk;
+      units = units;
+      file = file;
+      document = document;
+      ask = ask;
+      result = result;
+      run = has;
+      is = is;
+    }
+
+    outcome_reason : (result : Result) → HasRun disk units file document result → (is : Outcome) → result.outcome ≡ is → (reply : Reply) → Tells is reply
+        → Reason words before after reply.status
+    outcome_reason result has _ same _ (done v) = inr (inr (inr (ended (λ is. (v : Thing) × (is ≡ outcome.Done v)) result has (v, same))))
+    outcome_reason result has _ same _ (raised v) = ended (λ is. (v : Thing) × (is ≡ outcome.Raised v)) result has (v, same)
+    outcome_reason result has _ same _ overflow = ended (λ is. is ≡ outcome.Overflow) result has same
+    outcome_reason result has _ same _ spent = ended (λ is. is ≡ outcome.Spent) result has same
+
+    run_reason : (reply : Reply) → RunAnswer disk units file document reply → Reason words before after reply.status
+    run_reason _ (run.file_refused reply refusal) =
+        file_reason RefusesProgram file names_file (λ text has against stands. in_program command file give about text has stands) reply refusal
+    run_reason _ (run.program_refused text program has reply tells) = rule_reason command file give about text program has reply tells
+    run_reason _ (run.document_refused program has reply refusal) =
+        file_reason RefusesDocument document names_document
+        (λ notation is against stands. in_run units file document asks program has notation is stands) reply refusal
+    run_reason _ (run.not_input given outside) = record {
+      disk = disk;
+      units = units;
+      file = file;
+      document = document;
+      ask = ask;
+      given = given;
+      outside = outside;
+    }
+    run_reason _ (run.ran result has reply tells) = outcome_reason result has result.outcome refl reply tells
 
   unbuilt_reason : (command : Command) → Give words command → CommandIsNotBuilt command → (reply : Reply) → reply ≡ not_built (name_of command)
       → Reason words before after reply.status
@@ -139,7 +203,11 @@ module _ (words : List Bytes) (disk : Disk) (before after : World) (met : Met be
   command_reason (SubTypes file text1 text2) give reply answers = sub_types_reason file text1 text2 give reply answers
   command_reason (Member file document text) give reply answers = member_reason file document text give reply answers
   command_reason (Check file) give reply answers = check_reason file give reply answers
-  command_reason command give reply is = unbuilt_reason command give tt reply is
+  command_reason (Run file document) give reply answers =
+      run_reason UNITS file document (inl (give, refl)) (Run file document) give refl refl reply answers
+  command_reason (RunSteps units file document) give reply answers =
+      run_reason units file document (inr give) (RunSteps units file document) give refl refl reply answers
+  command_reason (Work size) give reply is = unbuilt_reason (Work size) give tt reply is
 
   answer_reason : (reply : Reply) → Answer words disk reply → Reason words before after reply.status
   answer_reason reply (inl none) = subst (λ reply. Reason words before after reply.status) (sym none.1) none.0

@@ -4,11 +4,12 @@ use Rattle.cd_syntax.specs.TypeTree.{NoDeclaration}
 use Rattle.cd_model.specs.AllOf.{AllOf}
 use Rattle.cd_replies.specs.Bytes.{Bytes}
 use Rattle.cd_driver.specs.Command.{Command, Sub, SubTypes, Member, Check, Give, HaveNoForm}
-use Rattle.cd_driver.specs.Command.{name_of, files_of}
+use Rattle.cd_driver.specs.Command.{Run, RunSteps, UNITS, name_of, files_of}
 use Rattle.cd_replies.specs.Reply.{Reply, usage, not_built}
 use Rattle.cd_replies.specs.Disk.{Disk}
 use Rattle.cd_checking.specs.CheckAnswer.{CheckAnswer}
 use Rattle.cd_member.specs.MemberAnswer.{MemberAnswer}
+use Rattle.cd_running.specs.RunAnswer.{RunAnswer}
 use Rattle.cd_sub.specs.SubAnswer.{SubAnswer, SubTypesAnswer}
 
 -- the answers to a command, where the files are these; of a command that isn't built, that
@@ -17,6 +18,8 @@ AnswerOf (Sub text1 text2) disk reply = SubAnswer NoDeclaration text1 text2 repl
 AnswerOf (SubTypes file text1 text2) disk reply = SubTypesAnswer disk file text1 text2 reply
 AnswerOf (Member file document text) disk reply = MemberAnswer disk file document text reply
 AnswerOf (Check file) disk reply = CheckAnswer disk file reply
+AnswerOf (Run file document) disk reply = RunAnswer disk UNITS file document reply
+AnswerOf (RunSteps units file document) disk reply = RunAnswer disk units file document reply
 AnswerOf command disk reply = reply ≡ not_built (name_of command)
 
 -- the answers to words: those that have no listed form get the usage line

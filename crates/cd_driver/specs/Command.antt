@@ -1,5 +1,6 @@
 -- The commands, and the words that give them. Words are texts in UTF-8, seen as their bytes.
-use Rattle.std.specs.Prelude.{◌≡◌, ℕ, ◌≤◌, List, [], ◌∷◌, length, map, codes, String, string_bytes}
+use Rattle.std.specs.Prelude.{◌≡◌, ℕ, ◌≤◌, ◌⊎◌, List, [], ◌∷◌, length, map, codes, String}
+use Rattle.std.specs.Prelude.{Option, Some, None, string_bytes}
 use Rattle.std.specs.Global.{Global}
 use Rattle.cd_syntax.specs.Digits.{AreDigits, decimal_value}
 use Rattle.cd_replies.specs.Bytes.{Bytes}
@@ -23,6 +24,10 @@ pub data Command : Type 0 where
   RunSteps : (units : ℕ) (file document : Bytes) → Command
   -- run the workload of this size
   Work : (size : ℕ) → Command
+
+-- the units of a run whose words say nothing of them
+abbrev pub UNITS : ℕ
+UNITS = 1000000000
 
 -- the word is 1 to `most` decimal digits, which write this number
 pub record IsNumeral (most : ℕ) (word : Bytes) (number : ℕ) : Type 0 where
@@ -50,6 +55,11 @@ Give words (RunSteps units file document) =
 Give words (Work size) =
     (word : Bytes) × (words ≡ codes "work" ∷ word ∷ []) × IsSize word size
 
+-- the words ask for a run of the program of a file on a document, with so many units
+abbrev pub GiveRun : List Bytes → (units : ℕ) → (file document : Bytes) → Type 0
+GiveRun words units file document = (Give words (Run file document) × (units ≡ UNITS))
+    ⊎ Give words (RunSteps units file document)
+
 -- the words have no form that is listed
 abbrev pub HaveNoForm : List Bytes → Type 0
 HaveNoForm words = (command : Command) → Give words command → ⊥
@@ -64,9 +74,18 @@ name_of (Run file document) = codes "run"
 name_of (RunSteps units file document) = codes "run"
 name_of (Work size) = codes "work"
 
+-- the file of the program that a command is about, if it is about one
+abbrev pub program_of : Command → Option Bytes
+program_of (Check file) = Some file
+program_of (Run file document) = Some file
+program_of (RunSteps units file document) = Some file
+program_of command = None
+
 -- the files that a command reads, in this order; one that isn't built reads none
 abbrev pub files_of : Command → List Bytes
 files_of (SubTypes file first second) = file ∷ []
 files_of (Member file document type) = file ∷ document ∷ []
 files_of (Check file) = file ∷ []
+files_of (Run file document) = file ∷ document ∷ []
+files_of (RunSteps units file document) = file ∷ document ∷ []
 files_of command = []

@@ -1,5 +1,5 @@
 -- What each status says of the words, the files and the sinks.
-use Rattle.std.specs.Prelude.{◌≡◌, ◌⊎◌, ◌<◌, ◌≤◌, List, Some, length}
+use Rattle.std.specs.Prelude.{◌≡◌, ℕ, ◌⊎◌, ◌<◌, ◌≤◌, List, Some, length}
 use Rattle.std.specs.Str.{IsUtf8}
 use Rattle.cd_base.specs.declared.status.Status.{Status}
 use Rattle.cd_base.specs.declared.status.Status.TheVariants as status
@@ -12,18 +12,22 @@ use Rattle.cd_model.specs.Written.{Written}
 use Rattle.cd_resolve.specs.Faults.{Fault}
 use Rattle.cd_replies.specs.Bytes.{Bytes}
 use Rattle.cd_model.specs.AllOf.{AnyOf}
-use Rattle.cd_driver.specs.Command.{Command, Sub, SubTypes, Member, Check, Give, HaveNoForm}
-use Rattle.cd_driver.specs.Command.{files_of}
+use Rattle.cd_driver.specs.Command.{Command, Sub, SubTypes, Member, Check, Work, Give, GiveRun}
+use Rattle.cd_driver.specs.Command.{HaveNoForm, files_of, program_of}
 use Rattle.cd_replies.specs.Texts.{Against, Lexical, Syntax, TooDeep, Naming, ReadsAs, Declares}
 use Rattle.cd_replies.specs.Texts.{RefusesType, RefusesDeclarations, RefusesProgram}
 use Rattle.cd_replies.specs.Within.{IsIn, IsOutside, IsWithin}
 use Rattle.cd_driver.specs.World.{World}
 use Rattle.cd_replies.specs.Disk.{Disk, Met, Has, HasText, LARGEST}
 use Rattle.cd_driver.specs.Causes.{SinkFailed}
-use Rattle.cd_member.specs.DocumentTexts.{RefusesDocument, FileWrites, IsValueIn, IsValueOutside}
+use Rattle.cd_replies.specs.Documents.{RefusesDocument, FileWrites, IsValueIn, IsValueOutside}
 use Rattle.cd_member.specs.MemberAnswer.{FileDeclares}
 use Rattle.cd_typing.specs.Typed.{IsTyped}
 use Rattle.cd_checking.specs.CheckAnswer.{FileHasProgram}
+use Rattle.cd_evaluation.specs.Runs as outcome
+use Rattle.cd_evaluation.specs.Runs.{Outcome, Result}
+use Rattle.cd_running.specs.Input.{IsNoInput}
+use Rattle.cd_running.specs.RunAnswer.{FileHasTyped, Given, HasRun}
 
 -- the words ask about two type texts, which see these declarations: none, or those of a file
 pub data GiveTexts (words : List Bytes) (disk : Disk) : Declarations → (text1 text2 : Bytes)
@@ -113,8 +117,13 @@ pub data StandsAgainst (words : List Bytes) (disk : Disk) (against : Against) : 
       → (declared : Declarations) → FileDeclares disk file declared → (type : Written)
       → ReadsAs declared text type → (notation : Bytes) → HasText disk document notation
       → RefusesDocument notation against → StandsAgainst words disk against
-  in_program : (file : Bytes) → Give words (Check file) → (text : Bytes) → HasText disk file text
+  in_program : (command : Command) (file : Bytes) → Give words command
+      → program_of command ≡ Some file → (text : Bytes) → HasText disk file text
       → RefusesProgram text against → StandsAgainst words disk against
+  in_run : (units : ℕ) (file document : Bytes) → GiveRun words units file document
+      → (program : Program) → FileHasTyped disk file program → (notation : Bytes)
+      → HasText disk document notation
+      → RefusesDocument notation against → StandsAgainst words disk against
 
 -- and it is of this kind
 pub record IsRefused (words : List Bytes) (before after : World)
@@ -168,11 +177,8 @@ IsNotText bytes = (length bytes ≤ LARGEST) × (IsUtf8 bytes → ⊥)
 
 -- the commands that aren't built
 abbrev pub CommandIsNotBuilt : Command → Type 0
-CommandIsNotBuilt (Sub text1 text2) = ⊥
-CommandIsNotBuilt (SubTypes file text1 text2) = ⊥
-CommandIsNotBuilt (Member file document type) = ⊥
-CommandIsNotBuilt (Check file) = ⊥
-CommandIsNotBuilt command = Unit {0}
+CommandIsNotBuilt (Work size) = Unit {0}
+CommandIsNotBuilt command = ⊥
 
 -- the words give a command that isn't built
 pub record IsNotBuilt (words : List Bytes) : Type 0 where
@@ -180,31 +186,64 @@ pub record IsNotBuilt (words : List Bytes) : Type 0 where
   pub give : Give words command
   pub unbuilt : CommandIsNotBuilt command
 
--- the words ask whether the program of a file has types, and this one is that of the file, of those
--- that were met; its names are sound
-pub record AskCheck (words : List Bytes) (before after : World) (program : Program) : Type 0 where
+-- the words' command is about the program of a file, which is this one, for the files that were
+-- met; its names are sound
+pub record AskProgram (words : List Bytes) (before after : World) (command : Command)
+    (program : Program) : Type 0 where
   pub disk : Disk
   pub met : Met before.files after.files disk
+  pub give : Give words command
   pub file : Bytes
-  pub give : Give words (Check file)
+  pub about : program_of command ≡ Some file
   pub text : Bytes
   pub has : FileHasProgram disk file text program
 
--- the program that the words ask about is typed by the typing rules
+-- the words ask whether a program has types, and the typing rules type it
 pub record IsWellTyped (words : List Bytes) (before after : World) : Type 0 where
+  pub file : Bytes
   pub program : Program
-  pub ask : AskCheck words before after program
+  pub ask : AskProgram words before after (Check file) program
   pub typed : IsTyped program
 
--- no types were found for the program that the words ask about. That it has none isn't said yet
+-- no types were found for the program of the words' command. That it has none isn't said yet
 pub record HasNoTypesFound (words : List Bytes) (before after : World) : Type 0 where
+  pub command : Command
   pub program : Program
-  pub ask : AskCheck words before after program
+  pub ask : AskProgram words before after command program
 
--- the reason for each status; want of memory is free, and the others don't come
+-- the words ask for a run with so many units, for the files that were met
+pub record AskRun (words : List Bytes) (before after : World) (disk : Disk) (units : ℕ)
+    (file document : Bytes) : Type 0 where
+  pub met : Met before.files after.files disk
+  pub give : GiveRun words units file document
+
+-- the run that they ask for ends with an outcome of this kind, and is safe
+pub record HasEnded (words : List Bytes) (before after : World) (kind : Outcome → Type 0)
+    : Type 0 where
+  pub disk : Disk
+  pub units : ℕ
+  pub file : Bytes
+  pub document : Bytes
+  pub ask : AskRun words before after disk units file document
+  pub result : Result
+  pub run : HasRun disk units file document result
+  pub is : kind result.outcome
+
+-- the document is in no argument of the program's `main`
+pub record IsNotTaken (words : List Bytes) (before after : World) : Type 0 where
+  pub disk : Disk
+  pub units : ℕ
+  pub file : Bytes
+  pub document : Bytes
+  pub ask : AskRun words before after disk units file document
+  pub given : Given disk file document
+  pub outside : IsNoInput given.program given.main given.value
+
+-- the reason for each status; want of memory is free
 abbrev pub Reason : List Bytes → World → World → Status → Type 0
 Reason words before after status.Done =
-    IsYes words before after ⊎ (IsMember words before after ⊎ IsWellTyped words before after)
+    IsYes words before after ⊎ (IsMember words before after ⊎ (IsWellTyped words before after
+    ⊎ HasEnded words before after (λ is. (v : Thing) × (is ≡ outcome.Done v))))
 Reason words before after status.No = IsNo words before after ⊎ IsNoMember words before after
 Reason words before after status.Usage = HaveNoForm words
 Reason words before after status.ReadFault = IsUnread words before after
@@ -218,4 +257,10 @@ Reason words before after status.TooDeep = IsRefused words before after IsTooDee
 Reason words before after status.Naming = IsRefused words before after IsNaming
 Reason words before after status.IllTyped = HasNoTypesFound words before after
 Reason words before after status.NotBuilt = IsNotBuilt words
-Reason words before after other = ⊥
+Reason words before after status.NotInput = IsNotTaken words before after
+Reason words before after status.Uncaught =
+    HasEnded words before after (λ is. (v : Thing) × (is ≡ outcome.Raised v))
+Reason words before after status.Overflow =
+    HasEnded words before after (λ is. is ≡ outcome.Overflow)
+Reason words before after status.Spent =
+    HasEnded words before after (λ is. is ≡ outcome.Spent)

@@ -9,6 +9,7 @@ use cd_base::files::Files;
 use cd_checking::check;
 use cd_member::member;
 use cd_replies::message::{Message, not_built, usage};
+use cd_running::run;
 use cd_sub::{sub, sub_types};
 use std::alloc::{AllocError, Global};
 
@@ -31,6 +32,7 @@ pub(crate) fn answer<F: Files>(
         }
         Some(Request::Member(file, document, text)) => member(alloc, files, file, document, text),
         Some(Request::Check(file)) => check(alloc, files, file),
+        Some(Request::Run(file, document, units)) => run(alloc, files, file, document, units),
         Some(Request::NotBuilt(name)) => not_built(alloc, name),
     }
 }

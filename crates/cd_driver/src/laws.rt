@@ -17,7 +17,7 @@ ghost use Rattle.cd_driver.specs.Reasons.{Reason};
 /// Of what is built so far: the words and the files decide the status of an answer, where each file
 /// that the words' command reads can't be read, or is told. So each status comes exactly where its rule
 /// holds, want of memory and faults of writing aside. One thing is left open: of a program that has
-/// types, nothing says yet that `check` finds them.
+/// types, nothing says yet that they are found.
 pub fn status_is_decided()
     ensures { (words : List Bytes) (disk : Disk) → FileIsKnown words disk → (first second : Reply)
         → Answer words disk first → Answer words disk second

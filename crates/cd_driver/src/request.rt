@@ -3,7 +3,7 @@ ghost use Rattle.std.specs.Char.{is_ascii_digit};
 ghost use Rattle.std.specs.List.{list_all};
 ghost use Rattle.cd_syntax.specs.Digits.{AreDigits, decimal_value};
 ghost use Rattle.cd_driver.specs.Command.{texts, HaveNoForm};
-ghost use Rattle.cd_driver.specs.Inner.Request.{StandsFor, WritesUnits, WritesSize};
+ghost use Rattle.cd_driver.specs.Inner.Request.{StandsFor, WritesSize};
 
 /// What words ask for.
 #[derive(Clone, Copy)]
@@ -17,6 +17,9 @@ pub(crate) enum Request<'a> {
     Member(&'a str, &'a str, &'a str),
     /// Whether the program of the file of this name is well typed.
     Check(&'a str),
+    /// What the program of a file comes to on a document, with so many units: the names of the file
+    /// and of the document.
+    Run(&'a str, &'a str, u64),
     /// A command with this first word, that is not built.
     NotBuilt(&'static str),
 }
@@ -58,7 +61,7 @@ fn of_three<'a>(name: &str, first: &'a str, second: &'a str) -> Option<Request<'
 {
     match name {
         "sub" => Some(Request::Sub(first, second)),
-        "run" => Some(Request::NotBuilt("run")),
+        "run" => Some(Request::Run(first, second, 1_000_000_000)),
         _ => None,
     }
 }
@@ -87,16 +90,21 @@ fn of_five<'a>(
 {
     match name {
         "sub" if option == "--types" => Some(Request::SubTypes(first, second, third)),
-        "run" if option == "--steps" && is_units(first) => Some(Request::NotBuilt("run")),
+        "run" if option == "--steps" && is_numeral(first, 18) => {
+            Some(Request::Run(second, third, units(first)))
+        }
         _ => None,
     }
 }
 
-// 1 to 18 decimal digits.
-fn is_units(word: &str) -> bool
-    ensures { IsTrue result ↔ WritesUnits word.now }
+// The number that up to 18 digits write.
+#[tactic(auto, using(crate::proofs::Asking::parse_units))]
+fn units(word: &str) -> u64
+    requires digits { AreDigits word.now }
+    requires short { length word.now ≤ 18 }
+    ensures { result ≡ decimal_value word.now }
 {
-    is_numeral(word, 18)
+    word.parse().unwrap()
 }
 
 // 1 to 6 decimal digits that write a number from 1 to 100,000.

@@ -1,3 +1,3 @@
 pub mod MemberReplies
-mod Finished
 mod Documents
+mod FileRefused

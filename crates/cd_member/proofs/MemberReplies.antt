@@ -5,7 +5,7 @@ use Rattle.cd_replies.specs.Bytes.{Bytes}
 use Rattle.cd_replies.specs.Reply.{Reply}
 use Rattle.cd_replies.specs.Disk.{Disk}
 use Rattle.cd_replies.specs.Texts.{RefusesDeclarations}
-use Rattle.cd_member.specs.DocumentTexts.{RefusesDocument}
+use Rattle.cd_replies.specs.Documents.{RefusesDocument}
 use Rattle.cd_member.specs.MemberAnswer.{DocumentAnswer, document_refused, yes, no}
 use Rattle.cd_member.specs.MemberAnswer.{MemberAnswer, file_refused, type_refused, on_document}
 use Rattle.cd_replies.proofs.Replies.{IsReply, refusal_is_reply, file_is_reply}

@@ -1,3 +1,1 @@
-pub mod DocumentTexts
 pub mod MemberAnswer
-pub mod Inner

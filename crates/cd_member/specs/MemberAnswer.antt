@@ -8,7 +8,7 @@ use Rattle.cd_replies.specs.Bytes.{Bytes}
 use Rattle.cd_replies.specs.Reply.{Reply, says, refusal}
 use Rattle.cd_replies.specs.Texts.{Against, ReadsAs, Declares, RefusesType, RefusesDeclarations}
 use Rattle.cd_replies.specs.Disk.{Disk, HasText, FileRefusal}
-use Rattle.cd_member.specs.DocumentTexts.{RefusesDocument, FileWrites, IsValueIn, IsValueOutside}
+use Rattle.cd_replies.specs.Documents.{RefusesDocument, FileWrites, IsValueIn, IsValueOutside}
 
 -- the file of this name has a text, which declares these types
 pub record FileDeclares (disk : Disk) (file : Bytes) (declared : Declarations) : Type 0 where

@@ -12,14 +12,12 @@ ghost use Rattle.cd_replies.specs.Disk.{Disk, HasText};
 ghost use Rattle.cd_replies.specs.Message.{reply_of};
 ghost use Rattle.cd_replies.specs.Reply.{says};
 ghost use Rattle.cd_member.specs.MemberAnswer.{DocumentAnswer};
-ghost use Rattle.cd_member.specs.Inner.DocumentErrors.{IsOfDocument};
 
 use cd_asking::{Maps, is_in};
 use cd_cells::{ValueId, Values};
 use cd_graph::Graph;
-use cd_notation::{NotationError, read_value};
+use cd_replies::document::read_document;
 use cd_replies::message::{Message, plain_no, refused, yes};
-use cd_replies::refusal::Refusal;
 use cd_sets::node_id::NodeId;
 use std::alloc::{AllocError, Global};
 
@@ -37,9 +35,9 @@ pub(crate) fn of_text(
         → DocumentAnswer disk document.now type (reply_of message)) }
 {
     let mut values = Values::new(alloc);
-    match read_value(alloc, &mut values, text) {
+    match read_document(alloc, &mut values, text)? {
         Ok(id) => yes_or_no(alloc, holds(alloc, graph, &values, id, node)?),
-        Err(error) => refused(alloc, document, text, refusal_of(error)?),
+        Err(refusal) => refused(alloc, document, text, refusal),
     }
 }
 
@@ -67,16 +65,4 @@ fn yes_or_no(alloc: Global, inside: bool) -> Result<Message, AllocError>
         ≡ if inside then says Done (codes "yes") else says No (codes "no")) }
 {
     if inside { yes(alloc) } else { plain_no(alloc) }
-}
-
-// What the fault of a document is against its text.
-fn refusal_of(error: NotationError) -> Result<Refusal, AllocError>
-    ensures { IsOfDocument error result }
-{
-    match error {
-        NotationError::Lex(fault) => Ok(Refusal::Lexical(fault)),
-        NotationError::Syntax(place) => Ok(Refusal::Syntax(place)),
-        NotationError::TooDeep(place) => Ok(Refusal::TooDeep(place)),
-        NotationError::Memory => Err(AllocError),
-    }
 }

@@ -12,7 +12,7 @@ ghost use Rattle.cd_replies.specs.Disk.{HasText};
 ghost use Rattle.cd_replies.specs.File.{ReadsAmong};
 ghost use Rattle.cd_replies.specs.Naming.{AreNamedWell};
 ghost use Rattle.cd_member.specs.MemberAnswer.{FileDeclares, DocumentAnswer, MemberAnswer};
-ghost use Rattle.cd_member.specs.Inner.Finishing.{Finishes};
+ghost use Rattle.cd_replies.specs.Finishing.{Finishes};
 
 use cd_base::files::Files;
 use cd_graph::Graph;

@@ -1,5 +1,7 @@
 mod Positions
 pub mod Messages
 pub mod FilesMet
+pub mod TwoFiles
 pub mod Replies
 pub mod TextReading
+pub mod DocumentsRead

@@ -1,2 +1,3 @@
 -- What serves private functions. No public clause speaks of it.
 pub mod Refusal
+pub mod DocumentErrors

@@ -5,6 +5,8 @@ pub mod Naming
 pub mod Within
 pub mod Reply
 pub mod Disk
+pub mod Documents
 pub mod Message
 pub mod File
+pub mod Finishing
 pub mod Inner

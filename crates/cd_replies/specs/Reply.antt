@@ -8,7 +8,10 @@ use Rattle.cd_base.specs.declared.status.Status.TheVariants.{Syntax as IsSyntax}
 use Rattle.cd_base.specs.declared.status.Status.TheVariants.{TooDeep as IsTooDeep}
 use Rattle.cd_base.specs.declared.status.Status.TheVariants.{Naming as IsNaming}
 use Rattle.cd_base.specs.declared.status.Status.TheVariants.{NotBuilt as IsNotBuilt}
-use Rattle.cd_base.specs.declared.status.Status.TheVariants.{IllTyped as IsIllTyped}
+use Rattle.cd_base.specs.declared.status.Status.TheVariants.{IllTyped as IsIllTyped, Done}
+use Rattle.cd_base.specs.declared.status.Status.TheVariants.{NotInput, Uncaught}
+use Rattle.cd_base.specs.declared.status.Status.TheVariants.{Overflow as IsOverflow}
+use Rattle.cd_base.specs.declared.status.Status.TheVariants.{Spent as IsSpent}
 use Rattle.cd_syntax.specs.declared.tokens.LexError.{LexError}
 use Rattle.cd_syntax.specs.declared.tokens.LexError.TheVariants.{BadChar, OpenText, OpenComment}
 use Rattle.cd_syntax.specs.declared.tokens.LexError.TheVariants.{TooWide, Memory}
@@ -101,3 +104,21 @@ refusal origin text (Naming fault) = naming origin text fault
 abbrev pub ill_typed : (origin text : Bytes) → (place : ℕ) → (rule element : Bytes) → Reply
 ill_typed origin text place rule element =
     at_place IsIllTyped origin text place (rule ++ codes ": " ++ element)
+
+-- a document that is in no type of the input
+abbrev pub not_input : Bytes → Reply
+not_input document = complains NotInput (document ++ codes ": not of the input type")
+
+-- what is said of how a run ended: with a value and with a raised one, by their texts; with an
+-- integer beyond 128 bits; and without the units that it wanted
+abbrev pub printed : Bytes → Reply
+printed text = says Done text
+
+abbrev pub uncaught : Bytes → Reply
+uncaught text = complains Uncaught (codes "uncaught exception: " ++ text)
+
+abbrev pub overflow : Reply
+overflow = complains IsOverflow (codes "overflow")
+
+abbrev pub spent : Reply
+spent = complains IsSpent (codes "steps spent")

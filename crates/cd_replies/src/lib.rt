@@ -1,6 +1,7 @@
 //! What the commands share: files, the reading of texts, and messages.
 #![tactic(auto)]
 
+pub mod document;
 pub mod file;
 pub mod message;
 pub mod naming;

@@ -266,3 +266,66 @@ pub fn plain_no(alloc: Global) -> Result<Message, AllocError>
         text: String::from_str(alloc, "no\n")?,
     })
 }
+
+/// That a document is in no type of a program's input.
+///
+/// # Errors
+///
+/// Want of memory.
+pub fn not_input(alloc: Global, document: &str) -> Result<Message, AllocError>
+    ensures { IfOk result (λ message. reply_of message ≡ reply.not_input document.now) }
+{
+    let text = format!(in alloc; "{document}: not of the input type\n")?;
+    Ok(complaint(Status::NotInput, text))
+}
+
+/// The text of the value that a run ended with, on output.
+///
+/// # Errors
+///
+/// Want of memory.
+pub fn printed(text: String) -> Result<Message, AllocError>
+    ensures { IfOk result (λ message. reply_of message ≡ reply.printed (string_bytes text)) }
+{
+    let mut text = text;
+    text.push('\n')?;
+    Ok(Message {
+        status: Status::Done,
+        on_output: true,
+        text,
+    })
+}
+
+/// That a run ended with an exception, which has this text.
+///
+/// # Errors
+///
+/// Want of memory.
+pub fn uncaught(alloc: Global, text: &str) -> Result<Message, AllocError>
+    ensures { IfOk result (λ message. reply_of message ≡ reply.uncaught text.now) }
+{
+    let text = format!(in alloc; "uncaught exception: {text}\n")?;
+    Ok(complaint(Status::Uncaught, text))
+}
+
+/// That a run ended with an integer beyond 128 bits.
+///
+/// # Errors
+///
+/// Want of memory.
+pub fn overflow(alloc: Global) -> Result<Message, AllocError>
+    ensures { IfOk result (λ message. reply_of message ≡ reply.overflow) }
+{
+    Ok(complaint(Status::Overflow, String::from_str(alloc, "overflow\n")?))
+}
+
+/// That a run wanted more than its units.
+///
+/// # Errors
+///
+/// Want of memory.
+pub fn spent(alloc: Global) -> Result<Message, AllocError>
+    ensures { IfOk result (λ message. reply_of message ≡ reply.spent) }
+{
+    Ok(complaint(Status::Spent, String::from_str(alloc, "steps spent\n")?))
+}

@@ -1,4 +1,4 @@
-//! A tour of `sub`, `member` and `check` for those who work with documents: queries, each with its answer
+//! A tour of `sub`, `member`, `check` and `run` for those who work with documents: queries, each with its answer
 //! and what that means.
 #![tactic(auto)]
 

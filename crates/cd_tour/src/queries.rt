@@ -7,7 +7,7 @@ pub(crate) struct Query {
 }
 
 /// Queries on the files of the folder in which the tour runs.
-pub(crate) const QUERIES: [Query; 17] = [
+pub(crate) const QUERIES: [Query; 24] = [
     Query {
         words: &["sub", "--types", "address.cd", "Book", "LaterBook"],
         meaning: "Each address book is one of the later version too, so those that are written stay valid.",
@@ -99,6 +99,34 @@ pub(crate) const QUERIES: [Query; 17] = [
     Query {
         words: &["check", "downgrade.cd"],
         meaning: "A phone of the later version need not say of which kind it is, so some books would not be of the first version.",
+    },
+    Query {
+        words: &["run", "pages.cd", "family.doc"],
+        meaning: "The page of this address book. That `check` accepts the program says that each such page is valid.",
+    },
+    Query {
+        words: &["run", "downgraded.cd", "friends.doc"],
+        meaning: "Here such a phone counts as one at home, and this book becomes one of the first version.",
+    },
+    Query {
+        words: &["run", "pages.cd", "friends.doc"],
+        meaning: "A document is asked first whether it is of the input type: this book is one of the later version alone.",
+    },
+    Query {
+        words: &["run", "outline.cd", "report.doc"],
+        meaning: "The table of contents of this report, whose sections stand in one another.",
+    },
+    Query {
+        words: &["run", "bill.cd", "order.doc"],
+        meaning: "What this order costs.",
+    },
+    Query {
+        words: &["run", "bill.cd", "wrong.doc"],
+        meaning: "This one has a price below zero, for which the program raises an exception that nothing catches.",
+    },
+    Query {
+        words: &["run", "emphasis.cd", "plain.doc"],
+        meaning: "A pattern of a text takes its first way: from one star to the next, and what is left is gone over again.",
     },
 ];
 

@@ -3,18 +3,20 @@ use crate::place::place_differs;
 use crate::program::{accepted_differs, refused_differs};
 use crate::question::{apart_differs, within_differs};
 use crate::row::row_differs;
+use crate::run::run_differs;
 use crate::values::{list, pair, text};
 use anyhow::{Context, Result, bail};
 use std::io;
 use toml::Table;
 
-// The members of a file, of a row, of questions and of a place, with their types.
-const FILE: [(&str, &str); 5] = [
+// The members of a file, of a row, of questions, of a place and of a run, with their types.
+const FILE: [(&str, &str); 6] = [
     ("row", "array"),
     ("questions", "array"),
     ("places", "array"),
     ("accepted", "array"),
     ("refused", "array"),
+    ("runs", "array"),
 ];
 
 const ROW: [(&str, &str); 9] = [
@@ -38,6 +40,15 @@ const PLACE: [(&str, &str); 4] = [
     ("column", "integer"),
 ];
 
+const RUN: [(&str, &str); 6] = [
+    ("program", "string"),
+    ("document", "string"),
+    ("units", "integer"),
+    ("out", "string"),
+    ("raised", "string"),
+    ("overflow", "boolean"),
+];
+
 /// How many rows were put, and how many of them differ.
 #[derive(Drop)]
 pub(crate) struct Tally {
@@ -57,7 +68,7 @@ impl Tally {
     }
 }
 
-/// Puts the rows of a file, the pairs of its questions, its places, and its programs.
+/// Puts the rows of a file, the pairs of its questions, its places, its runs, and its programs.
 pub(crate) fn put_file(
     rt: &(impl Print + AllocGlobal),
     name: &str,
@@ -79,6 +90,11 @@ pub(crate) fn put_file(
         let row = row.as_table().context("a place is no table")?;
         check(row, &PLACE)?;
         tally.count(rt, name, place_differs(rt.alloc(), row)?)?;
+    }
+    for row in list(file.get("runs")) {
+        let row = row.as_table().context("a run is no table")?;
+        check(row, &RUN)?;
+        tally.count(rt, name, run_differs(rt.alloc(), row)?)?;
     }
     put_programs(rt, name, file, tally)
 }

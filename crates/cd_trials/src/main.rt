@@ -27,7 +27,9 @@
 //! A row of `places` has a `text`, a byte `at` which it is looked at, and the `line` and `column`
 //! of that byte. A pair of `within` should be answered yes, and one of `apart` no with any element
 //! that is right. Programs of `accepted` should be that by `check`, and of `refused` the texts are a
-//! program and what is said of it, after the name of its file.
+//! program and what is said of it, after the name of its file. A row of `runs` has a `program`, a
+//! `document` and the `units` that are just enough: with them it ends with `out`, with an exception
+//! that is `raised`, or by `overflow`, and with one less they are spent.
 #![tactic(auto)]
 
 mod answer;
@@ -36,6 +38,7 @@ mod place;
 mod program;
 mod question;
 mod row;
+mod run;
 mod values;
 
 use anyhow::{Context, Result};

@@ -5,9 +5,10 @@ use Rattle.cd_driver.specs.declared.request.Request.TheVariants.{Sub as AsksSub}
 use Rattle.cd_driver.specs.declared.request.Request.TheVariants.{SubTypes as AsksSubTypes}
 use Rattle.cd_driver.specs.declared.request.Request.TheVariants.{Member as AsksMember}
 use Rattle.cd_driver.specs.declared.request.Request.TheVariants.{Check as AsksCheck}
+use Rattle.cd_driver.specs.declared.request.Request.TheVariants.{Run as AsksRun}
 use Rattle.cd_driver.specs.declared.request.Request.TheVariants.{NotBuilt as AsksNotBuilt}
 use Rattle.cd_replies.specs.Bytes.{Bytes}
-use Rattle.cd_driver.specs.Command.{Command, Sub, SubTypes, Member, Check, IsNumeral, IsSize, Give}
+use Rattle.cd_driver.specs.Command.{Command, Sub, SubTypes, Member, Check, IsSize, Give, GiveRun}
 use Rattle.cd_replies.specs.Reply.{Reply, not_built}
 use Rattle.cd_replies.specs.Disk.{Disk}
 use Rattle.cd_driver.specs.Answer.{AnswerOf}
@@ -25,11 +26,9 @@ StandsFor words (AsksSubTypes file first second) =
 StandsFor words (AsksMember file document type) =
     Give words (Member file.now document.now type.now)
 StandsFor words (AsksCheck file) = Give words (Check file.now)
+StandsFor words (AsksRun file document units) = GiveRun words units file.now document.now
 StandsFor words (AsksNotBuilt name) = GiveNotBuilt words name.now
 
--- the word is a number of units, or a size
-abbrev pub WritesUnits : Bytes → Type 0
-WritesUnits word = (units : ℕ) × IsNumeral 18 word units
-
+-- the word is a size
 abbrev pub WritesSize : Bytes → Type 0
 WritesSize word = (size : ℕ) × IsSize word size

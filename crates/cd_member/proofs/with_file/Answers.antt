@@ -9,7 +9,7 @@ use Rattle.cd_replies.specs.Reply.{refusal}
 use Rattle.cd_replies.specs.Texts.{Declares}
 use Rattle.cd_replies.proofs.TextReading.{writes_declares, writes_refused}
 use Rattle.cd_member.specs.MemberAnswer.{FileDeclares, MemberAnswer, file_refused}
-use Rattle.cd_member.proofs.Finished.{said_at_once, leads_to}
+use Rattle.cd_replies.proofs.TwoFiles.{said_at_once, leads_to}
 use Rattle.cd_member.proofs.with_file.Goals as goal
 
 -- the names are those of the declarations

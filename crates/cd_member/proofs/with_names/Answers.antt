@@ -7,7 +7,7 @@ use Rattle.cd_replies.specs.Bytes.{Bytes}
 use Rattle.cd_replies.specs.Message.{against}
 use Rattle.cd_replies.specs.Reply.{refusal}
 use Rattle.cd_member.specs.MemberAnswer.{FileDeclares, DocumentAnswer, MemberAnswer, type_refused, on_document}
-use Rattle.cd_member.proofs.Finished.{said_at_once, leads_to}
+use Rattle.cd_replies.proofs.TwoFiles.{said_at_once, leads_to}
 use Rattle.cd_member.proofs.with_names.Goals as goal
 
 -- the node of the type is one of the graph

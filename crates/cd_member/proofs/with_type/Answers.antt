@@ -2,7 +2,7 @@ use Rattle.cd_model.specs.StandsFor.{StandsFor}
 use Rattle.cd_model.specs.Written.{Written}
 use Rattle.cd_graph.specs.Nodes.{nodes}
 use Rattle.cd_member.specs.MemberAnswer.{DocumentAnswer, document_refused}
-use Rattle.cd_member.proofs.Finished.{no_document}
+use Rattle.cd_replies.proofs.TwoFiles.{no_document}
 use Rattle.cd_member.proofs.with_type.Goals as goal
 
 pub returns-in-Ok-Err : goal.returns-in-Ok-Err

@@ -1,6 +1,6 @@
 use Rattle.cd_driver.specs.Command.{texts, Sub, SubTypes, Member, Check}
 use Rattle.cd_driver.proofs.Commands.{answers_usage, answers_at_once, answers_command, answers_not_built}
-use Rattle.cd_driver.proofs.Commands.{among_one, reads_files}
+use Rattle.cd_driver.proofs.Commands.{among_one, reads_files, answers_run, reads_run}
 use Rattle.cd_driver.proofs.answer.answer.Goals as goal
 
 pub returns-in-None-clause-answer : goal.returns-in-None-clause-answer
@@ -43,6 +43,16 @@ returns-in-Some-Check-clause-files g c =
     reads_files (texts c.args.words.now) _ _ (Check c.in-Some-Check.file.now)
     (rw c.in-Some-Check.field-0-is at c.in-Some-Check.ensures)
     (among_one _ _ c.in-Some-Check.file.now c.check.ensures.read)
+
+pub returns-in-Some-Run-clause-answer : goal.returns-in-Some-Run-clause-answer
+returns-in-Some-Run-clause-answer g c =
+    answers_run (texts c.args.words.now) _ _ c.in-Some-Run.units c.in-Some-Run.file.now c.in-Some-Run.document.now
+    (rw c.in-Some-Run.field-0-is at c.in-Some-Run.ensures) c.run.result c.run.ensures.answer
+
+pub returns-in-Some-Run-clause-files : goal.returns-in-Some-Run-clause-files
+returns-in-Some-Run-clause-files g c =
+    reads_run (texts c.args.words.now) _ _ c.in-Some-Run.units c.in-Some-Run.file.now c.in-Some-Run.document.now
+    (rw c.in-Some-Run.field-0-is at c.in-Some-Run.ensures) c.run.ensures.read
 
 pub returns-in-Some-NotBuilt-clause-answer : goal.returns-in-Some-NotBuilt-clause-answer
 returns-in-Some-NotBuilt-clause-answer g c =

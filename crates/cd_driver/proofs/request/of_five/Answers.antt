@@ -11,4 +11,6 @@ returns-in-sub c =
 pub returns-in-run : goal.returns-in-run
 returns-in-run c =
     let option : c.args.option.now ≡ codes "--steps" = search rules in
-    asks_run_steps c.args.name.now c.args.option.now c.args.first.now c.args.second.now c.args.third.now c.in-run.is option (c.is_units.ensures.0 c.if-is_units.true)
+    let numeral = c.is_numeral.ensures.0 c.if-is_numeral.true in
+    asks_run_steps c.args.name.now c.args.option.now c.args.first.now c.args.second.now c.args.third.now c.units.result c.in-run.is option numeral.0 numeral.1
+    c.units.ensures

@@ -1,4 +1,4 @@
--- How parts of the command end, and the whole.
+-- How parts of a command end that reads a document after another file, and the whole.
 use Rattle.std.proofs.Common.{◌≡◌, Bool, true, false, [], ◌∷◌, inl, inr, Result, Ok, Err, refl, sym, ap, subst, ◌∙◌}
 use Rattle.std.specs.Prelude.{IfOk, String, string_bytes}
 use Rattle.std.specs.Str.{bytes_eq}
@@ -12,15 +12,14 @@ use Rattle.cd_replies.specs.Disk.{Disk, HasText, marked, told_disk, marked_disk,
 use Rattle.cd_replies.specs.File.{IsFileRead, ReadsAmong, said_of}
 use Rattle.cd_replies.specs.Message.{IsAnswer, reply_of}
 use Rattle.cd_replies.specs.Reply.{Reply, cannot_read}
-use Rattle.cd_replies.specs.Texts.{RefusesDeclarations}
+use Rattle.cd_replies.specs.Texts.{Against}
 use Rattle.cd_replies.specs.declared.file.FileFault.{FileFault}
 use Rattle.cd_replies.specs.declared.message.Message.{Message}
 use Rattle.cd_replies.proofs.FilesMet.{has_text, has_text_beside, met_same, FaultMet, fault_met}
 use Rattle.cd_replies.proofs.FilesMet as met
 use Rattle.cd_replies.proofs.Messages.{replies}
-use Rattle.cd_member.specs.DocumentTexts.{RefusesDocument}
-use Rattle.cd_member.specs.Inner.Finishing.{Finishes, granted, failed}
-use Rattle.cd_member.specs.MemberAnswer.{MemberAnswer, file_refused}
+use Rattle.cd_replies.specs.Documents.{RefusesDocument}
+use Rattle.cd_replies.specs.Finishing.{Finishes, granted, failed}
 
 -- what is said where no read was made
 pub said_at_once : (answers : Disk → Reply → Type 0) (files : FilesState) (document : Bytes) (reply : Reply)
@@ -58,22 +57,24 @@ pub no_document : (answers : Disk → Reply → Type 0) (old new : FilesState) (
 no_document answers old new document fault is r said leads =
     fault_finishes answers old new document (said_of document fault) (fault_met RefusesDocument old new document fault is) r said leads
 
--- the whole command, by what was read of its file
-module _ (file document text : Bytes) where
+-- the whole command, by what was read of its file: what refuses the file is an answer
+module _ (refuses : Bytes → Against → Type 0) (answers : (file : Bytes) → Disk → Reply → Type 0)
+    (file_refused : (file : Bytes) (disk : Disk) (reply : Reply) → FileRefusal refuses disk file reply → answers file disk reply)
+    (file document : Bytes) where
   abbrev Answers : Disk → Reply → Type 0
-  Answers disk reply = MemberAnswer disk file document text reply
+  Answers = answers file
 
-  file_met : (old new : FilesState) (reply : Reply) → FaultMet RefusesDeclarations old new file reply
+  file_met : (old new : FilesState) (reply : Reply) → FaultMet refuses old new file reply
       → (r : Result Message AllocError) → IfOk r (λ message. reply_of message ≡ reply) → IsAnswer Answers old new r
   file_met old new _ (met.failed fails refusal) r said = (
     marked_disk old file,
     marked file fails.rose fails.last,
-    replies r (cannot_read file) (Answers (marked_disk old file)) said (file_refused (cannot_read file) refusal),
+    replies r (cannot_read file) (Answers (marked_disk old file)) said (file_refused file (marked_disk old file) (cannot_read file) refusal),
   )
   file_met old new _ (met.granted same reply refusal) r said = (
     told_disk old,
     met_same old new same,
-    replies r reply (Answers (told_disk old)) said (file_refused reply refusal),
+    replies r reply (Answers (told_disk old)) said (file_refused file (told_disk old) reply refusal),
   )
 
   pub nothing_said : (old new : FilesState) (error : AllocError) → new ≡ old → IsAnswer Answers old new (Err error)
@@ -81,22 +82,22 @@ module _ (file document text : Bytes) where
 
   pub no_file : (old new : FilesState) (fault : FileFault) → IsFileRead old new file (Ok (Err fault))
       → (r : Result Message AllocError) → IfOk r (λ message. reply_of message ≡ said_of file fault) → IsAnswer Answers old new r
-  no_file old new fault is r said = file_met old new (said_of file fault) (fault_met RefusesDeclarations old new file fault is) r said
+  no_file old new fault is r said = file_met old new (said_of file fault) (fault_met refuses old new file fault is) r said
 
   -- a document that can't be read: where it is the file, so is the file
   document_unread : (old new : FilesState) (types : String Global) → IsFileRead old old file (Ok (Ok types)) → (same : Bool)
       → bytes_eq document file ≡ same → (r : Result Message AllocError) → IfOk r (λ message. reply_of message ≡ cannot_read document)
       → IfOk r (λ message. HasText (marked_disk old document) file (string_bytes types) → Answers (marked_disk old document) (reply_of message))
       → IfOk r (λ message. Answers (marked_disk old document) (reply_of message))
-  document_unread old new types read true is r said answers =
+  document_unread old new types read true is r said on_text =
       let same = (bytes_eq-Decides document file).0 is in
       replies r (cannot_read document) (Answers (marked_disk old document)) said
-      (subst (λ name. MemberAnswer (marked_disk old document) name document text (cannot_read document)) same
-      (file_refused (cannot_read document) (unread refl)))
-  document_unread old new types read false is r said answers =
+      (subst (λ name. answers name (marked_disk old document) (cannot_read document)) same
+      (file_refused document (marked_disk old document) (cannot_read document) (unread refl)))
+  document_unread old new types read false is r said on_text =
       let other = λ (same : document ≡ file). true≢false (sym ((bytes_eq-Decides document file).1 same) ∙ is) in
       each_ok (λ reply. HasText (marked_disk old document) file (string_bytes types) → Answers (marked_disk old document) reply)
-      (Answers (marked_disk old document)) r (λ reply on. on (has_text_beside old old file document types other read)) answers
+      (Answers (marked_disk old document)) r (λ reply on. on (has_text_beside old old file document types other read)) on_text
 
   whole : (old new : FilesState) (types : String Global) → IsFileRead old old file (Ok (Ok types)) → (r : Result Message AllocError)
       → Finishes (λ disk reply. HasText disk file (string_bytes types) → Answers disk reply) old new document r → IsAnswer Answers old new r

@@ -1,0 +1,24 @@
+-- A program that a text reads as, and that has types.
+use Rattle.std.specs.Str.{chars}
+use Rattle.cd_placed.proofs.PlacesOfPrograms.{functions_stand_apart, patterns_begin_apart}
+use Rattle.cd_program.specs.Expr.{Program}
+use Rattle.cd_program.specs.WellMade.{IsWellMadeProgram}
+use Rattle.cd_names.specs.ProgramFaults.{in_types}
+use Rattle.cd_typing.specs.Typed.{IsTyped}
+use Rattle.cd_replies.specs.Bytes.{Bytes}
+use Rattle.cd_replies.specs.Naming.{RefusesNames, naming}
+use Rattle.cd_replies.specs.Texts.{Against, ReadsAsProgram}
+use Rattle.cd_running.specs.Inner.TypedProgram.{IsTypedProgram}
+
+pub typed_program : (text : Bytes) (program : Program) → ReadsAsProgram text program → IsWellMadeProgram program → IsTyped program
+    → IsTypedProgram program
+typed_program text program reads made typed = record {
+  typed = typed;
+  well_made = made;
+  sound = reads.sound;
+  functions = functions_stand_apart (chars text) reads.tokens 1000 program reads.spelled reads.written;
+  patterns = patterns_begin_apart (chars text) reads.tokens 1000 program reads.spelled reads.written;
+}
+
+pub names_sound : (program : Program) → IsTypedProgram program → (against : Against) → RefusesNames program.types against → ⊥
+names_sound program typed _ (naming fault told) = typed.sound fault (in_types fault told.is)

@@ -1,0 +1,36 @@
+use Rattle.std.proofs.Common.{◌≡◌, sym, subst}
+use Rattle.std.specs.Prelude.{IfOk}
+use Rattle.cd_cells.specs.Cells.{thing_at}
+use Rattle.cd_cells.specs.Table.{table}
+use Rattle.cd_model.specs.Thing.{Thing}
+use Rattle.cd_program.specs.Expr.{Program}
+use Rattle.cd_program.specs.PlainProgram.{plain_program}
+use Rattle.cd_resolve.specs.Named.{plain_names}
+use Rattle.cd_empty.specs.Seen.{graph_of}
+use Rattle.cd_code.specs.Compiled.{program_of}
+use Rattle.cd_code.proofs.CodesMade.{names_grown}
+use Rattle.cd_machine.proofs.Staying.{thing_stays}
+use Rattle.cd_replies.specs.Message.{reply_of}
+use Rattle.cd_safety.specs.SafeProgram.{IsSafeProgram}
+use Rattle.cd_running.specs.Inner.OnDocument.{OnValue}
+use Rattle.cd_running.proofs.on_value.with_names.Goals as goal
+
+pub with_code-requires-clause-safe : goal.with_code-requires-clause-safe
+with_code-requires-clause-safe c =
+    subst IsSafeProgram (sym c.in_ok-code.ensures.program)
+    (c.typed_programs_are_safe.ensures (plain_program c.args.program.now) c.requires.typed c.constants_are_elements.ensures c.in_ok-code.ensures.patterns)
+
+pub with_code-requires-clause-named : goal.with_code-requires-clause-named
+with_code-requires-clause-named c = names_grown (graph_of c.args.world.now) (graph_of c.compile.new.world) (plain_names c.args.names.now)
+    c.graph.ensures.sound c.in_ok-code.ensures.grows.graph c.requires.named
+
+-- the value stands in the table that has grown
+pub returns : goal.returns
+returns c =
+    let document = c.args.given.document.now in
+    let new = thing_at (table c.compile.new.values) c.args.given.value.0 in
+    let old = thing_at (table c.args.values.now) c.args.given.value.0 in
+    let stays : new ≡ old = thing_stays c.args.values.now c.compile.new.values c.in_ok-code.ensures.values c.args.given.value.0 c.requires.value in
+    subst (λ (program : Program). IfOk c.with_code.result (λ message. OnValue program c.args.units document old (reply_of message))) c.in_ok-code.ensures.program
+    (subst (λ (v : Thing). IfOk c.with_code.result (λ message. OnValue (program_of c.in_ok-code.code) c.args.units document v (reply_of message))) stays
+    c.with_code.ensures)

@@ -1,0 +1,4 @@
+pub mod Ending
+pub mod Input
+pub mod RunAnswer
+pub mod Inner

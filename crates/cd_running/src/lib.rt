@@ -1,0 +1,128 @@
+//! The command `run`: what a program comes to on a document.
+#![tactic(auto)]
+
+ghost use Rattle.std.specs.Prelude.{◌≡◌, ◌<◌, [], ◌∷◌, length, IfOk};
+ghost use Rattle.cd_cells.specs.Cells.{thing_at};
+ghost use Rattle.cd_cells.specs.Table.{table};
+ghost use Rattle.cd_program.specs.PlainProgram.{plain_program};
+ghost use Rattle.cd_safety.specs.SafeProgram.{IsDocument};
+ghost use Rattle.cd_replies.specs.Disk.{Disk, HasText};
+ghost use Rattle.cd_replies.specs.File.{ReadsAmong};
+ghost use Rattle.cd_replies.specs.Finishing.{Finishes};
+ghost use Rattle.cd_replies.specs.Message.{IsAnswer, reply_of};
+ghost use Rattle.cd_running.specs.RunAnswer.{RunAnswer};
+ghost use Rattle.cd_running.specs.Inner.OnDocument.{OnDocument, OnValue};
+ghost use Rattle.cd_running.specs.Inner.TypedProgram.{IsTypedProgram};
+
+use cd_base::files::Files;
+use cd_cells::Values;
+use cd_checking::no_types;
+use cd_program::program::Program;
+use cd_replies::document::read_document;
+use cd_replies::file::read_file;
+use cd_replies::message::{Message, no_text, refused};
+use cd_replies::reader::read_program;
+use given::Given;
+use on_value::on_value;
+use std::alloc::{AllocError, Global};
+
+mod given;
+mod input;
+mod on_value;
+mod running;
+mod safety;
+
+/// What the program of a file comes to on the value of a document, with so many units: the value
+/// that its `main` gives, an exception that is not caught, an integer beyond 128 bits, or that more
+/// units are wanted. The file of the program is read first; the document is read where the program
+/// has types.
+///
+/// # Errors
+///
+/// Want of memory.
+pub fn run<F: Files>(
+    alloc: Global,
+    files: &mut F,
+    file: &str,
+    document: &str,
+    units: u64,
+) -> Result<Message, AllocError>
+    ensures answer { IsAnswer (λ disk. RunAnswer disk units file.now document.now)
+        (F.state files.old) (F.state files.new) result }
+    ensures told { (F.state files.new).told ≡ (F.state files.old).told }
+    ensures read { ReadsAmong (F.state files.old) (F.state files.new)
+        (file.now ∷ document.now ∷ []) }
+{
+    match read_file(files, file) {
+        Err(error) => Err(error),
+        Ok(Err(fault)) => no_text(alloc, file, fault),
+        Ok(Ok(text)) => with_file(alloc, files, file, text.as_str(), document, units),
+    }
+}
+
+// The answer where the file has this text.
+fn with_file<F: Files>(
+    alloc: Global,
+    files: &mut F,
+    file: &str,
+    text: &str,
+    document: &str,
+    units: u64,
+) -> Result<Message, AllocError>
+    ensures { Finishes (λ disk reply. HasText disk file.now text.now
+        → RunAnswer disk units file.now document.now reply)
+        (F.state files.old) (F.state files.new) document.now result }
+{
+    let program = match read_program(alloc, text)? {
+        Ok(program) => program,
+        Err(refusal) => return refused(alloc, file, text, refusal),
+    };
+    match no_types(alloc, file, text, &program)? {
+        None => with_types(alloc, files, &program, document, units),
+        Some(message) => Ok(message),
+    }
+}
+
+// The answer where the program has types.
+fn with_types<F: Files>(
+    alloc: Global,
+    files: &mut F,
+    program: &Program,
+    document: &str,
+    units: u64,
+) -> Result<Message, AllocError>
+    requires { IsTypedProgram (plain_program program.now) }
+    ensures { Finishes (OnDocument (plain_program program.now) units document.now)
+        (F.state files.old) (F.state files.new) document.now result }
+{
+    match read_file(files, document) {
+        Err(error) => Err(error),
+        Ok(Err(fault)) => no_text(alloc, document, fault),
+        Ok(Ok(text)) => of_text(alloc, program, document, text.as_str(), units),
+    }
+}
+
+// The answer on a document that has this text.
+fn of_text(
+    alloc: Global,
+    program: &Program,
+    document: &str,
+    text: &str,
+    units: u64,
+) -> Result<Message, AllocError>
+    requires typed { IsTypedProgram (plain_program program.now) }
+    ensures { IfOk result (λ message. (disk : Disk) → HasText disk document.now text.now
+        → OnDocument (plain_program program.now) units document.now disk (reply_of message)) }
+{
+    let mut values = Values::new(alloc);
+    match read_document(alloc, &mut values, text)? {
+        Ok(value) => on_value(
+            alloc,
+            program,
+            &mut values,
+            Given { document, value },
+            units,
+        ),
+        Err(refusal) => refused(alloc, document, text, refusal),
+    }
+}

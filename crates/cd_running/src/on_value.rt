@@ -1,0 +1,121 @@
+//! What is said of a program with types on a value.
+ghost use Rattle.std.specs.Prelude.{◌≡◌, ◌<◌, length, IfOk};
+ghost use Rattle.cd_cells.specs.Cells.{thing_at};
+ghost use Rattle.cd_cells.specs.Table.{table, names as labels};
+ghost use Rattle.cd_code.specs.Compiled.{program_of, IsReady};
+ghost use Rattle.cd_empty.specs.Seen.{graph_of};
+ghost use Rattle.cd_program.specs.PlainProgram.{plain_program};
+ghost use Rattle.cd_resolve.specs.Named.{AreNamed, plain_names, declared_by};
+ghost use Rattle.cd_replies.specs.Message.{reply_of};
+ghost use Rattle.cd_safety.specs.SafeProgram.{IsDocument, IsSafeProgram};
+ghost use Rattle.cd_running.specs.Inner.OnDocument.{OnValue};
+ghost use Rattle.cd_running.specs.Inner.TypedProgram.{IsTypedProgram};
+
+use crate::given::Given;
+use crate::input::is_input;
+use crate::running::told;
+use crate::safety::typed_programs_are_safe;
+use cd_cells::Values;
+use cd_code::{Code, compile};
+use cd_constants::constants_are_elements;
+use cd_empty::World;
+use cd_program::program::Program;
+use cd_replies::message::{Message, not_input};
+use cd_replies::naming::declare;
+use cd_resolve::Names;
+use cd_safety::laws::typed_programs_have_main;
+use std::alloc::{AllocError, Global};
+
+/// What is said of a program on a value, with so many units.
+pub(crate) fn on_value(
+    alloc: Global,
+    program: &Program,
+    values: &mut Values,
+    given: Given<'_>,
+    units: u64,
+) -> Result<Message, AllocError>
+    requires typed { IsTypedProgram (plain_program program.now) }
+    requires value { given.value.0 < length (table values.old) }
+    requires document { IsDocument (thing_at (table values.old) given.value.0) }
+    ensures { IfOk result (λ message. OnValue (plain_program program.now) units given.entry.document.now
+        (thing_at (table values.old) given.entry.value.0) (reply_of message)) }
+{
+    let mut world = World::new(alloc)?;
+    in_world(alloc, &mut world, program, values, given, units)
+}
+
+// The same, in a world of no names.
+fn in_world(
+    alloc: Global,
+    world: &mut World,
+    program: &Program,
+    values: &mut Values,
+    given: Given<'_>,
+    units: u64,
+) -> Result<Message, AllocError>
+    requires typed { IsTypedProgram (plain_program program.now) }
+    requires value { given.value.0 < length (table values.old) }
+    requires document { IsDocument (thing_at (table values.old) given.value.0) }
+    ensures { IfOk result (λ message. OnValue (plain_program program.now) units given.entry.document.now
+        (thing_at (table values.old) given.entry.value.0) (reply_of message)) }
+{
+    match declare(alloc, world, &program.types)? {
+        Ok(names) => with_names(alloc, world, &names, program, values, given, units),
+        Err(_) => unreachable!(),
+    }
+}
+
+// The same, in a world of the declared names.
+fn with_names(
+    alloc: Global,
+    world: &mut World,
+    names: &Names<'_>,
+    program: &Program,
+    values: &mut Values,
+    given: Given<'_>,
+    units: u64,
+) -> Result<Message, AllocError>
+    requires typed { IsTypedProgram (plain_program program.now) }
+    requires declared { declared_by names.now ≡ (plain_program program.now).types }
+    requires named { AreNamed (graph_of world.old) (plain_names names.now) }
+    requires value { given.value.0 < length (table values.old) }
+    requires document { IsDocument (thing_at (table values.old) given.value.0) }
+    ensures { IfOk result (λ message. OnValue (plain_program program.now) units given.entry.document.now
+        (thing_at (table values.old) given.entry.value.0) (reply_of message)) }
+{
+    // The contracts of these calls say that the program is safe.
+    constants_are_elements(program);
+    typed_programs_are_safe();
+    world.graph();
+    let mut code = compile(alloc, world, names, program, values)?;
+    with_code(alloc, world, names, &mut code, values, given, units)
+}
+
+// The same, by the code of the program.
+fn with_code(
+    alloc: Global,
+    world: &mut World,
+    names: &Names<'_>,
+    code: &mut Code<'_>,
+    values: &mut Values,
+    given: Given<'_>,
+    units: u64,
+) -> Result<Message, AllocError>
+    requires typed { IsTypedProgram (program_of code.old) }
+    requires safe { IsSafeProgram (program_of code.old) }
+    requires ready { IsReady (labels values.old) code.old }
+    requires declared { declared_by names.now ≡ (program_of code.old).types }
+    requires named { AreNamed (graph_of world.old) (plain_names names.now) }
+    requires value { given.value.0 < length (table values.old) }
+    requires document { IsDocument (thing_at (table values.old) given.value.0) }
+    ensures { IfOk result (λ message. OnValue (program_of code.old) units given.entry.document.now
+        (thing_at (table values.old) given.entry.value.0) (reply_of message)) }
+{
+    // The contract of this call says that the program has a `main`.
+    typed_programs_have_main();
+    if is_input(alloc, world, names, code, values, given.value)? {
+        told(alloc, code, values, given.value, units)
+    } else {
+        not_input(alloc, given.document)
+    }
+}
