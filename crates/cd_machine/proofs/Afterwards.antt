@@ -1,5 +1,5 @@
 -- Steps by which code, values and environments come after others.
-use Rattle.std.proofs.Common.{◌≡◌, ◌<◌, List, [], ◌∷◌, ◌++◌, refl, ap, ◌∙◌, length}
+use Rattle.std.proofs.Common.{◌≡◌, List, refl, ap, ◌∙◌}
 use Rattle.cd_model.specs.AllOf.{AllOf}
 use Rattle.cd_cells.specs.Table.{names, Grows}
 use Rattle.cd_cells.specs.declared.cell.Part.{Part}

@@ -2,10 +2,10 @@
 use Rattle.std.proofs.Common.{◌≡◌, ℕ, Option, Some, None, refl, sym, ap, subst, ◌∙◌}
 use Rattle.cd_syntax.specs.Name.{Name}
 use Rattle.cd_model.specs.Thing.{Thing, Closure}
-use Rattle.cd_program.specs.Expr.{FunctionTree, function}
+use Rattle.cd_program.specs.Expr.{FunctionTree}
 use Rattle.cd_evaluation.specs.Environment.{Env, with_name}
 use Rattle.cd_evaluation.specs.Code.{Code}
-use Rattle.cd_machine.specs.Inner.Resuming.{Entry, Chooses, Enters, EntersOf, EntersTree}
+use Rattle.cd_machine.specs.Inner.Resuming.{Entry, Enters, EntersOf, EntersTree}
 
 module _ (code : Code) (at : ℕ) (env : Env) (self v : Thing) (is : Closure at env ≡ self) where
   pub no_tree : None ≡ code.function at → Enters code self v None

@@ -1,12 +1,12 @@
 -- A branch is tried after the other.
-use Rattle.std.proofs.Common.{◌≡◌, ◌<◌, ◌+◌, ℕ, Bool, true, false, List, [], ◌∷◌, ◌++◌, length, get_or, drop, map, Option, Some, None, option_map, refl, sym, ap, subst, ◌∙◌, arith}
+use Rattle.std.proofs.Common.{◌≡◌, ◌<◌, ◌+◌, ℕ, Bool, true, false, List, [], ◌∷◌, ◌++◌, length, get_or, drop, map, Option, Some, None, option_map, refl, sym, ap, subst, ◌∙◌}
 use Rattle.std.proofs.lemmas.List.{drop_more}
 use Rattle.cd_syntax.specs.TypeTree.{Tree}
-use Rattle.cd_model.specs.Thing.{Thing, Field, NoField}
-use Rattle.cd_program.specs.Expr.{Expr, Branches, NoBranch, ABranch, Branch, branches_of}
+use Rattle.cd_model.specs.Thing.{Thing, Field}
+use Rattle.cd_program.specs.Expr.{Expr, Branches, ABranch, branches_of}
 use Rattle.cd_program.specs.PlainExpr.{plain_branch}
 use Rattle.cd_program.specs.declared.expr.Branch.{Branch as CodeBranch}
-use Rattle.cd_cells.specs.Cells.{fields_of, name_at, thing_at}
+use Rattle.cd_cells.specs.Cells.{name_at, thing_at}
 use Rattle.cd_cells.specs.Table.{table, names}
 use Rattle.cd_cells.specs.declared.cell.Part.{Part}
 use Rattle.cd_cells.specs.declared.values.Values.{Values}
@@ -19,7 +19,7 @@ use Rattle.cd_machine.specs.Inner.Nodes.{parts_at, Longer}
 use Rattle.cd_machine.specs.Inner.PlainFrame.{env_at}
 use Rattle.cd_machine.specs.declared.environments.EnvId.{EnvId}
 use Rattle.cd_machine.proofs.NodesAdded.{stays}
-use Rattle.cd_machine.specs.Inner.Resuming.{Entry, entry_of, Chooses, LetsIn}
+use Rattle.cd_machine.specs.Inner.Resuming.{Entry, Chooses, LetsIn}
 
 -- what is captured stands before what is around
 pub with_parts : (values : Values) (parts around : List Part) → env_of values (parts ++ around) ≡ with_all (env_of values parts) (env_of values around)

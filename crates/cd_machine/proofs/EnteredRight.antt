@@ -1,5 +1,5 @@
 -- Where the machine enters an expression, it goes on rightly.
-use Rattle.std.proofs.Common.{◌≡◌, ◌<◌, ℕ, Bool, true, false, MatchBool, List, [], ◌∷◌, map, refl, sym, subst}
+use Rattle.std.proofs.Common.{◌≡◌, ◌<◌, ℕ, Bool, false, MatchBool, List, [], map, refl, sym, subst}
 use Rattle.cd_syntax.specs.declared.tokens.Span.{Span}
 use Rattle.cd_model.specs.Thing as thing
 use Rattle.cd_model.specs.Thing.{Thing, Character, Closure}

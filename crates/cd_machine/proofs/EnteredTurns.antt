@@ -1,10 +1,9 @@
 -- Turns to the body of a branch, and to other outcomes.
-use Rattle.std.proofs.Common.{◌≡◌, ◌<◌, List, [], ◌∷◌, length, Option, Some, None, refl}
+use Rattle.std.proofs.Common.{◌≡◌, List, [], ◌∷◌, length, Option, Some, None, refl}
 use Rattle.cd_cells.specs.Table.{table}
 use Rattle.cd_cells.specs.declared.cell.Part.{Part}
 use Rattle.cd_cells.specs.declared.values.Values.{Values}
 use Rattle.cd_machine.specs.PlainRan.{plain_outcome, IsOutcome}
-use Rattle.cd_machine.specs.Inner.CodeTurns.{pays}
 use Rattle.cd_machine.specs.Inner.Entries.{plain_choice, IsEntry, enters, enters_or}
 use Rattle.cd_machine.specs.Inner.PlainFrame.{plain_turn, plain_frame, IsTurn, IsFrame}
 use Rattle.cd_machine.specs.Inner.Resuming.{entry_turn}

@@ -1,5 +1,5 @@
 -- The items that are left of a sequence.
-use Rattle.std.proofs.Common.{◌≡◌, ◌<◌, ℕ, Bool, true, false, List, [], ◌∷◌, length, Option, Some, None, if◌then◌else◌, refl, sym, ap, subst, ◌∙◌, arith}
+use Rattle.std.proofs.Common.{◌≡◌, ◌<◌, ℕ, Bool, true, false, List, [], ◌∷◌, length, Option, Some, None, if◌then◌else◌, sym, ap, subst, ◌∙◌, arith}
 use Rattle.cd_model.specs.Thing.{Thing, Pair}
 use Rattle.cd_matching.specs.Sequences.{items}
 use Rattle.cd_program.specs.Expr.{Branches}

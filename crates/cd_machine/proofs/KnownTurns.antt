@@ -1,5 +1,5 @@
 -- Where the machine goes from what is known, it comes to what is known.
-use Rattle.std.proofs.Common.{◌≡◌, ℕ, Bool, true, false, List, [], ◌∷◌, map, Option, Some, None, option_map, refl, sym, subst}
+use Rattle.std.proofs.Common.{◌≡◌, Bool, true, false, List, [], ◌∷◌, map, Option, Some, None, option_map, refl, sym, subst}
 use Rattle.cd_syntax.specs.TypeTree.{Tree}
 use Rattle.cd_model.specs.Thing as thing
 use Rattle.cd_model.specs.Thing.{Thing, Character, Closure}
@@ -18,12 +18,12 @@ use Rattle.cd_evaluation.specs.Code.{Code}
 use Rattle.cd_evaluation.specs.Picks.{Picks, by_answer}
 use Rattle.cd_evaluation.specs.Machine.{Frame, First, Second, Iteming, Splicing, Fielding, Tagging, Attributing, Filling, Called, Argument}
 use Rattle.cd_evaluation.specs.Machine.{Matching, Trying, Letting, Asking, Wording, Tailing, Operating, Listing, Mapping, Sifting, Joining}
-use Rattle.cd_machine.specs.Inner.Turn.{Turn, give, give_to, evaluate, paid}
+use Rattle.cd_machine.specs.Inner.Turn.{Turn, give}
 use Rattle.cd_machine.specs.Inner.Entering.{tuple_turn, items_turn, fields_turn, apply_turn, kind_turn, expr_turn}
 use Rattle.cd_machine.specs.Inner.Resuming.{parts_turn, spliced_turn, called_turn, asked_turn, and_turn, or_turn, operand_turn, tails_turn}
-use Rattle.cd_machine.specs.Inner.Resuming.{Entry, entry_turn, entry_of, Chooses, EntersOf, Enters, MapsOn, Maps, SiftsOn, Sifts, LetsIn, IsEntered, Resumes, Catches, ComesTo}
+use Rattle.cd_machine.specs.Inner.Resuming.{Entry, entry_turn, entry_of, Chooses, EntersOf, Enters, MapsOn, Maps, SiftsOn, Sifts, Resumes, Catches, ComesTo}
 use Rattle.cd_machine.specs.Inner.Known.{IsKnown, AreKnown, ItemsAreKnown, FieldsAreKnown, TailsAreKnown, BranchesAreKnown, FunctionIsKnown}
-use Rattle.cd_machine.specs.Inner.Known.{FunctionsAreKnown, KindIsKnown, FrameIsKnown, ControlIsKnown, TurnIsKnown}
+use Rattle.cd_machine.specs.Inner.Known.{FunctionsAreKnown, KindIsKnown, FrameIsKnown, TurnIsKnown}
 
 -- what an option holds
 abbrev unwrap : Expr × Env → Option (Expr × Env) → Expr × Env

@@ -11,4 +11,5 @@ pub mod Applying
 pub mod ItemsMapped
 pub mod MachineRuns
 pub mod KnownProgram
+pub mod OperatorsAtHand
 mod Literals

@@ -1,5 +1,5 @@
 -- Steps of the machine, from turn to turn.
-use Rattle.std.proofs.Common.{◌≡◌, ◌≤◌, ◌<◌, ◌+◌, ℕ, zero, suc, Bool, true, false, MatchBool, List, [], ◌∷◌, ◌++◌, map, refl, sym, ap, subst, ◌∙◌, arith}
+use Rattle.std.proofs.Common.{true≢false, ◌≡◌, ◌≤◌, ◌<◌, ◌+◌, ℕ, suc, Bool, true, false, MatchBool, List, [], ◌∷◌, ◌++◌, refl, sym, ap, subst, ◌∙◌, arith}
 use Rattle.std.proofs.lemmas.List.{map-append}
 use Rattle.cd_syntax.specs.TypeTree.{Tree}
 use Rattle.std.specs.Borrow.{Bor}
@@ -24,11 +24,12 @@ use Rattle.cd_evaluation.specs.Measure.{measure}
 use Rattle.cd_evaluation.specs.Runs as runs
 use Rattle.cd_evaluation.proofs.MachineRight.{machine_right}
 use Rattle.cd_evaluation.proofs.UnwindingSteps as unwinding
-use Rattle.cd_machine.specs.PlainRan.{plain_outcome, plain_ran, IsOutcome}
+use Rattle.cd_machine.specs.PlainRan.{plain_outcome, plain_ran}
+use Rattle.cd_machine.specs.Inner.AtHand.{ReachesUnit}
 use Rattle.cd_machine.specs.Inner.CodeIn.{code_in, IsPatternIn}
 use Rattle.cd_machine.specs.Inner.Entering.{expr_turn}
-use Rattle.cd_machine.specs.Inner.InOrder.{IsInOrder, IsAfter}
-use Rattle.cd_machine.specs.Inner.Known.{IsKnown, FunctionsAreKnown, ControlIsKnown, FrameIsKnown, TurnIsKnown}
+use Rattle.cd_machine.specs.Inner.InOrder.{IsAfter}
+use Rattle.cd_machine.specs.Inner.Known.{FunctionsAreKnown, ControlIsKnown, FrameIsKnown, TurnIsKnown}
 use Rattle.cd_machine.specs.Inner.PlainFrame.{plain_control, plain_frame, plain_frames, plain_turn, env_at, pushed_by, IsControl, IsFrame, IsTurn}
 use Rattle.cd_machine.specs.Inner.Resuming.{ComesTo}
 use Rattle.cd_machine.specs.Inner.Running.{Waits, IsRunning, Leads, Turns, EndsAt, ComesToUnit, ComesToEnd, RunsTo, plain_state, left_to_do}
@@ -45,7 +46,18 @@ use Rattle.cd_machine.proofs.Afterwards.{after_values, same_code, same_patterns}
 use Rattle.cd_machine.proofs.EnteredRight.{expr_goes}
 use Rattle.cd_machine.proofs.KnownTurns.{expr_known, comes_known}
 use Rattle.cd_machine.proofs.ResumedRight.{comes_to}
-use Rattle.cd_machine.proofs.Staying.{env_stays, frame_stays, frames_stay, still_frames, outcome_stays, control_stays}
+use Rattle.cd_machine.proofs.Staying.{env_stays, frame_stays, frames_stay, still_frames, outcome_stays}
+
+pub leads_then : (code : evaluation.Code) (first second third : machine.Control) (one two three : List machine.Frame)
+    → Leads code first one second two → Leads code second two third three → Leads code first one third three
+leads_then code first second third one two three here there depth units result h = here depth units result (there depth units result h)
+
+pub leads_same : (code : evaluation.Code) (control : machine.Control) (stack : List machine.Frame) → Leads code control stack control stack
+leads_same code control stack depth units result h = h
+
+-- to equal frames
+pub leads_to : (code : evaluation.Code) (control : machine.Control) (stack stack' : List machine.Frame) → stack ≡ stack' → Leads code control stack control stack'
+leads_to code control stack stack' is = subst (Leads code control stack control) is (leads_same code control stack)
 
 module _ (code code' : Code) (old new : Values) (environments longer : List (List Part)) (after : IsAfter code old environments code' new longer) where
   -- what is known of patterns and functions of the old code is known of the new one
@@ -75,8 +87,11 @@ module _ (code code' : Code) (old new : Values) (environments longer : List (Lis
       let same = outcome_stays old new after.grows outcome running.at_hand in
       let first : FrameIsKnown (IsPatternIn code) (plain_frame new longer frame) = subst (FrameIsKnown (IsPatternIn code))
       (sym (frame_stays old new after.grows environments longer after.longer waits.order.parts frame waits.frames.0)) waits.known.0 in record {
+        last = plain_control old environments (Returning outcome);
         top = plain_frame new longer frame ∷ [];
-        is = sym stay;
+        leads = leads_to (code_in code') (plain_control old environments (Returning outcome)) (plain_frames old environments (frame ∷ rest))
+            (plain_frames new longer (frame ∷ rest)) (sym stay);
+        at_once = λ free. (refl, sym stay);
         goes = subst (λ (code : evaluation.Code). GoesOn code (machine.Returning (plain_outcome (table old) outcome)) (plain_frame new longer frame ∷ []) (plain_turn new longer one))
             (sym (same_code code code' after.program))
             (subst (λ (outcome : runs.Outcome). GoesOn (code_in code) (machine.Returning outcome) (plain_frame new longer frame ∷ []) (plain_turn new longer one))
@@ -96,8 +111,11 @@ pub entered : (code : Code) (old new : Values) (environments : List (List Part))
 entered code old new environments e env stack one grows running is within =
     let after = after_values code old new environments running.waits.order grows in
     let stay = env_stays old new grows environments environments after.longer running.waits.order.parts env running.at_hand in record {
+      last = plain_control old environments (Evaluating e env);
       top = [];
-      is = sym (frames_stay old new grows environments environments after.longer running.waits.order.parts stack running.waits.frames);
+      leads = leads_to (code_in code) (plain_control old environments (Evaluating e env)) (plain_frames old environments stack)
+          (plain_frames new environments stack) (sym (frames_stay old new grows environments environments after.longer running.waits.order.parts stack running.waits.frames));
+      at_once = λ free. (refl, sym (frames_stay old new grows environments environments after.longer running.waits.order.parts stack running.waits.frames));
       goes = subst (GoesOn (code_in code) (machine.Evaluating (plain e.now) (env_at old environments env)) []) (sym is)
           (subst (λ (around : Env). GoesOn (code_in code) (machine.Evaluating (plain e.now) around) [] (expr_turn (code_in code) (plain e.now) (env_at new environments env)))
           stay (expr_goes (code_in code) (plain e.now) (env_at new environments env)));
@@ -106,12 +124,29 @@ entered code old new environments e env stack one grows running is within =
       waits = waits_later code code old new environments environments after stack running.waits;
     }
 
-pub leads_then : (code : evaluation.Code) (first second third : machine.Control) (one two three : List machine.Frame)
-    → Leads code first one second two → Leads code second two third three → Leads code first one third three
-leads_then code first second third one two three here there depth units result h = here depth units result (there depth units result h)
-
-pub leads_same : (code : evaluation.Code) (control : machine.Control) (stack : List machine.Frame) → Leads code control stack control stack
-leads_same code control stack depth units result h = h
+-- an operator whose operands are at hand
+pub reached : (code : Code) (old new : Values) (environments : List (List Part)) (e : Bor CodeExpr) (env : EnvId) (stack : List Frame) (one : Turn) → Grows old new
+    → IsRunning code old environments (Evaluating e env) stack
+    → ReachesUnit (code_in code) (plain e.now) (env_at new environments env) (plain_turn new environments one) → one.takes ≡ true
+    → IsTurn new environments one → TurnIsKnown (IsPatternIn code) (plain_turn new environments one)
+    → Turns code new environments (plain_control old environments (Evaluating e env)) (plain_frames old environments stack) stack one
+reached code old new environments e env stack one grows running reaches takes within known =
+    let after = after_values code old new environments running.waits.order grows in
+    let stay = env_stays old new grows environments environments after.longer running.waits.order.parts env running.at_hand in
+    let same = frames_stay old new grows environments environments after.longer running.waits.order.parts stack running.waits.frames in record {
+      last = reaches.last;
+      top = reaches.top;
+      leads = subst (λ (around : Env). Leads (code_in code) (machine.Evaluating (plain e.now) around) (plain_frames old environments stack) reaches.last
+          (reaches.top ++ plain_frames new environments stack)) stay
+          (subst (λ (frames : List machine.Frame). Leads (code_in code) (machine.Evaluating (plain e.now) (env_at new environments env)) frames reaches.last
+          (reaches.top ++ plain_frames new environments stack)) same (reaches.leads (plain_frames new environments stack)));
+      at_once = λ free. absurd (true≢false (sym takes ∙ free));
+      goes = subst (λ (takes : Bool). MatchBool takes (GoesByUnit (code_in code) reaches.last reaches.top (plain_turn new environments one))
+          (GoesFreely (code_in code) reaches.last reaches.top (plain_turn new environments one))) (sym takes) reaches.goes;
+      within = within;
+      known = known;
+      waits = waits_later code code old new environments environments after stack running.waits;
+    }
 
 -- a turn by its flag
 freely : (code : evaluation.Code) (control : machine.Control) (top : List machine.Frame) (one : turn.Turn) → one.takes ≡ false → GoesOn code control top one
@@ -151,29 +186,30 @@ module _ (code : Code) (values : Values) (environments : List (List Part)) (rest
   }
 
   module _ (first : machine.Control) (before : List machine.Frame) (turns : Turns code values environments first before rest one) where
-    goes_freely : one.takes ≡ false → GoesFreely (code_in code) first turns.top (plain_turn values environments one)
-    goes_freely free = freely (code_in code) first turns.top (plain_turn values environments one) free turns.goes
+    goes_freely : one.takes ≡ false → GoesFreely (code_in code) turns.last turns.top (plain_turn values environments one)
+    goes_freely free = freely (code_in code) turns.last turns.top (plain_turn values environments one) free turns.goes
 
     pub turn_leads : one.takes ≡ false → Leads (code_in code) first before (plain_control values environments control) (plain_frames values environments stack)
-    turn_leads free depth units = subst (λ (frames : List machine.Frame). Keeps (code_in code) (calls (code_in code) depth) (state first units frames)
-        (plain_state values environments control units stack)) (sym turns.is)
-        (subst (Keeps (code_in code) (calls (code_in code) depth) (state first units (turns.top ++ plain_frames values environments rest))) (sym (state_after units))
-        ((goes_freely free).keeps depth units (plain_frames values environments rest)))
+    turn_leads free = leads_then (code_in code) first turns.last (plain_control values environments control) before
+        (turns.top ++ plain_frames values environments rest) (plain_frames values environments stack) turns.leads
+        (λ depth units. subst (Keeps (code_in code) (calls (code_in code) depth) (state turns.last units (turns.top ++ plain_frames values environments rest)))
+        (sym (state_after units)) ((goes_freely free).keeps depth units (plain_frames values environments rest)))
 
     pub turn_falls : one.takes ≡ false → left_to_do values environments control stack < measure (state first 0 before)
-    turn_falls free = subst (λ (frames : List machine.Frame). left_to_do values environments control stack < measure (state first 0 frames)) (sym turns.is)
-        (subst (λ (new : State). measure new < measure (state first 0 (turns.top ++ plain_frames values environments rest))) (sym (state_after 0))
-        ((goes_freely free).falls 0 (plain_frames values environments rest)))
+    turn_falls free = subst (λ (control' : machine.Control). left_to_do values environments control stack < measure (state control' 0 before)) (sym (turns.at_once free).0)
+        (subst (λ (frames : List machine.Frame). left_to_do values environments control stack < measure (state turns.last 0 frames)) (sym (turns.at_once free).1)
+        (subst (λ (new : State). measure new < measure (state turns.last 0 (turns.top ++ plain_frames values environments rest))) (sym (state_after 0))
+        ((goes_freely free).falls 0 (plain_frames values environments rest))))
 
 -- a turn that takes a unit
 pub wants_unit : (code : Code) (values : Values) (environments : List (List Part)) (first last : machine.Control) (before middle : List machine.Frame)
     (rest : List Frame) (one : Turn) → Leads (code_in code) first before last middle → Turns code values environments last middle rest one → one.takes ≡ true
     → ComesToUnit code values environments first before rest one
 wants_unit code values environments first last before middle rest one leads turns takes = record {
-  last = last;
+  last = turns.last;
   top = turns.top;
-  leads = subst (λ (frames : List machine.Frame). Leads (code_in code) first before last frames) turns.is leads;
-  goes = by_unit (code_in code) last turns.top (plain_turn values environments one) takes turns.goes;
+  leads = leads_then (code_in code) first last turns.last before middle (turns.top ++ plain_frames values environments rest) leads turns.leads;
+  goes = by_unit (code_in code) turns.last turns.top (plain_turn values environments one) takes turns.goes;
   within = turns.within;
   known = turns.known;
   waits = turns.waits;

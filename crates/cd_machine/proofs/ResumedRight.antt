@@ -1,9 +1,9 @@
 -- Where an outcome comes to a frame, the machine goes on rightly.
-use Rattle.std.proofs.Common.{◌≡◌, ◌≢◌, ◌<◌, ℕ, zero, suc, Bool, true, false, MatchBool, List, [], ◌∷◌, Option, Some, None, option_map, refl, sym, ap, subst, ◌∙◌}
+use Rattle.std.proofs.Common.{◌≡◌, ◌<◌, ℕ, suc, Bool, true, false, List, [], ◌∷◌, Option, Some, None, option_map, refl, sym, subst}
 use Rattle.cd_syntax.specs.TypeTree.{Tree}
 use Rattle.cd_model.specs.Thing as thing
 use Rattle.cd_model.specs.Thing.{Thing, Pair, Closure}
-use Rattle.cd_matching.specs.Sequences.{nil, items, sequence_of}
+use Rattle.cd_matching.specs.Sequences.{nil, items}
 use Rattle.cd_program.specs.declared.operator.Op.{Op}
 use Rattle.cd_program.specs.declared.operator.Op.TheVariants as op
 use Rattle.cd_program.specs.Expr as form
@@ -12,14 +12,13 @@ use Rattle.cd_evaluation.specs.Runs.{Outcome, Done, Raised, Overflow, Spent, Stu
 use Rattle.cd_evaluation.specs.Environment.{Env, with_all, with_name}
 use Rattle.cd_evaluation.specs.Lists.{before}
 use Rattle.cd_evaluation.specs.RecordFields.{put}
-use Rattle.cd_evaluation.specs.Operations.{truth_of, operate, word_outcome, dropped, selected, xml}
+use Rattle.cd_evaluation.specs.Operations.{truth_of, operate, word_outcome, xml}
 use Rattle.cd_evaluation.specs.Code.{Code}
 use Rattle.cd_evaluation.specs.Evaluation.{IsStrict, mapped, joined}
 use Rattle.cd_evaluation.specs.Meaning.{calls}
 use Rattle.cd_evaluation.specs.Machine.{Frame, First, Second, Iteming, Splicing, Fielding, Tagging, Attributing, Filling, Called, Argument}
 use Rattle.cd_evaluation.specs.Machine.{Matching, Trying, Letting, Asking, Wording, Tailing, Operating, Listing, Mapping, Sifting, Joining}
-use Rattle.cd_evaluation.specs.Machine.{Control, Returning, State, returning}
-use Rattle.cd_evaluation.specs.Steps.{items_next, fields_next}
+use Rattle.cd_evaluation.specs.Machine.{Returning, State, returning}
 use Rattle.cd_evaluation.specs.Ends.{Keeps}
 use Rattle.cd_evaluation.specs.Measure.{measure}
 use Rattle.cd_evaluation.specs.Picks.{Picks}
@@ -29,10 +28,10 @@ use Rattle.cd_evaluation.proofs.CallingSteps as calling
 use Rattle.cd_evaluation.proofs.SpentSteps as spending
 use Rattle.cd_evaluation.proofs.UnwindingSteps as unwinding
 use Rattle.cd_evaluation.proofs.MeasureFalls as falls
-use Rattle.cd_machine.specs.Inner.Turn.{Turn, after, give, give_to, evaluate, paid, GoesFreely, GoesByUnit, GoesOn}
+use Rattle.cd_machine.specs.Inner.Turn.{Turn, give, give_to, evaluate, paid, GoesFreely, GoesByUnit, GoesOn}
 use Rattle.cd_machine.specs.Inner.Entering.{items_turn, fields_turn}
 use Rattle.cd_machine.specs.Inner.Resuming.{parts_turn, spliced_turn, called_turn, asked_turn, and_turn, or_turn, operand_turn, tails_turn}
-use Rattle.cd_machine.specs.Inner.Resuming.{Entry, entry_turn, entry_of, Chooses, EntersOf, Enters, MapsOn, Maps, SiftsOn, Sifts, LetsIn, IsEntered, Resumes, Catches, ComesTo}
+use Rattle.cd_machine.specs.Inner.Resuming.{Entry, entry_turn, entry_of, EntersOf, Enters, MapsOn, Maps, SiftsOn, Sifts, Resumes, Catches, ComesTo}
 use Rattle.cd_machine.proofs.EnteredRight.{freely, items_after, items_free, fields_after, fields_free}
 
 module _ (code : Code) where
@@ -146,7 +145,7 @@ module _ (code : Code) where
   }
 
   -- an operator that takes the value of its right operand
-  strict_goes : (is : Op) (e : Expr) (rest : Tails) (env : Env) (v : Thing) → IsStrict is
+  pub strict_goes : (is : Op) (e : Expr) (rest : Tails) (env : Env) (v : Thing) → IsStrict is
       → From (Tailing (ATail (Operand is e) rest) env) v (evaluate e env (Operating is v rest env ∷ []))
   strict_goes is e rest env v strict = record {
     keeps = λ depth units below. resuming.operand code (calls code depth) env units below is e rest v strict;

@@ -1,8 +1,8 @@
 -- Where values and environments are only added, what the code has stays what it is.
-use Rattle.std.proofs.Common.{◌≡◌, ◌<◌, ℕ, zero, suc, List, [], ◌∷◌, ◌++◌, length, map, refl, sym, ap, subst, ◌∙◌, append-nil, append_assoc, length-append, arith}
-use Rattle.cd_syntax.specs.Name.{Name, IsLabel}
+use Rattle.std.proofs.Common.{◌≡◌, ◌<◌, ℕ, zero, suc, List, [], ◌∷◌, ◌++◌, length, refl, sym, ap, subst, ◌∙◌, append-nil, append_assoc, length-append, arith}
+use Rattle.cd_syntax.specs.Name.{IsLabel}
 use Rattle.cd_model.specs.AllOf.{AllOf}
-use Rattle.cd_model.specs.Thing.{Thing, IsRecord}
+use Rattle.cd_model.specs.Thing.{IsRecord}
 use Rattle.cd_cells.specs.Cells.{thing_at, name_at, fields_of, IsPart}
 use Rattle.cd_cells.specs.Table.{table, names, Grows}
 use Rattle.cd_cells.specs.declared.cell.Part.{Part}
@@ -16,7 +16,7 @@ use Rattle.cd_operations.specs.FieldsOf as record_fields
 use Rattle.cd_code.specs.Compiled.{env_of, ArePartsOf}
 use Rattle.cd_machine.specs.PlainRan.{plain_outcome, IsOutcome}
 use Rattle.cd_machine.specs.Inner.Nodes.{parts_at, Longer}
-use Rattle.cd_machine.specs.Inner.PlainFrame.{env_at, value_of, items_at, plain_frame, plain_frames, plain_control, IsId, IsEnv, IsFrame, IsControl}
+use Rattle.cd_machine.specs.Inner.PlainFrame.{env_at, items_at, plain_frame, plain_frames, plain_control, IsFrame, IsControl}
 use Rattle.cd_machine.specs.declared.environments.EnvId.{EnvId}
 use Rattle.cd_machine.specs.declared.frame.Frame.{Frame}
 use Rattle.cd_machine.specs.declared.frame.Frame.TheVariants as frame

@@ -12,3 +12,4 @@ pub mod Meeting
 pub mod CodeIn
 pub mod Endings
 pub mod Running
+pub mod AtHand

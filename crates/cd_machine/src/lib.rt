@@ -1,6 +1,7 @@
 //! A machine that runs programs.
 #![tactic(auto)]
 
+mod at_hand;
 mod branches;
 mod call;
 mod enter;

@@ -14,6 +14,7 @@ ghost use Rattle.cd_machine.specs.Inner.PlainFrame.{plain_control, plain_frames,
 ghost use Rattle.cd_machine.specs.Inner.PlainFrame.{IsFrame};
 ghost use Rattle.cd_machine.specs.Inner.Running.{IsRunning, TurnsOrEnds, Stops, RunsTo};
 
+use crate::at_hand::operator_at_hand;
 use crate::enter::enter;
 use crate::environments::{EnvId, Environments};
 use crate::frame::Frame;
@@ -81,6 +82,10 @@ impl<'p> Machine<'p> {
     {
         match control {
             Control::Evaluating(expr, env) => {
+                let environments = &self.environments;
+                if let Some(turn) = operator_at_hand(code, values, environments, expr, env)? {
+                    return Ok(Next::Turn(turn));
+                }
                 let turn = enter(code, values, &self.environments, &mut self.parts, expr, env)?;
                 Ok(Next::Turn(turn))
             }

@@ -1,5 +1,5 @@
 -- What is answered of the arrows of an interface, one after the other.
-use Rattle.std.proofs.Common.{◌≡◌, refl, Bool, true, false, List, ◌∷◌, [], inl, inr, sym, subst}
+use Rattle.std.proofs.Common.{◌≡◌, Bool, true, false, List, ◌∷◌, [], inl, inr, sym, subst}
 use Rattle.cd_model.specs.AllOf.{AllOf}
 use Rattle.cd_model.specs.Scope.{Scope}
 use Rattle.cd_model.specs.Thing.{Thing}

@@ -1,5 +1,5 @@
 -- A document is in a node as it is in the type that the node stands for.
-use Rattle.std.proofs.Common.{ℕ, Bool, []}
+use Rattle.std.proofs.Common.{Bool, []}
 use Rattle.cd_sets.specs.declared.node_id.NodeId.{NodeId}
 use Rattle.cd_model.specs.Formula.{Graph, nodes}
 use Rattle.cd_model.specs.Interfaces.{Interfaces, OfWritten, admits, value_in_node}

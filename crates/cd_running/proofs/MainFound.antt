@@ -10,7 +10,7 @@ use Rattle.cd_resolve.specs.Faults.{Fault, IsFaultOfType}
 use Rattle.cd_variables.specs.VariableFaults.{IsOneIn}
 use Rattle.cd_names.specs.ProgramFaults.{arrow_types}
 use Rattle.cd_evaluation.specs.Code.{place_of}
-use Rattle.cd_evaluation.specs.ProgramFunctions.{all_functions, first_at, function_at, declared_at}
+use Rattle.cd_evaluation.specs.ProgramFunctions.{first_at, function_at, declared_at}
 use Rattle.cd_evaluation.specs.ProgramInterfaces.{interface_of}
 use Rattle.cd_safety.specs.SafeProgram.{IsMain}
 use Rattle.cd_closures.specs.SoundInterfaces.{HasSoundInterface}

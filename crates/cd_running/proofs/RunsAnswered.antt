@@ -5,7 +5,7 @@ use Rattle.std.specs.declared.alloc.AllocError.{AllocError}
 use Rattle.cd_model.specs.AllOf.{AnyOf}
 use Rattle.cd_model.specs.Thing.{Thing}
 use Rattle.cd_model.specs.Written.{in_written}
-use Rattle.cd_program.specs.Expr.{Signature, FunctionTree, Program}
+use Rattle.cd_program.specs.Expr.{FunctionTree, Program}
 use Rattle.cd_evaluation.specs.ProgramInterfaces.{interface_of}
 use Rattle.cd_safety.specs.SafeProgram.{IsMain, IsDocument, IsSafeProgram}
 use Rattle.cd_replies.specs.Bytes.{Bytes}
@@ -14,8 +14,7 @@ use Rattle.cd_replies.specs.Reply.{Reply, not_input as no_input}
 use Rattle.cd_replies.specs.declared.message.Message.{Message}
 use Rattle.cd_replies.proofs.Messages.{replies}
 use Rattle.cd_running.specs.Input.{IsInput, IsNoInput, IsSafeOn, argument}
-use Rattle.cd_running.specs.RunAnswer.{RunAnswer, not_input, ran}
-use Rattle.cd_running.specs.Inner.Inputs.{AnswersAsInput}
+use Rattle.cd_running.specs.RunAnswer.{not_input, ran}
 use Rattle.cd_running.specs.Inner.OnDocument.{OnValue, IsNeverStuck, TellsRun}
 
 -- one of a list of which a fact holds

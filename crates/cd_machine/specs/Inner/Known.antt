@@ -1,5 +1,5 @@
 -- Expressions whose parts are well made, with a fact of each pattern that stands in them.
-use Rattle.std.specs.Prelude.{◌≡◌, ℕ, List, Option, Some}
+use Rattle.std.specs.Prelude.{◌≡◌, ℕ, Some}
 use Rattle.cd_syntax.specs.Name.{IsLabel}
 use Rattle.cd_syntax.specs.TypeTree.{Tree}
 use Rattle.cd_syntax.specs.WellMadePattern.{IsWellMadeConstant}

@@ -1,5 +1,5 @@
 -- Frames, controls and turns as plain data, over the values of a table and environments.
-use Rattle.std.specs.Prelude.{◌≡◌, ◌<◌, ℕ, List, [], ◌∷◌, ◌++◌, length, map, Option, Some, None}
+use Rattle.std.specs.Prelude.{◌≡◌, ◌<◌, List, [], ◌∷◌, length, map, Option, Some, None}
 use Rattle.cd_syntax.specs.PlainTree.{plain as plain_tree}
 use Rattle.cd_model.specs.AllOf.{AllOf}
 use Rattle.cd_model.specs.Thing.{Thing, IsRecord}

@@ -3,13 +3,13 @@ use Rattle.std.specs.Prelude.{◌≡◌, Bool, true, false, List, [], ◌∷◌,
 use Rattle.std.specs.Prelude.{option_map}
 use Rattle.cd_syntax.specs.TypeTree.{Tree}
 use Rattle.cd_model.specs.Thing.{Thing, Pair, Closure}
-use Rattle.cd_matching.specs.Sequences.{nil, items, sequence_of}
+use Rattle.cd_matching.specs.Sequences.{nil, items}
 use Rattle.cd_program.specs.declared.operator.Op.{Op}
 use Rattle.cd_program.specs.declared.operator.Op.TheVariants as op
 use Rattle.cd_program.specs.Expr.{Expr, Exprs, NoExpr, AnExpr, Items, Tails, NoTail, ATail}
 use Rattle.cd_program.specs.Expr.{Operand, Without, Select, Branches, FunctionTree, function}
 use Rattle.cd_typing.specs.Operators.{truth}
-use Rattle.cd_evaluation.specs.Runs.{Outcome, Done, Raised, Overflow, Spent, Stuck}
+use Rattle.cd_evaluation.specs.Runs.{Outcome, Done, Raised, Stuck}
 use Rattle.cd_evaluation.specs.Environment.{Env, with_all, with_name}
 use Rattle.cd_evaluation.specs.Lists.{before}
 use Rattle.cd_evaluation.specs.RecordFields.{put}

@@ -1,5 +1,5 @@
 -- The machine at work.
-use Rattle.std.specs.Prelude.{◌≡◌, ◌≤◌, ℕ, List, [], ◌++◌, length}
+use Rattle.std.specs.Prelude.{◌≡◌, ◌≤◌, ℕ, false, List, [], ◌++◌, length}
 use Rattle.cd_model.specs.AllOf.{AllOf}
 use Rattle.cd_model.specs.Thing.{Thing}
 use Rattle.cd_cells.specs.Table.{table}
@@ -53,13 +53,18 @@ abbrev pub Leads : evaluation.Code → machine.Control → List machine.Frame �
 Leads code control stack control' stack' = (depth units : ℕ)
     → Keeps code (calls code depth) (state control units stack) (state control' units stack')
 
--- The turn from what is at hand and what waits for it, of which the rest still waits
+-- The turn from what is at hand and what waits for it, of which the rest still waits. Where it takes
+-- a unit, others that take none may come before it
 pub record Turns (code : Code) (values : Values) (environments : List (List Part))
     (control : machine.Control) (stack : List machine.Frame) (rest : List Frame) (turn : Turn)
     : Type 0 where
+  pub last : machine.Control
   pub top : List machine.Frame
-  pub is : stack ≡ top ++ plain_frames values environments rest
-  pub goes : GoesOn (code_in code) control top (plain_turn values environments turn)
+  pub leads : Leads (code_in code) control stack last
+      (top ++ plain_frames values environments rest)
+  pub at_once : turn.takes ≡ false
+      → (control ≡ last) × (stack ≡ top ++ plain_frames values environments rest)
+  pub goes : GoesOn (code_in code) last top (plain_turn values environments turn)
   pub within : IsTurn values environments turn
   pub known : TurnIsKnown (IsPatternIn code) (plain_turn values environments turn)
   pub waits : Waits code values environments rest

@@ -1,5 +1,5 @@
 -- What the machine does next: a turn.
-use Rattle.std.specs.Prelude.{◌<◌, ℕ, zero, suc, Bool, true, false, MatchBool, List, [], ◌∷◌, ◌++◌}
+use Rattle.std.specs.Prelude.{◌<◌, ℕ, zero, suc, Bool, true, false, MatchBool, List, [], ◌++◌}
 use Rattle.cd_program.specs.Expr.{Expr}
 use Rattle.cd_evaluation.specs.Runs.{Outcome, Spent}
 use Rattle.cd_evaluation.specs.Environment.{Env}

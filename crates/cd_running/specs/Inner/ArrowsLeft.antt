@@ -1,6 +1,6 @@
 -- The arrows that are left, where a document is in the argument of none before them.
-use Rattle.std.specs.Prelude.{true, false, List, map}
-use Rattle.cd_model.specs.AllOf.{AllOf, AnyOf}
+use Rattle.std.specs.Prelude.{true, false, List}
+use Rattle.cd_model.specs.AllOf.{AllOf}
 use Rattle.cd_model.specs.Scope.{Scope}
 use Rattle.cd_model.specs.Thing.{Thing}
 use Rattle.cd_syntax.specs.TypeTree.{Declarations}

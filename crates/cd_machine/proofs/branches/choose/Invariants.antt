@@ -1,4 +1,4 @@
-use Rattle.std.proofs.Common.{◌≡◌, map, drop, Option}
+use Rattle.std.proofs.Common.{map, drop, Option}
 use Rattle.cd_program.specs.Expr.{Expr, branches_of}
 use Rattle.cd_program.specs.PlainExpr.{plain_branch, plain_branches}
 use Rattle.cd_cells.specs.Cells.{thing_at}

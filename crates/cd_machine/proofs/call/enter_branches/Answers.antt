@@ -1,11 +1,10 @@
-use Rattle.std.proofs.Common.{◌≡◌, ap, ◌∙◌, sym, subst}
+use Rattle.std.proofs.Common.{◌∙◌, sym, subst}
 use Rattle.cd_program.specs.PlainExpr.{plain_branches}
 use Rattle.cd_cells.specs.Cells.{thing_at}
 use Rattle.cd_cells.specs.Table.{table}
-use Rattle.cd_evaluation.specs.Environment.{Env, with_name}
+use Rattle.cd_evaluation.specs.Environment.{Env}
 use Rattle.cd_machine.specs.Inner.CodeIn.{code_in}
 use Rattle.cd_machine.specs.Inner.Entries.{plain_choice}
-use Rattle.cd_machine.specs.Inner.PlainFrame.{env_at}
 use Rattle.cd_machine.specs.Inner.Resuming.{Chooses}
 use Rattle.cd_machine.proofs.Afterwards.{after_then}
 use Rattle.cd_machine.proofs.Staying.{thing_stays, env_stays, still_within}

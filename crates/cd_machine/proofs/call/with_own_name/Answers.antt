@@ -1,4 +1,4 @@
-use Rattle.std.proofs.Common.{arith, ◌≡◌, ◌++◌, [], ◌∷◌, length, ap, ◌∙◌, sym, subst}
+use Rattle.std.proofs.Common.{arith, [], ◌∷◌, length, ap, ◌∙◌, sym, subst}
 use Rattle.std.proofs.lemmas.Result.{on_ok_weaker}
 use Rattle.cd_syntax.specs.Name.{IsLabel}
 use Rattle.cd_program.specs.WellMade.{IsWellMadeName}

@@ -1,12 +1,12 @@
-use Rattle.std.proofs.Common.{◌≡◌, ◌++◌, List, [], ap, ◌∙◌, sym}
-use Rattle.cd_model.specs.Thing.{Thing, Closure, Fields}
+use Rattle.std.proofs.Common.{◌≡◌, ◌++◌, List, ap, ◌∙◌, sym}
+use Rattle.cd_model.specs.Thing.{Thing, Closure}
 use Rattle.cd_cells.specs.Table.{table}
 use Rattle.cd_cells.specs.declared.cell.Part.{Part}
 use Rattle.cd_cells.proofs.TableGrows.{last_at}
 use Rattle.cd_evaluation.specs.Runs.{Done}
 use Rattle.cd_code.specs.Compiled.{env_of}
 use Rattle.cd_machine.specs.Inner.Nodes.{parts_at}
-use Rattle.cd_machine.specs.Inner.PlainFrame.{env_at, plain_turn}
+use Rattle.cd_machine.specs.Inner.PlainFrame.{plain_turn}
 use Rattle.cd_machine.specs.Inner.Turn.{give}
 use Rattle.cd_machine.proofs.NodesAdded.{longer_same}
 use Rattle.cd_machine.proofs.Staying.{env_stays}

@@ -1,4 +1,4 @@
-use Rattle.std.proofs.Common.{◌≡◌, List, [], Some, subst, sym, ap, ◌∙◌}
+use Rattle.std.proofs.Common.{◌≡◌, Some, subst, sym, ap, ◌∙◌}
 use Rattle.cd_model.specs.Thing.{Thing}
 use Rattle.cd_matching.specs.Sequences.{items}
 use Rattle.cd_program.specs.PlainExpr.{plain_branches}

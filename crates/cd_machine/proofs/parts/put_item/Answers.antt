@@ -1,4 +1,4 @@
-use Rattle.std.proofs.Common.{◌≡◌, List, ◌∷◌, map, ap, ◌∙◌, sym}
+use Rattle.std.proofs.Common.{◌∷◌, map, ap, ◌∙◌, sym}
 use Rattle.cd_model.specs.Thing.{Thing, Pair}
 use Rattle.cd_program.specs.Expr.{items_of}
 use Rattle.cd_program.specs.PlainExpr.{plain_item}

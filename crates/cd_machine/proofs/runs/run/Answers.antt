@@ -1,15 +1,12 @@
-use Rattle.std.proofs.Common.{◌≡◌, ◌∷◌, [], List, Some, None, ap, ◌∙◌, sym, subst}
+use Rattle.std.proofs.Common.{ap, ◌∙◌, sym, subst}
 use Rattle.std.proofs.lemmas.Option.{none-some, same_Some}
-use Rattle.std.specs.Prelude.{codes}
 use Rattle.cd_model.specs.AllOf.{AllOf}
 use Rattle.cd_model.specs.Thing.{Closure, NoField}
 use Rattle.cd_cells.specs.Cells.{thing_at}
 use Rattle.cd_cells.specs.Table.{table, IsAt}
-use Rattle.cd_cells.specs.declared.cell.Part.{Part}
 use Rattle.cd_cells.proofs.TableGrows.{last_at}
 use Rattle.cd_code.specs.Compiled.{program_of, ArePartsOf}
 use Rattle.cd_evaluation.specs.Code.{place_of}
-use Rattle.cd_evaluation.specs.Machine as machine
 use Rattle.cd_evaluation.specs.ProgramFunctions.{declared_at}
 use Rattle.cd_machine.specs.Inner.CodeIn.{code_in, IsPatternIn}
 use Rattle.cd_machine.specs.Inner.Known.{FrameIsKnown}

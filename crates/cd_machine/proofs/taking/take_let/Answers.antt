@@ -1,9 +1,7 @@
-use Rattle.std.proofs.Common.{◌≡◌, ap, ◌∙◌, sym, subst}
+use Rattle.std.proofs.Common.{ap, ◌∙◌, sym, subst}
 use Rattle.cd_syntax.specs.PlainTree.{plain as plain_tree}
 use Rattle.cd_model.specs.Thing.{Thing}
 use Rattle.cd_program.specs.PlainExpr.{plain}
-use Rattle.cd_cells.specs.Cells.{thing_at}
-use Rattle.cd_cells.specs.Table.{table}
 use Rattle.cd_machine.specs.Inner.CodeIn.{code_in}
 use Rattle.cd_machine.specs.Inner.Entries.{plain_choice}
 use Rattle.cd_machine.specs.Inner.PlainFrame.{plain_turn, env_at}

@@ -1,8 +1,6 @@
-use Rattle.std.proofs.Common.{arith, ◌≡◌, ◌∷◌, [], List, Some, subst, sym, ap, ◌∙◌}
+use Rattle.std.proofs.Common.{arith, ◌∷◌, [], List, subst, sym, ap, ◌∙◌}
 use Rattle.cd_model.specs.Thing.{Thing}
 use Rattle.cd_program.specs.PlainExpr.{plain_branches}
-use Rattle.cd_cells.specs.Cells.{thing_at}
-use Rattle.cd_cells.specs.Table.{table}
 use Rattle.cd_evaluation.specs.Runs as runs
 use Rattle.cd_machine.specs.Inner.CodeIn.{code_in}
 use Rattle.cd_machine.specs.Inner.Entries.{plain_choice}

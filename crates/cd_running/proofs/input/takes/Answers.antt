@@ -1,4 +1,4 @@
-use Rattle.std.proofs.Common.{◌≡◌, ◌∷◌, [], map, ap, subst}
+use Rattle.std.proofs.Common.{◌∷◌, [], map, ap, subst}
 use Rattle.cd_cells.specs.Cells.{thing_at}
 use Rattle.cd_cells.specs.Table.{table}
 use Rattle.cd_model.specs.Written.{in_written}

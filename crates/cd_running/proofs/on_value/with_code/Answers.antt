@@ -1,9 +1,7 @@
-use Rattle.std.proofs.Common.{◌≡◌, true, subst}
+use Rattle.std.proofs.Common.{subst}
 use Rattle.cd_cells.specs.Cells.{thing_at}
 use Rattle.cd_cells.specs.Table.{table}
-use Rattle.cd_program.specs.Expr.{FunctionTree, Program}
 use Rattle.cd_code.specs.Compiled.{program_of}
-use Rattle.cd_safety.specs.SafeProgram.{IsMain}
 use Rattle.cd_running.specs.Inner.Inputs.{AnswersAsInput}
 use Rattle.cd_running.proofs.RunsAnswered.{never_stuck, runs_answered, refused_answered}
 use Rattle.cd_running.proofs.on_value.with_code.Goals as goal

@@ -1,6 +1,5 @@
 use Rattle.std.proofs.Common.{arith, ◌≡◌, ◌++◌, ◌∷◌, [], ap, ◌∙◌, sym, subst, length, length-append, ◌+◌, List}
 use Rattle.cd_cells.specs.declared.cell.Part.{Part}
-use Rattle.cd_machine.specs.declared.environments.Node.{Node}
 use Rattle.cd_machine.specs.Inner.Nodes.{parts_at, lists, AreOrdered}
 use Rattle.cd_machine.proofs.NodesAdded.{one_more, how_many, still_ordered}
 use Rattle.cd_machine.proofs.environments.Environments.add.Goals as goal

@@ -1,4 +1,4 @@
-use Rattle.std.proofs.Common.{arith, ◌≡◌, ◌∷◌, ◌+◌, ◌-◌, ◌<◌, ℕ, List, ap, ◌∙◌, sym, get_or, length}
+use Rattle.std.proofs.Common.{arith, ◌≡◌, ◌∷◌, ◌+◌, ◌-◌, ◌<◌, List, ap, ◌∙◌, sym, get_or, length}
 use Rattle.cd_cells.specs.declared.cell.Part.{Part}
 use Rattle.cd_machine.specs.declared.environments.Node.{Node}
 use Rattle.cd_machine.specs.Inner.Nodes.{parts_at, lists}

@@ -1,4 +1,4 @@
-use Rattle.std.proofs.Common.{◌≡◌, ◌≤◌, ◌-◌, ◌++◌, ◌∙◌, List, [], arith, sym, subst}
+use Rattle.std.proofs.Common.{◌≡◌, ◌-◌, ◌++◌, ◌∙◌, List, [], arith, sym, subst}
 use Rattle.cd_cells.specs.Table.{table}
 use Rattle.cd_cells.specs.declared.cell.Part.{Part}
 use Rattle.cd_evaluation.specs.Code as evaluation

@@ -1,7 +1,6 @@
 use Rattle.std.proofs.Common.{◌≡◌, ◌<◌, ◌∙◌, List, sym, subst}
 use Rattle.cd_cells.specs.declared.cell.Part.{Part}
 use Rattle.cd_evaluation.specs.Code as evaluation
-use Rattle.cd_evaluation.specs.Measure.{measure}
 use Rattle.cd_code.specs.Compiled.{program_of}
 use Rattle.cd_machine.specs.Inner.CodeIn.{code_in}
 use Rattle.cd_machine.specs.Inner.InOrder.{IsAfter}
