@@ -50,7 +50,7 @@ module _ (scope : Scope) where
         (have types (types_later first second is_second sound nodes are types of)));
   }
 
-  named_types : (graph : Graph) (nodes : Nodes) (types : Types) (self : Typ) (whole : NodeId) → AreOfTypes graph nodes types
+  pub named_types : (graph : Graph) (nodes : Nodes) (types : Types) (self : Typ) (whole : NodeId) → AreOfTypes graph nodes types
       → AreSame (elements_of graph whole) (In self) → (name : Option Name)
       → AreOfTypes graph (with_node name whole nodes) (with_type name self types)
   named_types graph nodes types self whole of same None = of

@@ -9,14 +9,13 @@ use Rattle.cd_model.specs.Scope.{Scope}
 use Rattle.cd_model.specs.Thing.{Thing}
 use Rattle.cd_matching.specs.Captures.{Captures}
 use Rattle.cd_program.specs.Expr.{Expr}
-use Rattle.cd_meaning.specs.Sets.{◌⊆◌, elements_of}
+use Rattle.cd_meaning.specs.Sets.{Set, ◌⊆◌, elements_of}
 use Rattle.cd_names.specs.ProgramFaults.{names_of}
 use Rattle.cd_typing.specs.Later.{IsLater}
 use Rattle.cd_typing.specs.Branches.{HoldCaptured}
 use Rattle.cd_typing.specs.Typing.{Has}
 use Rattle.cd_typing.proofs.Later.{later_in, earlier_in, below_later, later_still}
-use Rattle.cd_sites.proofs.WrittenTaken.{takes_once}
-use Rattle.cd_sites.specs.CapturedTypes.{types_of}
+use Rattle.cd_sites.specs.CapturedTypes.{types_of, HoldNoMore}
 use Rattle.cd_sites.specs.Sites.{IsSite}
 use Rattle.cd_sites.specs.declared.site.Site.{Site}
 use Rattle.cd_sites.specs.TakenElements.{IsTakenFrom, TakesNone}
@@ -35,6 +34,7 @@ use Rattle.cd_check.specs.Inner.Limits.{IsLimit, AreWithin, IsOneWithin}
 use Rattle.cd_check.specs.Inner.GoingOn.{listed}
 use Rattle.cd_check.specs.Inner.Ready.{IsReady, IsAfter, declarations_of, names_seen, scope_of, seen_by}
 use Rattle.cd_check.specs.Inner.SoundNames.{IsSound}
+use Rattle.cd_check.proofs.Divided.{left_untaken}
 use Rattle.cd_check.proofs.OwnNames.{body_sound, names_in}
 use Rattle.cd_check.proofs.OwnTypes.{body_gives}
 use Rattle.cd_check.proofs.ReadyLater.{ready_later, later_of}
@@ -75,17 +75,21 @@ after_all base old middle new locals all ready is after = record {
   ready = ready_later base old new (later_still old middle new is after.later) locals ready;
 }
 
-abbrev IsNone : Option (Captures Name) → Type 0
-IsNone None = Unit {0}
-IsNone (Some captures) = ⊥
-
 -- nothing is taken
 pub none_gives : (graph : Graph) (scope : Scope) (sited : Sited) → IsSited graph scope sited → (nodes : Nodes) (new : Graph) (matched : NodeId)
     → (body : Expr) → TakesNone scope (sited_pattern sited) (elements_of graph matched)
     → BodyGives scope graph nodes new (elements_of graph matched) (sited_pattern sited) body None
-none_gives graph scope sited sound nodes new matched body none e captures first = subst IsNone
-    (takes_once graph scope (sited_pattern sited) sited.site sound.site e None (Some captures) first.element
-    (none e first.element first.in_set) first.takes) tt
+none_gives graph scope sited sound nodes new matched body none e captures first = left_untaken graph scope (sited_pattern sited) sited.site
+    sound.site e first.element (none e first.element first.in_set) captures first.takes
+
+-- what is said of a site of a graph under another name
+pub said_here : (fact : Scope → Tree → Set → Type 0) (old same : Graph) → same ≡ old → (scope : Scope) (sited : Sited) → IsSited old scope sited
+    → (matched : NodeId)
+    → ((scope : Scope) (written : Tree) → IsSite same scope written sited.site → fact scope written (elements_of same matched))
+    → fact scope (sited_pattern sited) (elements_of old matched)
+said_here fact old same is scope sited sound matched said = subst
+    (λ graph. IsSite graph scope (sited_pattern sited) sited.site → fact scope (sited_pattern sited) (elements_of graph matched)) is
+    (said scope (sited_pattern sited)) sound.site
 
 -- what is captured is held by types of a longer graph than that in which it is matched
 pub hold_here : (old same middle : Graph) → same ≡ old → (scope : Scope) (sited : Sited) → IsSited old scope sited → (matched : NodeId)
@@ -93,10 +97,17 @@ pub hold_here : (old same middle : Graph) → same ≡ old → (scope : Scope) (
     → ((scope : Scope) (written : Tree) → IsSite same scope written sited.site
     → HoldCaptured scope (types_of middle own) [] written (elements_of same matched))
     → HoldCaptured scope (types_of middle own) [] (sited_pattern sited) (elements_of old matched)
-hold_here old same middle is scope sited sound matched own hold = subst
-    (λ graph. IsSite graph scope (sited_pattern sited) sited.site
-    → HoldCaptured scope (types_of middle own) [] (sited_pattern sited) (elements_of graph matched)) is
-    (hold scope (sited_pattern sited)) sound.site
+hold_here old same middle is scope sited sound matched own hold = said_here
+    (λ scope written matched. HoldCaptured scope (types_of middle own) [] written matched) old same is scope sited sound matched hold
+
+-- and nothing else is in them
+pub only_here : (old same middle : Graph) → same ≡ old → (scope : Scope) (sited : Sited) → IsSited old scope sited → (matched : NodeId)
+    → (own : Nodes)
+    → ((scope : Scope) (written : Tree) → IsSite same scope written sited.site
+    → HoldNoMore scope (types_of middle own) written (elements_of same matched))
+    → HoldNoMore scope (types_of middle own) (sited_pattern sited) (elements_of old matched)
+only_here old same middle is scope sited sound matched own only = said_here
+    (λ scope written matched. HoldNoMore scope (types_of middle own) written matched) old same is scope sited sound matched only
 
 module _ (base : Base) (locals own all : Nodes) (same : all ≡ own ++ locals) (old : Graph) (sited : Sited)
     (sound : IsSited old (scope_of base) sited) (matched : NodeId) (middle : Graph)

@@ -5,7 +5,8 @@ use Rattle.std.proofs.lemmas.List.{drop_all}
 use Rattle.cd_sets.specs.declared.node_id.NodeId.{NodeId}
 use Rattle.cd_syntax.specs.TypeTree.{Tree}
 use Rattle.cd_model.specs.Formula.{Graph}
-use Rattle.cd_program.specs.Expr.{Branches, branches_of}
+use Rattle.cd_model.specs.Thing.{Thing}
+use Rattle.cd_program.specs.Expr.{Branches, ABranch, branches_of}
 use Rattle.cd_program.specs.PlainExpr.{plain_branch}
 use Rattle.cd_program.specs.declared.expr.Branch.{Branch as CodeBranch}
 use Rattle.cd_meaning.specs.Sets.{elements_of}
@@ -15,7 +16,10 @@ use Rattle.cd_check.specs.declared.base.Base.{Base}
 use Rattle.cd_check.specs.declared.bodies.Limit.{Limit}
 use Rattle.cd_check.specs.declared.sites.Coming.{Coming}
 use Rattle.cd_check.specs.declared.sites.Division.{Division}
-use Rattle.cd_check.specs.Inner.Bodies.{Leaves, BodyGives, BodiesGoOn}
+use Rattle.cd_check.specs.Inner.Bodies.{Leaves, LeavesNoMore, BodyGives, BodiesGoOn}
+use Rattle.cd_check.specs.Inner.BodyFaults.{BodyLeast, BodiesLeast}
+use Rattle.cd_check.specs.Inner.Failing.{BodyFails, BranchesFail}
+use Rattle.cd_check.specs.declared.fault.CheckError.{CheckError}
 use Rattle.cd_check.specs.Inner.Divided.{IsSited, IsDivision, Come, coming_pattern}
 use Rattle.cd_check.specs.Inner.Environment.{Nodes}
 use Rattle.cd_check.specs.Inner.Giving.{BodiesGive}
@@ -25,6 +29,7 @@ use Rattle.cd_check.specs.Inner.Ready.{IsReady, IsAfter, declarations_of, names_
 use Rattle.cd_check.specs.Inner.SoundNames.{IsSound, BranchesAreSound}
 use Rattle.cd_check.proofs.After.{after_none, after_both}
 use Rattle.cd_check.proofs.BodiesChecked.{limit_later, within_later, one_more_within, none_within}
+use Rattle.cd_check.proofs.BodiesKnown.{BodiesKnown, none_known, all_known, one_known, one_fails}
 use Rattle.cd_check.proofs.BodiesLooped.{one_body}
 use Rattle.cd_check.proofs.BodiesTyped.{bodies_start, bodies_end}
 use Rattle.cd_check.proofs.Divided.{come_later, first_node, head_same, rest_same}
@@ -41,6 +46,8 @@ pub record Done (base : Base) (locals : Nodes) (old : Graph) (division : Divisio
   pub goes : BodiesGoOn (scope_of base) old (seen_by base locals) (typ old division.matched) graph branches
       (branches_of (map plain_branch (drop number items))) (typ graph next) results
   pub within : AreWithin graph limit results
+  pub known : BodiesKnown (scope_of base) old (seen_by base locals) (elements_of old division.matched) limit graph branches
+      (branches_of (map plain_branch (drop number items))) (elements_of graph next) results
 
 abbrev IsSome : List Tree → Type 0
 IsSome [] = ⊥
@@ -69,6 +76,9 @@ module _ (base : Base) (locals : Nodes) (old : Graph) (ready : IsReady base old 
         (typ old division.matched) []) (sym are)
         (bodies_start (scope_of base) old ready.sound (seen_by base locals) ready.nodes (typ old division.matched) division.matched branches);
     within = none_within old limit;
+    known = subst (λ left. BodiesKnown (scope_of base) old (seen_by base locals) (elements_of old division.matched) limit old branches left
+        (elements_of old division.matched) []) (sym are)
+        (none_known (scope_of base) old (seen_by base locals) (elements_of old division.matched) limit branches);
   }
 
   pub all_done : (graph : Graph) (number : ℕ) (results : List NodeId)
@@ -81,6 +91,14 @@ module _ (base : Base) (locals : Nodes) (old : Graph) (ready : IsReady base old 
         (subst (λ left. BodiesGoOn (scope_of base) old (seen_by base locals) (typ old division.matched) graph branches
         (branches_of (map plain_branch left)) (typ graph done.next) results) (drop_all number items over) done.goes);
   }
+
+  pub all_done_least : (graph : Graph) (number : ℕ) (results : List NodeId)
+      → Done base locals old division branches items limit graph number results → length items ≤ number
+      → BodiesLeast (scope_of base) old (seen_by base locals) graph branches (elements_of old division.matched) results
+  all_done_least graph number results done over = all_known (scope_of base) old (seen_by base locals) (elements_of old division.matched) limit graph
+      done.after.ready.sound branches (elements_of graph done.next) results
+      (subst (λ left. BodiesKnown (scope_of base) old (seen_by base locals) (elements_of old division.matched) limit graph branches
+      (branches_of (map plain_branch left)) (elements_of graph done.next) results) (drop_all number items over) done.known)
 
   module _ (graph : Graph) (number : ℕ) (results : List NodeId)
       (done : Done base locals old division branches items limit graph number results) (item : CodeBranch)
@@ -112,6 +130,11 @@ module _ (base : Base) (locals : Nodes) (old : Graph) (ready : IsReady base old 
       same_here : coming_pattern coming ≡ (plain_branch item).pattern
       same_here = head_same same_all
 
+      known_here : BodiesKnown (scope_of base) old (seen_by base locals) (elements_of old division.matched) limit graph branches
+          (ABranch (plain_branch item).pattern (plain_branch item).body rest) (elements_of graph done.next) results
+      known_here = subst (λ more. BodiesKnown (scope_of base) old (seen_by base locals) (elements_of old division.matched) limit graph branches
+          (branches_of (map plain_branch more)) (elements_of graph done.next) results) (left_is items number item at below) done.known
+
       pub is_sited : IsSited graph (scope_of base) coming.sited.now
       is_sited = here.2
 
@@ -128,8 +151,10 @@ module _ (base : Base) (locals : Nodes) (old : Graph) (ready : IsReady base old 
       pub one_done : IsLimit old limit → (new : Graph) (found : Option NodeId) → IsAfter base locals graph new
           → BodyGives (scope_of base) graph (seen_by base locals) new (elements_of graph coming.matched) (coming_pattern coming)
           (plain_branch item).body found → IsOneWithin new limit found
+          → BodyLeast (scope_of base) graph (seen_by base locals) new (elements_of graph coming.matched) (coming_pattern coming)
+          (plain_branch item).body found
           → Done base locals old division branches items limit new (number + 1) (results ++ listed found)
-      one_done is_limit new found after gives fits = record {
+      one_done is_limit new found after gives fits least = record {
         after = after_both base locals old graph new done.after after;
         next = here.3;
         comes = come_later graph new after.later (scope_of base) done.after.ready.sound here.3 left division.rest here.5;
@@ -145,4 +170,25 @@ module _ (base : Base) (locals : Nodes) (old : Graph) (ready : IsReady base old 
         within = one_more_within new limit results found
             (within_later graph new after.later done.after.ready.sound limit (limit_later old graph done.after.later limit is_limit) results
             done.goes.are_nodes done.within) fits;
+        known = one_known (scope_of base) old (seen_by base locals) (elements_of old division.matched) limit ready.sound ready.nodes graph
+            done.after.later branches (plain_branch item).pattern (plain_branch item).body rest (elements_of graph done.next) results known_here new
+            after.later here.3 (first_node graph (scope_of base) here.3 left division.rest here.5)
+            (subst (λ (pattern : Tree). Leaves (scope_of base) pattern (elements_of graph done.next) (elements_of graph here.3)) same_here here.4)
+            (subst (λ (pattern : Tree). LeavesNoMore (scope_of base) pattern (elements_of graph done.next) (elements_of graph here.3)) same_here
+            here.6)
+            found
+            (subst (λ (id : NodeId). BodyLeast (scope_of base) graph (seen_by base locals) new (elements_of graph id) (plain_branch item).pattern
+            (plain_branch item).body found) here.0
+            (subst (λ (pattern : Tree). BodyLeast (scope_of base) graph (seen_by base locals) new (elements_of graph coming.matched) pattern
+            (plain_branch item).body found) same_here least));
       }
+
+      -- a fault of this body is one of all
+      pub one_failed : IsLimit old limit → (table : List Thing) (error : CheckError)
+          → BodyFails base graph locals table coming.matched limit (coming_pattern coming) (plain_branch item).body error
+          → BranchesFail base old locals table division.matched limit branches error
+      one_failed is_limit table error fails = one_fails (scope_of base) old (seen_by base locals) (elements_of old division.matched) limit ready.sound
+          ready.nodes graph done.after.later branches (plain_branch item).pattern (plain_branch item).body rest (elements_of graph done.next) results
+          known_here is_limit table error
+          (subst (λ (id : NodeId). BodyFails base graph locals table id limit (plain_branch item).pattern (plain_branch item).body error) here.0
+          (subst (λ (pattern : Tree). BodyFails base graph locals table coming.matched limit pattern (plain_branch item).body error) same_here fails))

@@ -39,7 +39,7 @@ module _ (scope : Scope) where
   abbrev pub ComesTo : (before others : List Tree) → (matched left : Set) → Type 0
   ComesTo before others matched left = (e : Thing) → IsElement e → matched e → AllFail before e → left e × AllFail others e
 
-  first_there : (before others : List Tree) (matched left : Set) → ComesTo before others matched left → (pattern : Tree)
+  pub first_there : (before others : List Tree) (matched left : Set) → ComesTo before others matched left → (pattern : Tree)
       → (e : Thing) (captures : Captures Name) → IsFirst scope before pattern matched e captures
       → IsFirst scope others pattern left e captures
   first_there before others matched left comes pattern e captures first =

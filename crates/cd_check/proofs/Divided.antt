@@ -1,5 +1,5 @@
 -- What is matched, divided among patterns.
-use Rattle.std.proofs.Common.{◌≡◌, ◌<◌, ap, sym, subst, ◌⊎◌, inl, inr, List, [], ◌∷◌, ◌++◌, length, map, append_assoc, Some, None}
+use Rattle.std.proofs.Common.{◌≡◌, ◌<◌, ap, sym, subst, ◌⊎◌, inl, inr, List, [], ◌∷◌, ◌++◌, length, map, append_assoc, Option, Some, None}
 use Rattle.cd_sets.specs.declared.node_id.NodeId.{NodeId}
 use Rattle.cd_syntax.specs.Name.{Name}
 use Rattle.cd_syntax.specs.TypeTree.{Tree}
@@ -9,20 +9,26 @@ use Rattle.cd_model.specs.Scope.{Scope}
 use Rattle.cd_model.specs.Thing.{Thing, IsElement}
 use Rattle.cd_matching.specs.Captures.{Captures}
 use Rattle.cd_matching.specs.Takes.{WrittenTakes}
-use Rattle.cd_program.specs.Expr.{Branches, NoBranch, ABranch}
+use Rattle.cd_program.specs.Expr.{Expr, Branches, NoBranch, ABranch}
 use Rattle.cd_meaning.specs.Sets.{◌⊆◌, elements_of}
 use Rattle.cd_names.specs.ProgramFaults.{patterns}
 use Rattle.cd_typing.specs.Branches.{Cover, IsTaken}
 use Rattle.cd_typing.specs.Later.{IsLater}
 use Rattle.cd_typing.proofs.Later.{later_in, earlier_in, below_later, later_still}
 use Rattle.cd_sites.proofs.SitesStay.{site_stays}
+use Rattle.cd_sites.proofs.WrittenTaken.{takes_once}
 use Rattle.cd_sites.specs.Sites.{IsSite}
+use Rattle.cd_sites.specs.declared.site.Site.{Site}
 use Rattle.cd_sites.specs.TakenElements.{left_of}
 use Rattle.cd_check.specs.declared.sites.Coming.{Coming}
 use Rattle.cd_check.specs.declared.sites.Sited.{Sited}
 use Rattle.cd_check.specs.Inner.Bodies.{Decides, Leaves}
 use Rattle.cd_check.specs.Inner.Divided.{IsSited, AreSited, Come, coming_pattern, sited_pattern}
 use Rattle.cd_check.proofs.Decided.{site_decides}
+
+abbrev IsNone : Option (Captures Name) → Type 0
+IsNone None = Unit {0}
+IsNone (Some captures) = ⊥
 
 abbrev IsSome : List Tree → Type 0
 IsSome [] = ⊥
@@ -65,6 +71,8 @@ module _ (graph later : Graph) (is : IsLater graph later) (scope : Scope) where
     λ e element inside fails. later_in graph later is sound come.3 (first_below come.3 comings come.5) e element
         (come.4 e element (earlier_in graph later is sound matched come.1 e element inside) fails),
     come_later sound come.3 comings rest come.5,
+    λ e element inside. let here = come.6 e element (earlier_in graph later is sound come.3 (first_below come.3 comings come.5) e element inside) in
+        (later_in graph later is sound matched come.1 e element here.0, here.1),
   )
     where
       first_below : (next : NodeId) (comings : List Coming) → Come graph scope next comings rest → next.0 < length graph
@@ -104,6 +112,52 @@ module _ (graph : Graph) (scope : Scope) where
       by e element inside further (inr fails) = inr (further e element
           (come.4 e element inside (subst (λ (one : Tree). WrittenTakes scope one e None) (sym (head_same same)) fails)))
 
+module _ (graph : Graph) (scope : Scope) where
+  -- what a pattern leaves it does not take
+  pub left_untaken : (pattern : Tree) (site : Site) → IsSite graph scope pattern site → (e : Thing) → IsElement e
+      → WrittenTakes scope pattern e None → (captures : Captures Name) → WrittenTakes scope pattern e (Some captures) → ⊥
+  left_untaken pattern site is e element fails captures takes =
+      subst IsNone (takes_once graph scope pattern site is e None (Some captures) element fails takes) tt
+
+  -- what is left is of what is matched, and no branch takes it
+  pub none_takes : (branches : Branches) (matched : NodeId) (comings : List Coming) (rest : NodeId)
+      → map coming_pattern comings ≡ patterns branches → Come graph scope matched comings rest
+      → (e : Thing) → IsElement e → elements_of graph rest e → elements_of graph matched e × (IsTaken scope branches e → ⊥)
+  none_takes NoBranch matched [] rest same come e element inside =
+      (subst (λ (id : NodeId). elements_of graph id e) come.1 inside, λ none. none)
+  none_takes NoBranch matched (coming ∷ comings) rest same come e element inside = absurd (subst (λ (all : List Tree). IsSome all) same tt)
+  none_takes (ABranch pattern body more) matched [] rest same come e element inside =
+      absurd (subst (λ (all : List Tree). IsSome all) (sym same) tt)
+  none_takes (ABranch pattern body more) matched (coming ∷ comings) rest same come e element inside =
+      let further = none_takes more come.3 comings rest (rest_same same) come.5 e element inside in
+      let here = come.6 e element further.0 in (here.0, by here.1 further.1)
+    where
+      by : WrittenTakes scope (coming_pattern coming) e None → (IsTaken scope more e → ⊥) → IsTaken scope (ABranch pattern body more) e → ⊥
+      by fails none (inl takes) = left_untaken (coming_pattern coming) coming.sited.now.site come.2.site e element fails takes.0
+          (subst (λ (one : Tree). WrittenTakes scope one e (Some takes.0)) (sym (head_same same)) takes.1)
+      by fails none (inr others) = none others
+
+-- the same of what was matched in an older graph
+pub none_takes_earlier : (old graph : Graph) → IsLater old graph → IsGraph old → (matched : NodeId) → matched.0 < length old → (scope : Scope)
+    (branches : Branches) (at : NodeId) → at ≡ matched → (comings : List Coming) (rest : NodeId)
+    → map coming_pattern comings ≡ patterns branches → Come graph scope at comings rest
+    → (e : Thing) → IsElement e → elements_of graph rest e → elements_of old matched e × (IsTaken scope branches e → ⊥)
+none_takes_earlier old graph is sound matched below scope branches at is_matched comings rest same come e element inside =
+    let left = none_takes graph scope branches at comings rest same come e element inside in
+    (earlier_in old graph is sound matched below e element (subst (λ (id : NodeId). elements_of graph id e) is_matched left.0), left.1)
+
+-- and of one pattern
+pub one_untaken : (graph later : Graph) → IsLater graph later → IsGraph graph → (scope : Scope) (pattern : Tree) (site : Site)
+    → IsSite graph scope pattern site → (matched : NodeId) → matched.0 < length graph → (left : NodeId)
+    → elements_of later left ⊆ left_of scope pattern (elements_of graph matched) → (body : Expr)
+    → (e : Thing) → IsElement e → elements_of later left e → elements_of later matched e × (IsTaken scope (ABranch pattern body NoBranch) e → ⊥)
+one_untaken graph later is sound scope pattern site is_site matched below left only body e element inside =
+    let here = only e element inside in (later_in graph later is sound matched below e element here.0, by here.1)
+  where
+    by : WrittenTakes scope pattern e None → IsTaken scope (ABranch pattern body NoBranch) e → ⊥
+    by fails (inl takes) = left_untaken graph scope pattern site is_site e element fails takes.0 takes.1
+    by fails (inr none) = none
+
 -- these come to the first patterns, and this is left for more
 abbrev pub ComeFurther : Graph → Scope → (matched : NodeId) → List Coming → (left : NodeId) → Type 0
 ComeFurther graph scope matched done left = (later : Graph) → IsLater graph later → (more : List Coming) (rest : NodeId)
@@ -117,8 +171,9 @@ pub one_comes : (graph new : Graph) → IsLater graph new → IsGraph graph → 
     → left.0 < length graph → (sited : Sited) (coming : Coming) → coming.sited.now ≡ sited → coming.matched ≡ left
     → IsSited graph scope sited → next.0 < length new
     → left_of scope (sited_pattern sited) (elements_of graph left) ⊆ elements_of new next
+    → elements_of new next ⊆ left_of scope (sited_pattern sited) (elements_of graph left)
     → ComeFurther graph scope matched done left → ComeFurther new scope matched (done ++ coming ∷ []) next
-one_comes graph new is sound scope matched left next done below sited coming same at site next_below all_left before =
+one_comes graph new is sound scope matched left next done below sited coming same at site next_below all_left no_more before =
     λ later further more rest come. subst (λ comings. Come later scope matched comings rest) (sym (append_assoc done (coming ∷ []) more))
     (before later (later_still graph new later is further) (coming ∷ more) rest (
       at,
@@ -130,4 +185,8 @@ one_comes graph new is sound scope matched left next done below sited coming sam
         subst (λ one. WrittenTakes scope (sited_pattern one) e None) same fails,
       )),
       come,
+      λ e element inside. let here = no_more e element (earlier_in new later further is.sound next next_below e element inside) in (
+        later_in graph later (later_still graph new later is further) sound left below e element here.0,
+        subst (λ one. WrittenTakes scope (sited_pattern one) e None) (sym same) here.1,
+      ),
     ))

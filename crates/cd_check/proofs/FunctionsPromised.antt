@@ -202,14 +202,14 @@ promised_on types base old new is sound same all slice are promised =
 module _ (program : Program) (base : Base) (same : declarations_of base ≡ program.types) (all : List Promised)
     (are : map function_of all ≡ program.functions) (names : base.functions.now ≡ function_names program.functions)
     (ids : base.interfaces.now ≡ map whole_of all) (made : IsWellMadeProgram program) where
-  are_named : AllOf (λ one. HasName (function_of one)) all
+  pub are_named : AllOf (λ one. HasName (function_of one)) all
   are_named = all_of_map function_of HasName all
       (subst (λ (functions : List FunctionTree). AllOf HasName functions) (sym are) (all_named program.functions made.1))
 
   names_of_all : base.functions.now ≡ function_names (map function_of all)
   names_of_all = names ∙ ap function_names (sym are)
 
-  nodes_of_all : declared base.functions.now base.interfaces.now ≡ declared (function_names (map function_of all)) (map whole_of all)
+  pub nodes_of_all : declared base.functions.now base.interfaces.now ≡ declared (function_names (map function_of all)) (map whole_of all)
   nodes_of_all = ap₂ declared names_of_all ids
 
   names_seen_are : names_seen base [] ≡ all_functions program

@@ -5,7 +5,7 @@ use Rattle.cd_model.specs.Thing.{Thing}
 use Rattle.cd_meaning.specs.Sets.{Set, ◌⊆◌}
 use Rattle.cd_meaning.specs.Sequences.{IsSequence, IsListOf, IsItemOf}
 use Rattle.cd_model.specs.Thing.{IsElement}
-use Rattle.cd_sequences.proofs.SequencesFollowed.{items_are_elements}
+use Rattle.cd_meaning.proofs.SequencesFollowed.{items_are_elements}
 
 each_is : (Is : Thing → Type 0) (elements : Thing → Type 0) (ds : List Thing) → AllOf elements ds
     → ((d : Thing) → elements d → AnyOf (λ one. one ≡ d) ds → Is d) → AllOf Is ds

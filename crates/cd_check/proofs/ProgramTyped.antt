@@ -116,13 +116,13 @@ module _ {P : Type 0} (function_of : P → FunctionTree) (arrows_of : P → List
   abbrev pub HaveNames : List P → Type 0
   HaveNames all = AllOf (λ one. HasName (function_of one)) all
 
-  of_types : (all : List P) → HaveNames all
+  pub of_types : (all : List P) → HaveNames all
       → AreOfTypes graph (declared (function_names (map function_of all)) (map whole_of all)) (types_by all)
   of_types [] named = tt
   of_types (one ∷ rest) named = one_of_types scope graph (function_of one) (whole_of one) (map function_of rest) (map whole_of rest)
       (types_by rest) named.0 (of_types rest named.1)
 
-  all_declared : (all : List P) → HaveNames all → ArePromised all → AreDeclared scope (map function_of all) (types_by all)
+  pub all_declared : (all : List P) → HaveNames all → ArePromised all → AreDeclared scope (map function_of all) (types_by all)
   all_declared [] named promised = tt
   all_declared (one ∷ rest) named promised = one_declared scope graph (function_of one) (arrows_of one) (whole_of one) (map function_of rest)
       (types_by rest) named.0 promised.0 (all_declared rest named.1 promised.1)

@@ -6,39 +6,19 @@ use Rattle.cd_model.specs.AllOf.{AllOf}
 use Rattle.cd_model.specs.Formula.{Graph, IsGraph}
 use Rattle.cd_model.specs.Scope.{Scope}
 use Rattle.cd_model.specs.StandsFor.{StandsFor}
-use Rattle.cd_model.specs.Thing.{Thing, IsElement, Function, Pairs, NoPair, Maps, Fails, ArePairs as AreElementPairs}
+use Rattle.cd_model.specs.Thing.{Thing, IsElement, Function, Pairs, ArePairs as AreElementPairs}
 use Rattle.cd_model.proofs.StandsKept.{stands_kept}
 use Rattle.cd_matching.specs.WrittenPattern.{in_scope}
 use Rattle.cd_program.specs.Expr.{Signature, FunctionTree, function}
 use Rattle.cd_meaning.specs.Sets.{Set, ◌⊆◌, elements_of}
-use Rattle.cd_meaning.specs.Functions.{HasPair, FailsAt, MapsInto}
+use Rattle.cd_meaning.specs.Functions.{MapsInto}
+use Rattle.cd_meaning.proofs.FunctionsMapping.{maps_same}
 use Rattle.cd_typing.specs.Typ.{Typ, typ, In, IsType}
 use Rattle.cd_typing.specs.Interfaces.{IsWritten, AreWritten, AllArrows, IsIntersection}
 use Rattle.cd_typing.proofs.Subsets.{through}
 use Rattle.cd_typing.specs.Later.{IsLater}
 use Rattle.cd_check.specs.Inner.Promises.{arrow_in, arrows_in, ArePairs, IsPromise, HasPromise}
 use Rattle.cd_typing.proofs.Later.{later_in, earlier_in, type_later, below_later}
-
--- the parts of an element's pairs are elements
-from_is_element : (pairs : Pairs) → AreElementPairs pairs → (from to : Thing) → HasPair pairs from to → IsElement from × IsElement to
-from_is_element NoPair are from to has = absurd has
-from_is_element (Maps one other rest) are from to (inl here) = (subst IsElement here.0 are.0, subst IsElement here.1 are.1)
-from_is_element (Maps one other rest) are from to (inr later) = from_is_element rest are.2 from to later
-from_is_element (Fails one rest) are from to has = from_is_element rest are.1 from to has
-
-failing_is_element : (pairs : Pairs) → AreElementPairs pairs → (from : Thing) → FailsAt pairs from → IsElement from
-failing_is_element NoPair are from has = absurd has
-failing_is_element (Maps one other rest) are from has = failing_is_element rest are.2 from has
-failing_is_element (Fails one rest) are from (inl here) = subst IsElement here are.0
-failing_is_element (Fails one rest) are from (inr later) = failing_is_element rest are.1 from later
-
-pub maps_same : (pairs : Pairs) → AreElementPairs pairs → (arguments fewer results more : Set) → fewer ⊆ arguments → results ⊆ more
-    → MapsInto pairs arguments results → MapsInto pairs fewer more
-maps_same pairs are arguments fewer results more less wider maps = record {
-  total = λ from fails inside. maps.total from fails (less from (failing_is_element pairs are from fails) inside);
-  into = λ from to has inside. let elements = from_is_element pairs are from to has in
-      wider to elements.1 (maps.into from to has (less from elements.0 inside));
-}
 
 module _ (graph later : Graph) (is : IsLater graph later) (sound : IsGraph graph) where
   pub in_later_arrows : (arrows : List (NodeId × NodeId)) → ArePairs graph arrows → AllArrows (arrows_in graph arrows) ⊆ AllArrows (arrows_in later arrows)

@@ -6,10 +6,15 @@ pub mod Following
 pub mod Bodies
 pub mod Divided
 pub mod Limits
+pub mod Known
+pub mod Chains
+pub mod BodyFaults
 pub mod Promises
 pub mod SoundNames
 pub mod Ready
 pub mod Sides
 pub mod Giving
+pub mod LeastNodes
+pub mod Failing
 pub mod FunctionNames
 pub mod Programs

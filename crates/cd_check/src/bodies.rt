@@ -4,7 +4,8 @@ ghost use Rattle.cd_program.specs.PlainExpr.{plain, plain_branches};
 ghost use Rattle.cd_meaning.specs.Sets.{elements_of};
 ghost use Rattle.cd_names.specs.ProgramFaults.{names_of, patterns};
 ghost use Rattle.cd_empty.specs.Seen.{graph_of, table_of};
-ghost use Rattle.cd_check.specs.Faults.{IsNamed};
+ghost use Rattle.cd_check.specs.Inner.BodyFaults.{BodyLeast, BodiesLeast};
+ghost use Rattle.cd_check.specs.Inner.Failing.{BranchesFail, BodyFails, IsBeyond};
 ghost use Rattle.cd_check.specs.Inner.Bodies.{BodyGives};
 ghost use Rattle.cd_check.specs.Inner.Divided.{IsSited, IsDivision, coming_pattern, sited_pattern};
 ghost use Rattle.cd_check.specs.Inner.Giving.{BodiesGive};
@@ -19,11 +20,11 @@ use crate::locals::with_outer;
 use crate::needing::{add, need_at};
 use crate::sites::{Coming, Division};
 use cd_empty::World;
-use cd_operators::rule::Rule;
 use cd_program::expr::{Branches, Expr};
 use cd_sets::node_id::NodeId;
 use cd_sites::{captures, taken};
 use cd_syntax::name::Name;
+use cd_typing::rule::Rule;
 
 /// What a body has to be within, and the rule that says so.
 #[derive(Clone, Copy)]
@@ -56,7 +57,11 @@ pub(crate) fn check_bodies(
         (λ results. AreWithin (graph_of world.new) limit results.items) }
     ensures after { OnOk result
         (IsAfter base.now locals.now (graph_of world.old) (graph_of world.new)) }
-    ensures fault { IfErr result (IsNamed (table_of world.new)) }
+    ensures least { IfOk result (λ results. BodiesLeast (scope_of base.now) (graph_of world.old)
+        (seen_by base.now locals.now) (graph_of world.new)
+        (plain_branches branches.now) (elements_of (graph_of world.old) division.now.matched) results.items) }
+    ensures fault { IfErr result (BranchesFail base.now (graph_of world.old) locals.now
+        (table_of world.new) division.now.matched limit (plain_branches branches.now)) }
 {
     let mut results = Vec::new(base.alloc);
     for (number, branch) in branches.items().iter().enumerate() {
@@ -94,7 +99,12 @@ pub(crate) fn check_body(
     ensures within { IfOk result (λ found. IsOneWithin (graph_of world.new) limit found) }
     ensures after { OnOk result
         (IsAfter base.now locals.now (graph_of world.old) (graph_of world.new)) }
-    ensures fault { IfErr result (IsNamed (table_of world.new)) }
+    ensures least { IfOk result (BodyLeast (scope_of base.now) (graph_of world.old)
+        (seen_by base.now locals.now) (graph_of world.new)
+        (elements_of (graph_of world.old) coming.entry.matched) (coming_pattern coming.entry)
+        (plain body.now)) }
+    ensures fault { IfErr result (BodyFails base.now (graph_of world.old) locals.now
+        (table_of world.new) coming.entry.matched limit (coming_pattern coming.entry) (plain body.now)) }
 {
     let site = &coming.sited.site;
     match taken(world, coming.matched, site)? {
@@ -119,7 +129,8 @@ fn keep_limit(
     requires id { id.0 < length (graph_of world.old) }
     requires limit { IsLimit (graph_of world.old) limit }
     ensures within { OnOk result (IsOneWithin (graph_of world.old) limit (Some id)) }
-    ensures fault { IfErr result (IsNamed (table_of world.new)) }
+    ensures fault { IfErr result
+        (IsBeyond (graph_of world.old) (table_of world.new) id limit at) }
     ensures graph { graph_of world.new ≡ graph_of world.old }
 {
     match limit {

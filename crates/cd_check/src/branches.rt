@@ -3,12 +3,16 @@ ghost use Rattle.std.specs.Prelude.{◌<◌, ◌++◌, length, IfOk, IfErr, OnOk
 ghost use Rattle.cd_syntax.specs.PlainTree.{plain as plain_tree};
 ghost use Rattle.cd_program.specs.Expr.{Match, Try, Map, Transform, Let};
 ghost use Rattle.cd_program.specs.PlainExpr.{plain, plain_branches};
+ghost use Rattle.cd_meaning.specs.Sets.{elements_of};
 ghost use Rattle.cd_names.specs.ProgramFaults.{names_of};
 ghost use Rattle.cd_empty.specs.Seen.{graph_of, table_of};
-ghost use Rattle.cd_check.specs.Faults.{IsNamed};
+ghost use Rattle.cd_check.specs.Inner.BodyFaults.{BodiesLeast, BranchesLeast};
+ghost use Rattle.cd_check.specs.Inner.Failing.{KindFails, FormFails, CoveringFails, BranchesFail};
 ghost use Rattle.cd_check.specs.Inner.Giving.{KindGives, BranchesGive, BodiesGive};
 ghost use Rattle.cd_check.specs.Inner.Limits.{AreWithin, IsLimit};
+ghost use Rattle.cd_check.specs.Inner.LeastNodes.{KindLeast};
 ghost use Rattle.cd_check.specs.Inner.Ready.{IsReady, IsAfter, declarations_of, names_seen};
+ghost use Rattle.cd_check.specs.Inner.Ready.{scope_of, seen_by};
 ghost use Rattle.cd_check.specs.Inner.SoundNames.{IsSound, IsSoundPattern, BranchesAreSound};
 
 use crate::base::Base;
@@ -20,13 +24,13 @@ use crate::sites::{Coming, cover, divide, sites_of, with_site};
 use cd_empty::World;
 use cd_forms::union;
 use cd_graph::built_in::{DATA, EMPTY};
-use cd_operators::rule::Rule;
 use cd_program::expr::{Branches, Expr};
 use cd_sequences::{items, list_of};
 use cd_sets::node_id::NodeId;
 use cd_sites::remaining;
 use cd_syntax::name::Name;
 use cd_syntax::type_tree::Tree;
+use cd_typing::rule::Rule;
 
 /// `match`, which stands at this place.
 #[cycle(check)]
@@ -47,7 +51,10 @@ pub(crate) fn check_match(
         (graph_of world.new) (Match (plain value.now) (plain_branches branches.now))) }
     ensures after { OnOk result
         (IsAfter base.now locals.now (graph_of world.old) (graph_of world.new)) }
-    ensures fault { IfErr result (IsNamed (table_of world.new)) }
+    ensures least { IfOk result (KindLeast base.now (graph_of world.old) locals.now
+        (graph_of world.new) (Match (plain value.now) (plain_branches branches.now))) }
+    ensures fault { IfErr result (KindFails base.now (graph_of world.old) locals.now
+        (table_of world.new) at (Match (plain value.now) (plain_branches branches.now))) }
 {
     let matched = check(base, world, locals, value)?;
     check_covering(base, world, locals, matched, branches, at)
@@ -71,7 +78,11 @@ fn check_covering(
         (graph_of world.new) matched (plain_branches branches.now)) }
     ensures after { OnOk result
         (IsAfter base.now locals.now (graph_of world.old) (graph_of world.new)) }
-    ensures fault { IfErr result (IsNamed (table_of world.new)) }
+    ensures least { IfOk result (BranchesLeast (scope_of base.now) (graph_of world.old)
+        (seen_by base.now locals.now) (graph_of world.new)
+        (plain_branches branches.now) (elements_of (graph_of world.old) matched)) }
+    ensures fault { IfErr result (CoveringFails base.now (graph_of world.old) locals.now
+        (table_of world.new) at matched (plain_branches branches.now)) }
 {
     let sites = sites_of(base, world, branches)?;
     let division = divide(base, world, matched, sites.as_slice())?;
@@ -102,7 +113,11 @@ fn check_some(
         (λ results. AreWithin (graph_of world.new) limit results.items) }
     ensures after { OnOk result
         (IsAfter base.now locals.now (graph_of world.old) (graph_of world.new)) }
-    ensures fault { IfErr result (IsNamed (table_of world.new)) }
+    ensures least { IfOk result (λ results. BodiesLeast (scope_of base.now) (graph_of world.old)
+        (seen_by base.now locals.now) (graph_of world.new)
+        (plain_branches branches.now) (elements_of (graph_of world.old) matched) results.items) }
+    ensures fault { IfErr result (BranchesFail base.now (graph_of world.old) locals.now
+        (table_of world.new) matched limit (plain_branches branches.now)) }
 {
     let sites = sites_of(base, world, branches)?;
     let division = divide(base, world, matched, sites.as_slice())?;
@@ -130,7 +145,10 @@ pub(crate) fn check_let(
         (Let (plain_tree pattern.now) (plain value.now) (plain rest.now))) }
     ensures after { OnOk result
         (IsAfter base.now locals.now (graph_of world.old) (graph_of world.new)) }
-    ensures fault { IfErr result (IsNamed (table_of world.new)) }
+    ensures least { IfOk result (KindLeast base.now (graph_of world.old) locals.now
+        (graph_of world.new) (Let (plain_tree pattern.now) (plain value.now) (plain rest.now))) }
+    ensures fault { IfErr result (KindFails base.now (graph_of world.old) locals.now
+        (table_of world.new) at (Let (plain_tree pattern.now) (plain value.now) (plain rest.now))) }
 {
     let matched = check(base, world, locals, value)?;
     let sited = with_site(base, world, pattern)?;
@@ -164,7 +182,10 @@ pub(crate) fn check_try(
         (graph_of world.new) (Try (plain body.now) (plain_branches branches.now))) }
     ensures after { OnOk result
         (IsAfter base.now locals.now (graph_of world.old) (graph_of world.new)) }
-    ensures fault { IfErr result (IsNamed (table_of world.new)) }
+    ensures least { IfOk result (KindLeast base.now (graph_of world.old) locals.now
+        (graph_of world.new) (Try (plain body.now) (plain_branches branches.now))) }
+    ensures fault { IfErr result (FormFails base.now (graph_of world.old) locals.now
+        (table_of world.new) (Try (plain body.now) (plain_branches branches.now))) }
 {
     let id = check(base, world, locals, body)?;
     let mut results = check_some(base, world, locals, DATA, branches, None)?;
@@ -191,7 +212,10 @@ pub(crate) fn check_map(
         (graph_of world.new) (Map (plain value.now) (plain_branches branches.now))) }
     ensures after { OnOk result
         (IsAfter base.now locals.now (graph_of world.old) (graph_of world.new)) }
-    ensures fault { IfErr result (IsNamed (table_of world.new)) }
+    ensures least { IfOk result (KindLeast base.now (graph_of world.old) locals.now
+        (graph_of world.new) (Map (plain value.now) (plain_branches branches.now))) }
+    ensures fault { IfErr result (KindFails base.now (graph_of world.old) locals.now
+        (table_of world.new) at (Map (plain value.now) (plain_branches branches.now))) }
 {
     let list = check(base, world, locals, value)?;
     let (sequences, from) = (base.tools.sequences, value.span.from);
@@ -219,7 +243,10 @@ pub(crate) fn check_transform(
         (graph_of world.new) (Transform (plain value.now) (plain_branches branches.now))) }
     ensures after { OnOk result
         (IsAfter base.now locals.now (graph_of world.old) (graph_of world.new)) }
-    ensures fault { IfErr result (IsNamed (table_of world.new)) }
+    ensures least { IfOk result (KindLeast base.now (graph_of world.old) locals.now
+        (graph_of world.new) (Transform (plain value.now) (plain_branches branches.now))) }
+    ensures fault { IfErr result (FormFails base.now (graph_of world.old) locals.now
+        (table_of world.new) (Transform (plain value.now) (plain_branches branches.now))) }
 {
     let list = check(base, world, locals, value)?;
     let (sequences, from) = (base.tools.sequences, value.span.from);

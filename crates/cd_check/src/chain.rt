@@ -3,9 +3,12 @@ ghost use Rattle.std.specs.Prelude.{◌<◌, length, map, IfOk, IfErr, OnOk};
 ghost use Rattle.cd_program.specs.Expr.{Apply, Chain, Operand, exprs_of, tails_of};
 ghost use Rattle.cd_program.specs.PlainExpr.{plain, plain_exprs, plain_tail, plain_tails};
 ghost use Rattle.cd_empty.specs.Seen.{graph_of, table_of};
-ghost use Rattle.cd_check.specs.Faults.{IsNamed};
+ghost use Rattle.cd_check.specs.Inner.Failing.{KindFails, ArgumentsFail, ArgumentFails};
+ghost use Rattle.cd_check.specs.Inner.Failing.{TailsFail, TailFails};
 ghost use Rattle.cd_check.specs.Inner.Giving.{KindGives, ArgumentsGive, ArgumentGives, TailsGive};
 ghost use Rattle.cd_check.specs.Inner.Giving.{TailGives};
+ghost use Rattle.cd_check.specs.Inner.LeastNodes.{KindLeast, ArgumentsLeast, ArgumentLeast};
+ghost use Rattle.cd_check.specs.Inner.LeastNodes.{TailsLeast, TailLeast};
 ghost use Rattle.cd_check.specs.Inner.Ready.{IsReady, IsAfter, declarations_of, names_seen};
 ghost use Rattle.cd_check.specs.Inner.Sides.{IsMet};
 ghost use Rattle.cd_check.specs.Inner.SoundNames.{IsSound, AreSound, TailsAreSound, TailIsSound};
@@ -17,12 +20,12 @@ use crate::fault::{CheckError, ill_typed, placed};
 use crate::test::check_short;
 use cd_apply::{Applied, apply};
 use cd_empty::World;
-use cd_operators::rule::Rule;
 use cd_operators::{drop_field, operate, take_field};
 use cd_program::expr::{Expr, Exprs, Tail, Tails};
 use cd_program::operator::Op;
 use cd_sets::node_id::NodeId;
 use cd_syntax::name::Name;
+use cd_typing::rule::Rule;
 
 /// A function that is applied to one argument after the other. The application stands at this place.
 #[cycle(check)]
@@ -41,7 +44,10 @@ pub(crate) fn check_apply(
         (graph_of world.new) (Apply (plain_exprs exprs.now))) }
     ensures after { OnOk result
         (IsAfter base.now locals.now (graph_of world.old) (graph_of world.new)) }
-    ensures fault { IfErr result (IsNamed (table_of world.new)) }
+    ensures least { IfOk result (KindLeast base.now (graph_of world.old) locals.now
+        (graph_of world.new) (Apply (plain_exprs exprs.now))) }
+    ensures fault { IfErr result (KindFails base.now (graph_of world.old) locals.now
+        (table_of world.new) at (Apply (plain_exprs exprs.now))) }
 {
     match exprs.items() {
         [] => unreachable!(),
@@ -72,7 +78,10 @@ fn check_arguments(
         (graph_of world.new) function (exprs_of (map plain arguments.now))) }
     ensures after { OnOk result
         (IsAfter base.now locals.now (graph_of world.old) (graph_of world.new)) }
-    ensures fault { IfErr result (IsNamed (table_of world.new)) }
+    ensures least { IfOk result (ArgumentsLeast base.now (graph_of world.old) locals.now
+        (graph_of world.new) function (exprs_of (map plain arguments.now))) }
+    ensures fault { IfErr result (ArgumentsFail base.now (graph_of world.old) locals.now
+        (table_of world.new) function from at (exprs_of (map plain arguments.now))) }
 {
     let mut id = function;
     let mut place = from;
@@ -101,7 +110,10 @@ fn check_argument(
         (graph_of world.new) function (plain argument.now)) }
     ensures after { OnOk result
         (IsAfter base.now locals.now (graph_of world.old) (graph_of world.new)) }
-    ensures fault { IfErr result (IsNamed (table_of world.new)) }
+    ensures least { IfOk result (ArgumentLeast base.now (graph_of world.old) locals.now
+        (graph_of world.new) function (plain argument.now)) }
+    ensures fault { IfErr result (ArgumentFails base.now (graph_of world.old) locals.now
+        (table_of world.new) function at (plain argument.now)) }
 {
     let id = check(base, world, locals, argument)?;
     match apply(base.alloc, world, function, id)? {
@@ -132,7 +144,10 @@ pub(crate) fn check_chain(
         (graph_of world.new) (Chain (plain first.now) (plain_tails tails.now))) }
     ensures after { OnOk result
         (IsAfter base.now locals.now (graph_of world.old) (graph_of world.new)) }
-    ensures fault { IfErr result (IsNamed (table_of world.new)) }
+    ensures least { IfOk result (KindLeast base.now (graph_of world.old) locals.now
+        (graph_of world.new) (Chain (plain first.now) (plain_tails tails.now))) }
+    ensures fault { IfErr result (KindFails base.now (graph_of world.old) locals.now
+        (table_of world.new) at (Chain (plain first.now) (plain_tails tails.now))) }
 {
     let id = check(base, world, locals, first)?;
     check_tails(base, world, locals, id, tails, first.span.from, at)
@@ -158,7 +173,10 @@ fn check_tails(
         (graph_of world.new) first (plain_tails tails.now)) }
     ensures after { OnOk result
         (IsAfter base.now locals.now (graph_of world.old) (graph_of world.new)) }
-    ensures fault { IfErr result (IsNamed (table_of world.new)) }
+    ensures least { IfOk result (TailsLeast base.now (graph_of world.old) locals.now
+        (graph_of world.new) first (plain_tails tails.now)) }
+    ensures fault { IfErr result (TailsFail base.now (graph_of world.old) locals.now
+        (table_of world.new) first from at (plain_tails tails.now)) }
 {
     let mut id = first;
     let mut place = from;
@@ -187,7 +205,10 @@ fn check_tail(
         (graph_of world.new) first (plain_tail tail.now)) }
     ensures after { OnOk result
         (IsAfter base.now locals.now (graph_of world.old) (graph_of world.new)) }
-    ensures fault { IfErr result (IsNamed (table_of world.new)) }
+    ensures least { IfOk result (TailLeast base.now (graph_of world.old) locals.now
+        (graph_of world.new) first (plain_tail tail.now)) }
+    ensures fault { IfErr result (TailFails base.now (graph_of world.old) locals.now
+        (table_of world.new) first at (plain_tail tail.now)) }
 {
     match tail {
         Tail::Operand(Op::And, expr) => check_short(base, world, locals, first, expr, at, true),
@@ -224,7 +245,10 @@ fn check_operand(
         (graph_of world.new) first (Operand op (plain expr.now))) }
     ensures after { OnOk result
         (IsAfter base.now locals.now (graph_of world.old) (graph_of world.new)) }
-    ensures fault { IfErr result (IsNamed (table_of world.new)) }
+    ensures least { IfOk result (TailLeast base.now (graph_of world.old) locals.now
+        (graph_of world.new) first (Operand op (plain expr.now))) }
+    ensures fault { IfErr result (TailFails base.now (graph_of world.old) locals.now
+        (table_of world.new) first at (Operand op (plain expr.now))) }
 {
     let second = check(base, world, locals, expr)?;
     match operate(base.alloc, world, &base.tools, op, first, second) {

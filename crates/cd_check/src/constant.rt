@@ -23,6 +23,8 @@ pub(crate) fn constant_node(
     requires { IsWellMadeConstant is.now }
     ensures has { IfOk result (λ id. (λ d. d ≡ thing_of is.now)
         ⊆ elements_of (graph_of world.new) id) }
+    ensures only { IfOk result (λ id. elements_of (graph_of world.new) id
+        ⊆ (λ d. d ≡ thing_of is.now)) }
     ensures node { IfOk result (λ id. id.0 < length (graph_of world.new)) }
     ensures sound { IsGraph (graph_of world.new) }
     ensures grows { Grows world.old world.new }

@@ -3,8 +3,9 @@ ghost use Rattle.std.specs.Prelude.{IfOk, IfErr, OnOk};
 ghost use Rattle.cd_program.specs.Expr.{Call};
 ghost use Rattle.cd_program.specs.PlainExpr.{plain, plain_kind};
 ghost use Rattle.cd_empty.specs.Seen.{graph_of, table_of};
-ghost use Rattle.cd_check.specs.Faults.{IsNamed};
+ghost use Rattle.cd_check.specs.Inner.Failing.{ExprFails, KindFails, FormFails};
 ghost use Rattle.cd_check.specs.Inner.Giving.{ExprGives, KindGives};
+ghost use Rattle.cd_check.specs.Inner.LeastNodes.{ExprLeast, KindLeast};
 ghost use Rattle.cd_check.specs.Inner.Ready.{IsReady, IsAfter, declarations_of, names_seen};
 ghost use Rattle.cd_check.specs.Inner.SoundNames.{IsSound, KindIsSound};
 
@@ -39,7 +40,10 @@ pub(crate) fn check(
         (graph_of world.new) (plain expr.now)) }
     ensures after { OnOk result
         (IsAfter base.now locals.now (graph_of world.old) (graph_of world.new)) }
-    ensures fault { IfErr result (IsNamed (table_of world.new)) }
+    ensures least { IfOk result (ExprLeast base.now (graph_of world.old) locals.now
+        (graph_of world.new) (plain expr.now)) }
+    ensures fault { IfErr result (ExprFails base.now (graph_of world.old) locals.now
+        (table_of world.new) (plain expr.now)) }
 {
     check_kind(base, world, locals, &expr.kind, expr.span.from)
 }
@@ -60,7 +64,10 @@ fn check_kind(
         (graph_of world.new) (plain_kind kind.now)) }
     ensures after { OnOk result
         (IsAfter base.now locals.now (graph_of world.old) (graph_of world.new)) }
-    ensures fault { IfErr result (IsNamed (table_of world.new)) }
+    ensures least { IfOk result (KindLeast base.now (graph_of world.old) locals.now
+        (graph_of world.new) (plain_kind kind.now)) }
+    ensures fault { IfErr result (KindFails base.now (graph_of world.old) locals.now
+        (table_of world.new) at (plain_kind kind.now)) }
 {
     match kind {
         ExprKind::Constant(is) => Ok(constant_node(base.alloc, world, is)?),
@@ -109,7 +116,10 @@ fn check_call(
         (graph_of world.new) (Call word (plain operand.now))) }
     ensures after { OnOk result
         (IsAfter base.now locals.now (graph_of world.old) (graph_of world.new)) }
-    ensures fault { IfErr result (IsNamed (table_of world.new)) }
+    ensures least { IfOk result (KindLeast base.now (graph_of world.old) locals.now
+        (graph_of world.new) (Call word (plain operand.now))) }
+    ensures fault { IfErr result (FormFails base.now (graph_of world.old) locals.now
+        (table_of world.new) (Call word (plain operand.now))) }
 {
     let id = check(base, world, locals, operand)?;
     let at = operand.span.from;

@@ -1,13 +1,10 @@
 //! Why a program has no types.
-ghost use Rattle.std.specs.Prelude.{List};
-ghost use Rattle.cd_model.specs.Thing.{Thing};
-ghost use Rattle.cd_elements.specs.Table.{Names};
-ghost use Rattle.cd_check.specs.Faults.{IsNamed};
-ghost use Rattle.cd_check.specs.Inner.Stopped.{IsNamedStop};
+ghost use Rattle.std.specs.Prelude.{◌≡◌};
+ghost use Rattle.cd_check.specs.Inner.Stopped.{placed_at};
 
 use cd_elements::ElementId;
 use cd_operators::misfit::{Side, Stop};
-use cd_operators::rule::Rule;
+use cd_typing::rule::Rule;
 use std::alloc::AllocError;
 
 /// Why a program has no types: a rule that is not met, the place of what does not meet it, and an
@@ -44,14 +41,14 @@ impl From<AllocError> for CheckError {
 
 /// A fault, as an error.
 pub(crate) fn ill_typed(at: usize, rule: Rule, element: ElementId) -> CheckError
-    ensures { (table : List Thing) → Names table element → IsNamed table result }
+    ensures { result ≡ CheckError.IllTyped (record { at = at; rule = rule; element = element }) }
 {
     CheckError::IllTyped(TypeFault { at, rule, element })
 }
 
 /// What an operator says of its operands, where these stand at such places.
 pub(crate) fn placed(stop: Stop, first_at: usize, second_at: usize) -> CheckError
-    ensures { (table : List Thing) → IsNamedStop table stop → IsNamed table result }
+    ensures { result ≡ placed_at stop first_at second_at }
 {
     match stop {
         Stop::Memory => CheckError::Memory,

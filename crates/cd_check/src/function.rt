@@ -4,10 +4,11 @@ ghost use Rattle.cd_program.specs.Expr.{Function};
 ghost use Rattle.cd_program.specs.PlainExpr.{plain_function, plain_branches};
 ghost use Rattle.cd_names.specs.ProgramFaults.{patterns};
 ghost use Rattle.cd_empty.specs.Seen.{graph_of, table_of};
-ghost use Rattle.cd_check.specs.Faults.{IsNamed};
+ghost use Rattle.cd_check.specs.Inner.Failing.{FormFails, PromiseFails, ArrowFails};
 ghost use Rattle.cd_check.specs.Inner.Divided.{AreSited, sited_pattern};
 ghost use Rattle.cd_check.specs.Inner.Giving.{KindGives, ArrowKept, PromiseKept};
 ghost use Rattle.cd_check.specs.Inner.Promises.{HasPromise};
+ghost use Rattle.cd_check.specs.Inner.LeastNodes.{KindLeast};
 ghost use Rattle.cd_check.specs.Inner.Ready.{IsReady, IsAfter, declarations_of, names_seen, scope_of};
 ghost use Rattle.cd_check.specs.Inner.SoundNames.{BranchesAreSound, FunctionIsSound};
 
@@ -18,10 +19,10 @@ use crate::interface::{Promise, promise_of};
 use crate::locals::with_own_name;
 use crate::sites::{Sited, cover, divide, sites_of};
 use cd_empty::World;
-use cd_operators::rule::Rule;
 use cd_program::expr::{Branches, FunctionTree};
 use cd_sets::node_id::NodeId;
 use cd_syntax::name::Name;
+use cd_typing::rule::Rule;
 
 /// The type of a function: that of its interface, where its branches keep what that promises.
 #[cycle(check)]
@@ -38,7 +39,10 @@ pub(crate) fn check_function(
         (graph_of world.new) (Function (plain_function function.now))) }
     ensures after { OnOk result
         (IsAfter base.now locals.now (graph_of world.old) (graph_of world.new)) }
-    ensures fault { IfErr result (IsNamed (table_of world.new)) }
+    ensures least { IfOk result (KindLeast base.now (graph_of world.old) locals.now
+        (graph_of world.new) (Function (plain_function function.now))) }
+    ensures fault { IfErr result (FormFails base.now (graph_of world.old) locals.now
+        (table_of world.new) (Function (plain_function function.now))) }
 {
     let promise = promise_of(base.alloc, world, base.names, &function.interface)?;
     check_promise(base, world, locals, function, &promise)?;
@@ -64,7 +68,8 @@ pub(crate) fn check_promise(
         (plain_function function.now) promise.now) }
     ensures after { OnOk result
         (IsAfter base.now locals.now (graph_of world.old) (graph_of world.new)) }
-    ensures fault { IfErr result (IsNamed (table_of world.new)) }
+    ensures fault { IfErr result (PromiseFails base.now (graph_of world.old) locals.now
+        (table_of world.new) (plain_function function.now)) }
 {
     let sites = sites_of(base, world, &function.branches)?;
     let inner = with_own_name(base.alloc, &function.name, promise.whole, locals)?;
@@ -107,7 +112,8 @@ fn check_arrow(
         (plain_branches branches.now) arrow) }
     ensures after { OnOk result
         (IsAfter base.now locals.now (graph_of world.old) (graph_of world.new)) }
-    ensures fault { IfErr result (IsNamed (table_of world.new)) }
+    ensures fault { IfErr result (ArrowFails base.now (graph_of world.old) locals.now
+        (table_of world.new) at (plain_branches branches.now) arrow) }
 {
     let (argument, result) = arrow;
     let division = divide(base, world, argument, sites)?;

@@ -2,13 +2,13 @@
 ghost use Rattle.std.specs.Prelude.{◌≡◌, ◌<◌, ◌++◌, ◌∷◌, [], length, IfErr, OnOk};
 ghost use Rattle.cd_meaning.specs.Sets.{◌⊆◌, elements_of};
 ghost use Rattle.cd_empty.specs.Seen.{graph_of, table_of};
-ghost use Rattle.cd_check.specs.Faults.{IsNamed};
+ghost use Rattle.cd_check.specs.Inner.Known.{IsOutside};
 
 use crate::fault::{CheckError, ill_typed};
 use cd_empty::World;
 use cd_operators::outside;
-use cd_operators::rule::Rule;
 use cd_sets::node_id::NodeId;
+use cd_typing::rule::Rule;
 use std::alloc::AllocError;
 
 /// Refuses what stands at a place where its type is not within a node.
@@ -23,7 +23,8 @@ pub(crate) fn need_at(
     requires needed { needed.0 < length (graph_of world.old) }
     ensures within { OnOk result
         (elements_of (graph_of world.old) id ⊆ elements_of (graph_of world.old) needed) }
-    ensures fault { IfErr result (IsNamed (table_of world.new)) }
+    ensures fault { IfErr result
+        (IsOutside (graph_of world.old) (table_of world.new) id needed at rule) }
     ensures graph { graph_of world.new ≡ graph_of world.old }
 {
     match outside(world, id, needed)? {

@@ -4,9 +4,12 @@ ghost use Rattle.cd_program.specs.Expr.{Tuple, Sequence, Record, Xml};
 ghost use Rattle.cd_program.specs.PlainExpr.{plain, plain_exprs, plain_items, plain_item};
 ghost use Rattle.cd_program.specs.PlainExpr.{plain_fields};
 ghost use Rattle.cd_empty.specs.Seen.{graph_of, table_of};
-ghost use Rattle.cd_check.specs.Faults.{IsNamed};
+ghost use Rattle.cd_check.specs.Inner.Failing.{FormFails, OperandsFail, ItemsFail, ItemFails};
+ghost use Rattle.cd_check.specs.Inner.Failing.{FieldsFail};
 ghost use Rattle.cd_check.specs.Inner.Giving.{KindGives, OperandsGive, ItemsGive, ItemGives};
 ghost use Rattle.cd_check.specs.Inner.Giving.{FieldsGive};
+ghost use Rattle.cd_check.specs.Inner.LeastNodes.{KindLeast, OperandsLeast, ItemsLeast, ItemLeast};
+ghost use Rattle.cd_check.specs.Inner.LeastNodes.{FieldsLeast};
 ghost use Rattle.cd_check.specs.Inner.Ready.{IsReady, IsAfter, declarations_of, names_seen};
 ghost use Rattle.cd_check.specs.Inner.SoundNames.{IsSound, AreSound, ItemsAreSound, ItemIsSound};
 ghost use Rattle.cd_check.specs.Inner.SoundNames.{FieldsAreSound};
@@ -18,10 +21,10 @@ use crate::needing::{add, need_at};
 use cd_empty::World;
 use cd_forms::{record, sequence, tuple, xml};
 use cd_graph::built_in::{ATOM, RECORD};
-use cd_operators::rule::Rule;
 use cd_program::expr::{Expr, Exprs, FieldExprs, Item, Items};
 use cd_sets::node_id::NodeId;
 use cd_syntax::name::Name;
+use cd_typing::rule::Rule;
 
 /// A tuple.
 #[cycle(check)]
@@ -38,7 +41,10 @@ pub(crate) fn check_tuple(
         (graph_of world.new) (Tuple (plain_exprs exprs.now))) }
     ensures after { OnOk result
         (IsAfter base.now locals.now (graph_of world.old) (graph_of world.new)) }
-    ensures fault { IfErr result (IsNamed (table_of world.new)) }
+    ensures least { IfOk result (KindLeast base.now (graph_of world.old) locals.now
+        (graph_of world.new) (Tuple (plain_exprs exprs.now))) }
+    ensures fault { IfErr result (FormFails base.now (graph_of world.old) locals.now
+        (table_of world.new) (Tuple (plain_exprs exprs.now))) }
 {
     let parts = check_exprs(base, world, locals, exprs)?;
     Ok(tuple(base.alloc, world, parts.as_slice())?)
@@ -59,7 +65,10 @@ fn check_exprs(
         (graph_of world.new) (plain_exprs exprs.now) parts.items) }
     ensures after { OnOk result
         (IsAfter base.now locals.now (graph_of world.old) (graph_of world.new)) }
-    ensures fault { IfErr result (IsNamed (table_of world.new)) }
+    ensures least { IfOk result (λ parts. OperandsLeast base.now (graph_of world.old) locals.now
+        (graph_of world.new) (plain_exprs exprs.now) parts.items) }
+    ensures fault { IfErr result (OperandsFail base.now (graph_of world.old) locals.now
+        (table_of world.new) (plain_exprs exprs.now)) }
 {
     let mut parts = Vec::new(base.alloc);
     for expr in exprs.items() {
@@ -84,7 +93,10 @@ pub(crate) fn check_sequence(
         (graph_of world.new) (Sequence (plain_items items.now))) }
     ensures after { OnOk result
         (IsAfter base.now locals.now (graph_of world.old) (graph_of world.new)) }
-    ensures fault { IfErr result (IsNamed (table_of world.new)) }
+    ensures least { IfOk result (KindLeast base.now (graph_of world.old) locals.now
+        (graph_of world.new) (Sequence (plain_items items.now))) }
+    ensures fault { IfErr result (FormFails base.now (graph_of world.old) locals.now
+        (table_of world.new) (Sequence (plain_items items.now))) }
 {
     let parts = check_items(base, world, locals, items)?;
     Ok(sequence(base.alloc, world, items.items(), parts)?)
@@ -105,7 +117,10 @@ fn check_items(
         (graph_of world.new) (plain_items items.now) parts.items) }
     ensures after { OnOk result
         (IsAfter base.now locals.now (graph_of world.old) (graph_of world.new)) }
-    ensures fault { IfErr result (IsNamed (table_of world.new)) }
+    ensures least { IfOk result (λ parts. ItemsLeast base.now (graph_of world.old) locals.now
+        (graph_of world.new) (plain_items items.now) parts.items) }
+    ensures fault { IfErr result (ItemsFail base.now (graph_of world.old) locals.now
+        (table_of world.new) (plain_items items.now)) }
 {
     let mut parts = Vec::new(base.alloc);
     for item in items.items() {
@@ -131,7 +146,10 @@ fn check_item(
         (graph_of world.new) (plain_item item.now)) }
     ensures after { OnOk result
         (IsAfter base.now locals.now (graph_of world.old) (graph_of world.new)) }
-    ensures fault { IfErr result (IsNamed (table_of world.new)) }
+    ensures least { IfOk result (ItemLeast base.now (graph_of world.old) locals.now
+        (graph_of world.new) (plain_item item.now)) }
+    ensures fault { IfErr result (ItemFails base.now (graph_of world.old) locals.now
+        (table_of world.new) (plain_item item.now)) }
 {
     match item {
         Item::One(expr) => Ok(Some(check(base, world, locals, expr)?)),
@@ -165,7 +183,10 @@ pub(crate) fn check_record(
         (graph_of world.new) (Record (plain_fields fields.now))) }
     ensures after { OnOk result
         (IsAfter base.now locals.now (graph_of world.old) (graph_of world.new)) }
-    ensures fault { IfErr result (IsNamed (table_of world.new)) }
+    ensures least { IfOk result (KindLeast base.now (graph_of world.old) locals.now
+        (graph_of world.new) (Record (plain_fields fields.now))) }
+    ensures fault { IfErr result (FormFails base.now (graph_of world.old) locals.now
+        (table_of world.new) (Record (plain_fields fields.now))) }
 {
     let parts = check_fields(base, world, locals, fields)?;
     Ok(record(base.alloc, world, fields.items(), parts.as_slice())?)
@@ -186,7 +207,10 @@ fn check_fields(
         (graph_of world.new) (plain_fields fields.now) parts.items) }
     ensures after { OnOk result
         (IsAfter base.now locals.now (graph_of world.old) (graph_of world.new)) }
-    ensures fault { IfErr result (IsNamed (table_of world.new)) }
+    ensures least { IfOk result (λ parts. FieldsLeast base.now (graph_of world.old) locals.now
+        (graph_of world.new) (plain_fields fields.now) parts.items) }
+    ensures fault { IfErr result (FieldsFail base.now (graph_of world.old) locals.now
+        (table_of world.new) (plain_fields fields.now)) }
 {
     let mut parts = Vec::new(base.alloc);
     for field in fields.items() {
@@ -217,7 +241,10 @@ pub(crate) fn check_xml(
         (graph_of world.new) (Xml (plain tag.now) (plain attributes.now) (plain content.now))) }
     ensures after { OnOk result
         (IsAfter base.now locals.now (graph_of world.old) (graph_of world.new)) }
-    ensures fault { IfErr result (IsNamed (table_of world.new)) }
+    ensures least { IfOk result (KindLeast base.now (graph_of world.old) locals.now
+        (graph_of world.new) (Xml (plain tag.now) (plain attributes.now) (plain content.now))) }
+    ensures fault { IfErr result (FormFails base.now (graph_of world.old) locals.now
+        (table_of world.new) (Xml (plain tag.now) (plain attributes.now) (plain content.now))) }
 {
     let first = check(base, world, locals, tag)?;
     let second = check(base, world, locals, attributes)?;

@@ -13,13 +13,15 @@ ghost use Rattle.cd_names.specs.ProgramFaults.{IsFaultOfProgram};
 ghost use Rattle.cd_empty.specs.Growth.{Grows};
 ghost use Rattle.cd_empty.specs.Seen.{graph_of, table_of};
 ghost use Rattle.cd_typing.specs.Typed.{IsTyped};
-ghost use Rattle.cd_check.specs.Faults.{IsNamed};
+ghost use Rattle.cd_least.specs.ProgramFaults.{ProgramFault};
+ghost use Rattle.cd_check.specs.Faults.{Reports};
 ghost use Rattle.cd_check.specs.Inner.Environment.{AreNodesOf, declared};
 ghost use Rattle.cd_check.specs.Inner.Giving.{PromiseKept};
 ghost use Rattle.cd_check.specs.Inner.FunctionNames.{function_names, is_main};
 ghost use Rattle.cd_check.specs.Inner.Programs.{IsPromised, function_of};
 ghost use Rattle.cd_check.specs.Inner.Programs.{MainGives, ResultsAreData, SignaturesAreSound};
 ghost use Rattle.cd_check.specs.Inner.Programs.{IsSoundFunction, HasArrows, IsAtomNode};
+ghost use Rattle.cd_check.specs.Inner.Programs.{FunctionsFail, MainsFault, ResultsFault};
 ghost use Rattle.cd_check.specs.Inner.Promises.{ArePairs};
 ghost use Rattle.cd_check.specs.Inner.Ready.{IsReady, IsAfter, scope_of, declarations_of, names_seen};
 
@@ -32,7 +34,6 @@ use cd_empty::World;
 use cd_forms::constant;
 use cd_graph::built_in::DATA;
 use cd_name_index::NameIndex;
-use cd_operators::rule::Rule;
 use cd_operators::tools::put_tools;
 use cd_program::expr::FunctionTree;
 use cd_program::program::Program;
@@ -40,6 +41,7 @@ use cd_resolve::Names;
 use cd_sets::node_id::NodeId;
 use cd_syntax::constant::Constant;
 use cd_syntax::name::Name;
+use cd_typing::rule::Rule;
 use std::alloc::{AllocError, Global};
 
 /// Whether a program has types. Its names are sound, and the nodes of its declared types are there.
@@ -59,7 +61,8 @@ pub fn check_types<'t>(
     requires well_made { IsWellMadeProgram (plain_program program.now) }
     requires sound { (fault : Fault) → IsFaultOfProgram (plain_program program.now) fault → ⊥ }
     ensures typed { OnOk result (IsTyped (plain_program program.now)) }
-    ensures fault { IfErr result (IsNamed (table_of world.new)) }
+    ensures fault { IfErr result
+        (Reports (table_of world.new) (ProgramFault (plain_program program.now))) }
 {
     // The contract of this call says that the graph is sound and begins with the built-in nodes.
     world.graph();
@@ -196,7 +199,8 @@ fn check_functions(
         (function_of one) one.promise) promised.now) }
     ensures after { OnOk result
         (IsAfter base.now [] (graph_of world.old) (graph_of world.new)) }
-    ensures fault { IfErr result (IsNamed (table_of world.new)) }
+    ensures fault { IfErr result (FunctionsFail base.now (graph_of world.old) (table_of world.new)
+        promised.now) }
 {
     for one in promised {
         check_promise(base, world, &[], one.function, &one.promise)?;
@@ -208,7 +212,8 @@ fn check_functions(
 fn check_main(world: &mut World, promised: &[Promised<'_>]) -> Result<(), CheckError>
     requires { AllOf (HasArrows (graph_of world.old)) promised.now }
     ensures main { OnOk result (AllOf (MainGives (graph_of world.old)) promised.now) }
-    ensures fault { IfErr result (IsNamed (table_of world.new)) }
+    ensures fault { IfErr result
+        (Reports (table_of world.new) (MainsFault (graph_of world.old) promised.now)) }
     ensures graph { graph_of world.new ≡ graph_of world.old }
 {
     for one in promised {
@@ -237,7 +242,8 @@ fn check_results(
 ) -> Result<(), CheckError>
     requires { ArePairs (graph_of world.old) arrows.now }
     ensures data { OnOk result (ResultsAreData (graph_of world.old) arrows.now) }
-    ensures fault { IfErr result (IsNamed (table_of world.new)) }
+    ensures fault { IfErr result
+        (Reports (table_of world.new) (ResultsFault (graph_of world.old) at arrows.now)) }
     ensures graph { graph_of world.new ≡ graph_of world.old }
 {
     // The contract of this call says that the graph begins with the built-in nodes.

@@ -1,6 +1,7 @@
 //! What comes to branches.
 ghost use Rattle.std.specs.Prelude.{◌≡◌, ◌<◌, map, length, IfOk, IfErr, OnOk};
 ghost use Rattle.cd_syntax.specs.PlainTree.{plain};
+ghost use Rattle.cd_model.specs.BuiltIns.{EMPTY};
 ghost use Rattle.cd_model.specs.Formula.{IsGraph};
 ghost use Rattle.cd_model.specs.Thing.{Thing, IsElement};
 ghost use Rattle.cd_program.specs.PlainExpr.{plain_branches};
@@ -10,9 +11,9 @@ ghost use Rattle.cd_names.specs.ProgramFaults.{patterns};
 ghost use Rattle.cd_meaning.specs.Sets.{elements_of};
 ghost use Rattle.cd_empty.specs.Growth.{Grows};
 ghost use Rattle.cd_empty.specs.Seen.{graph_of, table_of};
-ghost use Rattle.cd_check.specs.Faults.{IsNamed};
 ghost use Rattle.cd_check.specs.Inner.Divided.{IsSited, AreSited, IsDivision};
 ghost use Rattle.cd_check.specs.Inner.Divided.{sited_pattern, coming_pattern};
+ghost use Rattle.cd_check.specs.Inner.Known.{IsOutside};
 ghost use Rattle.cd_check.specs.Inner.Ready.{declarations_of, scope_of};
 ghost use Rattle.cd_check.specs.Inner.SoundNames.{IsSoundPattern, PatternsAreSound};
 
@@ -22,11 +23,11 @@ use crate::needing::need_at;
 use cd_empty::World;
 use cd_graph::built_in::EMPTY;
 use cd_names::laws::{captured_names_are_bound, sound_patterns_are_named};
-use cd_operators::rule::Rule;
 use cd_program::expr::Branches;
 use cd_sets::node_id::NodeId;
 use cd_sites::{Site, remaining, site_of};
 use cd_syntax::type_tree::Tree;
+use cd_typing::rule::Rule;
 use std::alloc::AllocError;
 
 /// A pattern, and its site.
@@ -138,7 +139,8 @@ pub(crate) fn cover(world: &mut World, rest: NodeId, at: usize) -> Result<(), Ch
     requires rest { rest.0 < length (graph_of world.old) }
     ensures nothing { OnOk result
         ((e : Thing) → IsElement e → elements_of (graph_of world.old) rest e → ⊥) }
-    ensures fault { IfErr result (IsNamed (table_of world.new)) }
+    ensures fault { IfErr result
+        (IsOutside (graph_of world.old) (table_of world.new) rest EMPTY at Rule.NoBranch) }
     ensures graph { graph_of world.new ≡ graph_of world.old }
 {
     // The contract of this call says that the graph is sound and begins with the built-in nodes.

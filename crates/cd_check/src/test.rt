@@ -1,16 +1,17 @@
 //! Truth values.
-ghost use Rattle.std.specs.Prelude.{◌≡◌, ◌<◌, false, length, IfOk, IfErr, OnOk};
+ghost use Rattle.std.specs.Prelude.{◌≡◌, ◌<◌, true, false, length, IfOk, IfErr, OnOk};
 ghost use Rattle.cd_model.specs.Formula.{IsGraph};
-ghost use Rattle.cd_meaning.specs.Sets.{elements_of};
+ghost use Rattle.cd_meaning.specs.Sets.{◌⊆◌, elements_of};
 ghost use Rattle.cd_program.specs.Expr.{If, Operand};
 ghost use Rattle.cd_program.specs.PlainExpr.{plain};
 ghost use Rattle.cd_empty.specs.Growth.{Grows};
 ghost use Rattle.cd_empty.specs.Seen.{graph_of, table_of};
-ghost use Rattle.cd_check.specs.Faults.{IsNamed};
+ghost use Rattle.cd_check.specs.Inner.Failing.{FormFails, TailFails, SideFails};
 ghost use Rattle.cd_check.specs.Inner.Giving.{KindGives, TailGives, SideGives};
+ghost use Rattle.cd_check.specs.Inner.LeastNodes.{KindLeast, TailLeast, SideLeast};
 ghost use Rattle.cd_check.specs.Inner.Ready.{IsReady, IsAfter, declarations_of, names_seen};
 ghost use Rattle.cd_check.specs.Inner.Sides.{short_op, truth_node, AreApart, IfSome, HoldsSome};
-ghost use Rattle.cd_check.specs.Inner.Sides.{MaySkip};
+ghost use Rattle.cd_check.specs.Inner.Sides.{MaySkip, AreTogether, IsInEither};
 ghost use Rattle.cd_check.specs.Inner.SoundNames.{IsSound};
 
 use crate::base::Base;
@@ -21,10 +22,10 @@ use cd_empty::{Verdict, World};
 use cd_forms::union;
 use cd_graph::built_in::{BOOL, EMPTY};
 use cd_needs::asking::question;
-use cd_operators::rule::Rule;
 use cd_program::expr::Expr;
 use cd_sets::node_id::NodeId;
 use cd_syntax::name::Name;
+use cd_typing::rule::Rule;
 use std::alloc::AllocError;
 
 /// The second expression where the first may be true, or the third where it may be false.
@@ -48,7 +49,10 @@ pub(crate) fn check_if(
         (If (plain condition.now) (plain then_one.now) (plain else_one.now))) }
     ensures after { OnOk result
         (IsAfter base.now locals.now (graph_of world.old) (graph_of world.new)) }
-    ensures fault { IfErr result (IsNamed (table_of world.new)) }
+    ensures least { IfOk result (KindLeast base.now (graph_of world.old) locals.now
+        (graph_of world.new) (If (plain condition.now) (plain then_one.now) (plain else_one.now))) }
+    ensures fault { IfErr result (FormFails base.now (graph_of world.old) locals.now
+        (table_of world.new) (If (plain condition.now) (plain then_one.now) (plain else_one.now))) }
 {
     let tested = check(base, world, locals, condition)?;
     need_at(world, tested, BOOL, Rule::Condition, condition.span.from)?;
@@ -76,7 +80,10 @@ pub(crate) fn check_short(
         (graph_of world.new) first (Operand (short_op met) (plain expr.now))) }
     ensures after { OnOk result
         (IsAfter base.now locals.now (graph_of world.old) (graph_of world.new)) }
-    ensures fault { IfErr result (IsNamed (table_of world.new)) }
+    ensures least { IfOk result (TailLeast base.now (graph_of world.old) locals.now
+        (graph_of world.new) first (Operand (short_op met) (plain expr.now))) }
+    ensures fault { IfErr result (TailFails base.now (graph_of world.old) locals.now
+        (table_of world.new) first at (Operand (short_op met) (plain expr.now))) }
 {
     need_at(world, first, BOOL, Rule::Condition, at)?;
     let long = check_side(base, world, locals, first, met, expr)?;
@@ -102,7 +109,10 @@ fn check_side(
         (graph_of world.new) tested value (plain expr.now)) }
     ensures after { OnOk result
         (IsAfter base.now locals.now (graph_of world.old) (graph_of world.new)) }
-    ensures fault { IfErr result (IsNamed (table_of world.new)) }
+    ensures least { IfOk result (SideLeast base.now (graph_of world.old) locals.now
+        (graph_of world.new) tested value (plain expr.now)) }
+    ensures fault { IfErr result (SideFails base.now (graph_of world.old) locals.now
+        (table_of world.new) tested value (plain expr.now)) }
 {
     if may_be(base, world, tested, truth(base, value))? {
         return Ok(Some(check(base, world, locals, expr)?));
@@ -121,6 +131,9 @@ fn short_side(
     requires truth { (truth_node base.now value).0 < length (graph_of world.old) }
     ensures side { IfOk result
         (MaySkip (graph_of world.old) tested (truth_node base.now value)) }
+    ensures may { IfOk result (λ found. IfSome found (λ id.
+        AreTogether (elements_of (graph_of world.old) tested)
+        (elements_of (graph_of world.old) (truth_node base.now value)))) }
     ensures graph { graph_of world.new ≡ graph_of world.old }
 {
     let id = truth(base, value);
@@ -148,6 +161,9 @@ fn may_be(
     requires other { other.0 < length (graph_of world.old) }
     ensures apart { IfOk result (λ answer. answer ≡ false
         → AreApart (elements_of (graph_of world.old) one) (elements_of (graph_of world.old) other)) }
+    ensures together { IfOk result (λ answer. answer ≡ true
+        → AreTogether (elements_of (graph_of world.old) one)
+        (elements_of (graph_of world.old) other)) }
     ensures graph { graph_of world.new ≡ graph_of world.old }
 {
     let both = question(base.alloc, &[one, other], &[])?;
@@ -169,6 +185,8 @@ fn either(
     ensures one { IfOk result (λ id. HoldsSome (graph_of world.old) (graph_of world.new) one id) }
     ensures other { IfOk result
         (λ id. HoldsSome (graph_of world.old) (graph_of world.new) other id) }
+    ensures only { IfOk result (λ id. elements_of (graph_of world.new) id
+        ⊆ IsInEither (graph_of world.old) one other) }
     ensures node { IfOk result (λ id. id.0 < length (graph_of world.new)) }
     ensures sound { IsGraph (graph_of world.new) }
     ensures grows { Grows world.old world.new }

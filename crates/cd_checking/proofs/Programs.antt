@@ -1,5 +1,5 @@
 -- What is said of a program that a text reads as.
-use Rattle.std.proofs.Common.{◌<◌, ℕ, zero, suc, List, [], ◌∷◌, length, get_or, Result, Ok, Err, arith}
+use Rattle.std.proofs.Common.{◌<◌, ℕ, subst, sym, zero, suc, List, [], ◌∷◌, length, get_or, Result, Ok, Err, arith}
 use Rattle.std.specs.Prelude.{IfOk}
 use Rattle.std.specs.declared.alloc.AllocError.{AllocError}
 use Rattle.cd_model.specs.AllOf.{AllOf}
@@ -12,9 +12,15 @@ use Rattle.cd_replies.specs.Bytes.{Bytes}
 use Rattle.cd_replies.specs.Disk.{Disk, HasText}
 use Rattle.cd_replies.specs.Message.{reply_of}
 use Rattle.cd_replies.specs.Naming.{RefusesNames, naming}
+use Rattle.cd_replies.specs.Reply.{Reply}
 use Rattle.cd_replies.specs.Texts.{Against, ReadsAsProgram}
 use Rattle.cd_replies.specs.declared.message.Message.{Message}
-use Rattle.cd_checking.specs.CheckAnswer.{ProgramAnswer, CheckAnswer, on_program}
+use Rattle.cd_least.specs.ProgramFaults.{ProgramFault}
+use Rattle.cd_check.specs.Faults.{Reports}
+use Rattle.cd_check.specs.declared.fault.CheckError.{CheckError}
+use Rattle.cd_check.specs.declared.fault.CheckError.TheVariants.{IllTyped, Memory}
+use Rattle.cd_checking.specs.CheckAnswer.{ProgramAnswer, CheckAnswer, TellsFault, on_program, unmet}
+use Rattle.cd_checking.specs.Inner.FaultSaid.{IsSaid}
 
 -- it is an answer on a file of that text
 pub answers_program : (file text : Bytes) (program : Program) → ReadsAsProgram text program → (r : Result Message AllocError)
@@ -36,3 +42,10 @@ element_is table id are names = at table id.0 are names
     at [] index are below = absurd (omega arith)
     at (first ∷ rest) zero are below = are.0
     at (first ∷ rest) (suc index) are below = at rest index are.1 (omega arith)
+
+-- what is said of an error of the checker is a fault of the program
+pub fault_told : (file text : Bytes) (program : Program) (table : List Thing) (error : CheckError)
+    → Reports table (ProgramFault program) error → (reply : Reply) → IsSaid file text table error reply → TellsFault file text program reply
+fault_told file text program table (IllTyped fault) reports reply said = subst (TellsFault file text program) (sym said.1)
+    (unmet fault.at fault.rule (element_at table fault.element) reports.1 said.0)
+fault_told file text program table Memory reports reply said = absurd said

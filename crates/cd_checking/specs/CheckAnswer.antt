@@ -5,8 +5,9 @@ use Rattle.cd_model.specs.Thing.{Thing, IsElement}
 use Rattle.cd_model.specs.Canonical.{canonical}
 use Rattle.cd_program.specs.Expr.{Program}
 use Rattle.cd_typing.specs.Typed.{IsTyped}
-use Rattle.cd_operators.specs.declared.rule.Rule.{Rule}
-use Rattle.cd_operators.specs.RuleTexts.{text_of}
+use Rattle.cd_typing.specs.declared.rule.Rule.{Rule}
+use Rattle.cd_typing.specs.RuleTexts.{text_of}
+use Rattle.cd_least.specs.ProgramFaults.{ProgramFault}
 use Rattle.cd_replies.specs.Bytes.{Bytes}
 use Rattle.cd_replies.specs.Reply as reply
 use Rattle.cd_replies.specs.Reply.{Reply, says}
@@ -18,17 +19,19 @@ pub record FileHasProgram (disk : Disk) (file text : Bytes) (program : Program) 
   pub has : HasText disk file text
   pub reads : ReadsAsProgram text program
 
--- a place where a rule is said not to be met, with the canonical text of an element
-pub data TellsRule (file text : Bytes) : Reply → Type 0 where
-  unmet : (place : ℕ) (rule : Rule) (element : Thing) → IsElement element → TellsRule file text
+-- a fault of typing is said: its place, the text of its rule, and the canonical text of its element
+pub data TellsFault (file text : Bytes) (program : Program) : Reply → Type 0 where
+  unmet : (place : ℕ) (rule : Rule) (element : Thing) → ProgramFault program place rule element
+      → IsElement element → TellsFault file text program
       (reply.ill_typed file text place (text_of rule) (encode_utf8_all (canonical element)))
 
 -- the answers on a program that a file's text reads as
 pub data ProgramAnswer (file text : Bytes) (program : Program) : Reply → Type 0 where
   -- the typing rules type it
   accepted : IsTyped program → ProgramAnswer file text program (says Done (codes "accepted"))
-  -- a rule is told. That no types exist then isn't said yet
-  ill_typed : (reply : Reply) → TellsRule file text reply → ProgramAnswer file text program reply
+  -- they do not, by a fault that is said
+  ill_typed : (reply : Reply) → TellsFault file text program reply
+      → ProgramAnswer file text program reply
 
 pub data CheckAnswer (disk : Disk) (file : Bytes) : Reply → Type 0 where
   file_refused : (reply : Reply) → FileRefusal RefusesProgram disk file reply

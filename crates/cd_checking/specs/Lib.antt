@@ -1,1 +1,2 @@
 pub mod CheckAnswer
+pub mod Inner

@@ -9,9 +9,9 @@ ghost use Rattle.cd_replies.specs.Disk.{Disk, HasText};
 ghost use Rattle.cd_replies.specs.File.{ReadsThere};
 ghost use Rattle.cd_replies.specs.Message.{IsAnswer, reply_of};
 ghost use Rattle.cd_replies.specs.Texts.{ReadsAsProgram};
-ghost use Rattle.cd_check.specs.Faults.{IsNamed};
 ghost use Rattle.cd_empty.specs.Seen.{table_of};
-ghost use Rattle.cd_checking.specs.CheckAnswer.{CheckAnswer, ProgramAnswer, TellsRule};
+ghost use Rattle.cd_checking.specs.CheckAnswer.{CheckAnswer, ProgramAnswer, TellsFault};
+ghost use Rattle.cd_checking.specs.Inner.FaultSaid.{IsNamed, IsSaid};
 
 use cd_base::files::Files;
 use cd_check::{CheckError, check_types};
@@ -23,8 +23,8 @@ use cd_replies::naming::declare;
 use cd_replies::reader::read_program;
 use std::alloc::{AllocError, Global};
 
-/// What is said of the program of a file: that it is accepted, or a place where a rule of typing is
-/// not met.
+/// What is said of the program of a file: that it is accepted, where the typing rules type it, or
+/// else a fault of typing.
 ///
 /// # Errors
 ///
@@ -71,9 +71,8 @@ fn of_program(
     }
 }
 
-/// What is said of a program, which this text of a file reads as, if no types are found for it: the
-/// place of what does not meet a rule, the rule, and an element that shows it. Else the typing rules
-/// type it.
+/// What is said of a program, which this text of a file reads as, if the typing rules do not type
+/// it: the place, the rule and the element of a fault of typing.
 ///
 /// # Errors
 ///
@@ -87,7 +86,7 @@ pub fn no_types(
     requires reads { ReadsAsProgram text.now (plain_program program.now) }
     requires well_made { IsWellMadeProgram (plain_program program.now) }
     ensures { IfOk result (λ found. MatchOption found (IsTyped (plain_program program.now))
-        (λ message. TellsRule file.now text.now (reply_of message))) }
+        (λ message. TellsFault file.now text.now (plain_program program.now) (reply_of message))) }
 {
     let mut world = World::new(alloc)?;
     let names = match declare(alloc, &mut world, &program.types)? {
@@ -109,7 +108,8 @@ fn unmet(
     error: CheckError,
 ) -> Result<Message, AllocError>
     requires { IsNamed (table_of world.now) error }
-    ensures { IfOk result (λ message. TellsRule file.now text.now (reply_of message)) }
+    ensures { IfOk result (λ message.
+        IsSaid file.now text.now (table_of world.now) error (reply_of message)) }
 {
     match error {
         CheckError::IllTyped(fault) => {

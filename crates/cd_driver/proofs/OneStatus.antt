@@ -25,7 +25,9 @@ use Rattle.cd_replies.specs.Documents.{RefusesDocument, FileWrites, IsValueIn, I
 use Rattle.cd_member.specs.MemberAnswer as member
 use Rattle.cd_member.specs.MemberAnswer.{FileDeclares, DocumentAnswer, MemberAnswer}
 use Rattle.cd_checking.specs.CheckAnswer as checking
-use Rattle.cd_checking.specs.CheckAnswer.{CheckAnswer, FileHasProgram, ProgramAnswer, TellsRule, unmet}
+use Rattle.cd_checking.specs.CheckAnswer.{CheckAnswer, FileHasProgram, ProgramAnswer, TellsFault, unmet}
+use Rattle.cd_least.proofs.ProgramRefuted.{program_refuted}
+use Rattle.cd_typing.specs.Typed.{IsTyped}
 use Rattle.cd_evaluation.specs.Code.{place_of}
 use Rattle.cd_evaluation.specs.ProgramCode.{code_of}
 use Rattle.cd_evaluation.specs.ProgramFunctions.{function_at}
@@ -38,7 +40,6 @@ use Rattle.cd_running.specs.Ending.{Tells, done, raised, overflow, spent}
 use Rattle.cd_running.specs.Input.{IsInput, IsNoInput, argument}
 use Rattle.cd_running.specs.RunAnswer as run
 use Rattle.cd_running.specs.RunAnswer.{FileHasTyped, Given, HasRun, RunAnswer}
-use Rattle.cd_driver.specs.Decided.{DifferOnTypes, AreOneStatus}
 use Rattle.cd_driver.proofs.OneCommand.{one_command}
 use Rattle.cd_driver.proofs.OneRefusal.{one_type_refusal, one_declarations_refusal, reads_unrefused, declares_unrefused, reads_one, declares_one}
 use Rattle.cd_driver.proofs.OneRefusal.{one_program_refusal, program_unrefused, reads_one_program}
@@ -77,26 +78,12 @@ module _ (declared : Declarations) (text1 text2 : Bytes) where
   sub_one _ _ (second_refused c c_is against stands) (first_refused other stands') = absurd (reads_unrefused declared text1 c c_is other stands')
   sub_one _ _ (second_refused c c_is against stands) (second_refused a a_is other stands') = one_type_refusal declared (codes "T2") text2 against other stands stands'
 
--- a rule of typing that is told has its status, and other replies have not
-rule_status : (file text : Bytes) (reply : Reply) → TellsRule file text reply → reply.status ≡ IllTyped
-rule_status file text _ (unmet place rule element exists) = refl
+-- a fault that is said has its status, and leaves the program without types
+fault_status : (file text : Bytes) (program : Program) (reply : Reply) → TellsFault file text program reply → reply.status ≡ IllTyped
+fault_status file text program _ (unmet place rule element fault exists) = refl
 
-refusal_is_other : (origin text : Bytes) (against : Against) → (refusal origin text against).status ≢ IllTyped
-refusal_is_other origin text (Lexical Memory) is = cc
-refusal_is_other origin text against is = cc
-
-file_is_other : (refuses : Bytes → Against → Type 0) (disk : Disk) (name : Bytes) (reply : Reply) → FileRefusal refuses disk name reply
-    → reply.status ≢ IllTyped
-file_is_other refuses disk name _ (unread marked) is = cc
-file_is_other refuses disk name _ (large bytes has so) is = cc
-file_is_other refuses disk name _ (encoding bytes has size so) is = cc
-file_is_other refuses disk name _ (refused text has against stands) is = refusal_is_other name text against is
-
-ending_is_other : (outcome : Outcome) (reply : Reply) → Tells outcome reply → reply.status ≢ IllTyped
-ending_is_other _ _ (done v) is = cc
-ending_is_other _ _ (raised v) is = cc
-ending_is_other _ _ overflow is = cc
-ending_is_other _ _ spent is = cc
+pub fault_untyped : (file text : Bytes) (program : Program) (reply : Reply) → TellsFault file text program reply → IsTyped program → ⊥
+fault_untyped file text program _ (unmet place rule element fault exists) typed = program_refuted program place rule element fault typed
 
 -- a file that is known has one content at most
 one_content : (disk : Disk) (file : Bytes) → IsKnown disk file → (a b : Bytes) → Has disk file a → Has disk file b → a ≡ b
@@ -107,11 +94,6 @@ one_content disk file (inr told) a b first second =
   where
     told_bytes : (all bytes : Bytes) → disk.told file ≡ Some all → Has disk file bytes → all ≡ bytes
     told_bytes all bytes told has = rw told at has.told
-
--- a command decides a status, as far as it is so
-abbrev Decided : Disk → Command → (first second : Status) → Type 0
-Decided disk command first second =
-    (first ≡ second) ⊎ ((file : Bytes) × (program_of command ≡ Some file) × DifferOnTypes disk file first second)
 
 -- a known file decides the status of what is said of it, whatever may stand against its text
 module _ (disk : Disk) (file : Bytes) (known : IsKnown disk file) where
@@ -225,23 +207,31 @@ module _ (disk : Disk) (file : Bytes) (known : IsKnown disk file) where
   unrefused reply text program refusal has =
       absurd (refused_or_not RefusesProgram reply text refusal has.has (program_unrefused text program has.reads))
 
-  -- two answers on programs of the file have one status, or one accepts what the other one finds no types for
-  programs_one : (text text' : Bytes) (program program' : Program) → FileHasProgram disk file text program → FileHasProgram disk file text' program'
-      → (r s : Reply) → ProgramAnswer file text program r → ProgramAnswer file text' program' s → Decided disk (Check file) r.status s.status
-  programs_one text text' program program' has has' _ _ (checking.accepted typed) (checking.accepted typed') = inl refl
-  programs_one text text' program program' has has' _ _ (checking.accepted typed) (checking.ill_typed s tells) =
-      let differ = inl (λ is. cc, rule_status file text' s tells) in
-      inr (file, refl, record { text = text; program = program; has = has; typed = typed; differ = differ })
-  programs_one text text' program program' has has' _ _ (checking.ill_typed r tells) (checking.accepted typed) =
-      let differ = inr (rule_status file text r tells, λ is. cc) in
-      inr (file, refl, record { text = text'; program = program'; has = has'; typed = typed; differ = differ })
-  programs_one text text' program program' has has' _ _ (checking.ill_typed r tells) (checking.ill_typed s tells') =
-      inl (rule_status file text r tells ∙ sym (rule_status file text' s tells'))
+  -- the file has one program
+  one_program : (text text' : Bytes) (program program' : Program) → FileHasProgram disk file text program
+      → FileHasProgram disk file text' program' → program ≡ program'
+  one_program text text' program program' has has' = reads_one_program text program program' has.reads
+      (subst (λ bytes. ReadsAsProgram bytes program') (same_two text' text has'.has.has has.has.has) has'.reads)
 
-  check_one : (r s : Reply) → CheckAnswer disk file r → CheckAnswer disk file s → Decided disk (Check file) r.status s.status
+  -- which has types, or a fault
+  typed_or_not : {A : Type 0} (text text' : Bytes) (program program' : Program) → FileHasProgram disk file text program
+      → FileHasProgram disk file text' program' → IsTyped program → (reply : Reply) → TellsFault file text' program' reply → A
+  typed_or_not text text' program program' has has' typed reply tells =
+      absurd (fault_untyped file text' program' reply tells (subst IsTyped (one_program text text' program program' has has') typed))
+
+  programs_one : (text text' : Bytes) (program program' : Program) → FileHasProgram disk file text program → FileHasProgram disk file text' program'
+      → (r s : Reply) → ProgramAnswer file text program r → ProgramAnswer file text' program' s → r.status ≡ s.status
+  programs_one text text' program program' has has' _ _ (checking.accepted typed) (checking.accepted typed') = refl
+  programs_one text text' program program' has has' _ _ (checking.accepted typed) (checking.ill_typed s tells) =
+      typed_or_not text text' program program' has has' typed s tells
+  programs_one text text' program program' has has' _ _ (checking.ill_typed r tells) (checking.accepted typed) =
+      typed_or_not text' text program' program has' has typed r tells
+  programs_one text text' program program' has has' _ _ (checking.ill_typed r tells) (checking.ill_typed s tells') =
+      fault_status file text program r tells ∙ sym (fault_status file text' program' s tells')
+
+  check_one : (r s : Reply) → CheckAnswer disk file r → CheckAnswer disk file s → r.status ≡ s.status
   check_one _ _ (checking.file_refused r refusal) (checking.file_refused s refusal') =
-      inl (file_one RefusesProgram (λ text a b first second. one_program_refusal file text a b first second) r s
-      refusal refusal')
+      file_one RefusesProgram (λ text a b first second. one_program_refusal file text a b first second) r s refusal refusal'
   check_one _ _ (checking.file_refused r refusal) (checking.on_program text program has s answers) = unrefused r text program refusal has
   check_one _ _ (checking.on_program text program has r answers) (checking.file_refused s refusal) = unrefused s text program refusal has
   check_one _ _ (checking.on_program text program has r answers) (checking.on_program text' program' has' s answers') =
@@ -295,8 +285,8 @@ told_once _ _ _ (raised v) (raised _) = refl
 told_once _ _ _ overflow overflow = refl
 told_once _ _ _ spent spent = refl
 
--- the program and the document decide the status of what `run` answers, as far as types are found
-module _ (disk : Disk) (units : ℕ) (command : Command) (file document : Bytes) (about : program_of command ≡ Some file)
+-- the program and the document decide the status of what `run` answers
+module _ (disk : Disk) (units : ℕ) (file document : Bytes)
     (known : IsKnown disk file) (document_known : IsKnown disk document) where
   -- the program, its `main` and the value are one
   programs_same : (one other : Given disk file document) → one.program ≡ other.program
@@ -320,34 +310,10 @@ module _ (disk : Disk) (units : ℕ) (command : Command) (file document : Bytes)
   unprogrammed : {A : Type 0} (reply : Reply) (program : Program) → FileRefusal RefusesProgram disk file reply → FileHasTyped disk file program → A
   unprogrammed reply program refusal has = unrefused disk file known reply has.text program refusal has.has
 
-  -- types are found in the one answer, and not in the other
-  typed_or_not : (r s : Reply) (text : Bytes) (program : Program) → FileHasTyped disk file program → r.status ≢ IllTyped → TellsRule file text s
-      → Decided disk command r.status s.status
-  typed_or_not r s text program has other tells = inr (
-    file,
-    about,
-    record {
-      text = has.text;
-      program = program;
-      has = has.has;
-      typed = has.typed;
-      differ = inl (other, rule_status file text s tells);
-    },
-  )
-
-  not_or_typed : (r s : Reply) (text : Bytes) (program : Program) → FileHasTyped disk file program → TellsRule file text r → s.status ≢ IllTyped
-      → Decided disk command r.status s.status
-  not_or_typed r s text program has tells other = inr (
-    file,
-    about,
-    record {
-      text = has.text;
-      program = program;
-      has = has.has;
-      typed = has.typed;
-      differ = inr (rule_status file text r tells, other);
-    },
-  )
+  -- a program has types, or a fault
+  faulty : {A : Type 0} (text : Bytes) (program program' : Program) → FileHasTyped disk file program → FileHasProgram disk file text program'
+      → (reply : Reply) → TellsFault file text program' reply → A
+  faulty text program program' has has' reply tells = typed_or_not disk file known has.text text program program' has.has has' has.typed reply tells
 
   -- a document is taken, or not
   taken_or_not : {A : Type 0} (one other : Given disk file document) → IsNoInput one.program one.main one.value
@@ -368,75 +334,69 @@ module _ (disk : Disk) (units : ℕ) (command : Command) (file document : Bytes)
       one_meaning (code_of one.given.program) (takes_once one.given.program) (Closure (place_of one.given.main) NoField) one.given.value units
       first second one.comes moved
 
-  run_one : (r s : Reply) → RunAnswer disk units file document r → RunAnswer disk units file document s → Decided disk command r.status s.status
+  run_one : (r s : Reply) → RunAnswer disk units file document r → RunAnswer disk units file document s → r.status ≡ s.status
   run_one _ _ (run.file_refused r refusal) (run.file_refused s refusal') =
-      inl (file_one disk file known RefusesProgram (λ text a b first second. one_program_refusal file text a b first second) r s refusal refusal')
+      file_one disk file known RefusesProgram (λ text a b first second. one_program_refusal file text a b first second) r s refusal refusal'
   run_one _ _ (run.file_refused r refusal) (run.program_refused text program has s tells) = unrefused disk file known r text program refusal has
   run_one _ _ (run.file_refused r refusal) (run.document_refused program has s refusal') = unprogrammed r program refusal has
   run_one _ _ (run.file_refused r refusal) (run.not_input given outside) = unprogrammed r given.program refusal given.has
   run_one _ _ (run.file_refused r refusal) (run.ran result has s tells) = unprogrammed r has.given.program refusal has.given.has
   run_one _ _ (run.program_refused text program has r tells) (run.file_refused s refusal) = unrefused disk file known s text program refusal has
   run_one _ _ (run.program_refused text program has r tells) (run.program_refused text' program' has' s tells') =
-      inl (rule_status file text r tells ∙ sym (rule_status file text' s tells'))
+      fault_status file text program r tells ∙ sym (fault_status file text' program' s tells')
   run_one _ _ (run.program_refused text program has r tells) (run.document_refused program' has' s refusal) =
-      not_or_typed r s text program' has' tells (file_is_other RefusesDocument disk document s refusal)
+      faulty text program' program has' has r tells
   run_one _ _ (run.program_refused text program has r tells) (run.not_input given outside) =
-      not_or_typed r (no_input document) text given.program given.has tells (λ is. cc)
+      faulty text given.program program given.has has r tells
   run_one _ _ (run.program_refused text program has r tells) (run.ran result has' s tells') =
-      not_or_typed r s text has'.given.program has'.given.has tells (ending_is_other result.outcome s tells')
+      faulty text has'.given.program program has'.given.has has r tells
   run_one _ _ (run.document_refused program has r refusal) (run.file_refused s refusal') = unprogrammed s program refusal' has
   run_one _ _ (run.document_refused program has r refusal) (run.program_refused text program' has' s tells) =
-      typed_or_not r s text program has (file_is_other RefusesDocument disk document r refusal) tells
+      faulty text program program' has has' s tells
   run_one _ _ (run.document_refused program has r refusal) (run.document_refused program' has' s refusal') =
-      inl (file_one disk document document_known RefusesDocument (λ text a b first second. one_document_refusal text document a b first second)
-      r s refusal refusal')
+      file_one disk document document_known RefusesDocument (λ text a b first second. one_document_refusal text document a b first second)
+      r s refusal refusal'
   run_one _ _ (run.document_refused program has r refusal) (run.not_input given outside) =
       unwritten disk document document_known r given.value refusal given.writes
   run_one _ _ (run.document_refused program has r refusal) (run.ran result has' s tells) =
       unwritten disk document document_known r has'.given.value refusal has'.given.writes
   run_one _ _ (run.not_input given outside) (run.file_refused s refusal) = unprogrammed s given.program refusal given.has
   run_one _ _ (run.not_input given outside) (run.program_refused text program has s tells) =
-      typed_or_not (no_input document) s text given.program given.has (λ is. cc) tells
+      faulty text given.program program given.has has s tells
   run_one _ _ (run.not_input given outside) (run.document_refused program has s refusal) =
       unwritten disk document document_known s given.value refusal given.writes
-  run_one _ _ (run.not_input given outside) (run.not_input given' outside') = inl refl
+  run_one _ _ (run.not_input given outside) (run.not_input given' outside') = refl
   run_one _ _ (run.not_input given outside) (run.ran result has s tells) = taken_or_not given has.given outside has.input
   run_one _ _ (run.ran result has r tells) (run.file_refused s refusal) = unprogrammed s has.given.program refusal has.given.has
   run_one _ _ (run.ran result has r tells) (run.program_refused text program has' s tells') =
-      typed_or_not r s text has.given.program has.given.has (ending_is_other result.outcome r tells) tells'
+      faulty text has.given.program program has.given.has has' s tells'
   run_one _ _ (run.ran result has r tells) (run.document_refused program has' s refusal) =
       unwritten disk document document_known s has.given.value refusal has.given.writes
   run_one _ _ (run.ran result has r tells) (run.not_input given outside) = taken_or_not given has.given outside has.input
   run_one _ _ (run.ran result has r tells) (run.ran result' has' s tells') =
       let same = result_same result result' has has' in
-      inl (told_once result.outcome r s tells (subst (λ result. Tells result.outcome s) (sym same) tells'))
+      told_once result.outcome r s tells (subst (λ result. Tells result.outcome s) (sym same) tells')
 
 -- a command and its files decide it
 command_decides : (disk : Disk) (command : Command) → AllOf (IsKnown disk) (files_of command)
-    → (r s : Reply) → AnswerOf command disk r → AnswerOf command disk s → Decided disk command r.status s.status
-command_decides disk (Sub text1 text2) known r s answers answers' = inl (sub_one NoDeclaration text1 text2 r s answers answers')
-command_decides disk (SubTypes file text1 text2) known r s answers answers' = inl (sub_types_one disk file known.0 text1 text2 r s answers answers')
+    → (r s : Reply) → AnswerOf command disk r → AnswerOf command disk s → r.status ≡ s.status
+command_decides disk (Sub text1 text2) known r s answers answers' = sub_one NoDeclaration text1 text2 r s answers answers'
+command_decides disk (SubTypes file text1 text2) known r s answers answers' = sub_types_one disk file known.0 text1 text2 r s answers answers'
 command_decides disk (Member file document text) known r s answers answers' =
-    inl (member_one disk file document text known.0 known.1.0 r s answers answers')
+    member_one disk file document text known.0 known.1.0 r s answers answers'
 command_decides disk (Check file) known r s answers answers' = check_one disk file known.0 r s answers answers'
 command_decides disk (Run file document) known r s answers answers' =
-    run_one disk UNITS (Run file document) file document refl known.0 known.1.0 r s answers answers'
+    run_one disk UNITS file document known.0 known.1.0 r s answers answers'
 command_decides disk (RunSteps units file document) known r s answers answers' =
-    run_one disk units (RunSteps units file document) file document refl known.0 known.1.0 r s answers answers'
-command_decides disk command known r s is is' = inl (ap (λ reply. reply.status) (is ∙ sym is'))
+    run_one disk units file document known.0 known.1.0 r s answers answers'
+command_decides disk command known r s is is' = ap (λ reply. reply.status) (is ∙ sym is')
 
--- and the words that give it do
-words_decide : (words : List Bytes) (disk : Disk) (command : Command) → Give words command → (first second : Status)
-    → Decided disk command first second → AreOneStatus words disk first second
-words_decide words disk command give first second (inl same) = inl same
-words_decide words disk command give first second (inr differ) = inr (command, differ.0, give, differ.1, differ.2)
-
+-- and so do the words
 pub one_status : (words : List Bytes) (disk : Disk) → FileIsKnown words disk
-    → (r s : Reply) → Answer words disk r → Answer words disk s → AreOneStatus words disk r.status s.status
-one_status words disk known r s (inl none) (inl none') = inl (ap (λ reply. reply.status) (none.1 ∙ sym none'.1))
+    → (r s : Reply) → Answer words disk r → Answer words disk s → r.status ≡ s.status
+one_status words disk known r s (inl none) (inl none') = ap (λ reply. reply.status) (none.1 ∙ sym none'.1)
 one_status words disk known r s (inl none) (inr given) = absurd (none.0 given.0 given.1)
 one_status words disk known r s (inr given) (inl none) = absurd (none.0 given.0 given.1)
 one_status words disk known r s (inr given) (inr given') =
-    words_decide words disk given.0 given.1 r.status s.status
-    (command_decides disk given.0 (known given.0 given.1) r s given.2
-    (subst (λ command. AnswerOf command disk s) (one_command words given.0 given'.0 given.1 given'.1) given'.2))
+    command_decides disk given.0 (known given.0 given.1) r s given.2
+    (subst (λ command. AnswerOf command disk s) (one_command words given.0 given'.0 given.1 given'.1) given'.2)

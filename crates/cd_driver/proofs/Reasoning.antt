@@ -23,8 +23,9 @@ use Rattle.cd_replies.specs.Documents.{RefusesDocument}
 use Rattle.cd_member.specs.MemberAnswer as member
 use Rattle.cd_member.specs.MemberAnswer.{FileDeclares, DocumentAnswer, MemberAnswer}
 use Rattle.cd_program.specs.Expr.{Program}
+use Rattle.cd_least.proofs.ProgramRefuted.{program_refuted}
 use Rattle.cd_checking.specs.CheckAnswer as checking
-use Rattle.cd_checking.specs.CheckAnswer.{CheckAnswer, FileHasProgram, ProgramAnswer, TellsRule, unmet}
+use Rattle.cd_checking.specs.CheckAnswer.{CheckAnswer, FileHasProgram, ProgramAnswer, TellsFault, unmet}
 use Rattle.cd_evaluation.specs.Runs as outcome
 use Rattle.cd_evaluation.specs.Runs.{Outcome, Result}
 use Rattle.cd_running.specs.Ending.{Tells, done, raised, overflow, spent}
@@ -116,13 +117,14 @@ module _ (words : List Bytes) (disk : Disk) (before after : World) (met : Met be
   member_reason file document text give _ (member.on_document declared declares type reads reply answers) =
       document_reason file document text give declared declares type reads reply answers
 
-  -- a rule of typing is told of the program of a command
-  rule_reason : (command : Command) (file : Bytes) → Give words command → program_of command ≡ Some file → (text : Bytes) (program : Program)
-      → FileHasProgram disk file text program → (reply : Reply) → TellsRule file text reply → Reason words before after reply.status
-  rule_reason command file give about text program has _ (unmet place rule element exists) = record {
+  -- the program of a command has a fault of typing
+  fault_reason : (command : Command) (file : Bytes) → Give words command → program_of command ≡ Some file → (text : Bytes) (program : Program)
+      → FileHasProgram disk file text program → (reply : Reply) → TellsFault file text program reply → Reason words before after reply.status
+  fault_reason command file give about text program has _ (unmet place rule element fault exists) = record {
     command = command;
     program = program;
     ask = record { disk = disk; met = met; give = give; file = file; about = about; text = text; has = has };
+    untyped = program_refuted program place rule element fault;
   }
 
   program_reason : (file : Bytes) → Give words (Check file) → (text : Bytes) (program : Program) → FileHasProgram disk file text program
@@ -133,7 +135,7 @@ module _ (words : List Bytes) (disk : Disk) (before after : World) (met : Met be
     ask = record { disk = disk; met = met; give = give; file = file; about = refl; text = text; has = has };
     typed = typed;
   })))
-  program_reason file give text program has _ (checking.ill_typed reply tells) = rule_reason (Check file) file give refl text program has reply tells
+  program_reason file give text program has _ (checking.ill_typed reply tells) = fault_reason (Check file) file give refl text program has reply tells
 
   check_reason : (file : Bytes) → Give words (Check file) → (reply : Reply) → CheckAnswer disk file reply
       → Reason words before after reply.status
@@ -177,7 +179,7 @@ module _ (words : List Bytes) (disk : Disk) (before after : World) (met : Met be
     run_reason : (reply : Reply) → RunAnswer disk units file document reply → Reason words before after reply.status
     run_reason _ (run.file_refused reply refusal) =
         file_reason RefusesProgram file names_file (λ text has against stands. in_program command file give about text has stands) reply refusal
-    run_reason _ (run.program_refused text program has reply tells) = rule_reason command file give about text program has reply tells
+    run_reason _ (run.program_refused text program has reply tells) = fault_reason command file give about text program has reply tells
     run_reason _ (run.document_refused program has reply refusal) =
         file_reason RefusesDocument document names_document
         (λ notation is against stands. in_run units file document asks program has notation is stands) reply refusal

@@ -6,5 +6,4 @@ pub mod Ending
 pub mod Headline
 pub mod Causes
 pub mod Reasons
-pub mod Decided
 pub mod Inner

@@ -205,11 +205,12 @@ pub record IsWellTyped (words : List Bytes) (before after : World) : Type 0 wher
   pub ask : AskProgram words before after (Check file) program
   pub typed : IsTyped program
 
--- no types were found for the program of the words' command. That it has none isn't said yet
-pub record HasNoTypesFound (words : List Bytes) (before after : World) : Type 0 where
+-- the typing rules do not type the program of the words' command
+pub record IsIllTyped (words : List Bytes) (before after : World) : Type 0 where
   pub command : Command
   pub program : Program
   pub ask : AskProgram words before after command program
+  pub untyped : IsTyped program → ⊥
 
 -- the words ask for a run with so many units, for the files that were met
 pub record AskRun (words : List Bytes) (before after : World) (disk : Disk) (units : ℕ)
@@ -255,7 +256,7 @@ Reason words before after status.Lexical = IsRefused words before after IsLexica
 Reason words before after status.Syntax = IsRefused words before after IsSyntax
 Reason words before after status.TooDeep = IsRefused words before after IsTooDeep
 Reason words before after status.Naming = IsRefused words before after IsNaming
-Reason words before after status.IllTyped = HasNoTypesFound words before after
+Reason words before after status.IllTyped = IsIllTyped words before after
 Reason words before after status.NotBuilt = IsNotBuilt words
 Reason words before after status.NotInput = IsNotTaken words before after
 Reason words before after status.Uncaught =

@@ -7,21 +7,19 @@ ghost use Rattle.cd_replies.specs.Disk.{Disk};
 ghost use Rattle.cd_replies.specs.File.{ReadsThere, ReadsAmong};
 ghost use Rattle.cd_replies.specs.Reply.{Reply};
 ghost use Rattle.cd_driver.specs.Answer.{Answer, FileIsKnown};
-ghost use Rattle.cd_driver.specs.Decided.{AreOneStatus};
 ghost use Rattle.cd_driver.specs.Command.{Command, SubTypes, Give, files_of};
 ghost use Rattle.cd_driver.specs.World.{World};
 ghost use Rattle.cd_driver.specs.FilesRead.{ReadsFilesOf, NamesNoFile};
 ghost use Rattle.cd_driver.specs.Causes.{Cause};
 ghost use Rattle.cd_driver.specs.Reasons.{Reason};
 
-/// Of what is built so far: the words and the files decide the status of an answer, where each file
-/// that the words' command reads can't be read, or is told. So each status comes exactly where its rule
-/// holds, want of memory and faults of writing aside. One thing is left open: of a program that has
-/// types, nothing says yet that they are found.
+/// The words and the files decide the status of an answer, where each file that the words' command
+/// reads can't be read, or is told. So each status comes exactly where its rule holds, want of memory
+/// and faults of writing aside.
 pub fn status_is_decided()
     ensures { (words : List Bytes) (disk : Disk) → FileIsKnown words disk → (first second : Reply)
         → Answer words disk first → Answer words disk second
-        → AreOneStatus words disk first.status second.status }
+        → first.status ≡ second.status }
 {}
 
 /// What each status says of the words, the files and the sinks.

@@ -1,30 +1,16 @@
 -- Types that hold just what variables capture are narrower than others that hold it.
-use Rattle.std.proofs.Common.{◌≡◌, refl, sym, subst, ap, ◌∙◌, Bool, true, false, List, [], ◌∷◌, ◌++◌, Option, Some, None, bytes_eq, if◌then◌else◌}
+use Rattle.std.proofs.Common.{◌≡◌, refl, sym, subst, ap, ◌∙◌, List, ◌++◌, Option, Some, None}
 use Rattle.cd_syntax.specs.Name.{Name}
 use Rattle.cd_syntax.specs.TypeTree.{Tree}
 use Rattle.cd_model.specs.Scope.{Scope}
 use Rattle.cd_model.specs.Thing.{Thing}
-use Rattle.cd_matching.specs.Captures.{Captures}
+use Rattle.cd_matching.specs.Captures.{Captures, or_else}
 use Rattle.cd_meaning.specs.Sets.{Set, ◌⊆◌}
 use Rattle.cd_typing.specs.Branches.{IsFirst, HoldCaptured, FitsOne}
 use Rattle.cd_typing.specs.Typ.{Typ, In, Types, type_at, AreNarrower}
+use Rattle.cd_typing.proofs.NamesBefore.{type_before}
 use Rattle.cd_typing.proofs.Subsets.{itself}
 use Rattle.cd_least.specs.Misses.{AreCaptured}
-
--- the first of two lists of names that has a name
-abbrev or_else : Option Typ → Option Typ → Option Typ
-or_else None other = other
-or_else (Some t) other = Some t
-
-type_among : (own types : Types) (name : Name) → type_at (own ++ types) name ≡ or_else (type_at own name) (type_at types name)
-type_among [] types name = refl
-type_among (first ∷ own) types name = by (bytes_eq first.0 name) (type_among own types name)
-  where
-    by : (same : Bool) → type_at (own ++ types) name ≡ or_else (type_at own name) (type_at types name)
-        → (if same then Some first.1 else type_at (own ++ types) name)
-        ≡ or_else (if same then Some first.1 else type_at own name) (type_at types name)
-    by true later = refl
-    by false later = later
 
 module _ (scope : Scope) (before : List Tree) (pattern : Tree) (matched more : Set) (fewer : matched ⊆ more) where
   pub first_of_more : (e : Thing) (captures : Captures Name) → IsFirst scope before pattern matched e captures
@@ -53,16 +39,16 @@ module _ (scope : Scope) (before : List Tree) (pattern : Tree) (matched more : S
         → AreNarrower (own ++ types) (others ++ types)
     below_captured e captures first name t is =
         by (type_at own name) (type_at others name) refl refl (are.hold e captures first name)
-        (hold e captures (first_of_more e captures first) name) (sym (type_among others types name) ∙ is)
+        (hold e captures (first_of_more e captures first) name) (sym (type_before others types name) ∙ is)
       where
         by : (mine found : Option Typ) → type_at own name ≡ mine → type_at others name ≡ found → FitsOne mine (captures name)
             → FitsOne found (captures name) → or_else found (type_at types name) ≡ Some t
             → (s : Typ) × (type_at (own ++ types) name ≡ Some s) × (In s ⊆ In t)
         by None None here there fits other is =
-            (t, type_among own types name ∙ ap (λ one. or_else one (type_at types name)) here ∙ is, itself (In t))
+            (t, type_before own types name ∙ ap (λ one. or_else one (type_at types name)) here ∙ is, itself (In t))
         by (Some s) (Some r) here there fits other is = (
           s,
-          type_among own types name ∙ ap (λ one. or_else one (type_at types name)) here,
+          type_before own types name ∙ ap (λ one. or_else one (type_at types name)) here,
           inside name s t here (there ∙ is),
         )
         by None (Some r) here there fits other is = absurd (lacks fits other.0 other.1)

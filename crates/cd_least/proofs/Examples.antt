@@ -4,7 +4,7 @@ use Rattle.cd_model.specs.Scope.{Scope}
 use Rattle.cd_model.specs.Thing.{Thing, Integer, IsElement}
 use Rattle.cd_meaning.specs.Functions.{IsFunction}
 use Rattle.cd_meaning.specs.Sets.{Set}
-use Rattle.cd_operators.specs.declared.rule.Rule.TheVariants.{NotFunction, Divisor}
+use Rattle.cd_typing.specs.declared.rule.Rule.TheVariants.{NotFunction, Divisor}
 use Rattle.cd_typing.specs.Examples.{x, x_of_x, ten_by_x, XMayBe}
 use Rattle.cd_typing.specs.Typ.{Typ, In, IsType, Types}
 use Rattle.cd_typing.proofs.Subsets.{itself}

@@ -1,18 +1,18 @@
 -- What forms make of elements grows with the sets that these are of.
-use Rattle.std.proofs.Common.{◌≡◌, refl, subst, List, [], ◌∷◌, Option, Some, None, option_map, bytes_eq, Bool, true, false, if◌then◌else◌, codes}
+use Rattle.std.proofs.Common.{subst, List, [], ◌∷◌}
 use Rattle.cd_syntax.specs.Name.{Name}
 use Rattle.cd_model.specs.AllOf.{AllOf}
-use Rattle.cd_model.specs.Thing.{Thing, IsElement, Pair, Atom, Integer, Character, Xml, Record, Function, Closure}
-use Rattle.cd_matching.specs.Sequences.{items}
+use Rattle.cd_model.specs.Thing.{Thing, IsElement, Record, Function}
 use Rattle.cd_program.specs.Expr.{Items, Fields}
 use Rattle.cd_meaning.specs.Functions.{AllMapInto, IsGiven}
 use Rattle.cd_meaning.specs.Records.{IsFieldOf, IsRestOf, IsMergeOf}
 use Rattle.cd_meaning.specs.Sequences.{IsListOf, IsItemOf, IsJoinOf}
 use Rattle.cd_meaning.specs.Sets.{Set, ◌⊆◌}
+use Rattle.cd_meaning.proofs.SequencesFollowed.{items_are_elements}
 use Rattle.cd_typing.specs.Results.{IsTupleOf, IsSequenceOf, IsRecordOf, IsXmlOf}
 use Rattle.cd_typing.specs.Typ.{Typ, AreIn}
 use Rattle.cd_least.specs.Least.{AllWithin}
-use Rattle.cd_least.proofs.ArrowsAlike.{from_is_element}
+use Rattle.cd_meaning.proofs.FunctionsMapping.{from_is_element}
 
 -- one of each of more types
 are_in_more : (parts others : List Typ) → AllWithin parts others → (ds : List Thing) → AreIn parts ds → AreIn others ds
@@ -40,60 +40,13 @@ xmls_grow tag attributes content more rest last one other third e sound is =
     let parts = subst IsElement is.6 sound in
     (is.0, is.1, is.2, one is.0 parts.2 is.3, other is.1 parts.3 is.4, third is.2 parts.4 is.5, is.6)
 
--- the items of an element are elements
-pub items_of_element : (d : Thing) (ds : List Thing) → IsElement d → items d ≡ Some ds → AllOf IsElement ds
-items_of_element (Pair first second) ds element is =
-    by (items second) (λ rest there. items_of_element second rest element.1 there) refl is
-  where
-    by : (found : Option (List Thing)) → ((rest : List Thing) → items second ≡ Some rest → AllOf IsElement rest) → items second ≡ found → option_map (λ rest. first ∷ rest) found ≡ Some ds → AllOf IsElement ds
-    by (Some rest) each there same = subst (AllOf IsElement) (list same) (element.0, each rest there)
-      where
-        list : (Some (first ∷ rest)) ≡ Some ds → (first ∷ rest) ≡ ds
-        list equal = cc
-    by None each there same = absurd (none same)
-      where
-        none : None ≡ Some ds → ⊥
-        none equal = cc
-items_of_element (Atom name) ds element is = by (bytes_eq name (codes "nil")) is
-  where
-    by : (same : Bool) → (if same then Some [] else None) ≡ Some ds → AllOf IsElement ds
-    by true equal = subst (AllOf IsElement) (list equal) tt
-      where
-        list : Some [] ≡ Some ds → [] ≡ ds
-        list one = cc
-    by false equal = absurd (none equal)
-      where
-        none : None ≡ Some ds → ⊥
-        none one = cc
-items_of_element (Integer n) ds element is = absurd (none is)
-  where
-    none : None ≡ Some ds → ⊥
-    none one = cc
-items_of_element (Character c) ds element is = absurd (none is)
-  where
-    none : None ≡ Some ds → ⊥
-    none one = cc
-items_of_element (Xml tag attributes content) ds element is = absurd (none is)
-  where
-    none : None ≡ Some ds → ⊥
-    none one = cc
-items_of_element (Record fields) ds element is = absurd (none is)
-  where
-    none : None ≡ Some ds → ⊥
-    none one = cc
-items_of_element (Function pairs) ds element is = absurd (none is)
-  where
-    none : None ≡ Some ds → ⊥
-    none one = cc
-items_of_element (Closure function environment) ds element is = absurd element
-
 all_more : (set other : Set) → set ⊆ other → (ds : List Thing) → AllOf IsElement ds → AllOf set ds → AllOf other ds
 all_more set other fewer [] sound all = tt
 all_more set other fewer (d ∷ ds) sound all = (fewer d sound.0 all.0, all_more set other fewer ds sound.1 all.1)
 
 pub lists_grow : (set other : Set) → set ⊆ other → IsListOf set ⊆ IsListOf other
 lists_grow set other fewer d sound list =
-    (list.0, list.1, all_more set other fewer list.0 (items_of_element d list.0 sound list.1) list.2)
+    (list.0, list.1, all_more set other fewer list.0 (items_are_elements d list.0 list.1 sound) list.2)
 
 pub items_grow : (set other : Set) → set ⊆ other → IsItemOf set ⊆ IsItemOf other
 items_grow set other fewer e sound item = (item.0, item.1, item.2, fewer item.0 item.2 item.3, item.4, item.5)

@@ -7,7 +7,7 @@ use Rattle.cd_model.specs.Scope.{Scope}
 use Rattle.cd_model.specs.Thing.{Thing, IsElement}
 use Rattle.cd_program.specs.Expr.{FunctionTree, function, Function, Signature, Program}
 use Rattle.cd_meaning.specs.Sets.{◌⊆◌}
-use Rattle.cd_operators.specs.declared.rule.Rule.{Rule}
+use Rattle.cd_typing.specs.declared.rule.Rule.{Rule}
 use Rattle.cd_typing.specs.Interfaces.{Arrow, AreWritten}
 use Rattle.cd_typing.specs.Typ.{In, BuiltIn, Types, AreNarrower}
 use Rattle.cd_typing.specs.Typed.{scope_of, AreDeclared, HasOwnType, GivesData, IsTyped}

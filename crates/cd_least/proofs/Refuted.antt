@@ -20,8 +20,8 @@ use Rattle.cd_meaning.specs.Functions.{IsFunction, AllMapInto}
 use Rattle.cd_meaning.specs.Records.{HasFieldAt}
 use Rattle.cd_meaning.specs.Sequences.{IsSequence, IsListOf, IsItemOf}
 use Rattle.cd_meaning.specs.Sets.{Set, ◌⊆◌}
-use Rattle.cd_operators.specs.declared.rule.Rule.{Rule}
-use Rattle.cd_operators.specs.declared.rule.Rule.TheVariants as rule
+use Rattle.cd_typing.specs.declared.rule.Rule.{Rule}
+use Rattle.cd_typing.specs.declared.rule.Rule.TheVariants as rule
 use Rattle.cd_typing.specs.Branches.{Cover}
 use Rattle.cd_typing.specs.Operators.{IsReached, WordGives, AreIntegers, IsPlus}
 use Rattle.cd_typing.specs.Typ.{Typ, In, IsType, BuiltIn, Types, with_type, AreNarrower}
@@ -233,13 +233,13 @@ module _ (scope : Scope) where
 
   -- what stands before an argument, or an operator, with it
   has_applied : (types : Types) (f e : Expr) (self s result : Typ) → IsType self → Has scope types f self → IsType s → Has scope types e s
-      → IsType result → AllMapInto (In self) (In s) (In result) → Has scope types (after_argument f e) result
-  has_applied types (expr span kind) e self s result is typed more all sound maps =
+      → IsType result → AllMapInto (In self) (In s) (In result) → (here : ℕ) → Has scope types (after_argument here f e) result
+  has_applied types f e self s result is typed more all sound maps here =
       (self, is, typed, (s, result, more, all, sound, maps, itself (In result)))
 
   has_after : (types : Types) (first : Expr) (tail : Tail) (self result : Typ) → IsType self → Has scope types first self → IsType result
-      → TailHas scope types self tail result → Has scope types (after_tail first tail) result
-  has_after types (expr span kind) tail self result is typed sound has = (self, is, typed, (result, sound, has, itself (In result)))
+      → TailHas scope types self tail result → (here : ℕ) → Has scope types (after_tail here first tail) result
+  has_after types first tail self result is typed sound has here = (self, is, typed, (result, sound, has, itself (In result)))
 
   -- what a function is applied to
   argument_none : (types : Types) (f e : Expr) (at : ℕ) (told : Rule) (d : Thing) → ArgumentFault scope types f e at told d
@@ -308,7 +308,7 @@ module _ (scope : Scope) where
     refuted_kind (Apply NoExpr) types here at told d fault t has = fault
     refuted_kind (Apply (AnExpr e rest)) types here at told d (inl fault) t has = refuted e types at told d fault has.0 has.2
     refuted_kind (Apply (AnExpr e rest)) types here at told d (inr fault) t has =
-        refuted_arguments rest e types at told d fault has.0 has.1 has.2 t has.3
+        refuted_arguments rest here e types at told d fault has.0 has.1 has.2 t has.3
     refuted_kind (Match value branches) types here at told d (inl fault) t has = refuted value types at told d fault has.0 has.2
     refuted_kind (Match value branches) types here at told d (inr (some, inl fault)) t has =
         uncovered_none here branches (Least scope types value) (In has.0) at told d fault (least_within types value has.0 has.1 has.2) has.3
@@ -355,7 +355,7 @@ module _ (scope : Scope) where
         at told d fault has.8
     refuted_kind (Chain first tails) types here at told d (inl fault) t has = refuted first types at told d fault has.0 has.2
     refuted_kind (Chain first tails) types here at told d (inr fault) t has =
-        refuted_tails tails first types at told d fault has.0 has.1 has.2 t has.3
+        refuted_tails tails here first types at told d fault has.0 has.1 has.2 t has.3
     refuted_kind (Call word operand) types here at told d (inl fault) t has = refuted operand types at told d fault has.0 has.2
     refuted_kind (Call word operand) types here at told d (inr fault) t has =
         word_none types word operand at told d fault has.0 (In t) has.1 has.2 has.3
@@ -397,27 +397,27 @@ module _ (scope : Scope) where
         refuted_fields rest types at told d later parts has.2
 
     -- what stands before has the type of the function
-    refuted_arguments : (rest : Exprs) (f : Expr) (types : Types) (at : ℕ) (told : Rule) (d : Thing)
-        → ArgumentsFault scope types f rest at told d → (self : Typ) → IsType self → Has scope types f self → (t : Typ)
+    refuted_arguments : (rest : Exprs) (here : ℕ) (f : Expr) (types : Types) (at : ℕ) (told : Rule) (d : Thing)
+        → ArgumentsFault scope types here f rest at told d → (self : Typ) → IsType self → Has scope types f self → (t : Typ)
         → ArgumentsHave scope types self rest t → ⊥
-    refuted_arguments NoExpr f types at told d fault self is typed t has = fault
-    refuted_arguments (AnExpr e rest) f types at told d (inl fault) self is typed t has = refuted e types at told d fault has.0 has.3
-    refuted_arguments (AnExpr e rest) f types at told d (inr (inl fault)) self is typed t has =
+    refuted_arguments NoExpr here f types at told d fault self is typed t has = fault
+    refuted_arguments (AnExpr e rest) here f types at told d (inl fault) self is typed t has = refuted e types at told d fault has.0 has.3
+    refuted_arguments (AnExpr e rest) here f types at told d (inr (inl fault)) self is typed t has =
         argument_none types f e at told d fault self has.0 has.1 is typed has.2 has.3 has.4 has.5
-    refuted_arguments (AnExpr e rest) f types at told d (inr (inr later)) self is typed t has =
-        refuted_arguments rest (after_argument f e) types at told d later has.1 has.4
-        (has_applied types f e self has.0 has.1 is typed has.2 has.3 has.4 has.5) t has.6
+    refuted_arguments (AnExpr e rest) here f types at told d (inr (inr later)) self is typed t has =
+        refuted_arguments rest here (after_argument here f e) types at told d later has.1 has.4
+        (has_applied types f e self has.0 has.1 is typed has.2 has.3 has.4 has.5 here) t has.6
 
     -- what stands before has the type of the first operand
-    refuted_tails : (tails : Tails) (first : Expr) (types : Types) (at : ℕ) (told : Rule) (d : Thing)
-        → TailsFault scope types first tails at told d → (self : Typ) → IsType self → Has scope types first self → (t : Typ)
+    refuted_tails : (tails : Tails) (here : ℕ) (first : Expr) (types : Types) (at : ℕ) (told : Rule) (d : Thing)
+        → TailsFault scope types here first tails at told d → (self : Typ) → IsType self → Has scope types first self → (t : Typ)
         → TailsHave scope types self tails t → ⊥
-    refuted_tails NoTail first types at told d fault self is typed t has = fault
-    refuted_tails (ATail tail rest) first types at told d (inl fault) self is typed t has =
+    refuted_tails NoTail here first types at told d fault self is typed t has = fault
+    refuted_tails (ATail tail rest) here first types at told d (inl fault) self is typed t has =
         refuted_tail tail first types at told d fault self is typed has.0 has.2
-    refuted_tails (ATail tail rest) first types at told d (inr later) self is typed t has =
-        refuted_tails rest (after_tail first tail) types at told d later has.0 has.1
-        (has_after types first tail self has.0 is typed has.1 has.2) t has.3
+    refuted_tails (ATail tail rest) here first types at told d (inr later) self is typed t has =
+        refuted_tails rest here (after_tail here first tail) types at told d later has.0 has.1
+        (has_after types first tail self has.0 is typed has.1 has.2 here) t has.3
 
     refuted_tail : (tail : Tail) (first : Expr) (types : Types) (at : ℕ) (told : Rule) (d : Thing)
         → TailFault scope types first tail at told d → (self : Typ) → IsType self → Has scope types first self → (result : Typ)

@@ -25,8 +25,8 @@ use Rattle.cd_meaning.specs.Functions.{IsFunction, AllMapInto}
 use Rattle.cd_meaning.specs.Records.{HasFieldAt}
 use Rattle.cd_meaning.specs.Sequences.{IsSequence, IsListOf, IsItemOf}
 use Rattle.cd_meaning.specs.Sets.{Set, ◌⊆◌}
-use Rattle.cd_operators.specs.declared.rule.Rule.{Rule}
-use Rattle.cd_operators.specs.declared.rule.Rule.TheVariants as rule
+use Rattle.cd_typing.specs.declared.rule.Rule.{Rule}
+use Rattle.cd_typing.specs.declared.rule.Rule.TheVariants as rule
 use Rattle.cd_typing.specs.Branches.{IsFirst}
 use Rattle.cd_typing.specs.Interfaces.{Arrow, AreWritten, IsIntersection}
 use Rattle.cd_typing.specs.Operators.{truth, IsReached}
@@ -34,12 +34,15 @@ use Rattle.cd_typing.specs.Typ.{Typ, In, IsType, BuiltIn, Types, with_type}
 use Rattle.cd_typing.specs.Typing.{Has}
 use Rattle.cd_least.specs.Misses.{HasSome, Least, Misses, IsUncovered, AreCaptured}
 
--- an expression up to this operator, or to this argument; what comes after stands after it
-abbrev pub after_tail : Expr → Tail → Expr
-after_tail (expr span kind) tail = expr span (Chain (expr span kind) (ATail tail NoTail))
+-- An expression up to this operator, or to this argument, of a form that begins here. What comes
+-- after stands after it; where it ends is of no account
+abbrev pub after_tail : (here : ℕ) → Expr → Tail → Expr
+after_tail here first tail =
+    expr (record { from = here; to = here }) (Chain first (ATail tail NoTail))
 
-abbrev pub after_argument : Expr → Expr → Expr
-after_argument (expr span kind) e = expr span (Apply (AnExpr (expr span kind) (AnExpr e NoExpr)))
+abbrev pub after_argument : (here : ℕ) → Expr → Expr → Expr
+after_argument here f e =
+    expr (record { from = here; to = here }) (Apply (AnExpr f (AnExpr e NoExpr)))
 
 -- any but 0
 abbrev pub NotZero : Set
@@ -139,7 +142,7 @@ module _ (scope : Scope) where
         ⊎ (Breaks types tag (BuiltIn ATOM) rule.Tag at told d
         ⊎ Breaks types attributes (BuiltIn RECORD) rule.Attributes at told d)))
     KindFault types here (Function f) at told d = FunctionFault types f at told d
-    KindFault types here (Apply exprs) at told d = ApplyFault types exprs at told d
+    KindFault types here (Apply exprs) at told d = ApplyFault types here exprs at told d
     KindFault types here (Match value branches) at told d = Fault types value at told d
         ⊎ (HasSome scope types value × (IsUncovered scope here branches (Least scope types value) at told d
         ⊎ BranchFault types [] (Least scope types value) Nothing branches at told d))
@@ -166,7 +169,7 @@ module _ (scope : Scope) where
         ⊎ (HasSome scope types value
         × BranchFault types [] (IsItemOf (Least scope types value)) ASequence branches at told d))
     KindFault types here (Chain first tails) at told d = Fault types first at told d
-        ⊎ TailsFault types first tails at told d
+        ⊎ TailsFault types here first tails at told d
     KindFault types here (Call word operand) at told d = Fault types operand at told d
         ⊎ WordFault types word operand at told d
 
@@ -198,23 +201,23 @@ module _ (scope : Scope) where
         ⊎ BranchFault (with_type name self types) [] (In arrow.argument) (AResult (In arrow.result))
         branches at told d) arrows
 
-    pub ApplyFault : Types → Exprs → (at : ℕ) → Rule → Thing → Type 0
-    ApplyFault types NoExpr at told d = ⊥
-    ApplyFault types (AnExpr e rest) at told d =
-        Fault types e at told d ⊎ ArgumentsFault types e rest at told d
+    pub ApplyFault : Types → (here : ℕ) → Exprs → (at : ℕ) → Rule → Thing → Type 0
+    ApplyFault types here NoExpr at told d = ⊥
+    ApplyFault types here (AnExpr e rest) at told d =
+        Fault types e at told d ⊎ ArgumentsFault types here e rest at told d
 
-    -- of the arguments of what stands before
-    pub ArgumentsFault : Types → (f : Expr) → Exprs → (at : ℕ) → Rule → Thing → Type 0
-    ArgumentsFault types f NoExpr at told d = ⊥
-    ArgumentsFault types f (AnExpr e rest) at told d = Fault types e at told d
+    -- of the arguments of what stands before, in an application that begins here
+    pub ArgumentsFault : Types → (here : ℕ) → (f : Expr) → Exprs → (at : ℕ) → Rule → Thing → Type 0
+    ArgumentsFault types here f NoExpr at told d = ⊥
+    ArgumentsFault types here f (AnExpr e rest) at told d = Fault types e at told d
         ⊎ (ArgumentFault types f e at told d
-        ⊎ ArgumentsFault types (after_argument f e) rest at told d)
+        ⊎ ArgumentsFault types here (after_argument here f e) rest at told d)
 
-    -- of the operators after what stands before
-    pub TailsFault : Types → (first : Expr) → Tails → (at : ℕ) → Rule → Thing → Type 0
-    TailsFault types first NoTail at told d = ⊥
-    TailsFault types first (ATail tail rest) at told d = TailFault types first tail at told d
-        ⊎ TailsFault types (after_tail first tail) rest at told d
+    -- of the operators after what stands before, in a chain that begins here
+    pub TailsFault : Types → (here : ℕ) → (first : Expr) → Tails → (at : ℕ) → Rule → Thing → Type 0
+    TailsFault types here first NoTail at told d = ⊥
+    TailsFault types here first (ATail tail rest) at told d = TailFault types first tail at told d
+        ⊎ TailsFault types here (after_tail here first tail) rest at told d
 
     pub TailFault : Types → (first : Expr) → Tail → (at : ℕ) → Rule → Thing → Type 0
     TailFault types first (Operand is e) at told d =

@@ -7,8 +7,8 @@ use Rattle.cd_model.specs.Thing.{Thing, IsElement}
 use Rattle.cd_matching.specs.Captures.{Captures}
 use Rattle.cd_program.specs.Expr.{Expr, expr, Branches}
 use Rattle.cd_meaning.specs.Sets.{Set}
-use Rattle.cd_operators.specs.declared.rule.Rule.{Rule}
-use Rattle.cd_operators.specs.declared.rule.Rule.TheVariants as rule
+use Rattle.cd_typing.specs.declared.rule.Rule.{Rule}
+use Rattle.cd_typing.specs.declared.rule.Rule.TheVariants as rule
 use Rattle.cd_typing.specs.Branches.{IsFirst, HoldCaptured, IsTaken}
 use Rattle.cd_typing.specs.Typ.{Typ, In, IsType, Types, AreTypes, type_at}
 use Rattle.cd_typing.specs.Typing.{Has}

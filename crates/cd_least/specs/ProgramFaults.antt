@@ -4,8 +4,8 @@ use Rattle.cd_model.specs.AllOf.{AnyOf}
 use Rattle.cd_model.specs.BuiltIns.{DATA}
 use Rattle.cd_model.specs.Thing.{Thing, IsElement}
 use Rattle.cd_program.specs.Expr.{FunctionTree, function, Program}
-use Rattle.cd_operators.specs.declared.rule.Rule.{Rule}
-use Rattle.cd_operators.specs.declared.rule.Rule.TheVariants as rule
+use Rattle.cd_typing.specs.declared.rule.Rule.{Rule}
+use Rattle.cd_typing.specs.declared.rule.Rule.TheVariants as rule
 use Rattle.cd_typing.specs.Interfaces.{Arrow, AreWritten}
 use Rattle.cd_typing.specs.Typ.{In, BuiltIn, Types}
 use Rattle.cd_typing.specs.Typed.{scope_of, AreDeclared}

@@ -10,6 +10,7 @@ use Rattle.cd_model.proofs.BuiltIns as model
 use Rattle.cd_meaning.specs.Sets.{Set, ◌⊆◌, elements_of}
 use Rattle.cd_typing.specs.Typ.{BuiltIn}
 use Rattle.cd_typing.proofs.BuiltInSets as typing
+use Rattle.cd_typing.proofs.Subsets.{through}
 
 module _ (graph : Graph) (begins : (more : Graph) × (graph ≡ built_ins ++ more)) where
   pub all_are_any : (e : Thing) → elements_of graph ANY e
@@ -32,3 +33,14 @@ module _ (graph : Graph) (begins : (more : Graph) × (graph ≡ built_ins ++ mor
     pub type_stays : (same : Graph) → same ≡ graph → BuiltIn id ⊆ elements_of same id
     type_stays same is =
         subst (λ (g : Graph). BuiltIn id ⊆ elements_of g id) (sym is) type_in_node
+
+    -- and the node holds nothing else
+    pub node_in_type : elements_of graph id ⊆ BuiltIn id
+    node_in_type = typing.node_within graph begins.0 begins.1 id below
+
+    -- the node of an equal graph is within each set that the type is within
+    pub node_within : (same : Graph) → same ≡ graph → (set : Set) → BuiltIn id ⊆ set
+        → elements_of same id ⊆ set
+    node_within same is set within =
+        through (elements_of same id) (BuiltIn id) set
+        (subst (λ (g : Graph). elements_of g id ⊆ BuiltIn id) (sym is) node_in_type) within

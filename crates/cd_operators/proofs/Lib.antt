@@ -7,3 +7,4 @@ mod ListsOfLists
 mod NodesKept
 mod ZeroAsked
 mod OpenRecords
+mod Operated

@@ -4,7 +4,7 @@ use Rattle.cd_model.specs.AllOf.{AllOf, AnyOf}
 use Rattle.cd_model.specs.Thing.{Thing, IsElement}
 use Rattle.cd_meaning.specs.Sets.{Set, ◌⊆◌}
 use Rattle.cd_meaning.specs.Sequences.{IsSequence, IsListOf, IsItemOf}
-use Rattle.cd_sequences.proofs.SequencesFollowed.{items_are_elements}
+use Rattle.cd_meaning.proofs.SequencesFollowed.{items_are_elements}
 
 -- a fact of each thing in a list, of which some set is known
 each_has : (known holding : Set) (ds : List Thing) → AllOf IsElement ds → AllOf known ds
@@ -14,15 +14,6 @@ each_has known holding [] elements are has = tt
 each_has known holding (d ∷ ds) elements are has = (
   has d elements.0 are.0 (inl refl),
   each_has known holding ds elements.1 are.1 (λ e element is among. has e element is (inr among)),
-)
-
--- a list of a set is one of each wider set
-pub lists_within : (one other : Set) → one ⊆ other → IsListOf one ⊆ IsListOf other
-lists_within one other within d element (ds, is, each) = (
-  ds,
-  is,
-  each_has one other ds (items_are_elements d ds is element) each
-      (λ e element inside among. within e element inside),
 )
 
 pub list_is_sequence : (set : Set) → IsListOf set ⊆ IsSequence

@@ -8,10 +8,11 @@ use Rattle.cd_meaning.specs.Sequences.{IsSequence, IsListOf}
 use Rattle.cd_typing.specs.Later.{IsLater}
 use Rattle.cd_typing.proofs.Later.{only_later, still_holds, below_later}
 use Rattle.cd_typing.proofs.Subsets.{through}
+use Rattle.cd_least.proofs.Monotone.{lists_grow}
 use Rattle.cd_operators.specs.declared.tools.Tools.{Tools}
 use Rattle.cd_operators.specs.Tools.{AreTools, IsZero}
 use Rattle.cd_operators.proofs.BuiltInNodes.{all_are_any}
-use Rattle.cd_operators.proofs.ListsOfLists.{lists_within, list_is_sequence, sequence_is_list}
+use Rattle.cd_operators.proofs.ListsOfLists.{list_is_sequence, sequence_is_list}
 
 -- a node holds just this set
 pub record Holds (graph : Graph) (id : NodeId) (set : Set) : Type 0 where
@@ -47,9 +48,9 @@ module _ (graph later : Graph) (id : NodeId) (is_node : id.0 < length later) whe
   holds_lists item set holds has only = record {
     is_node = is_node;
     only = through (elements_of later id) (IsListOf (elements_of graph item)) (IsListOf set) only
-        (lists_within (elements_of graph item) set holds.only);
+        (lists_grow (elements_of graph item) set holds.only);
     all = through (IsListOf set) (IsListOf (elements_of graph item)) (elements_of later id)
-        (lists_within set (elements_of graph item) holds.all) has;
+        (lists_grow set (elements_of graph item) holds.all) has;
   }
 
 pub are_tools : (graph : Graph) (tools : Tools) → Holds graph tools.sequences IsSequence

@@ -14,8 +14,8 @@ use Rattle.cd_model.specs.Thing as thing
 use Rattle.cd_model.specs.Thing.{Thing}
 use Rattle.cd_model.specs.Types.{chosen, field_of}
 use Rattle.cd_rules.specs.InRow.{thing_at}
-use Rattle.cd_meaning.specs.Records.{HasFieldAt, IsFieldOf}
-use Rattle.cd_meaning.specs.Sets.{Set, ◌⊆◌, elements_of}
+use Rattle.cd_meaning.specs.Records.{HasFieldAt}
+use Rattle.cd_meaning.specs.Sets.{◌⊆◌, elements_of}
 use Rattle.cd_forms.proofs.LongerGraphs.{new_node_holds}
 use Rattle.cd_forms.proofs.ReadHeads.{record_holds}
 use Rattle.cd_operators.proofs.BuiltInNodes.{all_are_any}
@@ -122,9 +122,3 @@ module _ (graph : Graph) (begins : (more : Graph) × (graph ≡ built_ins ++ mor
 
         pub open_below : id.0 < length whole
         open_below = omega (arith, last, length-append graph (open_at label ∷ []))
-
--- what records of a set have at a label, those of a wider set have
-pub fields_within : (label : Name) (one other : Set) → one ⊆ other
-    → IsFieldOf label one ⊆ IsFieldOf label other
-fields_within label one other within e element (fields, (is, inside), there) =
-    (fields, (is, within (thing.Record fields) is inside), there)

@@ -14,10 +14,9 @@ use Rattle.cd_elements.specs.declared.shape.ElementId.{ElementId}
 use Rattle.cd_empty.specs.Verdicts.{HasNoElement, IsExact}
 use Rattle.cd_empty.specs.declared.verdict.Verdict.TheVariants.{Inhabited}
 use Rattle.cd_meaning.specs.Sets.{elements_of}
-use Rattle.cd_operators.specs.declared.rule.Rule.TheVariants as rule
 use Rattle.cd_operators.specs.declared.tools.Tools.{Tools}
-use Rattle.cd_operators.specs.Misfits.{Needed, Misses}
-use Rattle.cd_operators.specs.Tools.{AreTools}
+use Rattle.cd_operators.specs.Misfits.{Misses}
+use Rattle.cd_operators.specs.Tools.{AreTools, IsZero}
 
 abbrev zero : Thing
 zero = Integer (pos 0)
@@ -41,7 +40,7 @@ module _ (graph : Graph) (tools : Tools) (are : AreTools graph tools) (second : 
 
   pub zero_found : (table : List Thing) (element : ElementId)
       → IsExact graph table (question asked_nodes []) (Inhabited element)
-      → Misses graph table second (Needed rule.Divisor) element
+      → Misses graph table second (λ d. IsZero d → ⊥) element
   zero_found table element exact =
       let each = each_of_asked (answers graph (element_at table element)) asked_nodes [] exact.2 in
       record {

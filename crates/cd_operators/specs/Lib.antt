@@ -1,3 +1,2 @@
-pub mod RuleTexts
 pub mod Tools
 pub mod Misfits

@@ -1,33 +1,27 @@
 -- Operands that operators refuse.
-use Rattle.std.specs.Prelude.{◌≡◌, List}
+use Rattle.std.specs.Prelude.{◌≡◌, ◌⊎◌, List}
 use Rattle.cd_sets.specs.declared.node_id.NodeId.{NodeId}
-use Rattle.cd_model.specs.BuiltIns.{INT, BOOL, STRING, DATA}
+use Rattle.cd_model.specs.BuiltIns.{INT, BOOL, STRING, RECORD, DATA}
 use Rattle.cd_model.specs.Formula.{Graph}
 use Rattle.cd_model.specs.Thing.{Thing, IsElement}
 use Rattle.cd_elements.specs.Table.{Names, element_at}
 use Rattle.cd_elements.specs.declared.shape.ElementId.{ElementId}
+use Rattle.cd_program.specs.declared.operator.Op.{Op}
+use Rattle.cd_program.specs.declared.operator.Op.TheVariants as op
 use Rattle.cd_program.specs.declared.operator.BuiltIn.{BuiltIn as Word}
 use Rattle.cd_program.specs.declared.operator.BuiltIn.TheVariants as word
-use Rattle.cd_meaning.specs.Sets.{Set, elements_of}
+use Rattle.cd_meaning.specs.Sets.{Set, ◌⊆◌, elements_of}
 use Rattle.cd_meaning.specs.Sequences.{IsSequence, IsListOf}
 use Rattle.cd_typing.specs.Typ.{BuiltIn}
 use Rattle.cd_operators.specs.declared.misfit.Side.{Side}
 use Rattle.cd_operators.specs.declared.misfit.Side.TheVariants as side
 use Rattle.cd_operators.specs.declared.misfit.Stop.{Stop}
 use Rattle.cd_operators.specs.declared.misfit.Stop.TheVariants as stop
-use Rattle.cd_operators.specs.declared.rule.Rule.{Rule}
-use Rattle.cd_operators.specs.declared.rule.Rule.TheVariants as rule
+use Rattle.cd_typing.specs.declared.rule.Rule.{Rule}
+use Rattle.cd_typing.specs.declared.rule.Rule.TheVariants as rule
 use Rattle.cd_operators.specs.Tools.{IsZero}
 
--- what the rules of operators need of an operand
-abbrev pub Needed : Rule → Set
-Needed rule.Comparison = BuiltIn DATA
-Needed rule.Sequence = IsSequence
-Needed rule.Operand = BuiltIn INT
-Needed rule.Divisor = λ d. IsZero d → ⊥
-Needed other = λ d. ⊥
-
--- and those of the words
+-- what the words need of their operand
 abbrev pub WordNeeds : Word → Set
 WordNeeds word.Not = BuiltIn BOOL
 WordNeeds word.Flatten = IsListOf IsSequence
@@ -60,18 +54,46 @@ IsMisfitOf graph table side id needed rule (stop.Misfit misfit) = (misfit.side �
     × (misfit.rule ≡ rule) × Misses graph table id needed misfit.element
 IsMisfitOf graph table side id needed rule stop.Memory = Unit {0}
 
--- one of two is
+-- The first of two that is not within what is needed of both
 abbrev pub IsMisfitOfBoth : Graph → List Thing → (first second : NodeId) → (needed : Set) → Rule
     → Stop → Type 0
 IsMisfitOfBoth graph table first second needed rule (stop.Misfit misfit) = (misfit.rule ≡ rule)
     × Misses graph table (operand misfit.side first second) needed misfit.element
+    × (misfit.side ≡ side.Second → elements_of graph first ⊆ needed)
 IsMisfitOfBoth graph table first second needed rule stop.Memory = Unit {0}
 
--- the element of a misfit is of the operand, and not what the rule needs of it
-abbrev pub IsMisfit : Graph → List Thing → (first second : NodeId) → Stop → Type 0
-IsMisfit graph table first second (stop.Misfit misfit) =
-    Misses graph table (operand misfit.side first second) (Needed misfit.rule) misfit.element
-IsMisfit graph table first second stop.Memory = Unit {0}
+abbrev pub AreRecords : Graph → (first second : NodeId) → Type 0
+AreRecords graph first second =
+    (elements_of graph first ⊆ BuiltIn RECORD) × (elements_of graph second ⊆ BuiltIn RECORD)
+
+-- of `+`: an integer is needed where not both are records
+abbrev pub IsMisfitOfPlus : Graph → List Thing → (first second : NodeId) → Stop → Type 0
+IsMisfitOfPlus graph table first second (stop.Misfit misfit) =
+    (AreRecords graph first second → ⊥)
+    × IsMisfitOfBoth graph table first second (BuiltIn INT) rule.Operand (stop.Misfit misfit)
+IsMisfitOfPlus graph table first second stop.Memory = Unit {0}
+
+-- of `div` and `mod`: integers are needed, and a divisor that is not 0
+abbrev pub IsMisfitOfQuotient : Graph → List Thing → (first second : NodeId) → Stop → Type 0
+IsMisfitOfQuotient graph table first second (stop.Misfit misfit) =
+    IsMisfitOfBoth graph table first second (BuiltIn INT) rule.Operand (stop.Misfit misfit)
+    ⊎ IsMisfitOf graph table side.Second second (λ d. IsZero d → ⊥) rule.Divisor
+    (stop.Misfit misfit)
+IsMisfitOfQuotient graph table first second stop.Memory = Unit {0}
+
+-- of each operator, by its rule
+abbrev pub IsMisfit : Graph → List Thing → Op → (first second : NodeId) → Stop → Type 0
+IsMisfit graph table op.Equal first second =
+    IsMisfitOfBoth graph table first second (BuiltIn DATA) rule.Comparison
+IsMisfit graph table op.Unequal first second =
+    IsMisfitOfBoth graph table first second (BuiltIn DATA) rule.Comparison
+IsMisfit graph table op.Concat first second =
+    IsMisfitOfBoth graph table first second IsSequence rule.Sequence
+IsMisfit graph table op.Plus first second = IsMisfitOfPlus graph table first second
+IsMisfit graph table op.Div first second = IsMisfitOfQuotient graph table first second
+IsMisfit graph table op.Mod first second = IsMisfitOfQuotient graph table first second
+IsMisfit graph table is first second =
+    IsMisfitOfBoth graph table first second (BuiltIn INT) rule.Operand
 
 abbrev pub IsMisfitOfWord : Graph → List Thing → Word → NodeId → Stop → Type 0
 IsMisfitOfWord graph table word id (stop.Misfit misfit) =

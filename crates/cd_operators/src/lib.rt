@@ -4,7 +4,6 @@
 pub mod misfit;
 mod need;
 mod operators;
-pub mod rule;
 mod select;
 pub mod tools;
 mod word;

@@ -1,5 +1,5 @@
-use crate::rule::Rule;
 use cd_elements::ElementId;
+use cd_typing::rule::Rule;
 use std::alloc::AllocError;
 
 /// An operand of an operator.

@@ -7,10 +7,10 @@ ghost use Rattle.cd_empty.specs.Seen.{graph_of, table_of};
 ghost use Rattle.cd_operators.specs.Misfits.{Misses, IsMisfitOf, IsMisfitOfBoth};
 
 use crate::misfit::{Misfit, Side, Stop};
-use crate::rule::Rule;
 use cd_elements::ElementId;
 use cd_empty::{Verdict, World};
 use cd_sets::node_id::NodeId;
+use cd_typing::rule::Rule;
 use std::alloc::AllocError;
 
 /// An element of a node that is not in another one, if there is one. The graph stays.

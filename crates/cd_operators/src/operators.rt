@@ -1,19 +1,18 @@
 //! Operators between two operands.
-ghost use Rattle.std.specs.Prelude.{◌≡◌, ◌<◌, [], ◌∷◌, length, IfOk, IfErr, IsTrue, OnOk};
+ghost use Rattle.std.specs.Prelude.{◌≡◌, ◌<◌, [], ◌∷◌, length, IfOk, IfErr, true, false, OnOk};
 ghost use Rattle.cd_model.specs.Formula.{IsGraph};
 ghost use Rattle.cd_meaning.specs.Sets.{◌⊆◌, elements_of};
 ghost use Rattle.cd_typing.specs.Operators.{Operates, AreIntegers};
-ghost use Rattle.cd_typing.specs.Typ.{BuiltIn};
+ghost use Rattle.cd_typing.specs.Typ.{Typ, In, BuiltIn};
 ghost use Rattle.cd_rules.specs.Needs.{question};
 ghost use Rattle.cd_empty.specs.Growth.{Grows};
 ghost use Rattle.cd_empty.specs.Seen.{graph_of, table_of};
 ghost use Rattle.cd_empty.specs.Verdicts.{IsExact};
-ghost use Rattle.cd_operators.specs.Misfits.{IsMisfit};
+ghost use Rattle.cd_operators.specs.Misfits.{IsMisfit, IsMisfitOfBoth, AreRecords};
 ghost use Rattle.cd_operators.specs.Tools.{AreTools};
 
 use crate::misfit::{Misfit, Side, Stop};
 use crate::need::{need_both, outside};
-use crate::rule::Rule;
 use crate::tools::Tools;
 use cd_empty::{Verdict, World};
 use cd_graph::built_in::{BOOL, DATA, INT, RECORD};
@@ -23,6 +22,7 @@ use cd_records::merged;
 use cd_sequences::joined;
 use cd_sets::node_id::NodeId;
 use cd_sums::{differences, sums};
+use cd_typing::rule::Rule;
 use std::alloc::{AllocError, Global};
 
 /// A node of what an operator gives for operands of these types. Of `&&` and `||` this is what they
@@ -44,9 +44,14 @@ pub fn operate(
     requires second { second.0 < length (graph_of world.old) }
     ensures gives { IfOk result (λ id. Operates op (elements_of (graph_of world.old) first)
         (elements_of (graph_of world.old) second) (elements_of (graph_of world.new) id)) }
+    ensures least { IfOk result (λ id. (wider other result : Typ)
+        → elements_of (graph_of world.old) first ⊆ In wider
+        → elements_of (graph_of world.old) second ⊆ In other
+        → Operates op (In wider) (In other) (In result)
+        → elements_of (graph_of world.new) id ⊆ In result) }
     ensures node { IfOk result (λ id. id.0 < length (graph_of world.new)) }
     ensures misfit { IfErr result
-        (IsMisfit (graph_of world.old) (table_of world.new) first second) }
+        (IsMisfit (graph_of world.old) (table_of world.new) op first second) }
     ensures sound { IsGraph (graph_of world.new) }
     ensures grows { Grows world.old world.new }
 {
@@ -76,8 +81,8 @@ fn integers(world: &mut World, first: NodeId, second: NodeId) -> Result<(), Stop
     requires second { second.0 < length (graph_of world.old) }
     ensures within { OnOk result (AreIntegers (elements_of (graph_of world.old) first)
         (elements_of (graph_of world.old) second)) }
-    ensures misfit { IfErr result
-        (IsMisfit (graph_of world.old) (table_of world.new) first second) }
+    ensures misfit { IfErr result (IsMisfitOfBoth (graph_of world.old) (table_of world.new)
+        first second (BuiltIn INT) Rule.Operand) }
     ensures graph { graph_of world.new ≡ graph_of world.old }
     ensures sound { IsGraph (graph_of world.new) }
     ensures grows { Grows world.old world.new }
@@ -93,9 +98,14 @@ fn compare(world: &mut World, first: NodeId, second: NodeId) -> Result<NodeId, S
     requires second { second.0 < length (graph_of world.old) }
     ensures gives { IfOk result (λ id. Operates Op.Equal (elements_of (graph_of world.old) first)
         (elements_of (graph_of world.old) second) (elements_of (graph_of world.new) id)) }
+    ensures least { IfOk result (λ id. (wider other result : Typ)
+        → elements_of (graph_of world.old) first ⊆ In wider
+        → elements_of (graph_of world.old) second ⊆ In other
+        → Operates Op.Equal (In wider) (In other) (In result)
+        → elements_of (graph_of world.new) id ⊆ In result) }
     ensures node { IfOk result (λ id. id.0 < length (graph_of world.new)) }
     ensures misfit { IfErr result
-        (IsMisfit (graph_of world.old) (table_of world.new) first second) }
+        (IsMisfit (graph_of world.old) (table_of world.new) Op.Equal first second) }
     ensures sound { IsGraph (graph_of world.new) }
     ensures grows { Grows world.old world.new }
 {
@@ -118,9 +128,14 @@ fn concatenate(
     requires second { second.0 < length (graph_of world.old) }
     ensures gives { IfOk result (λ id. Operates Op.Concat (elements_of (graph_of world.old) first)
         (elements_of (graph_of world.old) second) (elements_of (graph_of world.new) id)) }
+    ensures least { IfOk result (λ id. (wider other result : Typ)
+        → elements_of (graph_of world.old) first ⊆ In wider
+        → elements_of (graph_of world.old) second ⊆ In other
+        → Operates Op.Concat (In wider) (In other) (In result)
+        → elements_of (graph_of world.new) id ⊆ In result) }
     ensures node { IfOk result (λ id. id.0 < length (graph_of world.new)) }
     ensures misfit { IfErr result
-        (IsMisfit (graph_of world.old) (table_of world.new) first second) }
+        (IsMisfit (graph_of world.old) (table_of world.new) Op.Concat first second) }
     ensures sound { IsGraph (graph_of world.new) }
     ensures grows { Grows world.old world.new }
 {
@@ -136,9 +151,14 @@ fn add(alloc: Global, world: &mut World, first: NodeId, second: NodeId) -> Resul
     requires second { second.0 < length (graph_of world.old) }
     ensures gives { IfOk result (λ id. Operates Op.Plus (elements_of (graph_of world.old) first)
         (elements_of (graph_of world.old) second) (elements_of (graph_of world.new) id)) }
+    ensures least { IfOk result (λ id. (wider other result : Typ)
+        → elements_of (graph_of world.old) first ⊆ In wider
+        → elements_of (graph_of world.old) second ⊆ In other
+        → Operates Op.Plus (In wider) (In other) (In result)
+        → elements_of (graph_of world.new) id ⊆ In result) }
     ensures node { IfOk result (λ id. id.0 < length (graph_of world.new)) }
     ensures misfit { IfErr result
-        (IsMisfit (graph_of world.old) (table_of world.new) first second) }
+        (IsMisfit (graph_of world.old) (table_of world.new) Op.Plus first second) }
     ensures sound { IsGraph (graph_of world.new) }
     ensures grows { Grows world.old world.new }
 {
@@ -153,9 +173,10 @@ fn add(alloc: Global, world: &mut World, first: NodeId, second: NodeId) -> Resul
 fn are_records(world: &mut World, first: NodeId, second: NodeId) -> Result<bool, AllocError>
     requires first { first.0 < length (graph_of world.old) }
     requires second { second.0 < length (graph_of world.old) }
-    ensures within { IfOk result (λ are. IsTrue are
-        → (elements_of (graph_of world.old) first ⊆ BuiltIn RECORD)
-        × (elements_of (graph_of world.old) second ⊆ BuiltIn RECORD)) }
+    ensures within { IfOk result (λ are. are ≡ true
+        → AreRecords (graph_of world.old) first second) }
+    ensures not_within { IfOk result (λ are. are ≡ false
+        → AreRecords (graph_of world.old) first second → ⊥) }
     ensures graph { graph_of world.new ≡ graph_of world.old }
     ensures sound { IsGraph (graph_of world.new) }
     ensures grows { Grows world.old world.new }
@@ -174,9 +195,14 @@ fn subtract(alloc: Global, world: &mut World, first: NodeId, second: NodeId) -> 
     requires second { second.0 < length (graph_of world.old) }
     ensures gives { IfOk result (λ id. Operates Op.Minus (elements_of (graph_of world.old) first)
         (elements_of (graph_of world.old) second) (elements_of (graph_of world.new) id)) }
+    ensures least { IfOk result (λ id. (wider other result : Typ)
+        → elements_of (graph_of world.old) first ⊆ In wider
+        → elements_of (graph_of world.old) second ⊆ In other
+        → Operates Op.Minus (In wider) (In other) (In result)
+        → elements_of (graph_of world.new) id ⊆ In result) }
     ensures node { IfOk result (λ id. id.0 < length (graph_of world.new)) }
     ensures misfit { IfErr result
-        (IsMisfit (graph_of world.old) (table_of world.new) first second) }
+        (IsMisfit (graph_of world.old) (table_of world.new) Op.Minus first second) }
     ensures sound { IsGraph (graph_of world.new) }
     ensures grows { Grows world.old world.new }
 {
@@ -197,9 +223,14 @@ fn divide(
     requires second { second.0 < length (graph_of world.old) }
     ensures gives { IfOk result (λ id. Operates Op.Div (elements_of (graph_of world.old) first)
         (elements_of (graph_of world.old) second) (elements_of (graph_of world.new) id)) }
+    ensures least { IfOk result (λ id. (wider other result : Typ)
+        → elements_of (graph_of world.old) first ⊆ In wider
+        → elements_of (graph_of world.old) second ⊆ In other
+        → Operates Op.Div (In wider) (In other) (In result)
+        → elements_of (graph_of world.new) id ⊆ In result) }
     ensures node { IfOk result (λ id. id.0 < length (graph_of world.new)) }
     ensures misfit { IfErr result
-        (IsMisfit (graph_of world.old) (table_of world.new) first second) }
+        (IsMisfit (graph_of world.old) (table_of world.new) Op.Div first second) }
     ensures sound { IsGraph (graph_of world.new) }
     ensures grows { Grows world.old world.new }
 {

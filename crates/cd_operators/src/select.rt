@@ -13,7 +13,6 @@ ghost use Rattle.cd_operators.specs.Misfits.{IsMisfitOf};
 
 use crate::misfit::{Side, Stop};
 use crate::need::need;
-use crate::rule::Rule;
 use cd_empty::World;
 use cd_graph::built_in::{ANY, RECORD};
 use cd_graph::fields::{Field, FieldList, Fields};
@@ -21,6 +20,7 @@ use cd_graph::{Formula, Formulas};
 use cd_records::{field, without};
 use cd_sets::node_id::NodeId;
 use cd_syntax::name::Name;
+use cd_typing::rule::Rule;
 use std::alloc::{AllocError, Global};
 
 /// A node of the records of a node, without their fields at a label.
@@ -39,6 +39,8 @@ pub fn drop_field(
     ensures records { OnOk result (elements_of (graph_of world.old) records ⊆ BuiltIn RECORD) }
     ensures gives { IfOk result (λ id. IsRestOf label.now (elements_of (graph_of world.old) records)
         ⊆ elements_of (graph_of world.new) id) }
+    ensures only { IfOk result (λ id. elements_of (graph_of world.new) id
+        ⊆ IsRestOf label.now (elements_of (graph_of world.old) records)) }
     ensures node { IfOk result (λ id. id.0 < length (graph_of world.new)) }
     ensures misfit { IfErr result (IsMisfitOf (graph_of world.old) (table_of world.new) Side.First
         records (BuiltIn RECORD) Rule.Record) }
@@ -67,6 +69,8 @@ pub fn take_field(
     ensures have { OnOk result (elements_of (graph_of world.old) records ⊆ HasFieldAt label.now) }
     ensures gives { IfOk result (λ id. IsFieldOf label.now (elements_of (graph_of world.old) records)
         ⊆ elements_of (graph_of world.new) id) }
+    ensures only { IfOk result (λ id. elements_of (graph_of world.new) id
+        ⊆ IsFieldOf label.now (elements_of (graph_of world.old) records)) }
     ensures node { IfOk result (λ id. id.0 < length (graph_of world.new)) }
     ensures misfit { IfErr result (IsMisfitOf (graph_of world.old) (table_of world.new) Side.First
         records (HasFieldAt label.now) Rule.Field) }

@@ -1,8 +1,9 @@
 //! Words before an operand.
 ghost use Rattle.std.specs.Prelude.{◌≡◌, ◌<◌, length, IfOk, IfErr};
 ghost use Rattle.cd_model.specs.Formula.{IsGraph};
-ghost use Rattle.cd_meaning.specs.Sets.{elements_of};
+ghost use Rattle.cd_meaning.specs.Sets.{◌⊆◌, elements_of};
 ghost use Rattle.cd_typing.specs.Operators.{WordGives};
+ghost use Rattle.cd_typing.specs.Typ.{Typ, In};
 ghost use Rattle.cd_empty.specs.Growth.{Grows};
 ghost use Rattle.cd_empty.specs.Seen.{graph_of, table_of};
 ghost use Rattle.cd_operators.specs.Misfits.{IsMisfitOfWord};
@@ -10,13 +11,13 @@ ghost use Rattle.cd_operators.specs.Tools.{AreTools};
 
 use crate::misfit::{Side, Stop};
 use crate::need::need;
-use crate::rule::Rule;
 use crate::tools::Tools;
 use cd_empty::World;
 use cd_graph::built_in::{BOOL, DATA, EMPTY, INT, STRING};
 use cd_program::operator::BuiltIn;
 use cd_sequences::{items, list_of};
 use cd_sets::node_id::NodeId;
+use cd_typing::rule::Rule;
 use std::alloc::Global;
 
 /// A node of what a word gives for an operand of this type.
@@ -35,6 +36,10 @@ pub fn call(
     requires operand { operand.0 < length (graph_of world.old) }
     ensures gives { IfOk result (λ id. WordGives word (elements_of (graph_of world.old) operand)
         (elements_of (graph_of world.new) id)) }
+    ensures least { IfOk result (λ id. (wider result : Typ)
+        → elements_of (graph_of world.old) operand ⊆ In wider
+        → WordGives word (In wider) (In result)
+        → elements_of (graph_of world.new) id ⊆ In result) }
     ensures node { IfOk result (λ id. id.0 < length (graph_of world.new)) }
     ensures misfit { IfErr result
         (IsMisfitOfWord (graph_of world.old) (table_of world.new) word operand) }
@@ -70,6 +75,10 @@ fn flatten(alloc: Global, world: &mut World, tools: &Tools, operand: NodeId) -> 
     requires operand { operand.0 < length (graph_of world.old) }
     ensures gives { IfOk result (λ id. WordGives BuiltIn.Flatten
         (elements_of (graph_of world.old) operand) (elements_of (graph_of world.new) id)) }
+    ensures least { IfOk result (λ id. (wider result : Typ)
+        → elements_of (graph_of world.old) operand ⊆ In wider
+        → WordGives BuiltIn.Flatten (In wider) (In result)
+        → elements_of (graph_of world.new) id ⊆ In result) }
     ensures node { IfOk result (λ id. id.0 < length (graph_of world.new)) }
     ensures misfit { IfErr result
         (IsMisfitOfWord (graph_of world.old) (table_of world.new) BuiltIn.Flatten operand) }

@@ -10,7 +10,7 @@ use Rattle.cd_replies.specs.Disk.{Disk, FileRefusal}
 use Rattle.cd_replies.specs.Documents.{RefusesDocument, FileWrites}
 use Rattle.cd_replies.specs.Reply.{Reply, not_input as no_input}
 use Rattle.cd_replies.specs.Texts.{RefusesProgram}
-use Rattle.cd_checking.specs.CheckAnswer.{FileHasProgram, TellsRule}
+use Rattle.cd_checking.specs.CheckAnswer.{FileHasProgram, TellsFault}
 use Rattle.cd_running.specs.Ending.{Tells}
 use Rattle.cd_running.specs.Input.{IsInput, IsNoInput, IsSafeOn}
 
@@ -41,9 +41,9 @@ pub record HasRun (disk : Disk) (units : ℕ) (file document : Bytes) (result : 
 pub data RunAnswer (disk : Disk) (units : ℕ) (file document : Bytes) : Reply → Type 0 where
   file_refused : (reply : Reply) → FileRefusal RefusesProgram disk file reply
       → RunAnswer disk units file document reply
-  -- a place where a rule of typing is said not to be met, as `check` says it
+  -- a fault of typing, as `check` says it
   program_refused : (text : Bytes) (program : Program) → FileHasProgram disk file text program
-      → (reply : Reply) → TellsRule file text reply → RunAnswer disk units file document reply
+      → (reply : Reply) → TellsFault file text program reply → RunAnswer disk units file document reply
   document_refused : (program : Program) → FileHasTyped disk file program → (reply : Reply)
       → FileRefusal RefusesDocument disk document reply
       → RunAnswer disk units file document reply

@@ -5,18 +5,9 @@ use Rattle.cd_model.specs.Interfaces.{Interfaces}
 use Rattle.cd_model.specs.Thing.{Thing}
 use Rattle.cd_matching.specs.Captures.{Captures, or_else}
 use Rattle.cd_typing.specs.Typ.{Typ, Types, type_at}
+use Rattle.cd_typing.proofs.NamesBefore.{type_before}
 use Rattle.cd_safety.specs.PatternValues.{ValueFits, ValuesFit, NamesFit}
 use Rattle.cd_safety.specs.ValueIn.{ValueIn, IsTypedValue}
-
--- the type of a name is the first one
-pub type_before : (own types : Types) (name : Name) → type_at (own ++ types) name ≡ or_else (type_at own name) (type_at types name)
-type_before [] types name = refl
-type_before (one ∷ own) types name = by_test (bytes_eq one.0 name) (type_before own types name)
-  where
-    by_test : (c : Bool) → type_at (own ++ types) name ≡ or_else (type_at own name) (type_at types name)
-        → (if c then Some one.1 else type_at (own ++ types) name) ≡ or_else (if c then Some one.1 else type_at own name) (type_at types name)
-    by_test true later = refl
-    by_test false later = later
 
 pub names_fit : (interfaces : Interfaces) (own types : Types) (captures : Captures Name) (seen after : Name → Option Thing)
     → ((name : Name) → after name ≡ or_else (captures name) (seen name)) → ValuesFit interfaces own captures → NamesFit interfaces types seen

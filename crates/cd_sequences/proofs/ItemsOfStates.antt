@@ -29,7 +29,7 @@ use Rattle.cd_sequences.specs.Inner.Numbered.{IsAmong}
 use Rattle.cd_sequences.specs.Inner.States.{State, IsState, AreExplored, IsReached}
 use Rattle.cd_sequences.proofs.ByNumber.{all_got, each_got, all_among, any_among, zip_got}
 use Rattle.cd_sequences.proofs.ByNumber.{zip_got_back, got_some}
-use Rattle.cd_sequences.proofs.SequencesFollowed.{item_of_sequence, sequence_of_item}
+use Rattle.cd_meaning.proofs.SequencesFollowed.{item_of_sequence, sequence_of_item}
 use Rattle.cd_sequences.proofs.StatesExplored.{GoesBy, pair_goes, goes_pair, items_ask, items_live}
 use Rattle.cd_sequences.proofs.StatesExplored.{rests_below}
 

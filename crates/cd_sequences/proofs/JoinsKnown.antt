@@ -10,7 +10,7 @@ use Rattle.cd_meaning.specs.Sequences.{followed_by}
 use Rattle.cd_meaning.specs.Sets.{◌⊆◌, elements_of}
 use Rattle.cd_sequences.specs.Inner.Joins.{IsJoin}
 use Rattle.cd_sequences.proofs.NilAsked.{nil_alone, none_empty}
-use Rattle.cd_sequences.proofs.SequencesFollowed.{join_of_sequence, sequence_of_join}
+use Rattle.cd_meaning.proofs.SequencesFollowed.{join_of_sequence, sequence_of_join}
 
 -- a sequence that is `nil` has no items
 no_items : (ds : List Thing) → sequence_of ds ≡ nil → ds ≡ []

@@ -1,4 +1,3 @@
-pub mod SequencesFollowed
 mod ByNumber
 mod LongerGraphs
 mod ListNodes

@@ -15,7 +15,7 @@ use Rattle.cd_matching.specs.Sequences.{nil, sequence_of}
 use Rattle.cd_meaning.specs.Sets.{Set}
 use Rattle.cd_meaning.specs.Sequences.{IsListOf}
 use Rattle.cd_sequences.specs.Inner.ListFormulas.{nil_formula, list_formula}
-use Rattle.cd_sequences.proofs.SequencesFollowed.{nil_is_list, pair_is_list, sequence_of_items}
+use Rattle.cd_meaning.proofs.SequencesFollowed.{nil_is_list, pair_is_list, sequence_of_items}
 
 module _ (graph : Graph) (item list : NodeId) (set : Set)
     (same : formula_at graph list ≡ list_formula item list)

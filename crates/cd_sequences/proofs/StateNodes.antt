@@ -32,7 +32,7 @@ use Rattle.cd_sequences.proofs.JoinedNodes.{HoldsItem, IsPairs, IsStateNode, nod
 use Rattle.cd_sequences.proofs.JoinedNodes.{joined_in_node}
 use Rattle.cd_sequences.proofs.LongerGraphs.{formula_among_more, are_formulas, sound_at}
 use Rattle.cd_sequences.proofs.LongerGraphs.{formula_after}
-use Rattle.cd_sequences.proofs.SequencesFollowed.{join_of_sequence, sequence_of_join}
+use Rattle.cd_meaning.proofs.SequencesFollowed.{join_of_sequence, sequence_of_join}
 use Rattle.cd_sequences.proofs.StatesExplored.{items_ask, rests_below}
 
 module _ (graph : Graph) (sound : IsGraph graph) (first second : NodeId)

@@ -1,6 +1,7 @@
 pub mod Subsets
 pub mod Widening
 pub mod Later
+pub mod NamesBefore
 pub mod Narrowing
 pub mod Examples
 pub mod BuiltInSets

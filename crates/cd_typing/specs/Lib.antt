@@ -3,6 +3,7 @@ pub mod Later
 pub mod Interfaces
 pub mod Branches
 pub mod Results
+pub mod RuleTexts
 pub mod Operators
 pub mod Typing
 pub mod Typed

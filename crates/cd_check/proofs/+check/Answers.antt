@@ -1,73 +1,117 @@
-use Rattle.cd_operators.specs.declared.misfit.Side.TheVariants as side
-use Rattle.cd_operators.specs.declared.rule.Rule.TheVariants as rule
-use Rattle.cd_apply.specs.Applications.{IsResultNode, AreMappedInto}
+use Rattle.cd_apply.specs.Applications.{IsResultNode, AreMappedInto, AreResultsAlone, NamesNoFunction, NamesOutside}
 use Rattle.cd_apply.specs.declared.application.Applied.{Applied}
-use Rattle.cd_check.proofs.+check.Goals.{bodies::check_bodies-in_default, operands::check_items-in-Some+in_ok-add, bodies::check_bodies-in-Some-2+in_ok-add, operands::check_items-in_default}
 use Rattle.cd_check.proofs.After.{after_both, after_grown, after_later, after_none, after_same, after_growing}
+use Rattle.cd_check.proofs.ArgumentFaults.{no_function, outside_domain}
 use Rattle.cd_check.proofs.Arguments.{argument_follows, tail_follows}
+use Rattle.cd_check.proofs.ArgumentsLeast.{apply_least, narrows_first, one_argument_narrows, all_arguments_narrow}
+use Rattle.cd_check.proofs.ArgumentsLeast.{chain_least, one_tail_narrows, all_tails_narrow}
+use Rattle.cd_check.proofs.ArrowFaults.{arrow_uncovered, arrow_body_fault, within_result}
 use Rattle.cd_check.proofs.ArrowsKept.{KeptAt}
-use Rattle.cd_check.proofs.BodiesChecked.{none_taken, one_taken, later_two, ready_all, after_all, none_gives}
-use Rattle.cd_check.proofs.BodiesChecked.{hold_here, body_is_sound, one_gives, limit_later}
-use Rattle.cd_check.proofs.BodiesDone.{Done, there, is_sound, one_done, all_done}
-use Rattle.cd_check.proofs.BranchesGiven.{bodies_earlier, cover_earlier, covering_gives, bodies_from, lists_in, body_moved}
-use Rattle.cd_check.proofs.BranchesGiven.{built_in_below, none_passes, before_last, last_within, sequences_within}
+use Rattle.cd_check.proofs.BodiesChecked.{hold_here, body_is_sound, one_gives, limit_later, none_taken, one_taken}
+use Rattle.cd_check.proofs.BodiesChecked.{later_two, ready_all, after_all, none_gives, only_here}
+use Rattle.cd_check.proofs.BodiesDone.{Done, there, is_sound, one_done, all_done, is_sited, matched_below, none_done}
+use Rattle.cd_check.proofs.BodiesDone.{all_done_least, one_failed}
+use Rattle.cd_check.proofs.BodyTaken.{taken_known, taken_fails, beyond_fails}
+use Rattle.cd_check.proofs.BranchForms.{let_fails, let_uncovered, try_is_least, try_fails, map_is_least, map_fails}
+use Rattle.cd_check.proofs.BranchForms.{match_is_least, match_fails, union_least, let_is_least, let_is_empty}
+use Rattle.cd_check.proofs.BranchForms.{transform_is_least, transform_fails}
+use Rattle.cd_check.proofs.BranchesEarlier.{branches_fail_earlier, bodies_least_earlier, body_least_moved}
+use Rattle.cd_check.proofs.BranchesGiven.{bodies_earlier, cover_earlier, covering_gives, bodies_from, lists_in}
+use Rattle.cd_check.proofs.BranchesGiven.{body_moved, built_in_below, none_passes, before_last, last_within}
+use Rattle.cd_check.proofs.BranchesGiven.{sequences_within}
+use Rattle.cd_check.proofs.ChainFaults.{apply_fails, faults_first, one_argument_faults, all_arguments_fail}
+use Rattle.cd_check.proofs.ChainFaults.{chain_fails, one_tail_faults, all_tails_fail}
 use Rattle.cd_check.proofs.Decided.{site_decides}
-use Rattle.cd_check.proofs.Divided.{they_cover, last_node, all_sited_later, sited_later}
-use Rattle.cd_names.proofs.ExprSizes.{size, size_exprs, size_item, size_items, size_fields, size_tail}
-use Rattle.cd_names.proofs.ExprSizes.{size_tails, size_branches, exprs_fall, items_fall, fields_fall, tails_fall}
-use Rattle.cd_names.proofs.ExprSizes.{branches_fall}
+use Rattle.cd_check.proofs.Divided.{none_takes_earlier, one_untaken, they_cover, last_node, all_sited_later}
+use Rattle.cd_check.proofs.Divided.{sited_later, none_takes}
 use Rattle.cd_check.proofs.ExprViews.{item_one, item_splice, tail_without, tail_select}
 use Rattle.cd_check.proofs.FewerOperands.{operand_gives}
-use Rattle.cd_check.proofs.FormsWithBranches.{try_gives, match_gives, transform_gives, map_gives, let_gives, let_gives_none}
+use Rattle.cd_check.proofs.FormsWithBranches.{let_gives_none, try_gives, match_gives, transform_gives, map_gives}
+use Rattle.cd_check.proofs.FormsWithBranches.{let_gives}
 use Rattle.cd_check.proofs.FromReady.{type_in}
-use Rattle.cd_check.proofs.FunctionsKept.{arrows_below, at_any, pair_at, one_kept, promise_kept, patterns_sound}
-use Rattle.cd_check.proofs.FunctionsKept.{function_sound, ready_named, whole_below, function_gives, arrow_given}
+use Rattle.cd_check.proofs.FunctionsBelow.{function_below}
+use Rattle.cd_check.proofs.FunctionsFailed.{promise_failed, function_failed}
+use Rattle.cd_check.proofs.FunctionsKept.{arrow_given, arrows_below, at_any, pair_at, one_kept, promise_kept}
+use Rattle.cd_check.proofs.FunctionsKept.{function_gives, patterns_sound, branches_sound, function_sound}
+use Rattle.cd_check.proofs.FunctionsKept.{ready_named, whole_below}
 use Rattle.cd_check.proofs.GivesSame.{gives_same}
 use Rattle.cd_check.proofs.KindViews.{kind_constant, kind_variable}
+use Rattle.cd_check.proofs.KnownTypes.{known, known_later, fails_more}
+use Rattle.cd_check.proofs.LeastLooped.{least_expr, least_item, least_field}
 use Rattle.cd_check.proofs.Looped.{one_expr, one_argument, one_item, one_tail, one_field}
 use Rattle.cd_check.proofs.Loops.{left_is, none_left_have}
 use Rattle.cd_check.proofs.NamesFound.{node_below, seen_has_node}
+use Rattle.cd_check.proofs.Needed.{breaks}
+use Rattle.cd_check.proofs.OperandFaults.{FaultsOf, of_itself, past_expr, expr_fails, past_item, item_fails}
+use Rattle.cd_check.proofs.OperandFaults.{splice_misfits, past_field, field_fails}
+use Rattle.cd_check.proofs.OperandMisfits.{without_fails, select_fails, operand_fails}
+use Rattle.cd_check.proofs.OperandsLeast.{ExprsLeast, none_least, ItemsLeast, no_item_least, item_least_steps}
+use Rattle.cd_check.proofs.OperandsLeast.{splice_least_steps, FieldsLeast, no_field_least}
 use Rattle.cd_check.proofs.OperandsMade.{xml_gives, within_atom, within_record}
 use Rattle.cd_check.proofs.OperandsTyped.{item_steps, splice_steps}
-use Rattle.cd_check.proofs.ProgramViews.{field_expr, branch_body, function_promise}
-use Rattle.cd_check.proofs.ReadyLater.{later_of, ready_later}
+use Rattle.cd_check.proofs.OperatorsLeast.{applied_least, operated_least}
+use Rattle.cd_check.proofs.Places.{place_is}
+use Rattle.cd_check.proofs.ProgramViews.{field_expr, branch_body, function_promise, function_is}
+use Rattle.cd_check.proofs.ReadyLater.{later_of, ready_later, tools_later}
 use Rattle.cd_check.proofs.RecordsLabelled.{are_labels, are_once, parts_count}
 use Rattle.cd_check.proofs.SidesHeld.{holds_earlier}
+use Rattle.cd_check.proofs.SidesLeast.{short_least, short_test_fails, short_side_fails, test_least, condition_fails}
+use Rattle.cd_check.proofs.SidesLeast.{test_fails, then_fails, else_fails, SideBelow}
 use Rattle.cd_check.proofs.Sizes.{room_falls}
 use Rattle.cd_check.proofs.SoundAt.{item_at, tail_at, expr_at, field_at}
-use Rattle.cd_check.proofs.StopsNamed.{misfit_named, misfit_of_named, misfit_of_word_named}
+use Rattle.cd_check.proofs.StopsPlaced.{word_placed}
 use Rattle.cd_check.proofs.Tests.{if_gives, is_truth, Side, short_gives, short_holds}
-use Rattle.cd_check.proofs.TruthNodes.{truth_held}
+use Rattle.cd_check.proofs.TruthNodes.{truth_held, truth_alone, tested_has}
 use Rattle.cd_check.proofs.TypesLater.{types_later}
-use Rattle.cd_check.proofs.Variables.{variable_has}
+use Rattle.cd_check.proofs.Uncovered.{uncovered_fails}
+use Rattle.cd_check.proofs.Variables.{variable_has, variable_below}
 use Rattle.cd_check.proofs.Walks.{both_nodes, starts_on, goes_to_end}
+use Rattle.cd_check.proofs.XmlKnown.{xml_below, tag_misfits, attributes_misfit, attributes_fail, content_fails}
 use Rattle.cd_check.specs.Inner.Bodies.{BodyGives}
+use Rattle.cd_check.specs.Inner.BodyFaults.{BodyLeast, CoveringFault}
+use Rattle.cd_check.specs.Inner.Chains.{NarrowsOn, FaultsOn}
 use Rattle.cd_check.specs.Inner.Divided.{IsSited, sited_pattern, coming_pattern, IsDivision}
 use Rattle.cd_check.specs.Inner.Environment.{Gives, Nodes}
+use Rattle.cd_check.specs.Inner.Failing.{ArrowFails}
+use Rattle.cd_check.specs.Inner.Failing.{BodyFails, KindFails, ArgumentFails, TailFails, SideFails, ExprFails}
 use Rattle.cd_check.specs.Inner.GoingOn.{GoesOn, LeadsOn, listed, Steps}
+use Rattle.cd_check.specs.Inner.Known.{IsKnown, IsBelow, Fails, IsOutside}
+use Rattle.cd_check.specs.Inner.LeastNodes.{KindLeast, TailLeast}
 use Rattle.cd_check.specs.Inner.Promises.{ArePairs}
 use Rattle.cd_check.specs.Inner.Ready.{IsAfter, seen_by, scope_of, declarations_of, names_seen}
-use Rattle.cd_check.specs.Inner.Sides.{HoldsSome, truth_node}
-use Rattle.cd_check.specs.Inner.SoundNames.{ItemsAreSound, AreSound, IsSound, TailsAreSound, KindIsSound, FieldsAreSound}
+use Rattle.cd_check.specs.Inner.Sides.{HoldsSome, truth_node, IsInEither}
+use Rattle.cd_check.specs.Inner.SoundNames.{FieldsAreSound, ItemsAreSound, AreSound, IsSound, TailsAreSound}
+use Rattle.cd_check.specs.Inner.SoundNames.{KindIsSound}
+use Rattle.cd_check.specs.Inner.Stopped.{placed_at}
+use Rattle.cd_check.specs.declared.bodies.Limit.{Limit}
+use Rattle.cd_check.specs.declared.fault.CheckError.{CheckError}
 use Rattle.cd_check.specs.declared.sites.Coming.{Coming}
 use Rattle.cd_elements.specs.Table.{element_at}
 use Rattle.cd_empty.specs.Seen.{graph_of, table_of}
 use Rattle.cd_forms.specs.Labels.{labels_of, AreLabels, AreOnce}
 use Rattle.cd_forms.specs.Unions.{IsInOne}
-use Rattle.cd_meaning.specs.Records.{HasFieldAt}
-use Rattle.cd_meaning.specs.Sequences.{IsSequence}
+use Rattle.cd_least.proofs.LeastForms.{record_least}
+use Rattle.cd_least.proofs.LeastForms.{without_least, select_least, constant_least, tuple_least, sequence_least}
+use Rattle.cd_least.specs.Faults.{ArgumentsFault, TailsFault, Fault, BranchFault, Nothing, Breaks, KindFault}
+use Rattle.cd_least.specs.Faults.{WordFault, ExprsFault, ItemsFault, FieldsFault}
+use Rattle.cd_least.specs.Misses.{IsUncovered, place_of}
+use Rattle.cd_meaning.specs.Sequences.{IsSequence, IsItemOf}
 use Rattle.cd_meaning.specs.Sets.{◌⊆◌, elements_of}
 use Rattle.cd_model.specs.AllOf.{AllOf}
-use Rattle.cd_model.specs.BuiltIns.{EMPTY, DATA, RECORD, BOOL}
+use Rattle.cd_model.specs.BuiltIns.{EMPTY, DATA, RECORD, BOOL, ATOM}
 use Rattle.cd_model.specs.Formula.{Graph}
+use Rattle.cd_names.proofs.ExprSizes.{size, size_exprs, size_item, size_items, size_fields, size_tail, size_tails}
+use Rattle.cd_names.proofs.ExprSizes.{size_branches, exprs_fall, items_fall, fields_fall, tails_fall, branches_fall}
+use Rattle.cd_names.proofs.ExprSizes.{size_function}
 use Rattle.cd_names.specs.ProgramFaults.{names_of, with_name}
-use Rattle.cd_program.specs.Expr.{Tails, tails_of, Kind, Exprs, exprs_of, Fields}
-use Rattle.cd_program.specs.Expr.{fields_of, Tail, Items, Expr, Item, AnItem}
-use Rattle.cd_program.specs.Expr.{One, Splice, items_of, branches_of}
+use Rattle.cd_program.specs.Expr.{ABranch, NoBranch, Map, Transform, AnItem, One, Splice, items_of, branches_of}
+use Rattle.cd_program.specs.Expr.{Apply, Without, Select, Operand, Tails, tails_of, Kind, Exprs, exprs_of, Fields}
+use Rattle.cd_program.specs.Expr.{fields_of, Tail, Items, Expr, Item, Call}
 use Rattle.cd_program.specs.PlainExpr.{plain, plain_branches, plain_tail, plain_tails, plain_item, plain_items}
-use Rattle.cd_program.specs.PlainExpr.{plain_function, plain_kind, plain_exprs, plain_field, plain_branch, plain_fields}
+use Rattle.cd_program.specs.PlainExpr.{plain_branch, plain_fields, plain_function, plain_kind, plain_exprs}
+use Rattle.cd_program.specs.PlainExpr.{plain_field}
 use Rattle.cd_program.specs.declared.expr.Expr.{Expr as CodeExpr}
-use Rattle.cd_program.specs.declared.expr.ExprKind.TheViews.{out-FunctionTree}
+use Rattle.cd_program.specs.declared.expr.ExprKind.TheViews.{out-FunctionTree, out-Expr}
 use Rattle.cd_program.specs.declared.expr.FieldExpr.{FieldExpr as CodeField}
 use Rattle.cd_program.specs.declared.expr.Item.{Item as CodeItem}
 use Rattle.cd_program.specs.declared.expr.Tail.{Tail as CodeTail}
@@ -76,27 +120,23 @@ use Rattle.cd_sites.specs.Sites.{IsSite}
 use Rattle.cd_syntax.specs.PlainTree.{plain as plain_tree}
 use Rattle.cd_syntax.specs.TypeTree.{Tree}
 use Rattle.cd_typing.proofs.BuiltInSets.{built_in_within, node_within}
-use Rattle.cd_typing.proofs.Later.{later_in, below_later}
+use Rattle.cd_typing.proofs.Later.{later_in, below_later, earlier_in, later_still}
 use Rattle.cd_typing.proofs.Subsets.{through, itself}
 use Rattle.cd_typing.specs.Later.{IsLater}
 use Rattle.cd_typing.specs.Operators.{truth}
 use Rattle.cd_typing.specs.Results.{IsSequenceOf, IsTupleOf, IsXmlOf, IsRecordOf}
 use Rattle.cd_typing.specs.Typ.{typ, BuiltIn}
-use Rattle.cd_typing.specs.Typing.{ArgumentsHave, Has, FieldsHave, HaveAll, KindHas, TailsHave}
-use Rattle.cd_typing.specs.Typing.{ItemsHave, TailHas, ApplyHas}
-use Rattle.std.proofs.Common.{subst, List, sym, map, refl, ◌≡◌}
-use Rattle.std.proofs.Common.{◌∙◌, ◌∷◌, ◌-◌, ap, arith, drop}
-use Rattle.std.proofs.Common.{length, take, ◌<◌, ◌++◌, [], lit<}
-use Rattle.std.proofs.Common.{true, rules, suc, ◌+◌, Option, Vec}
-use Rattle.std.proofs.Common.{Global, append-nil, not, Some, None, get_or}
+use Rattle.cd_typing.specs.Typing.{ApplyHas, ArgumentsHave, Has, FieldsHave, HaveAll, KindHas, TailsHave, ItemsHave}
+use Rattle.cd_typing.specs.Typing.{TailHas}
+use Rattle.cd_typing.specs.declared.rule.Rule.TheVariants as rule
+use Rattle.std.proofs.Common.{None, get_or, inl, inr, subst, List, sym, map, refl, ◌≡◌, ◌∙◌, ◌∷◌, ◌-◌, ap, arith}
+use Rattle.std.proofs.Common.{Option, Vec, Global, append-nil, not, Some, drop, length, take, ◌<◌, ◌++◌, [], lit<}
+use Rattle.std.proofs.Common.{true, rules, suc, ◌+◌}
 use Rattle.std.proofs.lemmas.List.{length-drop, take_all, length-map, drop_all}
-use Rattle.std.proofs.lemmas.Result.{IfOk-weaker, on_ok_weaker}
+use Rattle.std.proofs.lemmas.Result.{IfOk-weaker, on_ok_weaker, IfErr-weaker, err_from_is_err_and}
 use Rattle.std.specs.Slice.{IsItemAt}
-use Rattle.cd_check.proofs.BodiesDone.{is_sited}
-use Rattle.cd_check.proofs.BodiesDone.{matched_below}
-use Rattle.cd_check.proofs.FunctionsKept.{branches_sound}
-use Rattle.cd_check.proofs.ProgramViews.{function_is}
-use Rattle.cd_names.proofs.ExprSizes.{size_function}
+use Rattle.cd_check.proofs.+check.Goals.{bodies::check_bodies-in_default, bodies::check_bodies-in-Some-2+in_ok-add}
+use Rattle.cd_check.proofs.+check.Goals.{operands::check_items-in-Some+in_ok-add, operands::check_items-in_default}
 use Rattle.cd_check.proofs.+check.Goals as goal
 
 pub test::check_if-returns-clause-after : goal.test::check_if-returns-clause-after
@@ -206,8 +246,20 @@ expr::check_call-returns-in-Ok-clause-gives t c =
     }
 
 pub expr::check_call-returns-in-Err-clause-fault : goal.expr::check_call-returns-in-Err-clause-fault
-expr::check_call-returns-in-Err-clause-fault t c = c.placed.ensures (table_of c.call.new.world)
-    (misfit_of_word_named (graph_of c.check.new.world) (table_of c.call.new.world) c.args.word c.in_ok-id.id c.in-Err.stop c.in-Err.ensures.misfit)
+expr::check_call-returns-in-Err-clause-fault t c =
+    let scope = scope_of c.args.base.now in
+    let nodes = seen_by c.args.base.now c.args.locals.now in
+    let old = graph_of c.args.world.now in
+    let middle = graph_of c.check.new.world in
+    let table = table_of c.call.new.world in
+    let e = plain c.args.operand.now in
+    let step = c.in_ok-id.ensures in
+    λ here. subst (λ (error : CheckError). Fails old nodes table (λ types. KindFault scope types here (Call c.args.word e)) error)
+    (sym c.placed.ensures)
+    (fails_more old nodes table (λ types. WordFault scope types c.args.word e) (λ types. KindFault scope types here (Call c.args.word e))
+    (λ types of at told d is. inr is) (placed_at c.in-Err.stop _ _)
+    (word_placed scope old nodes middle e c.in_ok-id.id (known scope old nodes middle e c.in_ok-id.id step.gives step.least) c.args.word table _
+    (sym (place_is c.args.operand.now)) c.in-Err.stop c.in-Err.ensures.misfit))
 
 pub operands::check_tuple-returns-clause-after : goal.operands::check_tuple-returns-clause-after
 operands::check_tuple-returns-clause-after t c = after_grown c.args.base.now c.args.locals.now (graph_of c.args.world.now) c.check_exprs.new.world c.tuple.new.world
@@ -242,6 +294,11 @@ operands::check_exprs-loop-expr-init t c =
       subst (λ (left : Exprs). GoesOn (HaveAll (scope_of base)) old nodes old all left c.new-parts.result.items) (sym c.items-expr-items.ensures)
           (subst (λ (ids : List NodeId). GoesOn (HaveAll (scope_of base)) old nodes old all all ids) (sym c.new-parts.ensures.items)
           (starts_on (HaveAll (scope_of base)) old nodes all)),
+      subst (λ (left : Exprs). GoesOn (ExprsLeast (scope_of base)) old nodes old all left c.new-parts.result.items) (sym c.items-expr-items.ensures)
+          (subst (λ (ids : List NodeId). GoesOn (ExprsLeast (scope_of base)) old nodes old all all ids) (sym c.new-parts.ensures.items)
+          (starts_on (ExprsLeast (scope_of base)) old nodes all)),
+      subst (λ (left : Exprs). FaultsOf (ExprsFault (scope_of base)) all left) (sym c.items-expr-items.ensures)
+          (of_itself (ExprsFault (scope_of base)) all),
     )
 
 pub operands::check_exprs-loop-expr-preserved : goal.operands::check_exprs-loop-expr-preserved
@@ -262,6 +319,12 @@ operands::check_exprs-loop-expr-preserved t c =
           (sym c.in_ok-add.ensures)
           (one_expr (scope_of base) old c.requires.ready.sound nodes c.requires.ready.nodes now new before.0.later step.after.later
           all items index c.expr-item.result c.expr-item.is c.loop-expr-test.true c.loop-expr.parts.items c.in_ok-id.id before.1 step.gives),
+      subst (λ (ids : List NodeId). GoesOn (ExprsLeast (scope_of base)) old nodes new all (exprs_of (map plain (drop (index + 1) items))) ids)
+          (sym c.in_ok-add.ensures)
+          (least_expr old c.requires.ready.sound nodes c.requires.ready.nodes now new before.0.later step.after.later (scope_of base)
+          all items index c.expr-item.result c.expr-item.is c.loop-expr-test.true c.loop-expr.parts.items c.in_ok-id.id before.2
+          step.gives.is_type.is_node step.least),
+      past_expr (scope_of base) all items index c.expr-item.result c.expr-item.is c.loop-expr-test.true before.3,
     )
 
 pub operands::check_exprs-returns-clause-gives : goal.operands::check_exprs-returns-clause-gives
@@ -313,6 +376,11 @@ operands::check_items-loop-item-init t c =
       subst (λ (left : Items). GoesOn (ItemsHave (scope_of base)) old nodes old all left c.new-parts.result.items) (sym c.items-item-items.ensures)
           (subst (λ (ids : List NodeId). GoesOn (ItemsHave (scope_of base)) old nodes old all all ids) (sym c.new-parts.ensures.items)
           (starts_on (ItemsHave (scope_of base)) old nodes all)),
+      subst (λ (left : Items). GoesOn (ItemsLeast (scope_of base)) old nodes old all left c.new-parts.result.items) (sym c.items-item-items.ensures)
+          (subst (λ (ids : List NodeId). GoesOn (ItemsLeast (scope_of base)) old nodes old all all ids) (sym c.new-parts.ensures.items)
+          (starts_on (ItemsLeast (scope_of base)) old nodes all)),
+      subst (λ (left : Items). FaultsOf (ItemsFault (scope_of base)) all left) (sym c.items-item-items.ensures)
+          (of_itself (ItemsFault (scope_of base)) all),
     )
 
 pub operands::check_items-loop-item-preserved : goal.operands::check_items-loop-item-preserved
@@ -341,6 +409,11 @@ operands::check_items-loop-item-preserved t c =
           (sym same)
           (one_item (scope_of base) old c.requires.ready.sound nodes c.requires.ready.nodes now new before.0.later step.after.later
           all items index c.item-item.result c.item-item.is c.loop-item-test.true done (listed found) before.1 step.gives),
+      subst (λ (ids : List NodeId). GoesOn (ItemsLeast (scope_of base)) old nodes new all (items_of (map plain_item (drop (index + 1) items))) ids)
+          (sym same)
+          (least_item old c.requires.ready.sound nodes c.requires.ready.nodes now new before.0.later step.after.later (scope_of base)
+          all items index c.item-item.result c.item-item.is c.loop-item-test.true done (listed found) before.2 step.least),
+      past_item (scope_of base) all items index c.item-item.result c.item-item.is c.loop-item-test.true before.3,
     )
 
 pub operands::check_items-returns-clause-gives : goal.operands::check_items-returns-clause-gives
@@ -451,6 +524,12 @@ operands::check_fields-loop-field-init t c =
       subst (λ (left : Fields). GoesOn (FieldsHave (scope_of base)) old nodes old all left c.new-parts.result.items) (sym c.items-field-items.ensures)
           (subst (λ (ids : List NodeId). GoesOn (FieldsHave (scope_of base)) old nodes old all all ids) (sym c.new-parts.ensures.items)
           (starts_on (FieldsHave (scope_of base)) old nodes all)),
+      subst (λ (left : Fields). GoesOn (FieldsLeast (scope_of base)) old nodes old all left c.new-parts.result.items)
+          (sym c.items-field-items.ensures)
+          (subst (λ (ids : List NodeId). GoesOn (FieldsLeast (scope_of base)) old nodes old all all ids) (sym c.new-parts.ensures.items)
+          (starts_on (FieldsLeast (scope_of base)) old nodes all)),
+      subst (λ (left : Fields). FaultsOf (FieldsFault (scope_of base)) all left) (sym c.items-field-items.ensures)
+          (of_itself (FieldsFault (scope_of base)) all),
     )
 
 pub operands::check_fields-loop-field-preserved : goal.operands::check_fields-loop-field-preserved
@@ -473,6 +552,14 @@ operands::check_fields-loop-field-preserved t c =
           all items index c.field-item.result c.field-item.is c.loop-field-test.true c.loop-field.parts.items c.in_ok-id.id before.1
           (subst (λ (e : Expr). Gives now nodes new (λ types t. Has (scope_of base) types e t) c.in_ok-id.id)
           (sym (field_expr c.field-item.result)) step.gives)),
+      subst (λ (ids : List NodeId). GoesOn (FieldsLeast (scope_of base)) old nodes new all (fields_of (map plain_field (drop (index + 1) items))) ids)
+          (sym c.in_ok-add.ensures)
+          (least_field old c.requires.ready.sound nodes c.requires.ready.nodes now new before.0.later step.after.later (scope_of base)
+          all items index c.field-item.result c.field-item.is c.loop-field-test.true c.loop-field.parts.items c.in_ok-id.id before.2
+          step.gives.is_type.is_node
+          (subst (λ (e : Expr). IsBelow now nodes new (λ types t. Has (scope_of base) types e t) c.in_ok-id.id)
+          (sym (field_expr c.field-item.result)) step.least)),
+      past_field (scope_of base) all items index c.field-item.result c.field-item.is c.loop-field-test.true before.3,
     )
 
 pub operands::check_fields-returns-clause-gives : goal.operands::check_fields-returns-clause-gives
@@ -625,6 +712,10 @@ chain::check_arguments-loop-argument-init t c =
     let old = graph_of c.args.world.now in (
       after_none base locals old c.requires.ready,
       record { is_type = type_in base old locals c.requires.ready c.args.function c.requires.function; leads = λ types of t has. has },
+      narrows_first (ArgumentsHave (scope_of base)) (seen_by base locals) old (exprs_of (map plain c.args.arguments.now)) c.args.function,
+      λ f stands. faults_first (scope_of base) (seen_by base locals) old c.requires.ready.sound c.requires.ready.nodes
+          (λ types one rest. ArgumentsFault (scope_of base) types c.args.at one rest) f (exprs_of (map plain c.args.arguments.now))
+          c.args.function c.args.from stands,
     )
 
 pub chain::check_arguments-loop-argument-preserved : goal.chain::check_arguments-loop-argument-preserved
@@ -641,6 +732,13 @@ chain::check_arguments-loop-argument-preserved t c =
       one_argument (scope_of base) old c.requires.ready.sound (seen_by base locals) c.requires.ready.nodes now new before.0.later
           step.after.later (typ old c.args.function) c.loop-argument.id c.in_ok-id.id (exprs_of (map plain items)) items
           c.loop-argument.argument-index c.argument-item.result c.argument-item.is c.loop-argument-test.true before.1 step.gives,
+      one_argument_narrows (scope_of base) (seen_by base locals) old (typ old c.args.function) c.requires.ready.sound c.requires.ready.nodes now
+          new before.0.later c.loop-argument.id c.in_ok-id.id (exprs_of (map plain items)) items c.loop-argument.argument-index
+          c.argument-item.result c.argument-item.is c.loop-argument-test.true before.2 step.least,
+      λ f stands. one_argument_faults (scope_of base) (seen_by base locals) old c.requires.ready.sound c.requires.ready.nodes now before.0.later
+          c.args.at f c.loop-argument.id c.loop-argument.place new c.in_ok-id.id (exprs_of (map plain items)) items
+          c.loop-argument.argument-index c.argument-item.result c.argument-item.is c.loop-argument-test.true (before.3 f stands) step.gives
+          step.least,
     )
 
 pub chain::check_arguments-returns-clause-gives : goal.chain::check_arguments-returns-clause-gives
@@ -720,6 +818,12 @@ chain::check_tails-loop-tail-init t c =
       subst (λ (left : Tails). LeadsOn (TailsHave (scope_of base)) old (seen_by base locals) (typ old c.args.first) old all left c.args.first)
           (sym c.items-tail-items.ensures)
           (record { is_type = type_in base old locals c.requires.ready c.args.first c.requires.first; leads = λ types of t has. has }),
+      subst (λ (left : Tails). NarrowsOn (TailsHave (scope_of base)) old (seen_by base locals) (typ old c.args.first) old all left c.args.first)
+          (sym c.items-tail-items.ensures) (narrows_first (TailsHave (scope_of base)) (seen_by base locals) old all c.args.first),
+      λ f stands. subst (λ (left : Tails). FaultsOn (scope_of base) (λ types one rest. TailsFault (scope_of base) types c.args.at one rest) old
+          (seen_by base locals) f old all left c.args.first c.args.from) (sym c.items-tail-items.ensures)
+          (faults_first (scope_of base) (seen_by base locals) old c.requires.ready.sound c.requires.ready.nodes
+          (λ types one rest. TailsFault (scope_of base) types c.args.at one rest) f all c.args.first c.args.from stands),
     )
 
 pub chain::check_tails-loop-tail-preserved : goal.chain::check_tails-loop-tail-preserved
@@ -739,6 +843,12 @@ chain::check_tails-loop-tail-preserved t c =
           c.tail-item.result c.tail-item.is c.loop-tail-test.true before.1
           (λ rest. tail_follows (scope_of base) now nodes new c.loop-tail.id id (plain_tail c.tail-item.result) rest step.gives.is_type
           step.gives.has),
+      one_tail_narrows (scope_of base) nodes old (typ old c.args.first) c.requires.ready.sound c.requires.ready.nodes now new before.0.later
+          c.loop-tail.id id (plain_tails c.args.tails.now) c.items-tail-items.result.now c.loop-tail.tail-index c.tail-item.result c.tail-item.is
+          c.loop-tail-test.true before.2 step.least,
+      λ f stands. one_tail_faults (scope_of base) nodes old c.requires.ready.sound c.requires.ready.nodes now before.0.later c.args.at f
+          c.loop-tail.id c.loop-tail.place new id (plain_tails c.args.tails.now) c.items-tail-items.result.now c.loop-tail.tail-index
+          c.tail-item.result c.tail-item.is c.loop-tail-test.true (before.3 f stands) step.gives step.least,
     )
 
 pub chain::check_tails-returns-clause-gives : goal.chain::check_tails-returns-clause-gives
@@ -780,9 +890,17 @@ chain::check_tail-returns-in-Ok-clause-gives t c =
     (record { is_type = type_in base new locals ready id is.node; has = λ types of. (is.records, is.gives) })
 
 pub chain::check_tail-returns-in-Err-clause-fault : goal.chain::check_tail-returns-in-Err-clause-fault
-chain::check_tail-returns-in-Err-clause-fault t c = c.placed.ensures (table_of c.drop_field.new.world)
-    (misfit_of_named (graph_of c.args.world.now) (table_of c.drop_field.new.world) side.First c.args.first (BuiltIn RECORD) rule.Record
-    c.in-Err.stop c.in-Err.ensures.misfit)
+chain::check_tail-returns-in-Err-clause-fault t c =
+    let base = c.args.base.now in
+    let locals = c.args.locals.now in
+    let old = graph_of c.args.world.now in
+    let table = table_of c.drop_field.new.world in
+    let stop = c.in-Err.stop in
+    subst (λ (tail : Tail). TailFails base old locals table c.args.first c.args.at tail c.placed.result)
+    (sym (ap plain_tail c.in-Without.is ∙ tail_without c.in-Without.label))
+    (subst (TailFails base old locals table c.args.first c.args.at (Without c.in-Without.label)) (sym c.placed.ensures)
+    (λ f stands. without_fails (scope_of base) old (seen_by base locals) old table f c.args.first stands.0 c.args.at (sym stands.1)
+    c.in-Without.label stop c.in-Err.ensures.misfit))
 
 pub chain::check_tail-returns-in-Ok-take_field-clause-after : goal.chain::check_tail-returns-in-Ok-take_field-clause-after
 chain::check_tail-returns-in-Ok-take_field-clause-after t c =
@@ -807,9 +925,17 @@ chain::check_tail-returns-in-Ok-take_field-clause-gives t c =
     (record { is_type = type_in base new locals ready id is.node; has = λ types of. (is.have, is.gives) })
 
 pub chain::check_tail-returns-in-Err-take_field-clause-fault : goal.chain::check_tail-returns-in-Err-take_field-clause-fault
-chain::check_tail-returns-in-Err-take_field-clause-fault t c = c.placed-in-Err-take_field.ensures (table_of c.take_field.new.world)
-    (misfit_of_named (graph_of c.args.world.now) (table_of c.take_field.new.world) side.First c.args.first (HasFieldAt c.in-Select.label)
-    rule.Field c.in-Err-take_field.stop c.in-Err-take_field.ensures.misfit)
+chain::check_tail-returns-in-Err-take_field-clause-fault t c =
+    let base = c.args.base.now in
+    let locals = c.args.locals.now in
+    let old = graph_of c.args.world.now in
+    let table = table_of c.take_field.new.world in
+    let stop = c.in-Err-take_field.stop in
+    subst (λ (tail : Tail). TailFails base old locals table c.args.first c.args.at tail c.placed-in-Err-take_field.result)
+    (sym (ap plain_tail c.in-Select.is ∙ tail_select c.in-Select.label))
+    (subst (TailFails base old locals table c.args.first c.args.at (Select c.in-Select.label)) (sym c.placed-in-Err-take_field.ensures)
+    (λ f stands. select_fails (scope_of base) old (seen_by base locals) old table f c.args.first stands.0 c.args.at (sym stands.1)
+    c.in-Select.label stop c.in-Err-take_field.ensures.misfit))
 
 pub chain::check_operand-returns-in-Ok-clause-after : goal.chain::check_operand-returns-in-Ok-clause-after
 chain::check_operand-returns-in-Ok-clause-after t c = after_grown c.args.base.now c.args.locals.now (graph_of c.args.world.now) c.check.new.world
@@ -830,9 +956,21 @@ chain::check_operand-returns-in-Ok-clause-gives t c =
     (type_in base new locals ready c.in-Ok.id c.in-Ok.ensures.node) c.in-Ok.ensures.gives
 
 pub chain::check_operand-returns-in-Err-clause-fault : goal.chain::check_operand-returns-in-Err-clause-fault
-chain::check_operand-returns-in-Err-clause-fault t c = c.placed.ensures (table_of c.operate.new.world)
-    (misfit_named (graph_of c.check.new.world) (table_of c.operate.new.world) c.args.first c.in_ok-second.second c.in-Err.stop
-    c.in-Err.ensures.misfit)
+chain::check_operand-returns-in-Err-clause-fault t c =
+    let base = c.args.base.now in
+    let locals = c.args.locals.now in
+    let nodes = seen_by base locals in
+    let old = graph_of c.args.world.now in
+    let middle = graph_of c.check.new.world in
+    let table = table_of c.operate.new.world in
+    let e = plain c.args.expr.now in
+    let step = c.in_ok-second.ensures in
+    let second = c.in_ok-second.second in
+    subst (TailFails base old locals table c.args.first c.args.at (Operand c.args.op e)) (sym c.placed.ensures)
+    (λ f stands. operand_fails (scope_of base) old nodes middle table f e c.args.first second
+    (known_later (scope_of base) old nodes old middle step.after.later c.requires.ready.sound f c.args.first stands.0)
+    (known (scope_of base) old nodes middle e second step.gives step.least) c.args.at (out-Expr c.args.expr.now).span.from
+    (sym stands.1) (sym (place_is c.args.expr.now)) c.args.op c.requires.met c.in-Err.stop c.in-Err.ensures.misfit)
 
 pub branches::check_match-returns-clause-after : goal.branches::check_match-returns-clause-after
 branches::check_match-returns-clause-after t c = on_ok_weaker c.check_covering.result
@@ -1222,7 +1360,11 @@ bodies::check_bodies-loop-number-preserved t c =
     (subst (λ (body : Expr). BodyGives (scope_of c.args.base.now) (graph_of c.loop-number.world)
     (seen_by c.args.base.now c.args.locals.now) (graph_of c.check_body.new.world)
     (elements_of (graph_of c.loop-number.world) c.in-Some.coming.now.matched) (coming_pattern c.in-Some.coming.now) body
-    c.in_ok-id.field-0) (sym (branch_body c.branch-item.result)) c.in_ok-id.ensures.gives) c.in_ok-id.ensures.within in
+    c.in_ok-id.field-0) (sym (branch_body c.branch-item.result)) c.in_ok-id.ensures.gives) c.in_ok-id.ensures.within
+    (subst (λ (body : Expr). BodyLeast (scope_of c.args.base.now) (graph_of c.loop-number.world)
+    (seen_by c.args.base.now c.args.locals.now) (graph_of c.check_body.new.world)
+    (elements_of (graph_of c.loop-number.world) c.in-Some.coming.now.matched) (coming_pattern c.in-Some.coming.now) body
+    c.in_ok-id.field-0) (sym (branch_body c.branch-item.result)) c.in_ok-id.ensures.least) in
     elim c.match-branch-2.branch [
       | bodies::check_bodies-in-Some-2+in_ok-add w ↦ rw (w.results-is)
           (subst (λ (ids : List NodeId). Done c.args.base.now c.args.locals.now (graph_of c.args.world.now) c.args.division.now
@@ -1756,3 +1898,1226 @@ function::check_arrow-check_bodies-requires t c = (
     ),
   ),
 )
+
+pub chain::check_apply-returns-clause-least : goal.chain::check_apply-returns-clause-least
+chain::check_apply-returns-clause-least t c =
+    let base = c.args.base.now in
+    let locals = c.args.locals.now in
+    let old = graph_of c.args.world.now in
+    let first = graph_of c.check.new.world in
+    let new = graph_of c.check_arguments.new.world in
+    let nodes = seen_by base locals in
+    let function = c.in_ok-id-in-len1-up.id in
+    let step = c.in_ok-id-in-len1-up.ensures in
+    let items = c.items.result.now in
+    let count = length-drop 1 items in
+    let rest = take (length items - 1) (drop 1 items) in
+    let whole : items ≡ c.function-item.result ∷ rest =
+    left_is items 0 c.function-item.result c.function-item.is c.in-len1-up.len_at_least
+    ∙ ap (λ (rest : List CodeExpr). c.function-item.result ∷ rest)
+    (sym (take_all (length items - 1) (drop 1 items) (omega (arith, count)))) in
+    IfOk-weaker c.check_arguments.result _ _
+    (λ id narrow. subst (λ (exprs : Exprs). KindLeast base old locals new (Apply exprs) id)
+    (ap (λ (all : List CodeExpr). exprs_of (map plain all)) (sym whole) ∙ c.items.ensures)
+    (apply_least (scope_of base) nodes old c.requires.ready.sound c.requires.ready.nodes first new step.after.later
+    (plain c.function-item.result) function id step.least (exprs_of (map plain rest)) narrow))
+    c.check_arguments.ensures.least
+
+pub chain::check_apply-returns-clause-fault : goal.chain::check_apply-returns-clause-fault
+chain::check_apply-returns-clause-fault t c =
+    let base = c.args.base.now in
+    let locals = c.args.locals.now in
+    let old = graph_of c.args.world.now in
+    let first = graph_of c.check.new.world in
+    let table = table_of c.check_arguments.new.world in
+    let nodes = seen_by base locals in
+    let e = plain c.function-item.result in
+    let function = c.in_ok-id-in-len1-up.id in
+    let step = c.in_ok-id-in-len1-up.ensures in
+    let items = c.items.result.now in
+    let count = length-drop 1 items in
+    let rest = take (length items - 1) (drop 1 items) in
+    let whole : items ≡ c.function-item.result ∷ rest =
+    left_is items 0 c.function-item.result c.function-item.is c.in-len1-up.len_at_least
+    ∙ ap (λ (rest : List CodeExpr). c.function-item.result ∷ rest)
+    (sym (take_all (length items - 1) (drop 1 items) (omega (arith, count)))) in
+    IfErr-weaker c.check_arguments.result _ _
+    (λ error fails. subst (λ (exprs : Exprs). KindFails base old locals table c.args.at (Apply exprs) error)
+    (ap (λ (all : List CodeExpr). exprs_of (map plain all)) (sym whole) ∙ c.items.ensures)
+    (apply_fails (scope_of base) nodes old c.requires.ready.sound c.requires.ready.nodes first step.after.later e function
+    (known (scope_of base) old nodes first e function step.gives step.least) (out-Expr c.function-item.result).span.from
+    (place_is c.function-item.result) c.args.at table (exprs_of (map plain rest)) error fails))
+    c.check_arguments.ensures.fault
+
+pub chain::check_arguments-returns-clause-least : goal.chain::check_arguments-returns-clause-least
+chain::check_arguments-returns-clause-least t c = all_arguments_narrow (scope_of c.args.base.now) (seen_by c.args.base.now c.args.locals.now) (graph_of c.args.world.now)
+    (graph_of c.loop-argument.world) c.args.function c.loop-argument.id (exprs_of (map plain c.args.arguments.now)) c.args.arguments.now
+    c.loop-argument.argument-index c.loop-argument-test.false c.loop-argument.invariant.2
+
+pub chain::check_arguments-returns-in_err-id-clause-fault : goal.chain::check_arguments-returns-in_err-id-clause-fault
+chain::check_arguments-returns-in_err-id-clause-fault t c =
+    let base = c.args.base.now in
+    let now = c.loop-argument in
+    let is = err_from_is_err_and c.from_residual.result c.from_residual.ensures.1 in
+    rw (is.1, is.2)
+    (λ f stands. all_arguments_fail (scope_of base) (seen_by base c.args.locals.now) (graph_of c.args.world.now) c.requires.ready.sound
+    c.requires.ready.nodes (graph_of now.world) now.invariant.0.later c.args.at f now.id now.place (table_of c.check_argument.new.world)
+    (exprs_of (map plain c.args.arguments.now)) c.args.arguments.now now.argument-index c.argument-item.result c.argument-item.is
+    c.loop-argument-test.true (now.invariant.3 f stands) c.in_err-id.field-0.0 c.in_err-id.ensures.fault)
+
+pub chain::check_argument-returns-in-Results-clause-least : goal.chain::check_argument-returns-in-Results-clause-least
+chain::check_argument-returns-in-Results-clause-least t c types of =
+    let base = c.args.base.now in
+    let locals = c.args.locals.now in
+    let old = graph_of c.args.world.now in
+    let middle = graph_of c.check.new.world in
+    let new = graph_of c.apply.new.world in
+    let e = plain c.args.argument.now in
+    let id = c.in_ok-id.id in
+    let results = c.in-Results.results in
+    let step = c.in_ok-id.ensures in
+    applied_least (scope_of base) old (seen_by base locals) c.requires.ready.sound c.args.function c.requires.function middle step.after.later
+    new e id (known (scope_of base) old (seen_by base locals) middle e id step.gives step.least) results types of
+    (subst (λ (applied : Applied). AreResultsAlone middle c.args.function id new applied) c.in-Results.is c.in_ok-results.ensures.only)
+
+pub chain::check_argument-returns-in-NotFunction-clause-fault : goal.chain::check_argument-returns-in-NotFunction-clause-fault
+chain::check_argument-returns-in-NotFunction-clause-fault t c =
+    let base = c.args.base.now in
+    let locals = c.args.locals.now in
+    let nodes = seen_by base locals in
+    let old = graph_of c.args.world.now in
+    let middle = graph_of c.check.new.world in
+    let table = table_of c.apply.new.world in
+    let function = c.args.function in
+    let e = plain c.args.argument.now in
+    let named = subst (λ (applied : Applied). NamesNoFunction middle function table applied) c.in-NotFunction.is
+    c.in_ok-results.ensures.not_function in
+    subst (ArgumentFails base old locals table function c.args.at e) (sym c.ill_typed.ensures)
+    (λ f stands. (
+      named.0,
+      λ types of. inr (inl (no_function (scope_of base) old nodes middle f function
+          (known_later (scope_of base) old nodes old middle c.in_ok-id.ensures.after.later c.requires.ready.sound f function stands.0)
+          types of e (element_at table c.in-NotFunction.element) named.1 named.2 named.3 c.args.at (sym stands.1))),
+    ))
+
+pub chain::check_argument-returns-in-OutsideDomain-clause-fault : goal.chain::check_argument-returns-in-OutsideDomain-clause-fault
+chain::check_argument-returns-in-OutsideDomain-clause-fault t c =
+    let base = c.args.base.now in
+    let locals = c.args.locals.now in
+    let nodes = seen_by base locals in
+    let old = graph_of c.args.world.now in
+    let middle = graph_of c.check.new.world in
+    let table = table_of c.apply.new.world in
+    let function = c.args.function in
+    let e = plain c.args.argument.now in
+    let id = c.in_ok-id.id in
+    let step = c.in_ok-id.ensures in
+    let named = subst (λ (applied : Applied). NamesOutside middle function id table applied) c.in-OutsideDomain.is
+    c.in_ok-results.ensures.outside in
+    subst (ArgumentFails base old locals table function c.args.at e) (sym c.ill_typed-in-OutsideDomain.ensures)
+    (λ f stands. (
+      named.1,
+      λ types of. inr (inr (outside_domain (scope_of base) old nodes middle f function
+          (known_later (scope_of base) old nodes old middle step.after.later c.requires.ready.sound f function stands.0)
+          types of e (element_at table c.in-OutsideDomain.element) named.2 named.0 id
+          (known (scope_of base) old nodes middle e id step.gives step.least) named.3 named.4 (out-Expr c.args.argument.now).span.from
+          (sym (place_is c.args.argument.now)))),
+    ))
+
+pub chain::check_chain-returns-clause-least : goal.chain::check_chain-returns-clause-least
+chain::check_chain-returns-clause-least t c =
+    let base = c.args.base.now in
+    let nodes = seen_by base c.args.locals.now in
+    let step = c.in_ok-id.ensures in
+    IfOk-weaker c.check_tails.result _ _
+    (λ result narrow. chain_least (scope_of base) nodes (graph_of c.args.world.now) c.requires.ready.sound c.requires.ready.nodes
+    (graph_of c.check.new.world) (graph_of c.check_tails.new.world) step.after.later (plain c.args.first.now) c.in_ok-id.id result step.least
+    (plain_tails c.args.tails.now) narrow)
+    c.check_tails.ensures.least
+
+pub chain::check_chain-returns-clause-fault : goal.chain::check_chain-returns-clause-fault
+chain::check_chain-returns-clause-fault t c =
+    let base = c.args.base.now in
+    let nodes = seen_by base c.args.locals.now in
+    let old = graph_of c.args.world.now in
+    let first = graph_of c.check.new.world in
+    let step = c.in_ok-id.ensures in
+    let e = plain c.args.first.now in
+    IfErr-weaker c.check_tails.result _ _
+    (λ error fails. chain_fails (scope_of base) nodes old c.requires.ready.sound c.requires.ready.nodes first step.after.later e c.in_ok-id.id
+    (known (scope_of base) old nodes first e c.in_ok-id.id step.gives step.least) (out-Expr c.args.first.now).span.from
+    (place_is c.args.first.now) c.args.at (table_of c.check_tails.new.world)
+    (plain_tails c.args.tails.now) error fails)
+    c.check_tails.ensures.fault
+
+pub chain::check_tails-returns-clause-least : goal.chain::check_tails-returns-clause-least
+chain::check_tails-returns-clause-least t c = all_tails_narrow (scope_of c.args.base.now) (seen_by c.args.base.now c.args.locals.now) (graph_of c.args.world.now)
+    (graph_of c.loop-tail.world) c.args.first c.loop-tail.id (plain_tails c.args.tails.now) c.items-tail-items.result.now
+    c.loop-tail.tail-index c.loop-tail-test.false c.loop-tail.invariant.2
+
+pub chain::check_tails-returns-in_err-id-clause-fault : goal.chain::check_tails-returns-in_err-id-clause-fault
+chain::check_tails-returns-in_err-id-clause-fault t c =
+    let base = c.args.base.now in
+    let now = c.loop-tail in
+    let is = err_from_is_err_and c.from_residual.result c.from_residual.ensures.1 in
+    rw (is.1, is.2)
+    (λ f stands. all_tails_fail (scope_of base) (seen_by base c.args.locals.now) (graph_of c.args.world.now) c.requires.ready.sound
+    c.requires.ready.nodes (graph_of now.world) now.invariant.0.later c.args.at f now.id now.place (table_of c.check_tail.new.world)
+    (plain_tails c.args.tails.now) c.items-tail-items.result.now now.tail-index c.tail-item.result c.tail-item.is
+    c.loop-tail-test.true (now.invariant.3 f stands) c.in_err-id.field-0.0 c.in_err-id.ensures.fault)
+
+pub chain::check_tail-returns-in-Ok-clause-least : goal.chain::check_tail-returns-in-Ok-clause-least
+chain::check_tail-returns-in-Ok-clause-least t c =
+    let base = c.args.base.now in
+    let locals = c.args.locals.now in
+    let old = graph_of c.args.world.now in
+    let new = graph_of c.drop_field.new.world in
+    let id = c.in-Ok.id in
+    subst (λ (tail : Tail). TailLeast base old locals new c.args.first tail id)
+    (sym (ap plain_tail c.in-Without.is ∙ tail_without c.in-Without.label))
+    (λ types of. without_least (scope_of base) types (typ old c.args.first) (typ new id) c.in-Without.label c.in-Ok.ensures.only)
+
+pub chain::check_tail-returns-in-Ok-take_field-clause-least : goal.chain::check_tail-returns-in-Ok-take_field-clause-least
+chain::check_tail-returns-in-Ok-take_field-clause-least t c =
+    let base = c.args.base.now in
+    let locals = c.args.locals.now in
+    let old = graph_of c.args.world.now in
+    let new = graph_of c.take_field.new.world in
+    let id = c.in-Ok-take_field.id in
+    subst (λ (tail : Tail). TailLeast base old locals new c.args.first tail id)
+    (sym (ap plain_tail c.in-Select.is ∙ tail_select c.in-Select.label))
+    (λ types of. select_least (scope_of base) types (typ old c.args.first) (typ new id) c.in-Select.label c.in-Ok-take_field.ensures.only)
+
+pub chain::check_operand-returns-in-Ok-clause-least : goal.chain::check_operand-returns-in-Ok-clause-least
+chain::check_operand-returns-in-Ok-clause-least t c types of =
+    let base = c.args.base.now in
+    let nodes = seen_by base c.args.locals.now in
+    let old = graph_of c.args.world.now in
+    let middle = graph_of c.check.new.world in
+    let new = graph_of c.operate.new.world in
+    let e = plain c.args.expr.now in
+    let step = c.in_ok-second.ensures in
+    let second = c.in_ok-second.second in
+    operated_least (scope_of base) old nodes c.requires.ready.sound c.args.first c.requires.first middle step.after.later new e second
+    (known (scope_of base) old nodes middle e second step.gives step.least) c.in-Ok.id types of c.args.op c.requires.met c.in-Ok.ensures.least
+
+pub test::check_if-returns-clause-least : goal.test::check_if-returns-clause-least
+test::check_if-returns-clause-least t c =
+    let base = c.args.base.now in
+    let locals = c.args.locals.now in
+    let old = graph_of c.args.world.now in
+    let nodes = seen_by base locals in
+    let tested = c.in_ok-tested.tested in
+    let condition = plain c.args.condition.now in
+    let step = c.in_ok-tested.ensures in
+    let first = after_same base locals old (graph_of c.check.new.world) (graph_of c.need_at.new.world) step.after c.need_at.ensures.graph in
+    test_least (scope_of base) nodes old c.requires.ready.sound c.requires.ready.nodes condition tested (graph_of c.need_at.new.world) first.later
+    (subst (λ (whole : Graph). IsKnown old nodes (scope_of base) whole condition tested) (sym c.need_at.ensures.graph)
+    (known (scope_of base) old nodes (graph_of c.check.new.world) condition tested step.gives step.least))
+    first.ready.nodes (plain c.args.then_one.now) (plain c.args.else_one.now) (graph_of c.check_side.new.world)
+    (graph_of c.check_side-2.new.world) (graph_of c.either.new.world) c.in_ok-one.ensures.after.later c.in_ok-other.ensures.after.later
+    c.in_ok-one.one c.in_ok-other.other c.in_ok-one.ensures.gives c.in_ok-one.ensures.least c.in_ok-other.ensures.gives
+    c.in_ok-other.ensures.least c.in_ok-either.field-0 c.in_ok-either.ensures.only
+
+pub test::check_if-returns-in_err-tested-clause-fault : goal.test::check_if-returns-in_err-tested-clause-fault
+test::check_if-returns-in_err-tested-clause-fault t c =
+    let base = c.args.base.now in
+    let ready = c.requires.ready in
+    let is = err_from_is_err_and c.from_residual.result c.from_residual.ensures.1 in
+    rw (is.1, is.2)
+    (λ here. condition_fails (scope_of base) (seen_by base c.args.locals.now) (graph_of c.args.world.now) ready.sound ready.nodes
+    (table_of c.check.new.world) (plain c.args.condition.now) (plain c.args.then_one.now) (plain c.args.else_one.now) here
+    c.in_err-tested.field-0.0 c.in_err-tested.ensures.fault)
+
+pub test::check_if-returns-in_err-need_at-clause-fault : goal.test::check_if-returns-in_err-need_at-clause-fault
+test::check_if-returns-in_err-need_at-clause-fault t c =
+    let base = c.args.base.now in
+    let ready = c.requires.ready in
+    let old = graph_of c.args.world.now in
+    let nodes = seen_by base c.args.locals.now in
+    let condition = plain c.args.condition.now in
+    let step = c.in_ok-tested.ensures in
+    let checked = graph_of c.check.new.world in
+    let table = table_of c.need_at.new.world in
+    let error = c.in_err-need_at.field-0.0 in
+    let is = err_from_is_err_and c.from_residual-in_err-need_at.result c.from_residual-in_err-need_at.ensures.1 in
+    rw (is.1, is.2)
+    (λ here. test_fails (scope_of base) nodes old ready.sound ready.nodes table condition (plain c.args.then_one.now) (plain c.args.else_one.now)
+    here error
+    (breaks (scope_of base) old nodes checked condition c.in_ok-tested.tested
+    (known (scope_of base) old nodes checked condition c.in_ok-tested.tested step.gives step.least) BOOL (BuiltIn BOOL)
+    (built_in_within checked step.after.ready.more step.after.ready.begins BOOL (lit< tt)) (out-Expr c.args.condition.now).span.from
+    (sym (place_is c.args.condition.now)) rule.Condition table error c.in_err-need_at.ensures.fault))
+
+pub test::check_if-returns-in_err-one-clause-fault : goal.test::check_if-returns-in_err-one-clause-fault
+test::check_if-returns-in_err-one-clause-fault t c =
+    let base = c.args.base.now in
+    let locals = c.args.locals.now in
+    let ready = c.requires.ready in
+    let old = graph_of c.args.world.now in
+    let nodes = seen_by base locals in
+    let condition = plain c.args.condition.now in
+    let tested = c.in_ok-tested.tested in
+    let step = c.in_ok-tested.ensures in
+    let first = graph_of c.need_at.new.world in
+    let is = err_from_is_err_and c.from_residual-in_err-one.result c.from_residual-in_err-one.ensures.1 in
+    rw (is.1, is.2)
+    (λ here. then_fails (scope_of base) nodes old ready.sound ready.nodes (table_of c.check_side.new.world) condition
+    (plain c.args.then_one.now) (plain c.args.else_one.now) here c.in_err-one.field-0.0 first
+    (after_same base locals old (graph_of c.check.new.world) first step.after c.need_at.ensures.graph).later tested
+    (subst (λ (whole : Graph). IsKnown old nodes (scope_of base) whole condition tested) (sym c.need_at.ensures.graph)
+    (known (scope_of base) old nodes (graph_of c.check.new.world) condition tested step.gives step.least))
+    c.in_err-one.ensures.fault)
+
+pub test::check_if-returns-in_err-other-clause-fault : goal.test::check_if-returns-in_err-other-clause-fault
+test::check_if-returns-in_err-other-clause-fault t c =
+    let base = c.args.base.now in
+    let locals = c.args.locals.now in
+    let ready = c.requires.ready in
+    let old = graph_of c.args.world.now in
+    let nodes = seen_by base locals in
+    let condition = plain c.args.condition.now in
+    let tested = c.in_ok-tested.tested in
+    let step = c.in_ok-tested.ensures in
+    let first = graph_of c.need_at.new.world in
+    let second = graph_of c.check_side.new.world in
+    let after = after_same base locals old (graph_of c.check.new.world) first step.after c.need_at.ensures.graph in
+    let is = err_from_is_err_and c.from_residual-in_err-other.result c.from_residual-in_err-other.ensures.1 in
+    rw (is.1, is.2)
+    (λ here. else_fails (scope_of base) nodes old ready.sound ready.nodes (table_of c.check_side-2.new.world) condition
+    (plain c.args.then_one.now) (plain c.args.else_one.now) here c.in_err-other.field-0.0 second
+    (after_both base locals old first second after c.in_ok-one.ensures.after).later tested
+    (known_later (scope_of base) old nodes first second c.in_ok-one.ensures.after.later after.ready.sound condition tested
+    (subst (λ (whole : Graph). IsKnown old nodes (scope_of base) whole condition tested) (sym c.need_at.ensures.graph)
+    (known (scope_of base) old nodes (graph_of c.check.new.world) condition tested step.gives step.least)))
+    c.in_err-other.ensures.fault)
+
+pub test::check_short-returns-clause-least : goal.test::check_short-returns-clause-least
+test::check_short-returns-clause-least t c =
+    let base = c.args.base.now in
+    let locals = c.args.locals.now in
+    let old = graph_of c.args.world.now in
+    let nodes = seen_by base locals in
+    let tested = c.args.first in
+    let met = c.args.met in
+    let e = plain c.args.expr.now in
+    let second = graph_of c.check_side.new.world in
+    let last = graph_of c.either.new.world in
+    let after = after_both base locals old (graph_of c.need_at.new.world) second
+    (after_same base locals old old (graph_of c.need_at.new.world) (after_none base locals old c.requires.ready) c.need_at.ensures.graph)
+    c.in_ok-long.ensures.after in
+    short_least (scope_of base) nodes old c.requires.ready.sound c.requires.ready.nodes tested c.requires.first e second last after.later
+    c.in_ok-either.field-0 (truth_node base (not met)) c.in_ok-short.short c.in_ok-long.long
+    (subst (λ (whole : Graph). elements_of last c.in_ok-either.field-0 ⊆ IsInEither whole c.in_ok-short.short c.in_ok-long.long)
+    c.short_side.ensures.graph c.in_ok-either.ensures.only)
+    met
+    (subst (λ (whole : Graph). SideBelow (scope_of base) nodes whole (elements_of whole tested) met e second c.in_ok-long.long)
+    c.need_at.ensures.graph c.in_ok-long.ensures.least)
+    (truth_alone base second locals after.ready (not met)) c.in_ok-short.ensures.side c.in_ok-short.ensures.may
+
+pub test::check_short-returns-in_err-need_at-clause-fault : goal.test::check_short-returns-in_err-need_at-clause-fault
+test::check_short-returns-in_err-need_at-clause-fault t c =
+    let base = c.args.base.now in
+    let ready = c.requires.ready in
+    let old = graph_of c.args.world.now in
+    let nodes = seen_by base c.args.locals.now in
+    let table = table_of c.need_at.new.world in
+    let error = c.in_err-need_at.field-0.0 in
+    let is = err_from_is_err_and c.from_residual.result c.from_residual.ensures.1 in
+    rw (is.1, is.2)
+    (λ f stands. short_test_fails (scope_of base) nodes old ready.sound ready.nodes c.args.first c.requires.first (plain c.args.expr.now) table f
+    error c.args.met
+    (breaks (scope_of base) old nodes old f c.args.first stands.0 BOOL (BuiltIn BOOL)
+    (built_in_within old ready.more ready.begins BOOL (lit< tt)) c.args.at (sym stands.1) rule.Condition table error
+    c.in_err-need_at.ensures.fault))
+
+pub test::check_short-returns-in_err-long-clause-fault : goal.test::check_short-returns-in_err-long-clause-fault
+test::check_short-returns-in_err-long-clause-fault t c =
+    let base = c.args.base.now in
+    let locals = c.args.locals.now in
+    let ready = c.requires.ready in
+    let e = plain c.args.expr.now in
+    let table = table_of c.check_side.new.world in
+    let error = c.in_err-long.field-0.0 in
+    let is = err_from_is_err_and c.from_residual-in_err-long.result c.from_residual-in_err-long.ensures.1 in
+    rw (is.1, is.2)
+    (λ f stands. short_side_fails (scope_of base) (seen_by base locals) (graph_of c.args.world.now) ready.sound ready.nodes c.args.first
+    c.requires.first e table f error stands.0 c.args.met
+    (subst (λ (whole : Graph). SideFails base whole locals table c.args.first c.args.met e error) c.need_at.ensures.graph
+    c.in_err-long.ensures.fault))
+
+pub test::check_side-returns-then-branch-clause-least : goal.test::check_side-returns-then-branch-clause-least
+test::check_side-returns-then-branch-clause-least t c =
+    let base = c.args.base.now in
+    let locals = c.args.locals.now in
+    let old = graph_of c.args.world.now in (
+      tested_has base old locals c.requires.ready c.args.tested c.truth.result c.args.value c.truth.ensures
+          (c.in_ok-may_be.ensures.together c.if-branch.true),
+      subst (λ (whole : Graph). IsBelow whole (seen_by base locals) (graph_of c.check.new.world)
+          (λ types t. Has (scope_of base) types (plain c.args.expr.now) t) c.in_ok-check.field-0)
+          c.may_be.ensures.graph c.in_ok-check.ensures.least,
+    )
+
+pub test::check_side-returns-in_err-check-clause-fault : goal.test::check_side-returns-in_err-check-clause-fault
+test::check_side-returns-in_err-check-clause-fault t c =
+    let base = c.args.base.now in
+    let locals = c.args.locals.now in
+    let value = c.args.value in
+    let tested = c.args.tested in
+    let old = graph_of c.args.world.now in
+    let e = plain c.args.expr.now in
+    let table = table_of c.check.new.world in
+    let error = c.in_err-check.field-0.0 in
+    let is = err_from_is_err_and c.from_residual-in_err-check.result c.from_residual-in_err-check.ensures.1 in
+    rw (is.1, is.2)
+    (fails_more old (seen_by base locals) table (λ types at told d. Fault (scope_of base) types e at told d)
+    (λ types at told d. elements_of old tested (truth value) × Fault (scope_of base) types e at told d)
+    (λ types of at told d fault. (
+      tested_has base old locals c.requires.ready tested c.truth.result value c.truth.ensures (c.in_ok-may_be.ensures.together c.if-branch.true),
+      fault,
+    ))
+    error (subst (λ (whole : Graph). ExprFails base whole locals table e error) c.may_be.ensures.graph c.in_err-check.ensures.fault))
+
+pub function::check_arrow-returns-in_err-cover-clause-fault : goal.function::check_arrow-returns-in_err-cover-clause-fault
+function::check_arrow-returns-in_err-cover-clause-fault t c =
+    let is = err_from_is_err_and c.from_residual-in_err-cover.result c.from_residual-in_err-cover.ensures.1 in
+    let base = c.args.base.now in
+    let first = graph_of c.args.world.now in
+    let second = graph_of c.divide.new.world in
+    let division = c.in_ok-division.division in
+    let given = c.in_ok-division.ensures in
+    let branches = plain_branches c.args.branches.now in
+    let arrow = c.args.arrow in
+    rw (is.1, is.2) (arrow_uncovered (scope_of base) first (seen_by base c.args.locals.now) (table_of c.cover.new.world) c.args.at branches arrow
+    c.in_err-cover.field-0.0
+    (uncovered_fails (scope_of base) first (seen_by base c.args.locals.now) second branches (elements_of first arrow.0) division.rest
+    (λ e element inside. let left = none_takes second (scope_of base) branches division.matched division.comings.items division.rest
+    (given.patterns ∙ c.requires.patterns) given.division e element inside in (
+      earlier_in first second (later_of c.args.world.now c.divide.new.world c.divide.ensures.grows c.divide.ensures.sound) c.requires.ready.sound
+          arrow.0 c.requires.argument e element (subst (λ (id : NodeId). elements_of second id e) given.matched left.0),
+      left.1,
+    )) c.args.at (table_of c.cover.new.world) c.in_err-cover.field-0.0 c.in_err-cover.ensures.fault))
+
+pub function::check_arrow-returns-in_err-check_bodies-clause-fault : goal.function::check_arrow-returns-in_err-check_bodies-clause-fault
+function::check_arrow-returns-in_err-check_bodies-clause-fault t c =
+    let is = err_from_is_err_and c.from_residual-in_err-check_bodies.result c.from_residual-in_err-check_bodies.ensures.1 in
+    let base = c.args.base.now in
+    let first = graph_of c.args.world.now in
+    let branches = plain_branches c.args.branches.now in
+    let arrow = c.args.arrow in
+    let table = table_of c.check_bodies.new.world in
+    let error = c.in_err-check_bodies.field-0.0 in
+    rw (is.1, is.2) (arrow_body_fault (scope_of base) first (seen_by base c.args.locals.now) table c.args.at branches arrow error
+    (branches_fail_earlier (scope_of base) first c.requires.ready.sound (seen_by base c.args.locals.now) c.requires.ready.nodes
+    (graph_of c.divide.new.world) (later_of c.args.world.now c.divide.new.world c.divide.ensures.grows c.divide.ensures.sound)
+    arrow.0 c.requires.argument branches (graph_of c.cover.new.world) c.cover.ensures.graph c.in_ok-division.division.matched
+    c.in_ok-division.ensures.matched (Some (within_result arrow)) c.requires.result table error c.in_err-check_bodies.ensures.fault))
+
+pub function::check_promise-returns-in_err-check_arrow-clause-fault : goal.function::check_promise-returns-in_err-check_arrow-clause-fault
+function::check_promise-returns-in_err-check_arrow-clause-fault t c =
+    let is = err_from_is_err_and c.from_residual-in_err-check_arrow.result c.from_residual-in_err-check_arrow.ensures.1 in
+    let base = c.args.base.now in
+    let beyond : NodeId × NodeId = (record { 0 = 0 }, record { 0 = 0 }) in
+    let items = c.as_slice-argument-items.result.now in
+    let index = c.loop-argument.argument-index in
+    let arrow = get_or items index beyond in
+    let f = out-FunctionTree c.args.function.now in
+    let table = table_of c.check_arrow.new.world in
+    let error = c.in_err-check_arrow.field-0.0 in
+    rw (is.1, is.2) (promise_failed base (graph_of c.args.world.now) (graph_of c.loop-argument.world) c.loop-argument.invariant.0.later
+    c.args.locals.now c.requires.ready c.in_ok-inner.inner.items c.args.function.now c.args.promise.now c.in_ok-inner.ensures c.requires.promise
+    items c.as_slice-argument-items.ensures.value index arrow (at_any items index beyond arrow c.loop-argument-test.true) c.loop-argument-test.true
+    table error
+    (subst (λ (names : Nodes). ArrowFails base (graph_of c.loop-argument.world) names table f.at (plain_branches f.branches) arrow error)
+    c.as_slice.ensures.value c.in_err-check_arrow.ensures.fault))
+
+pub function::check_function-returns-in_err-check_promise-clause-fault : goal.function::check_function-returns-in_err-check_promise-clause-fault
+function::check_function-returns-in_err-check_promise-clause-fault t c =
+    let is = err_from_is_err_and c.from_residual-in_err-check_promise.result c.from_residual-in_err-check_promise.ensures.1 in
+    rw (is.1, is.2) (function_failed c.args.base.now (graph_of c.args.world.now) (graph_of c.promise_of.new.world)
+    (later_of c.args.world.now c.promise_of.new.world c.promise_of.ensures.grows c.promise_of.ensures.sound) c.args.locals.now c.requires.ready
+    (plain_function c.args.function.now) (table_of c.check_promise.new.world) c.in_err-check_promise.field-0.0 c.in_err-check_promise.ensures.fault)
+
+pub function::check_function-returns-clause-least : goal.function::check_function-returns-clause-least
+function::check_function-returns-clause-least t c = function_below (scope_of c.args.base.now) (graph_of c.args.world.now) (seen_by c.args.base.now c.args.locals.now)
+    (graph_of c.promise_of.new.world) (graph_of c.check_promise.new.world) c.in_ok-check_promise.ensures.after.later c.promise_of.ensures.sound
+    (plain_function c.args.function.now) c.in_ok-promise.promise.arrows.items c.in_ok-promise.promise.whole
+    (function_promise (scope_of c.args.base.now) (graph_of c.promise_of.new.world) c.args.function.now
+    c.in_ok-promise.promise.arrows.items c.in_ok-promise.promise.whole c.in_ok-promise.ensures.promise)
+
+pub bodies::check_bodies-loop-number-init : goal.bodies::check_bodies-loop-number-init
+bodies::check_bodies-loop-number-init t c = rw c.new-results.ensures.items (none_done c.args.base.now c.args.locals.now (graph_of c.args.world.now) c.requires.ready c.args.division.now
+    (plain_branches c.args.branches.now) c.items-branch-items.result.now c.args.limit c.items-branch-items.ensures c.requires.division
+    c.requires.patterns)
+
+pub bodies::check_bodies-returns-clause-least : goal.bodies::check_bodies-returns-clause-least
+bodies::check_bodies-returns-clause-least t c = all_done_least c.args.base.now c.args.locals.now (graph_of c.args.world.now) c.requires.ready c.args.division.now
+    (plain_branches c.args.branches.now) c.items-branch-items.result.now c.args.limit (graph_of c.loop-number.world)
+    c.loop-number.number c.loop-number.results.items c.loop-number.invariant c.loop-number-test.false
+
+pub bodies::check_bodies-returns-in_err-id-clause-fault : goal.bodies::check_bodies-returns-in_err-id-clause-fault
+bodies::check_bodies-returns-in_err-id-clause-fault t c =
+    let base = c.args.base.now in
+    let locals = c.args.locals.now in
+    let division = c.args.division.now in
+    let coming = c.in-Some.coming.now in
+    let table = table_of c.check_body.new.world in
+    let error = c.in_err-id.field-0.0 in
+    let looked = there division.comings.items c.loop-number.number c.get.result c.in-Some.coming
+    (subst (λ (all : List Coming). IsItemAt all c.loop-number.number c.get.result) c.deref.ensures.value c.get.ensures.lookup) c.in-Some.is in
+    let is = err_from_is_err_and c.from_residual.result c.from_residual.ensures.1 in
+    rw (is.1, is.2)
+    (one_failed base locals (graph_of c.args.world.now) c.requires.ready division (plain_branches c.args.branches.now)
+    c.items-branch-items.result.now c.args.limit (graph_of c.loop-number.world) c.loop-number.number c.loop-number.results.items
+    c.loop-number.invariant c.branch-item.result c.branch-item.is c.loop-number-test.true coming looked.0 looked.1 c.requires.limit table error
+    (subst (λ (body : Expr). BodyFails base (graph_of c.loop-number.world) locals table coming.matched c.args.limit (coming_pattern coming) body error)
+    (sym (branch_body c.branch-item.result)) c.in_err-id.ensures.fault))
+
+pub bodies::check_body-returns-in-None-clause-least : goal.bodies::check_body-returns-in-None-clause-least
+bodies::check_body-returns-in-None-clause-least t c types of = none_gives (graph_of c.args.world.now) (scope_of c.args.base.now) c.args.coming.sited.now
+    c.requires.sited (seen_by c.args.base.now c.args.locals.now) (graph_of c.taken.new.world) c.args.coming.matched
+    (plain c.args.body.now)
+    (none_taken (graph_of c.args.world.now) c.args.coming.matched c.args.coming.sited.now.site (table_of c.taken.new.world)
+    c.in_ok-taken.field-0 c.in_ok-taken.ensures.taken c.in-None.is (scope_of c.args.base.now)
+    (coming_pattern c.args.coming) c.requires.sited.site)
+
+pub bodies::check_body-returns-in_ok-keep_limit-in-Some-clause-least : goal.bodies::check_body-returns-in_ok-keep_limit-in-Some-clause-least
+bodies::check_body-returns-in_ok-keep_limit-in-Some-clause-least t c =
+    let base = c.args.base.now in
+    let scope = scope_of base in
+    let old = graph_of c.args.world.now in
+    let middle = graph_of c.captures-2.new.world in
+    let coming = c.args.coming in
+    let sited = coming.sited.now in
+    let own = c.in_ok-own-in-Some in
+    let id = c.in_ok-id-in-Some in
+    subst (λ (graph : Graph). BodyLeast scope old (seen_by base c.args.locals.now) graph (elements_of old coming.matched) (coming_pattern coming)
+    (plain c.args.body.now) (Some id.id)) (sym c.keep_limit.ensures.graph)
+    (taken_known base c.args.locals.now own.own.items c.as_slice.result.now (c.as_slice.ensures.value ∙ c.in_ok-all-in-Some.ensures) old
+    c.requires.ready sited coming.matched middle
+    (later_two c.args.world.now c.taken.new.world c.captures-2.new.world c.taken.ensures.grows c.taken.ensures.sound
+    c.captures-2.ensures.grows c.captures-2.ensures.sound) own.ensures.nodes
+    (hold_here old (graph_of c.taken.new.world) middle c.taken.ensures.graph scope sited c.requires.sited coming.matched own.own.items own.ensures.hold)
+    (only_here old (graph_of c.taken.new.world) middle c.taken.ensures.graph scope sited c.requires.sited coming.matched own.own.items own.ensures.only)
+    (element_at (table_of c.taken.new.world) c.in-Some.field-0)
+    (one_taken old coming.matched sited.site (table_of c.taken.new.world) c.in_ok-taken.field-0 c.in-Some.field-0 c.in_ok-taken.ensures.taken
+    c.in-Some.is scope (coming_pattern coming) c.requires.sited.site) (plain c.args.body.now) (graph_of c.check.new.world) id.id id.ensures.gives
+    id.ensures.least)
+
+pub bodies::check_body-returns-in_err-id-in-Some-clause-fault : goal.bodies::check_body-returns-in_err-id-in-Some-clause-fault
+bodies::check_body-returns-in_err-id-in-Some-clause-fault t c =
+    let base = c.args.base.now in
+    let scope = scope_of base in
+    let old = graph_of c.args.world.now in
+    let middle = graph_of c.captures-2.new.world in
+    let coming = c.args.coming in
+    let sited = coming.sited.now in
+    let own = c.in_ok-own-in-Some in
+    let is = err_from_is_err_and c.from_residual-in_err-id-in-Some.result c.from_residual-in_err-id-in-Some.ensures.1 in
+    rw (is.1, is.2)
+    (taken_fails base c.args.locals.now own.own.items c.as_slice.result.now (c.as_slice.ensures.value ∙ c.in_ok-all-in-Some.ensures) old
+    c.requires.ready sited coming.matched middle
+    (later_two c.args.world.now c.taken.new.world c.captures-2.new.world c.taken.ensures.grows c.taken.ensures.sound
+    c.captures-2.ensures.grows c.captures-2.ensures.sound) own.ensures.nodes
+    (hold_here old (graph_of c.taken.new.world) middle c.taken.ensures.graph scope sited c.requires.sited coming.matched own.own.items own.ensures.hold)
+    (only_here old (graph_of c.taken.new.world) middle c.taken.ensures.graph scope sited c.requires.sited coming.matched own.own.items own.ensures.only)
+    (element_at (table_of c.taken.new.world) c.in-Some.field-0)
+    (one_taken old coming.matched sited.site (table_of c.taken.new.world) c.in_ok-taken.field-0 c.in-Some.field-0 c.in_ok-taken.ensures.taken
+    c.in-Some.is scope (coming_pattern coming) c.requires.sited.site) (plain c.args.body.now) (table_of c.check.new.world) c.args.limit
+    c.in_err-id-in-Some.field-0.0 c.in_err-id-in-Some.ensures.fault)
+
+pub bodies::check_body-returns-in_err-keep_limit-in-Some-clause-fault : goal.bodies::check_body-returns-in_err-keep_limit-in-Some-clause-fault
+bodies::check_body-returns-in_err-keep_limit-in-Some-clause-fault t c =
+    let base = c.args.base.now in
+    let scope = scope_of base in
+    let old = graph_of c.args.world.now in
+    let middle = graph_of c.captures-2.new.world in
+    let coming = c.args.coming in
+    let sited = coming.sited.now in
+    let own = c.in_ok-own-in-Some in
+    let id = c.in_ok-id-in-Some in
+    let is = err_from_is_err_and c.from_residual-in_err-keep_limit-in-Some.result c.from_residual-in_err-keep_limit-in-Some.ensures.1 in
+    rw (is.1, is.2)
+    (beyond_fails base c.args.locals.now own.own.items c.as_slice.result.now (c.as_slice.ensures.value ∙ c.in_ok-all-in-Some.ensures) old
+    c.requires.ready sited coming.matched middle
+    (later_two c.args.world.now c.taken.new.world c.captures-2.new.world c.taken.ensures.grows c.taken.ensures.sound
+    c.captures-2.ensures.grows c.captures-2.ensures.sound) own.ensures.nodes
+    (hold_here old (graph_of c.taken.new.world) middle c.taken.ensures.graph scope sited c.requires.sited coming.matched own.own.items own.ensures.hold)
+    (only_here old (graph_of c.taken.new.world) middle c.taken.ensures.graph scope sited c.requires.sited coming.matched own.own.items own.ensures.only)
+    (element_at (table_of c.taken.new.world) c.in-Some.field-0)
+    (one_taken old coming.matched sited.site (table_of c.taken.new.world) c.in_ok-taken.field-0 c.in-Some.field-0 c.in_ok-taken.ensures.taken
+    c.in-Some.is scope (coming_pattern coming) c.requires.sited.site) (plain c.args.body.now) (graph_of c.check.new.world) id.id id.ensures.gives
+    id.ensures.least id.ensures.after.later (table_of c.keep_limit.new.world) c.args.limit c.requires.limit (out-Expr c.args.body.now).span.from
+    (sym (place_is c.args.body.now)) c.in_err-keep_limit-in-Some.field-0.0 c.in_err-keep_limit-in-Some.ensures.fault)
+
+pub branches::check_match-returns-clause-least : goal.branches::check_match-returns-clause-least
+branches::check_match-returns-clause-least t c =
+    let base = c.args.base.now in
+    let old = graph_of c.args.world.now in
+    let nodes = seen_by base c.args.locals.now in
+    let value = plain c.args.value.now in
+    let first = graph_of c.check.new.world in
+    let matched = c.in_ok-matched in
+    IfOk-weaker c.check_covering.result _ _
+    (match_is_least (scope_of base) old c.requires.ready.sound nodes c.requires.ready.nodes value matched.matched first matched.ensures.after.later
+    (known (scope_of base) old nodes first value matched.matched matched.ensures.gives matched.ensures.least) (plain_branches c.args.branches.now)
+    (graph_of c.check_covering.new.world))
+    c.check_covering.ensures.least
+
+pub branches::check_match-returns-clause-fault : goal.branches::check_match-returns-clause-fault
+branches::check_match-returns-clause-fault t c =
+    let base = c.args.base.now in
+    let old = graph_of c.args.world.now in
+    let nodes = seen_by base c.args.locals.now in
+    let value = plain c.args.value.now in
+    let first = graph_of c.check.new.world in
+    let matched = c.in_ok-matched in
+    IfErr-weaker c.check_covering.result _ _
+    (match_fails (scope_of base) old c.requires.ready.sound nodes c.requires.ready.nodes value matched.matched first matched.ensures.after.later
+    (known (scope_of base) old nodes first value matched.matched matched.ensures.gives matched.ensures.least) (plain_branches c.args.branches.now)
+    (table_of c.check_covering.new.world) c.args.at)
+    c.check_covering.ensures.fault
+
+pub branches::check_covering-returns-clause-least : goal.branches::check_covering-returns-clause-least
+branches::check_covering-returns-clause-least t c =
+    let base = c.args.base.now in
+    let scope = scope_of base in
+    let old = graph_of c.args.world.now in
+    let nodes = seen_by base c.args.locals.now in
+    let branches = plain_branches c.args.branches.now in
+    let matched = c.args.matched in
+    let middle = graph_of c.divide.new.world in
+    let last = graph_of c.check_bodies.new.world in
+    let results = c.in_ok-results.results.items in
+    let is = later_two c.args.world.now c.sites_of.new.world c.divide.new.world c.sites_of.ensures.grows c.sites_of.ensures.sound
+    c.divide.ensures.grows c.divide.ensures.sound in
+    union_least scope old nodes last (graph_of c.union.new.world) branches (elements_of old matched) results
+    (bodies_least_earlier scope old c.requires.ready.sound nodes c.requires.ready.nodes middle is matched c.requires.matched branches
+    (graph_of c.cover.new.world) c.cover.ensures.graph c.in_ok-division.division.matched c.in_ok-division.ensures.matched last results
+    c.in_ok-results.ensures.least)
+    c.in_ok-union.field-0
+    (subst (λ (ids : List NodeId). elements_of (graph_of c.union.new.world) c.in_ok-union.field-0 ⊆ IsInOne (map (typ last) ids))
+    c.as_slice-2.ensures.value c.in_ok-union.ensures.only)
+
+pub branches::check_covering-returns-in_err-cover-clause-fault : goal.branches::check_covering-returns-in_err-cover-clause-fault
+branches::check_covering-returns-in_err-cover-clause-fault t c =
+    let base = c.args.base.now in
+    let scope = scope_of base in
+    let old = graph_of c.args.world.now in
+    let nodes = seen_by base c.args.locals.now in
+    let branches = plain_branches c.args.branches.now in
+    let matched = c.args.matched in
+    let division = c.in_ok-division in
+    let middle = graph_of c.divide.new.world in
+    let table = table_of c.cover.new.world in
+    let error = c.in_err-cover.field-0.0 in
+    let is = err_from_is_err_and c.from_residual-in_err-cover.result c.from_residual-in_err-cover.ensures.1 in
+    let later = later_two c.args.world.now c.sites_of.new.world c.divide.new.world c.sites_of.ensures.grows c.sites_of.ensures.sound
+    c.divide.ensures.grows c.divide.ensures.sound in
+    rw (is.1, is.2)
+    (fails_more old nodes table (λ types. IsUncovered scope c.args.at branches (elements_of old matched))
+    (λ types. CoveringFault scope types c.args.at (elements_of old matched) (Nothing scope) branches) (λ types of at told d uncovered. inl uncovered)
+    error
+    (uncovered_fails scope old nodes middle branches (elements_of old matched) division.division.rest
+    (none_takes_earlier old middle later c.requires.ready.sound matched c.requires.matched scope branches division.division.matched
+    division.ensures.matched division.division.comings.items division.division.rest
+    (division.ensures.patterns ∙ ap (map sited_pattern) c.as_slice.ensures.value ∙ c.in_ok-sites.ensures.patterns) division.ensures.division)
+    c.args.at table error c.in_err-cover.ensures.fault))
+
+pub branches::check_covering-returns-in_err-results-clause-fault : goal.branches::check_covering-returns-in_err-results-clause-fault
+branches::check_covering-returns-in_err-results-clause-fault t c =
+    let base = c.args.base.now in
+    let scope = scope_of base in
+    let old = graph_of c.args.world.now in
+    let nodes = seen_by base c.args.locals.now in
+    let branches = plain_branches c.args.branches.now in
+    let matched = c.args.matched in
+    let table = table_of c.check_bodies.new.world in
+    let error = c.in_err-results.field-0.0 in
+    let is = err_from_is_err_and c.from_residual-in_err-results.result c.from_residual-in_err-results.ensures.1 in
+    let later = later_two c.args.world.now c.sites_of.new.world c.divide.new.world c.sites_of.ensures.grows c.sites_of.ensures.sound
+    c.divide.ensures.grows c.divide.ensures.sound in
+    rw (is.1, is.2)
+    (fails_more old nodes table (λ types. BranchFault scope types [] (elements_of old matched) (Nothing scope) branches)
+    (λ types. CoveringFault scope types c.args.at (elements_of old matched) (Nothing scope) branches) (λ types of at told d fault. inr fault) error
+    (branches_fail_earlier scope old c.requires.ready.sound nodes c.requires.ready.nodes (graph_of c.divide.new.world) later matched
+    c.requires.matched branches (graph_of c.cover.new.world) c.cover.ensures.graph c.in_ok-division.division.matched
+    c.in_ok-division.ensures.matched None tt table error c.in_err-results.ensures.fault))
+
+pub branches::check_some-returns-clause-least : goal.branches::check_some-returns-clause-least
+branches::check_some-returns-clause-least t c =
+    let base = c.args.base.now in
+    let scope = scope_of base in
+    let old = graph_of c.args.world.now in
+    let nodes = seen_by base c.args.locals.now in
+    let branches = plain_branches c.args.branches.now in
+    let matched = c.args.matched in
+    let middle = graph_of c.divide.new.world in
+    let is = later_two c.args.world.now c.sites_of.new.world c.divide.new.world c.sites_of.ensures.grows c.sites_of.ensures.sound
+    c.divide.ensures.grows c.divide.ensures.sound in
+    IfOk-weaker c.check_bodies.result _ _
+    (λ results. bodies_least_earlier scope old c.requires.ready.sound nodes c.requires.ready.nodes middle is matched c.requires.matched branches
+    middle refl c.in_ok-division.division.matched c.in_ok-division.ensures.matched (graph_of c.check_bodies.new.world) results.items)
+    c.check_bodies.ensures.least
+
+pub branches::check_some-returns-clause-fault : goal.branches::check_some-returns-clause-fault
+branches::check_some-returns-clause-fault t c =
+    let base = c.args.base.now in
+    let scope = scope_of base in
+    let old = graph_of c.args.world.now in
+    let nodes = seen_by base c.args.locals.now in
+    let branches = plain_branches c.args.branches.now in
+    let matched = c.args.matched in
+    let middle = graph_of c.divide.new.world in
+    let is = later_two c.args.world.now c.sites_of.new.world c.divide.new.world c.sites_of.ensures.grows c.sites_of.ensures.sound
+    c.divide.ensures.grows c.divide.ensures.sound in
+    IfErr-weaker c.check_bodies.result _ _
+    (branches_fail_earlier scope old c.requires.ready.sound nodes c.requires.ready.nodes middle is matched c.requires.matched branches
+    middle refl c.in_ok-division.division.matched c.in_ok-division.ensures.matched c.args.limit c.requires.limit
+    (table_of c.check_bodies.new.world))
+    c.check_bodies.ensures.fault
+
+pub branches::check_let-returns-in-Some-clause-least : goal.branches::check_let-returns-in-Some-clause-least
+branches::check_let-returns-in-Some-clause-least t c =
+    let base = c.args.base.now in
+    let scope = scope_of base in
+    let old = graph_of c.args.world.now in
+    let nodes = seen_by base c.args.locals.now in
+    let value = plain c.args.value.now in
+    let first = graph_of c.check.new.world in
+    let second = graph_of c.remaining.new.world in
+    let matched = c.in_ok-matched in
+    let is = later_two c.check.new.world c.with_site.new.world c.remaining.new.world c.with_site.ensures.grows c.with_site.ensures.sound
+    c.remaining.ensures.grows c.remaining.ensures.sound in
+    let_is_least scope old c.requires.ready.sound nodes c.requires.ready.nodes value matched.matched first matched.ensures.after.later
+    (known scope old nodes first value matched.matched matched.ensures.gives matched.ensures.least) second is matched.ensures.after.ready.nodes
+    matched.ensures.gives.is_type.is_node (plain_tree c.args.pattern.now) (plain c.args.rest.now) (graph_of c.check_body.new.world) c.in-Some.id
+    (body_least_moved scope nodes (graph_of c.check_body.new.world) matched.matched (plain c.args.rest.now) (graph_of c.cover.new.world) second
+    c.cover.ensures.graph (sited_pattern c.in_ok-sited.sited) (plain_tree c.args.pattern.now) c.in_ok-sited.ensures.pattern
+    c.in_ok-id.field-0 (Some c.in-Some.id) c.in-Some.is c.in_ok-id.ensures.least)
+
+pub branches::check_let-returns-clause-least : goal.branches::check_let-returns-clause-least
+branches::check_let-returns-clause-least t c =
+    let base = c.args.base.now in
+    let scope = scope_of base in
+    let old = graph_of c.args.world.now in
+    let nodes = seen_by base c.args.locals.now in
+    let value = plain c.args.value.now in
+    let first = graph_of c.check.new.world in
+    let second = graph_of c.remaining.new.world in
+    let matched = c.in_ok-matched in
+    let is = later_two c.check.new.world c.with_site.new.world c.remaining.new.world c.with_site.ensures.grows c.with_site.ensures.sound
+    c.remaining.ensures.grows c.remaining.ensures.sound in
+    let ready = c.in_ok-id.ensures.after.ready in
+    let_is_empty scope old c.requires.ready.sound nodes c.requires.ready.nodes value matched.matched first matched.ensures.after.later
+    (known scope old nodes first value matched.matched matched.ensures.gives matched.ensures.least) second is matched.ensures.after.ready.nodes
+    matched.ensures.gives.is_type.is_node (plain_tree c.args.pattern.now) (plain c.args.rest.now) (graph_of c.check_body.new.world)
+    ready.more ready.begins
+    (body_least_moved scope nodes (graph_of c.check_body.new.world) matched.matched (plain c.args.rest.now) (graph_of c.cover.new.world) second
+    c.cover.ensures.graph (sited_pattern c.in_ok-sited.sited) (plain_tree c.args.pattern.now) c.in_ok-sited.ensures.pattern
+    c.in_ok-id.field-0 None c.in-None.is c.in_ok-id.ensures.least)
+
+pub branches::check_let-returns-in_err-cover-clause-fault : goal.branches::check_let-returns-in_err-cover-clause-fault
+branches::check_let-returns-in_err-cover-clause-fault t c =
+    let base = c.args.base.now in
+    let scope = scope_of base in
+    let old = graph_of c.args.world.now in
+    let nodes = seen_by base c.args.locals.now in
+    let value = plain c.args.value.now in
+    let first = graph_of c.check.new.world in
+    let second = graph_of c.remaining.new.world in
+    let between = graph_of c.with_site.new.world in
+    let matched = c.in_ok-matched in
+    let pattern = plain_tree c.args.pattern.now in
+    let rest = plain c.args.rest.now in
+    let sited = c.in_ok-sited.sited in
+    let table = table_of c.cover.new.world in
+    let error = c.in_err-cover.field-0.0 in
+    let is = err_from_is_err_and c.from_residual-in_err-cover.result c.from_residual-in_err-cover.ensures.1 in
+    let later = later_two c.check.new.world c.with_site.new.world c.remaining.new.world c.with_site.ensures.grows c.with_site.ensures.sound
+    c.remaining.ensures.grows c.remaining.ensures.sound in
+    let site = subst (λ (tree : Tree). IsSite between scope tree sited.site) c.in_ok-sited.ensures.pattern c.in_ok-sited.ensures.sited.site in
+    rw (is.1, is.2)
+    (let_uncovered scope old c.requires.ready.sound nodes c.requires.ready.nodes value matched.matched first matched.ensures.after.later
+    (known scope old nodes first value matched.matched matched.ensures.gives matched.ensures.least) second later matched.ensures.after.ready.nodes
+    matched.ensures.gives.is_type.is_node pattern rest table c.args.at error
+    (uncovered_fails scope second nodes second (ABranch pattern rest NoBranch) (elements_of second matched.matched) c.in_ok-left.left
+    (one_untaken between second (later_of c.with_site.new.world c.remaining.new.world c.remaining.ensures.grows c.remaining.ensures.sound)
+    c.with_site.ensures.sound scope pattern sited.site site matched.matched
+    (below_later first between (later_of c.check.new.world c.with_site.new.world c.with_site.ensures.grows c.with_site.ensures.sound)
+    matched.matched matched.ensures.gives.is_type.is_node) c.in_ok-left.left (c.in_ok-left.ensures.left scope pattern site) rest)
+    c.args.at table error c.in_err-cover.ensures.fault))
+
+pub branches::check_let-returns-in_err-id-clause-fault : goal.branches::check_let-returns-in_err-id-clause-fault
+branches::check_let-returns-in_err-id-clause-fault t c =
+    let base = c.args.base.now in
+    let scope = scope_of base in
+    let old = graph_of c.args.world.now in
+    let nodes = seen_by base c.args.locals.now in
+    let value = plain c.args.value.now in
+    let first = graph_of c.check.new.world in
+    let second = graph_of c.remaining.new.world in
+    let matched = c.in_ok-matched in
+    let pattern = plain_tree c.args.pattern.now in
+    let rest = plain c.args.rest.now in
+    let table = table_of c.check_body.new.world in
+    let error = c.in_err-id.field-0.0 in
+    let is = err_from_is_err_and c.from_residual-in_err-id.result c.from_residual-in_err-id.ensures.1 in
+    let later = later_two c.check.new.world c.with_site.new.world c.remaining.new.world c.with_site.ensures.grows c.with_site.ensures.sound
+    c.remaining.ensures.grows c.remaining.ensures.sound in
+    rw (is.1, is.2)
+    (let_fails scope old c.requires.ready.sound nodes c.requires.ready.nodes value matched.matched first matched.ensures.after.later
+    (known scope old nodes first value matched.matched matched.ensures.gives matched.ensures.least) second later matched.ensures.after.ready.nodes
+    matched.ensures.gives.is_type.is_node pattern rest table c.args.at error
+    (subst (λ (tree : Tree). BodyFails base second c.args.locals.now table matched.matched None tree rest error) c.in_ok-sited.ensures.pattern
+    (subst (λ (graph : Graph). BodyFails base graph c.args.locals.now table matched.matched None (sited_pattern c.in_ok-sited.sited) rest error)
+    c.cover.ensures.graph c.in_err-id.ensures.fault)))
+
+pub branches::check_try-returns-clause-least : goal.branches::check_try-returns-clause-least
+branches::check_try-returns-clause-least t c =
+    let base = c.args.base.now in
+    let scope = scope_of base in
+    let old = graph_of c.args.world.now in
+    let nodes = seen_by base c.args.locals.now in
+    let body = plain c.args.body.now in
+    let first = graph_of c.check.new.world in
+    let second = graph_of c.check_some.new.world in
+    let id = c.in_ok-id in
+    try_is_least scope old c.requires.ready.sound nodes c.requires.ready.nodes body id.id first id.ensures.after.later
+    (known scope old nodes first body id.id id.ensures.gives id.ensures.least) (plain_branches c.args.branches.now) id.ensures.after.ready.more
+    id.ensures.after.ready.begins second (graph_of c.union.new.world) c.in_ok-results.ensures.after.later id.ensures.gives.is_type.is_node
+    c.in_ok-results.results.items c.in_ok-union.field-0 c.in_ok-results.ensures.least
+    (subst (λ (ids : List NodeId). elements_of (graph_of c.union.new.world) c.in_ok-union.field-0 ⊆ IsInOne (map (typ second) ids))
+    (c.as_slice.ensures.value ∙ c.in_ok-add.ensures) c.in_ok-union.ensures.only)
+
+pub branches::check_try-returns-in_err-results-clause-fault : goal.branches::check_try-returns-in_err-results-clause-fault
+branches::check_try-returns-in_err-results-clause-fault t c =
+    let base = c.args.base.now in
+    let scope = scope_of base in
+    let old = graph_of c.args.world.now in
+    let nodes = seen_by base c.args.locals.now in
+    let body = plain c.args.body.now in
+    let first = graph_of c.check.new.world in
+    let id = c.in_ok-id in
+    let is = err_from_is_err_and c.from_residual-in_err-results.result c.from_residual-in_err-results.ensures.1 in
+    rw (is.1, is.2)
+    (λ here. try_fails scope old c.requires.ready.sound nodes c.requires.ready.nodes body id.id first id.ensures.after.later
+    (known scope old nodes first body id.id id.ensures.gives id.ensures.least) (plain_branches c.args.branches.now) id.ensures.after.ready.more
+    id.ensures.after.ready.begins (table_of c.check_some.new.world) here c.in_err-results.field-0.0 c.in_err-results.ensures.fault)
+
+pub branches::check_map-returns-clause-least : goal.branches::check_map-returns-clause-least
+branches::check_map-returns-clause-least t c =
+    let base = c.args.base.now in
+    let scope = scope_of base in
+    let old = graph_of c.args.world.now in
+    let nodes = seen_by base c.args.locals.now in
+    let value = plain c.args.value.now in
+    let first = graph_of c.check.new.world in
+    let second = graph_of c.items.new.world in
+    let list = c.in_ok-list in
+    let item = c.in_ok-matched in
+    map_is_least scope old c.requires.ready.sound nodes c.requires.ready.nodes value list.list first list.ensures.after.later
+    (known scope old nodes first value list.list list.ensures.gives list.ensures.least) (plain_branches c.args.branches.now) second
+    (subst (λ (graph : Graph). IsLater graph second) c.need_at.ensures.graph
+    (later_of c.need_at.new.world c.items.new.world c.items.ensures.grows c.items.ensures.sound)) list.ensures.after.ready.nodes item.matched
+    (subst (λ (graph : Graph). IsItemOf (elements_of graph list.list) ⊆ elements_of second item.matched) c.need_at.ensures.graph item.ensures.has)
+    (subst (λ (graph : Graph). elements_of second item.matched ⊆ IsItemOf (elements_of graph list.list)) c.need_at.ensures.graph item.ensures.only)
+    (graph_of c.check_covering.new.world) (graph_of c.list_of.new.world) c.in_ok-result.result c.in_ok-list_of.field-0
+    c.in_ok-result.ensures.least c.in_ok-list_of.ensures.only
+
+pub branches::check_map-returns-in_err-need_at-clause-fault : goal.branches::check_map-returns-in_err-need_at-clause-fault
+branches::check_map-returns-in_err-need_at-clause-fault t c =
+    let base = c.args.base.now in
+    let scope = scope_of base in
+    let old = graph_of c.args.world.now in
+    let nodes = seen_by base c.args.locals.now in
+    let value = plain c.args.value.now in
+    let first = graph_of c.check.new.world in
+    let branches = plain_branches c.args.branches.now in
+    let list = c.in_ok-list in
+    let table = table_of c.need_at.new.world in
+    let error = c.in_err-need_at.field-0.0 in
+    let tools = list.ensures.after.ready.tools in
+    let is = err_from_is_err_and c.from_residual-in_err-need_at.result c.from_residual-in_err-need_at.ensures.1 in
+    rw (is.1, is.2)
+    (fails_more old nodes table (λ types. Breaks scope types value IsSequence rule.Sequence)
+    (λ types. KindFault scope types c.args.at (Map value branches)) (λ types of at told d fault. inr (inl fault)) error
+    (breaks scope old nodes first value list.list (known scope old nodes first value list.list list.ensures.gives list.ensures.least)
+    base.tools.sequences IsSequence tools.all_sequences (out-Expr c.args.value.now).span.from (sym (place_is c.args.value.now)) rule.Sequence
+    table error c.in_err-need_at.ensures.fault))
+
+pub branches::check_map-returns-in_err-result-clause-fault : goal.branches::check_map-returns-in_err-result-clause-fault
+branches::check_map-returns-in_err-result-clause-fault t c =
+    let base = c.args.base.now in
+    let scope = scope_of base in
+    let old = graph_of c.args.world.now in
+    let nodes = seen_by base c.args.locals.now in
+    let value = plain c.args.value.now in
+    let first = graph_of c.check.new.world in
+    let second = graph_of c.items.new.world in
+    let item = c.in_ok-matched in
+    let list = c.in_ok-list in
+    let is = err_from_is_err_and c.from_residual-in_err-result.result c.from_residual-in_err-result.ensures.1 in
+    rw (is.1, is.2)
+    (map_fails scope old c.requires.ready.sound nodes c.requires.ready.nodes value list.list first list.ensures.after.later
+    (known scope old nodes first value list.list list.ensures.gives list.ensures.least) (plain_branches c.args.branches.now) second
+    (subst (λ (graph : Graph). IsLater graph second) c.need_at.ensures.graph
+    (later_of c.need_at.new.world c.items.new.world c.items.ensures.grows c.items.ensures.sound)) list.ensures.after.ready.nodes item.matched
+    (subst (λ (graph : Graph). IsItemOf (elements_of graph list.list) ⊆ elements_of second item.matched) c.need_at.ensures.graph item.ensures.has)
+    (subst (λ (graph : Graph). elements_of second item.matched ⊆ IsItemOf (elements_of graph list.list)) c.need_at.ensures.graph item.ensures.only)
+    (table_of c.check_covering.new.world) c.args.at c.in_err-result.field-0.0 c.in_err-result.ensures.fault)
+
+pub branches::check_transform-returns-clause-least : goal.branches::check_transform-returns-clause-least
+branches::check_transform-returns-clause-least t c =
+    let base = c.args.base.now in
+    let scope = scope_of base in
+    let old = graph_of c.args.world.now in
+    let nodes = seen_by base c.args.locals.now in
+    let value = plain c.args.value.now in
+    let first = graph_of c.check.new.world in
+    let second = graph_of c.items.new.world in
+    let third = graph_of c.check_some.new.world in
+    let list = c.in_ok-list in
+    let item = c.in_ok-matched in
+    transform_is_least scope old c.requires.ready.sound nodes c.requires.ready.nodes value list.list first list.ensures.after.later
+    (known scope old nodes first value list.list list.ensures.gives list.ensures.least) (plain_branches c.args.branches.now) second
+    (subst (λ (graph : Graph). IsLater graph second) c.need_at.ensures.graph
+    (later_of c.need_at.new.world c.items.new.world c.items.ensures.grows c.items.ensures.sound)) list.ensures.after.ready.nodes item.matched
+    (subst (λ (graph : Graph). IsItemOf (elements_of graph list.list) ⊆ elements_of second item.matched) c.need_at.ensures.graph item.ensures.has)
+    (subst (λ (graph : Graph). elements_of second item.matched ⊆ IsItemOf (elements_of graph list.list)) c.need_at.ensures.graph item.ensures.only)
+    third (graph_of c.union.new.world) (graph_of c.items-2.new.world) (graph_of c.list_of.new.world) c.in_ok-results.results.items
+    c.in_ok-lists.lists c.in_ok-item.item c.in_ok-list_of.field-0 c.in_ok-results.ensures.least
+    (subst (λ (ids : List NodeId). elements_of (graph_of c.union.new.world) c.in_ok-lists.lists ⊆ IsInOne (map (typ third) ids))
+    c.as_slice.ensures.value c.in_ok-lists.ensures.only)
+    c.in_ok-item.ensures.only c.in_ok-list_of.ensures.only
+
+pub branches::check_transform-returns-in_err-need_at-clause-fault : goal.branches::check_transform-returns-in_err-need_at-clause-fault
+branches::check_transform-returns-in_err-need_at-clause-fault t c =
+    let base = c.args.base.now in
+    let scope = scope_of base in
+    let old = graph_of c.args.world.now in
+    let nodes = seen_by base c.args.locals.now in
+    let value = plain c.args.value.now in
+    let first = graph_of c.check.new.world in
+    let branches = plain_branches c.args.branches.now in
+    let list = c.in_ok-list in
+    let table = table_of c.need_at.new.world in
+    let error = c.in_err-need_at.field-0.0 in
+    let tools = list.ensures.after.ready.tools in
+    let is = err_from_is_err_and c.from_residual-in_err-need_at.result c.from_residual-in_err-need_at.ensures.1 in
+    rw (is.1, is.2)
+    (λ here. fails_more old nodes table (λ types. Breaks scope types value IsSequence rule.Sequence)
+    (λ types. KindFault scope types here (Transform value branches)) (λ types of at told d fault. inr (inl fault)) error
+    (breaks scope old nodes first value list.list (known scope old nodes first value list.list list.ensures.gives list.ensures.least)
+    base.tools.sequences IsSequence tools.all_sequences (out-Expr c.args.value.now).span.from (sym (place_is c.args.value.now)) rule.Sequence
+    table error c.in_err-need_at.ensures.fault))
+
+pub branches::check_transform-returns-in_err-results-clause-fault : goal.branches::check_transform-returns-in_err-results-clause-fault
+branches::check_transform-returns-in_err-results-clause-fault t c =
+    let base = c.args.base.now in
+    let scope = scope_of base in
+    let old = graph_of c.args.world.now in
+    let nodes = seen_by base c.args.locals.now in
+    let value = plain c.args.value.now in
+    let first = graph_of c.check.new.world in
+    let second = graph_of c.items.new.world in
+    let item = c.in_ok-matched in
+    let list = c.in_ok-list in
+    let limit : Limit = record { node = base.tools.sequences; rule = rule.BranchSequence } in
+    let later = subst (λ (graph : Graph). IsLater graph second) c.need_at.ensures.graph
+    (later_of c.need_at.new.world c.items.new.world c.items.ensures.grows c.items.ensures.sound) in
+    let tools = tools_later first second later list.ensures.after.later.sound base.tools list.ensures.after.ready.tools in
+    let is = err_from_is_err_and c.from_residual-in_err-results.result c.from_residual-in_err-results.ensures.1 in
+    rw (is.1, is.2)
+    (λ here. transform_fails scope old c.requires.ready.sound nodes c.requires.ready.nodes value list.list first list.ensures.after.later
+    (known scope old nodes first value list.list list.ensures.gives list.ensures.least) (plain_branches c.args.branches.now) second
+    (subst (λ (graph : Graph). IsLater graph second) c.need_at.ensures.graph
+    (later_of c.need_at.new.world c.items.new.world c.items.ensures.grows c.items.ensures.sound)) list.ensures.after.ready.nodes item.matched
+    (subst (λ (graph : Graph). IsItemOf (elements_of graph list.list) ⊆ elements_of second item.matched) c.need_at.ensures.graph item.ensures.has)
+    (subst (λ (graph : Graph). elements_of second item.matched ⊆ IsItemOf (elements_of graph list.list)) c.need_at.ensures.graph item.ensures.only)
+    limit refl tools.all_sequences (table_of c.check_some.new.world) here c.in_err-results.field-0.0 c.in_err-results.ensures.fault)
+
+pub expr::check_kind-returns-in_ok-constant_node-in-Constant-clause-least : goal.expr::check_kind-returns-in_ok-constant_node-in-Constant-clause-least
+expr::check_kind-returns-in_ok-constant_node-in-Constant-clause-least t c =
+    let base = c.args.base.now in
+    let new = graph_of c.constant_node.new.world in
+    let id = c.in_ok-constant_node-in-Constant.field-0 in
+    subst (λ (kind : Kind). IsBelow (graph_of c.args.world.now) (seen_by base c.args.locals.now) new
+    (λ types t. KindHas (scope_of base) types kind t) id) (sym (ap plain_kind c.in-Constant.is ∙ kind_constant c.in-Constant.is'))
+    (λ types of t is_type has. constant_least (scope_of base) types c.in-Constant.is' (typ new id) c.in_ok-constant_node-in-Constant.ensures.only
+    t has)
+
+pub expr::check_kind-returns-in-Some-clause-least : goal.expr::check_kind-returns-in-Some-clause-least
+expr::check_kind-returns-in-Some-clause-least t c =
+    let base = c.args.base.now in
+    let old = graph_of c.args.world.now in
+    let nodes = seen_by base c.args.locals.now in
+    let name = c.in-Variable.name in
+    let id = c.in-Some.id in
+    subst (λ (kind : Kind). IsBelow old nodes old (λ types t. KindHas (scope_of base) types kind t) id)
+    (sym (ap plain_kind c.in-Variable.is ∙ kind_variable name))
+    (variable_below (scope_of base) old nodes name id (sym c.find.ensures ∙ c.in-Some.is))
+
+pub expr::check_call-returns-in-Ok-clause-least : goal.expr::check_call-returns-in-Ok-clause-least
+expr::check_call-returns-in-Ok-clause-least t c = λ types of t is_type has.
+    c.in-Ok.ensures.least has.0 t (c.in_ok-id.ensures.least types of has.0 has.1 has.2) has.3
+
+pub operands::check_tuple-returns-clause-least : goal.operands::check_tuple-returns-clause-least
+operands::check_tuple-returns-clause-least t c =
+    let made = graph_of c.tuple.new.world in
+    let id = c.in_ok-tuple.field-0 in
+    let parts = graph_of c.check_exprs.new.world in
+    λ types of t is_type has. tuple_least (scope_of c.args.base.now) types (plain_exprs c.args.exprs.now)
+    (map (typ parts) c.in_ok-parts.parts.items) (typ made id) (c.in_ok-parts.ensures.least types of)
+    (subst (λ (ids : List NodeId). elements_of made id ⊆ IsTupleOf (map (typ parts) ids)) c.as_slice.ensures.value
+    c.in_ok-tuple.ensures.only) t has
+
+pub operands::check_exprs-returns-clause-least : goal.operands::check_exprs-returns-clause-least
+operands::check_exprs-returns-clause-least t c =
+    let base = c.args.base.now in
+    let items = c.items-expr-items.result.now in
+    let index = c.loop-expr.expr-index in
+    let before = c.loop-expr.invariant in
+    λ types of. goes_to_end (ExprsLeast (scope_of base)) (graph_of c.args.world.now) (seen_by base c.args.locals.now)
+    (graph_of c.loop-expr.world) before.0.ready.sound (plain_exprs c.args.exprs.now) (exprs_of (map plain (drop index items)))
+    c.loop-expr.parts.items before.2 types of
+    (subst (λ (rest : List CodeExpr). ExprsLeast (scope_of base) types (exprs_of (map plain rest)) [])
+    (sym (drop_all index items c.loop-expr-test.false)) (none_least (scope_of base) types))
+
+pub operands::check_exprs-returns-in_err-id-clause-fault : goal.operands::check_exprs-returns-in_err-id-clause-fault
+operands::check_exprs-returns-in_err-id-clause-fault t c =
+    let is = err_from_is_err_and c.from_residual.result c.from_residual.ensures.1 in
+    let base = c.args.base.now in
+    let before = c.loop-expr.invariant in
+    rw (is.1, is.2) (expr_fails (scope_of base) (plain_exprs c.args.exprs.now) c.items-expr-items.result.now c.loop-expr.expr-index
+    c.expr-item.result c.expr-item.is c.loop-expr-test.true before.3 (graph_of c.args.world.now) (graph_of c.loop-expr.world) before.0.later
+    c.requires.ready.sound (seen_by base c.args.locals.now) c.requires.ready.nodes (table_of c.check.new.world) c.in_err-id.field-0.0
+    c.in_err-id.ensures.fault)
+
+pub operands::check_sequence-returns-clause-least : goal.operands::check_sequence-returns-clause-least
+operands::check_sequence-returns-clause-least t c =
+    let made = graph_of c.sequence.new.world in
+    let id = c.in_ok-sequence.field-0 in
+    let types_of_parts = map (typ (graph_of c.check_items.new.world)) c.in_ok-parts.parts.items in
+    λ types of t is_type has. sequence_least (scope_of c.args.base.now) types (plain_items c.args.items.now) types_of_parts (typ made id)
+    (c.in_ok-parts.ensures.least types of)
+    (subst (λ (items : Items). elements_of made id ⊆ IsSequenceOf items types_of_parts) c.items.ensures c.in_ok-sequence.ensures.only) t has
+
+pub operands::check_items-returns-clause-least : goal.operands::check_items-returns-clause-least
+operands::check_items-returns-clause-least t c =
+    let base = c.args.base.now in
+    let items = c.items-item-items.result.now in
+    let index = c.loop-item.item-index in
+    let before = c.loop-item.invariant in
+    λ types of. goes_to_end (ItemsLeast (scope_of base)) (graph_of c.args.world.now) (seen_by base c.args.locals.now)
+    (graph_of c.loop-item.world) before.0.ready.sound (plain_items c.args.items.now) (items_of (map plain_item (drop index items)))
+    c.loop-item.parts.items before.2 types of
+    (subst (λ (rest : List CodeItem). ItemsLeast (scope_of base) types (items_of (map plain_item rest)) [])
+    (sym (drop_all index items c.loop-item-test.false)) (no_item_least (scope_of base) types))
+
+pub operands::check_items-returns-in_err-id-clause-fault : goal.operands::check_items-returns-in_err-id-clause-fault
+operands::check_items-returns-in_err-id-clause-fault t c =
+    let is = err_from_is_err_and c.from_residual.result c.from_residual.ensures.1 in
+    let base = c.args.base.now in
+    let before = c.loop-item.invariant in
+    rw (is.1, is.2) (item_fails (scope_of base) (plain_items c.args.items.now) c.items-item-items.result.now c.loop-item.item-index
+    c.item-item.result c.item-item.is c.loop-item-test.true before.3 (graph_of c.args.world.now) (graph_of c.loop-item.world) before.0.later
+    c.requires.ready.sound (seen_by base c.args.locals.now) c.requires.ready.nodes (table_of c.check_item.new.world) c.in_err-id.field-0.0
+    c.in_err-id.ensures.fault)
+
+pub operands::check_item-returns-in_ok-check-in-One-clause-least : goal.operands::check_item-returns-in_ok-check-in-One-clause-least
+operands::check_item-returns-in_ok-check-in-One-clause-least t c =
+    let scope = scope_of c.args.base.now in
+    let nodes = seen_by c.args.base.now c.args.locals.now in
+    let old = graph_of c.args.world.now in
+    let new = graph_of c.check.new.world in
+    let id = c.in_ok-check-in-One.field-0 in
+    let step = c.in_ok-check-in-One.ensures in
+    let e = plain c.deref.result.now in
+    let same : plain_item c.args.item.now ≡ One e = ap plain_item c.in-One.is ∙ item_one c.in-One.expr
+    ∙ ap (λ (is : CodeExpr). One (plain is)) (sym c.deref.ensures) in
+    λ rest. subst (λ (item : Item). Steps (ItemsLeast scope) old nodes new (AnItem item rest) rest (id ∷ [])) (sym same)
+    (item_least_steps scope old nodes new step.after.ready.sound e id step.gives.is_type.is_node step.least rest)
+
+pub operands::check_item-returns-in_ok-need_at-in-Splice-clause-least : goal.operands::check_item-returns-in_ok-need_at-in-Splice-clause-least
+operands::check_item-returns-in_ok-need_at-in-Splice-clause-least t c =
+    let scope = scope_of c.args.base.now in
+    let nodes = seen_by c.args.base.now c.args.locals.now in
+    let old = graph_of c.args.world.now in
+    let middle = graph_of c.check-in-Splice.new.world in
+    let id = c.in_ok-id-in-Splice.id in
+    let step = c.in_ok-id-in-Splice.ensures in
+    let e = plain c.deref-in-Splice.result.now in
+    let same : plain_item c.args.item.now ≡ Splice e = ap plain_item c.in-Splice.is ∙ item_splice c.in-Splice.expr
+    ∙ ap (λ (is : CodeExpr). Splice (plain is)) (sym c.deref-in-Splice.ensures) in
+    λ rest. subst (λ (g : Graph). Steps (ItemsLeast scope) old nodes g (AnItem (plain_item c.args.item.now) rest) rest (id ∷ []))
+    (sym c.in_ok-need_at-in-Splice.ensures.graph)
+    (subst (λ (item : Item). Steps (ItemsLeast scope) old nodes middle (AnItem item rest) rest (id ∷ [])) (sym same)
+    (splice_least_steps scope old nodes middle step.after.ready.sound e id step.gives.is_type.is_node step.least rest))
+
+pub operands::check_item-returns-in_err-need_at-in-Splice-clause-fault : goal.operands::check_item-returns-in_err-need_at-in-Splice-clause-fault
+operands::check_item-returns-in_err-need_at-in-Splice-clause-fault t c =
+    let is = err_from_is_err_and c.from_residual-in_err-need_at-in-Splice.result c.from_residual-in_err-need_at-in-Splice.ensures.1 in
+    let scope = scope_of c.args.base.now in
+    let nodes = seen_by c.args.base.now c.args.locals.now in
+    let old = graph_of c.args.world.now in
+    let middle = graph_of c.check-in-Splice.new.world in
+    let id = c.in_ok-id-in-Splice.id in
+    let step = c.in_ok-id-in-Splice.ensures in
+    let e = plain c.deref-in-Splice.result.now in
+    let table = table_of c.need_at.new.world in
+    let error = c.in_err-need_at-in-Splice.field-0.0 in
+    let same : plain_item c.args.item.now ≡ Splice e = ap plain_item c.in-Splice.is ∙ item_splice c.in-Splice.expr
+    ∙ ap (λ (is : CodeExpr). Splice (plain is)) (sym c.deref-in-Splice.ensures) in
+    let place = sym (place_is c.deref-in-Splice-2.result.now)
+    ∙ ap (λ (is : CodeExpr). place_of (plain is)) (c.deref-in-Splice-2.ensures ∙ sym c.deref-in-Splice.ensures) in
+    rw (is.1, is.2) (λ rest. subst (λ (item : Item). Fails old nodes table (λ types. ItemsFault scope types (AnItem item rest)) error) (sym same)
+    (splice_misfits scope e rest old nodes table error
+    (breaks scope old nodes middle e id (known scope old nodes middle e id step.gives step.least) c.args.base.now.tools.sequences IsSequence
+    step.after.ready.tools.all_sequences _ place rule.Splice table error c.in_err-need_at-in-Splice.ensures.fault)))
+
+pub operands::check_record-returns-clause-least : goal.operands::check_record-returns-clause-least
+operands::check_record-returns-clause-least t c =
+    let made = graph_of c.record.new.world in
+    let id = c.in_ok-record.field-0 in
+    let parts = graph_of c.check_fields.new.world in
+    let ids = c.in_ok-parts.parts.items in
+    λ types of t is_type has. record_least (scope_of c.args.base.now) types (plain_fields c.args.fields.now) (map (typ parts) ids) (typ made id)
+    (c.in_ok-parts.ensures.least types of)
+    (subst (λ (fields : Fields). elements_of made id ⊆ IsRecordOf fields (map (typ parts) ids)) c.items.ensures
+    (subst (λ (all : List NodeId). elements_of made id ⊆ IsRecordOf (fields_of (map plain_field c.items.result.now)) (map (typ parts) all))
+    c.as_slice.ensures.value c.in_ok-record.ensures.only)) t has
+
+pub operands::check_fields-returns-clause-least : goal.operands::check_fields-returns-clause-least
+operands::check_fields-returns-clause-least t c =
+    let base = c.args.base.now in
+    let items = c.items-field-items.result.now in
+    let index = c.loop-field.field-index in
+    let before = c.loop-field.invariant in
+    λ types of. goes_to_end (FieldsLeast (scope_of base)) (graph_of c.args.world.now) (seen_by base c.args.locals.now)
+    (graph_of c.loop-field.world) before.0.ready.sound (plain_fields c.args.fields.now) (fields_of (map plain_field (drop index items)))
+    c.loop-field.parts.items before.2 types of
+    (subst (λ (rest : List CodeField). FieldsLeast (scope_of base) types (fields_of (map plain_field rest)) [])
+    (sym (drop_all index items c.loop-field-test.false)) (no_field_least (scope_of base) types))
+
+pub operands::check_fields-returns-in_err-id-clause-fault : goal.operands::check_fields-returns-in_err-id-clause-fault
+operands::check_fields-returns-in_err-id-clause-fault t c =
+    let is = err_from_is_err_and c.from_residual.result c.from_residual.ensures.1 in
+    let base = c.args.base.now in
+    let nodes = seen_by base c.args.locals.now in
+    let now = graph_of c.loop-field.world in
+    let table = table_of c.check.new.world in
+    let error = c.in_err-id.field-0.0 in
+    let before = c.loop-field.invariant in
+    rw (is.1, is.2) (field_fails (scope_of base) (plain_fields c.args.fields.now) c.items-field-items.result.now c.loop-field.field-index
+    c.field-item.result c.field-item.is c.loop-field-test.true before.3 (graph_of c.args.world.now) now before.0.later
+    c.requires.ready.sound nodes c.requires.ready.nodes table error
+    (subst (λ (e : Expr). Fails now nodes table (λ types. Fault (scope_of base) types e) error) (sym (field_expr c.field-item.result))
+    c.in_err-id.ensures.fault))
+
+pub operands::check_xml-returns-clause-least : goal.operands::check_xml-returns-clause-least
+operands::check_xml-returns-clause-least t c =
+    let base = c.args.base.now in
+    let locals = c.args.locals.now in
+    let scope = scope_of base in
+    let nodes = seen_by base locals in
+    let old = graph_of c.args.world.now in
+    let first = graph_of c.check.new.world in
+    let second = graph_of c.check-2.new.world in
+    let third = graph_of c.check-3.new.world in
+    let one = c.in_ok-first.ensures in
+    let two = c.in_ok-second.ensures in
+    let three = c.in_ok-third.ensures in
+    let tag = c.in_ok-first.first in
+    let attributes = c.in_ok-second.second in
+    let content = c.in_ok-third.third in
+    let made = c.in_ok-xml.field-0 in
+    let last = graph_of c.xml.new.world in
+    let both_same = c.in_ok-need_at-2.ensures.graph ∙ c.in_ok-need_at.ensures.graph in
+    xml_below scope nodes old first second third c.requires.ready.sound c.requires.ready.nodes
+    one.after.later two.after.later three.after.later
+    (plain c.args.tag.now) (plain c.args.attributes.now) (plain c.args.content.now)
+    tag attributes content
+    (known scope old nodes first (plain c.args.tag.now) tag one.gives one.least)
+    (known scope first nodes second (plain c.args.attributes.now) attributes two.gives two.least)
+    last made (known scope second nodes third (plain c.args.content.now) content three.gives three.least)
+    (subst (λ (g : Graph). elements_of last made ⊆ IsXmlOf (elements_of g tag) (elements_of g attributes) (elements_of g content))
+    both_same c.in_ok-xml.ensures.only)
+
+pub operands::check_xml-returns-in_err-need_at-clause-fault : goal.operands::check_xml-returns-in_err-need_at-clause-fault
+operands::check_xml-returns-in_err-need_at-clause-fault t c =
+    let base = c.args.base.now in
+    let locals = c.args.locals.now in
+    let scope = scope_of base in
+    let nodes = seen_by base locals in
+    let old = graph_of c.args.world.now in
+    let first = graph_of c.check.new.world in
+    let second = graph_of c.check-2.new.world in
+    let third = graph_of c.check-3.new.world in
+    let one = c.in_ok-first.ensures in
+    let two = c.in_ok-second.ensures in
+    let three = c.in_ok-third.ensures in
+    let tag = c.in_ok-first.first in
+    let attributes = c.in_ok-second.second in
+    let content = c.in_ok-third.third in
+    let is = err_from_is_err_and c.from_residual-in_err-need_at.result c.from_residual-in_err-need_at.ensures.1 in
+    rw (is.1, is.2) (λ here. tag_misfits scope nodes old first second third c.requires.ready.sound c.requires.ready.nodes
+    one.after.later two.after.later three.after.later
+    (plain c.args.tag.now) (plain c.args.attributes.now) (plain c.args.content.now)
+    tag attributes content
+    (known scope old nodes first (plain c.args.tag.now) tag one.gives one.least)
+    (known scope first nodes second (plain c.args.attributes.now) attributes two.gives two.least)
+    here (table_of c.need_at.new.world) c.in_err-need_at.field-0.0
+    (built_in_within third three.after.ready.more three.after.ready.begins ATOM (lit< tt)) _ (sym (place_is c.args.tag.now))
+    c.in_err-need_at.ensures.fault)
+
+pub operands::check_xml-returns-in_err-need_at-2-clause-fault : goal.operands::check_xml-returns-in_err-need_at-2-clause-fault
+operands::check_xml-returns-in_err-need_at-2-clause-fault t c =
+    let base = c.args.base.now in
+    let locals = c.args.locals.now in
+    let scope = scope_of base in
+    let nodes = seen_by base locals in
+    let old = graph_of c.args.world.now in
+    let first = graph_of c.check.new.world in
+    let second = graph_of c.check-2.new.world in
+    let third = graph_of c.check-3.new.world in
+    let one = c.in_ok-first.ensures in
+    let two = c.in_ok-second.ensures in
+    let three = c.in_ok-third.ensures in
+    let tag = c.in_ok-first.first in
+    let attributes = c.in_ok-second.second in
+    let content = c.in_ok-third.third in
+    let table = table_of c.need_at-2.new.world in
+    let error = c.in_err-need_at-2.field-0.0 in
+    let at = (out-Expr c.args.attributes.now).span.from in
+    let is = err_from_is_err_and c.from_residual-in_err-need_at-2.result c.from_residual-in_err-need_at-2.ensures.1 in
+    rw (is.1, is.2) (λ here. attributes_misfit scope nodes old first second third c.requires.ready.sound c.requires.ready.nodes
+    one.after.later two.after.later three.after.later
+    (plain c.args.tag.now) (plain c.args.attributes.now) (plain c.args.content.now)
+    tag attributes content
+    (known scope old nodes first (plain c.args.tag.now) tag one.gives one.least)
+    (known scope first nodes second (plain c.args.attributes.now) attributes two.gives two.least)
+    here table error
+    (built_in_within third three.after.ready.more three.after.ready.begins RECORD (lit< tt)) at (sym (place_is c.args.attributes.now))
+    (subst (λ (g : Graph). IsOutside g table attributes RECORD at rule.Attributes error) c.in_ok-need_at.ensures.graph
+    c.in_err-need_at-2.ensures.fault))
+
+pub operands::check_xml-returns-in_err-second-clause-fault : goal.operands::check_xml-returns-in_err-second-clause-fault
+operands::check_xml-returns-in_err-second-clause-fault t c =
+    let is = err_from_is_err_and c.from_residual-in_err-second.result c.from_residual-in_err-second.ensures.1 in
+    rw (is.1, is.2) (λ here. attributes_fail (scope_of c.args.base.now) (seen_by c.args.base.now c.args.locals.now) (graph_of c.args.world.now)
+    (graph_of c.check.new.world) c.requires.ready.sound c.requires.ready.nodes c.in_ok-first.ensures.after.later
+    (plain c.args.tag.now) (plain c.args.attributes.now) (plain c.args.content.now) here (table_of c.check-2.new.world) c.in_err-second.field-0.0
+    c.in_err-second.ensures.fault)
+
+pub operands::check_xml-returns-in_err-third-clause-fault : goal.operands::check_xml-returns-in_err-third-clause-fault
+operands::check_xml-returns-in_err-third-clause-fault t c =
+    let is = err_from_is_err_and c.from_residual-in_err-third.result c.from_residual-in_err-third.ensures.1 in
+    let old = graph_of c.args.world.now in
+    let first = graph_of c.check.new.world in
+    let second = graph_of c.check-2.new.world in
+    rw (is.1, is.2) (λ here. content_fails (scope_of c.args.base.now) (seen_by c.args.base.now c.args.locals.now) old second
+    c.requires.ready.sound c.requires.ready.nodes
+    (later_still old first second c.in_ok-first.ensures.after.later c.in_ok-second.ensures.after.later)
+    (plain c.args.tag.now) (plain c.args.attributes.now) (plain c.args.content.now) here (table_of c.check-3.new.world) c.in_err-third.field-0.0
+    c.in_err-third.ensures.fault)

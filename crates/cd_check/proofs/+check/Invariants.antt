@@ -1,27 +1,24 @@
-use Rattle.std.proofs.Common.{◌≡◌, ◌+◌, ◌++◌, map, drop}
-use Rattle.cd_program.specs.Expr.{exprs_of, items_of, fields_of, tails_of, branches_of}
-use Rattle.cd_program.specs.PlainExpr.{plain, plain_kind, plain_exprs, plain_items, plain_item}
-use Rattle.cd_program.specs.PlainExpr.{plain_fields, plain_field, plain_tails, plain_tail}
-use Rattle.cd_program.specs.PlainExpr.{plain_branches, plain_branch, plain_function}
-use Rattle.cd_names.proofs.ExprSizes.{size, size_kind, size_exprs, size_items, size_item}
-use Rattle.cd_names.proofs.ExprSizes.{size_fields, size_tails, size_tail}
-use Rattle.cd_names.proofs.ExprSizes.{size_branches, size_function}
-use Rattle.cd_typing.specs.Typ.{typ}
-use Rattle.cd_typing.specs.Typing.{HaveAll, ItemsHave, FieldsHave, ArgumentsHave, TailsHave}
-use Rattle.cd_empty.specs.Seen.{graph_of}
+use Rattle.cd_check.proofs.BodiesDone.{Done}
+use Rattle.cd_check.proofs.ChainFaults.{StandsAs}
+use Rattle.cd_check.proofs.FunctionsKept.{KeptSoFar}
+use Rattle.cd_check.proofs.OperandFaults.{FaultsOf}
+use Rattle.cd_check.proofs.OperandsLeast.{ExprsLeast, ItemsLeast, FieldsLeast}
+use Rattle.cd_check.proofs.Sizes.{room}
+use Rattle.cd_check.specs.Inner.Chains.{NarrowsOn, FaultsOn}
+use Rattle.cd_check.specs.Inner.Divided.{AreSited}
 use Rattle.cd_check.specs.Inner.GoingOn.{GoesOn, LeadsOn}
 use Rattle.cd_check.specs.Inner.Ready.{IsAfter, scope_of, seen_by}
-use Rattle.cd_check.proofs.Sizes.{room}
-use Rattle.cd_check.proofs.BodiesDone.{Done}
-use Rattle.cd_check.proofs.FunctionsKept.{KeptSoFar}
-use Rattle.cd_check.specs.Inner.Divided.{AreSited}
-use Rattle.cd_check.specs.Inner.GoingOn.{LeadsOn, GoesOn}
-use Rattle.cd_program.specs.Expr.{items_of, exprs_of, tails_of, fields_of}
-use Rattle.cd_program.specs.PlainExpr.{plain_item, plain_items, plain_branches, plain_field, plain_fields, plain}
-use Rattle.cd_program.specs.PlainExpr.{plain_exprs, plain_tail, plain_tails}
+use Rattle.cd_empty.specs.Seen.{graph_of}
+use Rattle.cd_least.specs.Faults.{ArgumentsFault, TailsFault, ExprsFault, ItemsFault, FieldsFault}
+use Rattle.cd_names.proofs.ExprSizes.{size, size_kind, size_exprs, size_items, size_item, size_fields, size_tails}
+use Rattle.cd_names.proofs.ExprSizes.{size_tail, size_branches, size_function}
+use Rattle.cd_program.specs.Expr.{exprs_of, items_of, fields_of, tails_of, Expr}
+use Rattle.cd_program.specs.PlainExpr.{plain, plain_kind, plain_exprs, plain_items, plain_item, plain_fields}
+use Rattle.cd_program.specs.PlainExpr.{plain_field, plain_tails, plain_tail, plain_branches, plain_function}
 use Rattle.cd_program.specs.declared.expr.ExprKind.TheViews.{out-FunctionTree}
-use Rattle.cd_typing.specs.Typing.{ArgumentsHave, FieldsHave, TailsHave, HaveAll, ItemsHave}
-use Rattle.std.proofs.Common.{drop, map}
+use Rattle.cd_typing.specs.Typ.{typ}
+use Rattle.cd_typing.specs.Typing.{HaveAll, ItemsHave, FieldsHave, ArgumentsHave, TailsHave}
+use Rattle.std.proofs.Common.{◌+◌, map, drop}
 use Rattle.cd_check.proofs.+check.Given as goal
 
 abbrev pub decreases-expr::check : goal.decreases-expr::check
@@ -127,28 +124,51 @@ abbrev pub invariant-operands::check_exprs-loop-expr : goal.invariant-operands::
 invariant-operands::check_exprs-loop-expr l = IsAfter l.base l.locals (graph_of l.fn.world) (graph_of l.world)
     × GoesOn (HaveAll (scope_of l.base)) (graph_of l.fn.world) (seen_by l.base l.locals)
     (graph_of l.world) (plain_exprs l.exprs) (exprs_of (map plain (drop l.expr-index l.expr-items))) l.parts.items
+    × GoesOn (ExprsLeast (scope_of l.base)) (graph_of l.fn.world) (seen_by l.base l.locals)
+    (graph_of l.world) (plain_exprs l.exprs) (exprs_of (map plain (drop l.expr-index l.expr-items))) l.parts.items
+    × FaultsOf (ExprsFault (scope_of l.base)) (plain_exprs l.exprs) (exprs_of (map plain (drop l.expr-index l.expr-items)))
 
 abbrev pub invariant-operands::check_items-loop-item : goal.invariant-operands::check_items-loop-item
 invariant-operands::check_items-loop-item l = IsAfter l.base l.locals (graph_of l.fn.world) (graph_of l.world)
     × GoesOn (ItemsHave (scope_of l.base)) (graph_of l.fn.world) (seen_by l.base l.locals)
     (graph_of l.world) (plain_items l.items) (items_of (map plain_item (drop l.item-index l.item-items))) l.parts.items
+    × GoesOn (ItemsLeast (scope_of l.base)) (graph_of l.fn.world) (seen_by l.base l.locals)
+    (graph_of l.world) (plain_items l.items) (items_of (map plain_item (drop l.item-index l.item-items))) l.parts.items
+    × FaultsOf (ItemsFault (scope_of l.base)) (plain_items l.items) (items_of (map plain_item (drop l.item-index l.item-items)))
 
 abbrev pub invariant-operands::check_fields-loop-field : goal.invariant-operands::check_fields-loop-field
 invariant-operands::check_fields-loop-field l = IsAfter l.base l.locals (graph_of l.fn.world) (graph_of l.world)
     × GoesOn (FieldsHave (scope_of l.base)) (graph_of l.fn.world) (seen_by l.base l.locals)
     (graph_of l.world) (plain_fields l.fields) (fields_of (map plain_field (drop l.field-index l.field-items))) l.parts.items
+    × GoesOn (FieldsLeast (scope_of l.base)) (graph_of l.fn.world) (seen_by l.base l.locals)
+    (graph_of l.world) (plain_fields l.fields) (fields_of (map plain_field (drop l.field-index l.field-items))) l.parts.items
+    × FaultsOf (FieldsFault (scope_of l.base)) (plain_fields l.fields) (fields_of (map plain_field (drop l.field-index l.field-items)))
 
 abbrev pub invariant-chain::check_arguments-loop-argument : goal.invariant-chain::check_arguments-loop-argument
 invariant-chain::check_arguments-loop-argument l = IsAfter l.base l.locals (graph_of l.fn.world) (graph_of l.world)
     × LeadsOn (ArgumentsHave (scope_of l.base)) (graph_of l.fn.world) (seen_by l.base l.locals)
     (typ (graph_of l.fn.world) l.fn.function) (graph_of l.world) (exprs_of (map plain l.arguments))
     (exprs_of (map plain (drop l.argument-index l.arguments))) l.id
+    × NarrowsOn (ArgumentsHave (scope_of l.base)) (graph_of l.fn.world) (seen_by l.base l.locals)
+    (typ (graph_of l.fn.world) l.fn.function) (graph_of l.world) (exprs_of (map plain l.arguments))
+    (exprs_of (map plain (drop l.argument-index l.arguments))) l.id
+    × ((f : Expr) → StandsAs (seen_by l.base l.locals) (scope_of l.base) (graph_of l.fn.world) l.fn.function l.fn.from f
+    → FaultsOn (scope_of l.base) (λ types one rest. ArgumentsFault (scope_of l.base) types l.at one rest) (graph_of l.fn.world)
+    (seen_by l.base l.locals) f (graph_of l.world) (exprs_of (map plain l.arguments))
+    (exprs_of (map plain (drop l.argument-index l.arguments))) l.id l.place)
 
 abbrev pub invariant-chain::check_tails-loop-tail : goal.invariant-chain::check_tails-loop-tail
 invariant-chain::check_tails-loop-tail l = IsAfter l.base l.locals (graph_of l.fn.world) (graph_of l.world)
     × LeadsOn (TailsHave (scope_of l.base)) (graph_of l.fn.world) (seen_by l.base l.locals)
     (typ (graph_of l.fn.world) l.fn.first) (graph_of l.world) (plain_tails l.tails)
     (tails_of (map plain_tail (drop l.tail-index l.tail-items))) l.id
+    × NarrowsOn (TailsHave (scope_of l.base)) (graph_of l.fn.world) (seen_by l.base l.locals)
+    (typ (graph_of l.fn.world) l.fn.first) (graph_of l.world) (plain_tails l.tails)
+    (tails_of (map plain_tail (drop l.tail-index l.tail-items))) l.id
+    × ((f : Expr) → StandsAs (seen_by l.base l.locals) (scope_of l.base) (graph_of l.fn.world) l.fn.first l.fn.from f
+    → FaultsOn (scope_of l.base) (λ types one rest. TailsFault (scope_of l.base) types l.at one rest) (graph_of l.fn.world)
+    (seen_by l.base l.locals) f (graph_of l.world) (plain_tails l.tails)
+    (tails_of (map plain_tail (drop l.tail-index l.tail-items))) l.id l.place)
 
 abbrev pub invariant-bodies::check_bodies-loop-number : goal.invariant-bodies::check_bodies-loop-number
 invariant-bodies::check_bodies-loop-number l = Done l.base l.locals (graph_of l.fn.world) l.division (plain_branches l.branches) l.branch-items l.limit

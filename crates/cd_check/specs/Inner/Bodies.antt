@@ -29,6 +29,11 @@ module _ (scope : Scope) where
   Leaves pattern left next = (e : Thing) → IsElement e → left e → WrittenTakes scope pattern e None
       → next e
 
+  -- and nothing else is
+  abbrev pub LeavesNoMore : Tree → (left next : Set) → Type 0
+  LeavesNoMore pattern left next = (e : Thing) → IsElement e → next e
+      → left e × WrittenTakes scope pattern e None
+
   -- In the new graph the node is the type of a body, where its variables have types that hold what
   -- they capture from the set; or no element of the set comes to the body
   abbrev pub BodyGives : (old : Graph) → Nodes → (new : Graph) → (matched : Set) → Tree → Expr

@@ -16,7 +16,7 @@ use Rattle.cd_sites.specs.Sites.{IsSite}
 use Rattle.cd_check.specs.declared.sites.Coming.{Coming}
 use Rattle.cd_check.specs.declared.sites.Division.{Division}
 use Rattle.cd_check.specs.declared.sites.Sited.{Sited}
-use Rattle.cd_check.specs.Inner.Bodies.{Leaves}
+use Rattle.cd_check.specs.Inner.Bodies.{Leaves, LeavesNoMore}
 
 abbrev pub sited_pattern : Sited → Tree
 sited_pattern sited = plain sited.pattern.now
@@ -46,6 +46,7 @@ module _ (graph : Graph) (scope : Scope) where
       × IsSited coming.sited.now × (next : NodeId)
       × Leaves scope (coming_pattern coming) (elements_of graph matched) (elements_of graph next)
       × Come next comings rest
+      × LeavesNoMore scope (coming_pattern coming) (elements_of graph matched) (elements_of graph next)
 
   abbrev pub IsDivision : Division → Type 0
   IsDivision division = Come division.matched division.comings.items division.rest

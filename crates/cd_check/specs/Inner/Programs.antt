@@ -1,20 +1,27 @@
 -- The functions of a program, with what they promise.
-use Rattle.std.specs.Prelude.{◌≡◌, true, List}
+use Rattle.std.specs.Prelude.{◌≡◌, ℕ, true, List, []}
 use Rattle.cd_sets.specs.declared.node_id.NodeId.{NodeId}
 use Rattle.cd_syntax.specs.Name.{Name}
 use Rattle.cd_syntax.specs.TypeTree.{Declarations}
-use Rattle.cd_model.specs.AllOf.{AllOf}
+use Rattle.cd_model.specs.AllOf.{AllOf, AnyOf}
 use Rattle.cd_model.specs.BuiltIns.{DATA}
 use Rattle.cd_model.specs.Formula.{Graph}
 use Rattle.cd_model.specs.Scope.{Scope}
-use Rattle.cd_model.specs.Thing.{Atom}
+use Rattle.cd_model.specs.Thing.{Thing, IsElement, Atom}
 use Rattle.cd_program.specs.Expr.{FunctionTree, function}
 use Rattle.cd_program.specs.PlainExpr.{plain_function}
 use Rattle.cd_meaning.specs.Sets.{◌⊆◌, elements_of}
 use Rattle.cd_names.specs.ProgramFaults.{Seen}
+use Rattle.cd_typing.specs.declared.rule.Rule.{Rule}
+use Rattle.cd_typing.specs.declared.rule.Rule.TheVariants as rule
+use Rattle.cd_least.specs.Faults.{FunctionFault}
+use Rattle.cd_check.specs.declared.base.Base.{Base}
+use Rattle.cd_check.specs.declared.fault.CheckError.{CheckError}
 use Rattle.cd_check.specs.declared.program.Promised.{Promised}
-use Rattle.cd_check.specs.Inner.FunctionNames.{is_main}
+use Rattle.cd_check.specs.Inner.FunctionNames.{begins_at, is_main}
+use Rattle.cd_check.specs.Inner.Known.{Fails}
 use Rattle.cd_check.specs.Inner.Promises.{HasPromise, ArePairs}
+use Rattle.cd_check.specs.Inner.Ready.{scope_of, seen_by}
 use Rattle.cd_check.specs.Inner.SoundNames.{AreSoundSignatures, FunctionIsSound}
 
 abbrev pub function_of : Promised → FunctionTree
@@ -43,6 +50,20 @@ ResultsAreData graph arrows =
 abbrev pub MainGives : Graph → Promised → Type 0
 MainGives graph one = is_main (function_of one) ≡ true
     → ResultsAreData graph one.promise.arrows.items
+
+-- a fault of one of the functions
+abbrev pub FunctionsFail : Base → Graph → List Thing → List Promised → CheckError → Type 0
+FunctionsFail base graph table promised = Fails graph (seen_by base []) table (λ types at told d.
+    AnyOf (λ one. FunctionFault (scope_of base) types (function_of one) at told d) promised)
+
+-- a result of one of the arrows, which is no data, is reported here
+abbrev pub ResultsFault : Graph → (here : ℕ) → List (NodeId × NodeId) → (at : ℕ) → Rule → Thing → Type 0
+ResultsFault graph here arrows at told d = (at ≡ here) × (told ≡ rule.MainResult) × IsElement d
+    × (elements_of graph DATA d → ⊥) × AnyOf (λ arrow. elements_of graph arrow.1 d) arrows
+
+abbrev pub MainsFault : Graph → List Promised → (at : ℕ) → Rule → Thing → Type 0
+MainsFault graph promised at told d = AnyOf (λ one. (is_main (function_of one) ≡ true)
+    × ResultsFault graph (begins_at (function_of one)) one.promise.arrows.items at told d) promised
 
 -- the node holds the atom of this name alone
 pub record IsAtomNode (graph : Graph) (name : Name) (id : NodeId) : Type 0 where

@@ -1,5 +1,5 @@
 -- The sides of a test.
-use Rattle.std.specs.Prelude.{◌≡◌, Bool, true, false, Option, Some, None}
+use Rattle.std.specs.Prelude.{◌≡◌, ◌⊎◌, Bool, true, false, Option, Some, None}
 use Rattle.cd_sets.specs.declared.node_id.NodeId.{NodeId}
 use Rattle.cd_model.specs.Formula.{Graph}
 use Rattle.cd_model.specs.Thing.{Thing, IsElement}
@@ -27,6 +27,10 @@ truth_node base false = base.no
 abbrev pub AreApart : Set → Set → Type 0
 AreApart one other = (e : Thing) → IsElement e → one e → other e → ⊥
 
+-- some element is
+abbrev pub AreTogether : Set → Set → Type 0
+AreTogether one other = (e : Thing) × IsElement e × one e × other e
+
 abbrev pub IfSome : Option NodeId → (NodeId → Type 0) → Type 0
 IfSome None fact = Unit {0}
 IfSome (Some id) fact = fact id
@@ -35,6 +39,14 @@ IfSome (Some id) fact = fact id
 abbrev pub HoldsSome : (old new : Graph) → Option NodeId → NodeId → Type 0
 HoldsSome old new None id = Unit {0}
 HoldsSome old new (Some other) id = elements_of old other ⊆ elements_of new id
+
+-- what is in a node that is there
+abbrev pub IsInSome : Graph → Option NodeId → Set
+IsInSome graph None e = ⊥
+IsInSome graph (Some id) e = elements_of graph id e
+
+abbrev pub IsInEither : Graph → (one other : Option NodeId) → Set
+IsInEither graph one other e = IsInSome graph one e ⊎ IsInSome graph other e
 
 -- what is tested may have the value of a node, or no element is in both
 abbrev pub MaySkip : Graph → (tested value : NodeId) → Option NodeId → Type 0

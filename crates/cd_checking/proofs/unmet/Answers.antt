@@ -1,14 +1,15 @@
-use Rattle.std.proofs.Common.{ap, subst, ◌≡◌, ◌∙◌}
+use Rattle.std.proofs.Common.{ap, refl, subst, sym, ◌≡◌, ◌∙◌}
 use Rattle.std.specs.Prelude.{IfOk, encode_utf8_all}
 use Rattle.cd_model.specs.Canonical.{canonical}
 use Rattle.cd_elements.specs.Table.{element_at}
 use Rattle.cd_empty.specs.Seen.{table_of}
-use Rattle.cd_operators.specs.RuleTexts.{text_of}
+use Rattle.cd_typing.specs.RuleTexts.{text_of}
 use Rattle.cd_replies.specs.Message.{reply_of}
 use Rattle.cd_replies.specs.Reply.{ill_typed}
 use Rattle.cd_replies.proofs.Messages.{replies, encoded}
-use Rattle.cd_checking.specs.CheckAnswer.{TellsRule}
-use Rattle.cd_checking.specs.CheckAnswer as answer
+use Rattle.cd_check.specs.declared.fault.CheckError.{CheckError}
+use Rattle.cd_check.specs.declared.fault.CheckError.TheVariants.{IllTyped}
+use Rattle.cd_checking.specs.Inner.FaultSaid.{IsSaid}
 use Rattle.cd_checking.proofs.Programs.{element_is}
 use Rattle.cd_checking.proofs.unmet.Goals as goal
 
@@ -28,6 +29,7 @@ returns-in_ok-element-in-IllTyped c =
     let said = subst
     (λ element. IfOk c.ill_typed.result (λ message. reply_of message ≡ ill_typed file text fault.at (text_of fault.rule) element))
     element by_rule in
-    replies c.ill_typed.result (ill_typed file text fault.at (text_of fault.rule) (encode_utf8_all (canonical (element_at table fault.element))))
-    (TellsRule file text) said
-    (answer.unmet fault.at fault.rule (element_at table fault.element) (element_is table fault.element c.elements.ensures.sound named))
+    subst (λ (one : CheckError). IfOk c.ill_typed.result (λ message. IsSaid file text table one (reply_of message))) (sym c.in-IllTyped.is)
+    (replies c.ill_typed.result (ill_typed file text fault.at (text_of fault.rule) (encode_utf8_all (canonical (element_at table fault.element))))
+    (IsSaid file text table (IllTyped fault)) said
+    (element_is table fault.element c.elements.ensures.sound named, refl))

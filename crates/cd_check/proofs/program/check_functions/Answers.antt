@@ -7,6 +7,9 @@ use Rattle.cd_check.specs.Inner.Ready.{scope_of, declarations_of, names_seen, se
 use Rattle.cd_check.proofs.After.{after_both}
 use Rattle.cd_check.proofs.FunctionsPromised.{promise_kept_earlier, promise_later}
 use Rattle.cd_check.proofs.NextOne.{one_left, one_shown}
+use Rattle.std.proofs.lemmas.Result.{err_from_is_err_and}
+use Rattle.cd_empty.specs.Seen.{table_of}
+use Rattle.cd_check.proofs.ToldOfOne.{function_told}
 use Rattle.cd_check.proofs.program.check_functions.Goals as goal
 
 pub check_promise-requires-clause-promise : goal.check_promise-requires-clause-promise
@@ -35,3 +38,11 @@ loop-one-preserved c =
           (promise_kept_earlier (scope_of base) old now so_far.0.later c.requires.ready.sound (seen_by base []) c.requires.ready.nodes one
           promised.0 c.in_ok-check_promise.ensures.kept) so_far.3,
     )
+
+pub returns-in_err-check_promise-clause-fault : goal.returns-in_err-check_promise-clause-fault
+returns-in_err-check_promise-clause-fault c =
+    let is = err_from_is_err_and c.from_residual.result c.from_residual.ensures.1 in
+    let base = c.args.base.now in
+    rw (is.1, is.2) (function_told c.args.promised.now c.loop-one.one-index c.one-item.result c.one-item.is c.loop-one-test.true
+    (table_of c.check_promise.new.world) c.in_err-check_promise.field-0.0 (scope_of base) (graph_of c.args.world.now) (graph_of c.loop-one.world)
+    c.loop-one.invariant.0.later c.requires.ready.sound (seen_by base []) c.requires.ready.nodes function_of c.in_err-check_promise.ensures.fault)

@@ -13,6 +13,11 @@ use Rattle.cd_check.specs.Inner.Ready.{declarations_of, scope_of}
 use Rattle.cd_check.proofs.FunctionsPromised.{types_sound, signatures_by, nodes_declared, wholes_below, whole_of, promised_on}
 use Rattle.cd_check.proofs.FunctionsPromised.{have_arrows, all_sound, checked_typed}
 use Rattle.cd_check.proofs.ReadyLater.{later_of, named_later}
+use Rattle.std.proofs.lemmas.Result.{err_from_is_err_and}
+use Rattle.cd_empty.specs.Seen.{table_of}
+use Rattle.cd_check.specs.Faults.{Reports}
+use Rattle.cd_check.specs.Inner.Programs.{MainsFault}
+use Rattle.cd_check.proofs.ProgramFails.{functions_fail, main_fails}
 use Rattle.cd_check.proofs.program.check_types.Goals as goal
 use Rattle.cd_check.proofs.program.check_types.Goals.{After-as_slice-3}
 
@@ -93,3 +98,30 @@ returns-clause-typed c =
     (promised known) checked.kept
     (subst (λ (all : List Promised). AllOf (MainGives last) all) (c.as_slice-4.ensures.value ∙ sym c.as_slice-3.ensures.value)
     c.in_ok-check_main.ensures.main)
+
+-- what the checks report is a fault of the program
+pub returns-in_err-check_functions-clause-fault : goal.returns-in_err-check_functions-clause-fault
+returns-in_err-check_functions-clause-fault c =
+    let is = err_from_is_err_and c.from_residual-in_err-check_functions.result c.from_residual-in_err-check_functions.ensures.1 in
+    let base = c.in_ok-base.base in
+    let ready = c.in_ok-base.ensures.ready in
+    let known = (goal.at.returns-in_err-check_functions-clause-fault c).After-as_slice-3 in
+    rw (is.1, is.2) (functions_fail (plain_program c.args.program.now) base (same_types known) c.as_slice-3.result.now (same_functions known)
+    (same_names known) (same_ids known) c.requires.well_made (graph_of c.base_of.new.world) ready.more ready.begins ready.sound (promised known)
+    (table_of c.check_functions.new.world) c.in_err-check_functions.field-0.0 c.in_err-check_functions.ensures.fault)
+
+pub returns-in_err-check_main-clause-fault : goal.returns-in_err-check_main-clause-fault
+returns-in_err-check_main-clause-fault c =
+    let is = err_from_is_err_and c.from_residual-in_err-check_main.result c.from_residual-in_err-check_main.ensures.1 in
+    let base = c.in_ok-base.base in
+    let after = c.in_ok-check_functions.ensures.after in
+    let last = graph_of c.check_functions.new.world in
+    let table = table_of c.check_main.new.world in
+    let error = c.in_err-check_main.field-0.0 in
+    let known = (goal.at.returns-in_err-check_main-clause-fault c).After-as_slice-3 in
+    rw (is.1, is.2) (main_fails (plain_program c.args.program.now) base (same_types known) c.as_slice-3.result.now (same_functions known)
+    (same_names known) (same_ids known) c.requires.well_made last after.ready.more after.ready.begins after.ready.sound
+    (promised_on (declarations_of base) base (graph_of c.base_of.new.world) last after.later c.in_ok-base.ensures.sound refl
+    c.as_slice-3.result.now c.as_slice-3.result.now refl (promised known)) table error
+    (subst (λ (all : List Promised). Reports table (MainsFault last all) error) (c.as_slice-4.ensures.value ∙ sym c.as_slice-3.ensures.value)
+    c.in_err-check_main.ensures.fault))

@@ -30,7 +30,7 @@ loop-sited-preserved c =
       all_sited_later old new is scope sites so_far.3,
       subst (λ (comings : List Coming). ComeFurther new scope c.args.matched comings c.in_ok-rest.rest) (sym c.in_ok-push.ensures.items)
           (one_comes old new is so_far.0 scope c.args.matched c.loop-sited.rest c.in_ok-rest.rest c.loop-sited.comings.items so_far.2 sited _ refl refl
-          at step.node (step.all_left scope (sited_pattern sited) at.site) so_far.4),
+          at step.node (step.all_left scope (sited_pattern sited) at.site) (step.left scope (sited_pattern sited) at.site) so_far.4),
       joined_on coming_pattern c.loop-sited.comings.items c.push.new.self.items _ c.in_ok-push.ensures.items
           (sited_pattern sited) (map sited_pattern (drop index sites)) (map sited_pattern (drop (index + 1) sites))
           (at_item (λ (all : List Sited). map sited_pattern all) sites index sited c.sited-item.is c.loop-sited-test.true)

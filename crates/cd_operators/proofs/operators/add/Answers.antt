@@ -1,12 +1,19 @@
 use Rattle.std.proofs.Common.{◌+ℤ◌, ◌∙◌, inl, inr, subst}
+use Rattle.std.proofs.lemmas.Result.{err_from_is_err_and}
+use Rattle.cd_model.specs.BuiltIns.{INT}
 use Rattle.cd_model.specs.Formula.{Graph}
 use Rattle.cd_meaning.specs.Integers.{IsResultOf}
 use Rattle.cd_meaning.specs.Records.{IsMergeOf}
 use Rattle.cd_meaning.specs.Sets.{◌⊆◌, elements_of}
 use Rattle.cd_typing.specs.Operators.{AreIntegers}
+use Rattle.cd_typing.specs.Typ.{BuiltIn, In}
+use Rattle.cd_typing.specs.declared.rule.Rule.TheVariants as rule
 use Rattle.cd_empty.specs.Growth.{Grows}
-use Rattle.cd_empty.specs.Seen.{graph_of}
+use Rattle.cd_empty.specs.Seen.{graph_of, table_of}
 use Rattle.cd_empty.proofs.GrowingWorlds.{and_further}
+use Rattle.cd_operators.specs.Misfits.{IsMisfitOfBoth}
+use Rattle.cd_operators.proofs.Operated.{sums_least, merges_least}
+use Rattle.cd_operators.proofs.Refused.{misfit_of_plus}
 use Rattle.cd_operators.proofs.operators.add.Goals as goal
 use Rattle.cd_operators.proofs.operators.add.Goals.{After-sums}
 
@@ -22,6 +29,31 @@ returns-then-branch-clause-gives c =
           c.in_ok-are_records.ensures.graph c.in_ok-merged.ensures.has,
     )
 
+pub returns-then-branch-clause-least : goal.returns-then-branch-clause-least
+returns-then-branch-clause-least c wider other result first second gives e element inside =
+    let graph = graph_of c.args.world.now in
+    let one = elements_of graph c.args.first in
+    let two = elements_of graph c.args.second in
+    let only = subst (λ (g : Graph). elements_of (graph_of c.merged.new.world) c.in_ok-merged.field-0
+    ⊆ IsMergeOf (elements_of g c.args.first) (elements_of g c.args.second))
+    c.in_ok-are_records.ensures.graph c.in_ok-merged.ensures.only in
+    merges_least one two (In wider) (In other) (In result) first second gives
+    (c.in_ok-are_records.ensures.within c.if-branch.true).0 e element (only e element inside)
+
+-- one is neither a record beside a record nor an integer
+pub returns-in_err-integers-clause-misfit : goal.returns-in_err-integers-clause-misfit
+returns-in_err-integers-clause-misfit c =
+    let graph = graph_of c.args.world.now in
+    let table = table_of c.integers.new.world in
+    let stop = c.in_err-integers.field-0.0 in
+    let is = err_from_is_err_and c.from_residual-in_err-integers.result
+    c.from_residual-in_err-integers.ensures.1 in
+    rw (is.1, is.2)
+    (misfit_of_plus graph table c.args.first c.args.second
+    (c.in_ok-are_records.ensures.not_within c.if-branch.false) stop
+    (subst (λ (g : Graph). IsMisfitOfBoth g table c.args.first c.args.second (BuiltIn INT) rule.Operand stop)
+    c.in_ok-are_records.ensures.graph c.in_err-integers.ensures.misfit))
+
 -- two integers
 pub returns-clause-gives : goal.returns-clause-gives
 returns-clause-gives c =
@@ -36,6 +68,20 @@ returns-clause-gives c =
           (c.in_ok-integers.ensures.graph ∙ c.in_ok-are_records.ensures.graph)
           c.in_ok-sums.ensures.has,
     )
+
+pub returns-clause-least : goal.returns-clause-least
+returns-clause-least c wider other result first second gives e element inside =
+    let graph = graph_of c.args.world.now in
+    let one = elements_of graph c.args.first in
+    let two = elements_of graph c.args.second in
+    let same = c.in_ok-are_records.ensures.graph in
+    let integers = subst (λ (g : Graph). AreIntegers (elements_of g c.args.first)
+    (elements_of g c.args.second)) same c.in_ok-integers.ensures.within in
+    let only = subst (λ (g : Graph). elements_of (graph_of c.sums.new.world) c.in_ok-sums.field-0
+    ⊆ IsResultOf (λ a b. a +ℤ b) (elements_of g c.args.first) (elements_of g c.args.second))
+    (c.in_ok-integers.ensures.graph ∙ same) c.in_ok-sums.ensures.only in
+    sums_least one two (In wider) (In other) (In result) first second gives integers.0 e element
+    (only e element inside)
 
 has_grown : (c : After-sums) → Grows c.args.world.now c.sums.new.world
 has_grown c = and_further c.args.world.now c.are_records.new.world c.sums.new.world

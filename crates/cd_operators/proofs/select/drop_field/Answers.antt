@@ -8,7 +8,7 @@ use Rattle.cd_typing.specs.Typ.{BuiltIn}
 use Rattle.cd_typing.proofs.Subsets.{itself}
 use Rattle.cd_empty.specs.Seen.{graph_of, table_of}
 use Rattle.cd_operators.specs.declared.misfit.Side.TheVariants.{First}
-use Rattle.cd_operators.specs.declared.rule.Rule.TheVariants as rule
+use Rattle.cd_typing.specs.declared.rule.Rule.TheVariants as rule
 use Rattle.cd_operators.proofs.BuiltInNodes.{in_type, type_in_node}
 use Rattle.cd_operators.proofs.Refused.{misfit_before}
 use Rattle.cd_operators.proofs.select.drop_field.Goals as goal
@@ -35,3 +35,8 @@ returns-clause-gives c = subst (λ (g : Graph). IsRestOf c.args.label.now
     (elements_of g c.args.records)
     ⊆ elements_of (graph_of c.without.new.world) c.in_ok-without.field-0)
     c.in_ok-need.ensures.graph c.in_ok-without.ensures.has
+
+pub returns-clause-only : goal.returns-clause-only
+returns-clause-only c = subst (λ (g : Graph). elements_of (graph_of c.without.new.world) c.in_ok-without.field-0
+    ⊆ IsRestOf c.args.label.now (elements_of g c.args.records))
+    c.in_ok-need.ensures.graph c.in_ok-without.ensures.only

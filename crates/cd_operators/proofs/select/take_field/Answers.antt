@@ -6,13 +6,13 @@ use Rattle.cd_meaning.specs.Sets.{◌⊆◌, elements_of}
 use Rattle.cd_typing.specs.Later.{IsLater}
 use Rattle.cd_typing.proofs.Later.{later_in, earlier_in, below_later}
 use Rattle.cd_typing.proofs.Subsets.{through}
+use Rattle.cd_least.proofs.Monotone.{fields_grow}
 use Rattle.cd_empty.specs.Growth.{Grows}
 use Rattle.cd_empty.specs.Seen.{graph_of, table_of}
 use Rattle.cd_empty.proofs.GrowingWorlds.{and_further}
 use Rattle.cd_operators.specs.declared.misfit.Side.TheVariants.{First}
-use Rattle.cd_operators.specs.declared.rule.Rule.TheVariants as rule
+use Rattle.cd_typing.specs.declared.rule.Rule.TheVariants as rule
 use Rattle.cd_operators.proofs.LaterWorlds.{is_later}
-use Rattle.cd_operators.proofs.OpenRecords.{fields_within}
 use Rattle.cd_operators.proofs.Refused.{misfit_before}
 use Rattle.cd_operators.proofs.select.take_field.Goals as goal
 use Rattle.cd_operators.proofs.select.take_field.Goals.{In_ok-needed, After-field}
@@ -67,10 +67,24 @@ returns-clause-gives c =
     let at = (goal.at.returns-clause-gives c).In_ok-needed in
     through (IsFieldOf label (elements_of graph c.args.records))
     (IsFieldOf label (elements_of longer c.args.records)) result
-    (fields_within label (elements_of graph c.args.records) (elements_of longer c.args.records)
+    (fields_grow label (elements_of graph c.args.records) (elements_of longer c.args.records)
     (later_in graph longer (later at) c.graph.ensures.sound c.args.records c.requires.records))
     (subst (λ (g : Graph). IsFieldOf label (elements_of g c.args.records) ⊆ result)
     c.in_ok-need.ensures.graph c.in_ok-field.ensures.has)
+
+pub returns-clause-only : goal.returns-clause-only
+returns-clause-only c =
+    let graph = graph_of c.args.world.now in
+    let longer = graph_of c.with_field.new.world in
+    let label = c.args.label.now in
+    let result = elements_of (graph_of c.field.new.world) c.in_ok-field.field-0 in
+    let at = (goal.at.returns-clause-only c).In_ok-needed in
+    through result (IsFieldOf label (elements_of longer c.args.records))
+    (IsFieldOf label (elements_of graph c.args.records))
+    (subst (λ (g : Graph). result ⊆ IsFieldOf label (elements_of g c.args.records))
+    c.in_ok-need.ensures.graph c.in_ok-field.ensures.only)
+    (fields_grow label (elements_of longer c.args.records) (elements_of graph c.args.records)
+    (earlier_in graph longer (later at) c.graph.ensures.sound c.args.records c.requires.records))
 
 has_grown : (c : After-field) → Grows c.args.world.now c.field.new.world
 has_grown c = and_further c.args.world.now c.with_field.new.world c.field.new.world

@@ -5,10 +5,12 @@ use Rattle.cd_program.specs.declared.operator.BuiltIn.{BuiltIn as Word}
 use Rattle.cd_program.specs.declared.operator.BuiltIn.TheVariants as word
 use Rattle.cd_meaning.specs.Sets.{elements_of}
 use Rattle.cd_typing.specs.Operators.{WordGives}
+use Rattle.cd_typing.specs.Typ.{In}
 use Rattle.cd_empty.specs.Seen.{graph_of, table_of}
 use Rattle.cd_operators.specs.declared.misfit.Side.TheVariants.{First}
 use Rattle.cd_operators.specs.Misfits.{IsMisfitOfWord}
-use Rattle.cd_operators.proofs.BuiltInNodes.{in_type, type_in_node, type_stays}
+use Rattle.cd_operators.proofs.BuiltInNodes.{in_type, type_in_node, type_stays, node_within}
+use Rattle.cd_operators.proofs.Operated.{empty_least}
 use Rattle.cd_operators.proofs.Refused.{misfit_of_word}
 use Rattle.cd_operators.proofs.word.call.Goals as goal
 
@@ -38,6 +40,12 @@ returns-in_ok-need-in-Not-clause-gives c =
           c.in_ok-need-in-Not.ensures.graph,
     )
 
+pub returns-in_ok-need-in-Not-clause-least : goal.returns-in_ok-need-in-Not-clause-least
+returns-in_ok-need-in-Not-clause-least c wider result fewer gives =
+    node_within (graph_of c.args.world.now) c.graph.ensures.built_in BOOL (lit< tt)
+    (graph_of c.need.new.world) c.in_ok-need-in-Not.ensures.graph (In result)
+    (subst (λ (one : Word). WordGives one (In wider) (In result)) c.in-Not.is gives).1
+
 -- `int_of`
 pub returns-in_err-need-in-IntOf-clause-misfit : goal.returns-in_err-need-in-IntOf-clause-misfit
 returns-in_err-need-in-IntOf-clause-misfit c =
@@ -63,6 +71,12 @@ returns-in_ok-need-in-IntOf-clause-gives c =
       type_stays graph begins INT (lit< tt) (graph_of c.need-in-IntOf.new.world)
           c.in_ok-need-in-IntOf.ensures.graph,
     )
+
+pub returns-in_ok-need-in-IntOf-clause-least : goal.returns-in_ok-need-in-IntOf-clause-least
+returns-in_ok-need-in-IntOf-clause-least c wider result fewer gives =
+    node_within (graph_of c.args.world.now) c.graph.ensures.built_in INT (lit< tt)
+    (graph_of c.need-in-IntOf.new.world) c.in_ok-need-in-IntOf.ensures.graph (In result)
+    (subst (λ (one : Word). WordGives one (In wider) (In result)) c.in-IntOf.is gives).1
 
 -- `string_of`
 pub returns-in_err-need-in-StringOf-clause-misfit : goal.returns-in_err-need-in-StringOf-clause-misfit
@@ -90,6 +104,12 @@ returns-in_ok-need-in-StringOf-clause-gives c =
           c.in_ok-need-in-StringOf.ensures.graph,
     )
 
+pub returns-in_ok-need-in-StringOf-clause-least : goal.returns-in_ok-need-in-StringOf-clause-least
+returns-in_ok-need-in-StringOf-clause-least c wider result fewer gives =
+    node_within (graph_of c.args.world.now) c.graph.ensures.built_in STRING (lit< tt)
+    (graph_of c.need-in-StringOf.new.world) c.in_ok-need-in-StringOf.ensures.graph (In result)
+    (subst (λ (one : Word). WordGives one (In wider) (In result)) c.in-StringOf.is gives).1
+
 -- `raise`
 pub returns-in_err-need-in-Raise-clause-misfit : goal.returns-in_err-need-in-Raise-clause-misfit
 returns-in_err-need-in-Raise-clause-misfit c =
@@ -112,3 +132,13 @@ returns-in_ok-need-in-Raise-clause-gives c =
     (elements_of (graph_of c.need-in-Raise.new.world) EMPTY)) (sym c.in-Raise.is)
     (in_type graph begins DATA (lit< tt) (elements_of graph c.args.operand)
     c.in_ok-need-in-Raise.ensures.within)
+
+pub returns-in_ok-need-in-Raise-clause-least : goal.returns-in_ok-need-in-Raise-clause-least
+returns-in_ok-need-in-Raise-clause-least c wider result fewer gives =
+    node_within (graph_of c.args.world.now) c.graph.ensures.built_in EMPTY (lit< tt)
+    (graph_of c.need-in-Raise.new.world) c.in_ok-need-in-Raise.ensures.graph (In result)
+    (empty_least (In result))
+
+-- `flatten`
+pub returns-in-Flatten-clause-least : goal.returns-in-Flatten-clause-least
+returns-in-Flatten-clause-least c = rw c.in-Flatten.is c.flatten.ensures.least

@@ -2,13 +2,14 @@ use Rattle.std.proofs.Common.{subst}
 use Rattle.cd_model.specs.Formula.{Graph}
 use Rattle.cd_meaning.specs.Sequences.{IsSequence, IsListOf, IsItemOf}
 use Rattle.cd_meaning.specs.Sets.{◌⊆◌, elements_of}
-use Rattle.cd_typing.specs.Typ.{typ}
+use Rattle.cd_typing.specs.Typ.{typ, In}
 use Rattle.cd_typing.proofs.Subsets.{through}
 use Rattle.cd_empty.specs.Growth.{Grows}
 use Rattle.cd_empty.specs.Seen.{graph_of}
 use Rattle.cd_empty.proofs.GrowingWorlds.{and_further}
 use Rattle.cd_operators.proofs.LaterWorlds.{is_type}
 use Rattle.cd_operators.proofs.ListsOfLists.{lists_of_lists}
+use Rattle.cd_operators.proofs.Operated.{flat_least}
 use Rattle.cd_operators.proofs.word.flatten.Goals as goal
 use Rattle.cd_operators.proofs.word.flatten.Goals.{After-items-2, After-list_of}
 
@@ -51,3 +52,14 @@ returns-clause-gives c =
           c.in_ok-need.ensures.graph c.in_ok-lists.ensures.has) c.in_ok-inner.ensures.has,
       c.in_ok-list_of.ensures.has,
     )
+
+pub returns-clause-least : goal.returns-clause-least
+returns-clause-least c wider result fewer gives =
+    let operand = elements_of (graph_of c.args.world.now) c.args.operand in
+    let lists = elements_of (graph_of c.items.new.world) c.in_ok-lists.lists in
+    let inner = elements_of (graph_of c.items-2.new.world) c.in_ok-inner.inner in
+    through (elements_of (graph_of c.list_of.new.world) c.in_ok-list_of.field-0) (IsListOf inner)
+    (In result) c.in_ok-list_of.ensures.only
+    (flat_least operand (In wider) lists inner (In result) fewer
+    (subst (λ (g : Graph). lists ⊆ IsItemOf (elements_of g c.args.operand))
+    c.in_ok-need.ensures.graph c.in_ok-lists.ensures.only) c.in_ok-inner.ensures.only gives)

@@ -1,6 +1,6 @@
 //! The rules of typing, and what is said where they are not met.
 ghost use Rattle.std.specs.Prelude.{◌≡◌};
-ghost use Rattle.cd_operators.specs.RuleTexts.{text_of};
+ghost use Rattle.cd_typing.specs.RuleTexts.{text_of};
 
 /// What an expression owes to a rule of typing.
 #[derive(Clone, Copy, PartialEq, Eq)]

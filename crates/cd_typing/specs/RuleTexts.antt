@@ -1,7 +1,7 @@
 -- What is said of a rule that is not met.
 use Rattle.std.specs.Prelude.{ℕ, List, codes}
-use Rattle.cd_operators.specs.declared.rule.Rule.{Rule}
-use Rattle.cd_operators.specs.declared.rule.Rule.TheVariants as rule
+use Rattle.cd_typing.specs.declared.rule.Rule.{Rule}
+use Rattle.cd_typing.specs.declared.rule.Rule.TheVariants as rule
 
 abbrev pub text_of : Rule → List ℕ
 text_of rule.Splice = codes "splice"

@@ -1,0 +1,2 @@
+pub mod SequencesFollowed
+pub mod FunctionsMapping
