@@ -30,7 +30,7 @@ pub enum Status {
     Naming,
     /// The typing rules do not type the program.
     IllTyped,
-    /// The command is not built.
+    /// Nothing answers this: it keeps the number of what was once not built.
     NotBuilt,
     /// The document is not of the input type.
     NotInput,

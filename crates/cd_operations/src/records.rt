@@ -29,21 +29,21 @@ use std::alloc::{AllocError, Global};
 pub fn put(
     alloc: Global,
     values: &mut Values,
-    record: ValueId,
+    whole: ValueId,
     label: &str,
     value: ValueId,
 ) -> Result<ValueId, AllocError>
-    requires record { record.0 < length (table values.old) }
+    requires whole { whole.0 < length (table values.old) }
     requires value { value.0 < length (table values.old) }
     requires label { IsLabel (chars label.now) }
     ensures is { let old = table values.old in
         IfOk result (λ id. IsAt (table values.new) id.0 (Record (fields.put (chars label.now)
-        (thing_at old value.0) (fields_of (thing_at old record.0))))) }
+        (thing_at old value.0) (fields_of (thing_at old whole.0))))) }
     ensures grows { Grows values.old values.new }
 {
     let number = values.label(label)?;
     let part = Part::of(number, value)?;
-    let made = merge(alloc, values, parts_at(values, record), &[part])?;
+    let made = merge(alloc, values, parts_at(values, whole), &[part])?;
     Ok(values.record_of(made.as_slice())?)
 }
 

@@ -8,7 +8,8 @@ use Rattle.cd_meaning.specs.Sequences.{IsSequence, IsListOf, IsJoinOf}
 use Rattle.cd_evaluation.specs.Lists.{both_items, all_items, listed}
 use Rattle.cd_evaluation.specs.Operations.{flattened}
 use Rattle.cd_safety.specs.Gives.{Gives}
-use Rattle.cd_safety.proofs.ItemsOfSequences.{items_of_sequence, followed_by_items, all_items_in}
+use Rattle.cd_meaning.proofs.SequencesFollowed.{items_of_sequence}
+use Rattle.cd_safety.proofs.ItemsOfSequences.{followed_by_items, all_items_in}
 
 pub joined_given : (first second : Set) → first ⊆ IsSequence → second ⊆ IsSequence → (d e : Thing) → IsElement d → IsElement e
     → first d → second e → Gives (IsJoinOf first second) (listed (both_items (items d) (items e)))
