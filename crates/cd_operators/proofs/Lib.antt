@@ -8,3 +8,6 @@ mod NodesKept
 mod ZeroAsked
 mod OpenRecords
 mod Operated
+mod OfIntervals
+mod OfSets
+mod ResultNodes

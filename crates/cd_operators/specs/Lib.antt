@@ -1,2 +1,3 @@
 pub mod Tools
 pub mod Misfits
+pub mod Inner

@@ -1,10 +1,14 @@
 //! The types of what operators give, and which operands they refuse.
 #![tactic(auto)]
 
+mod bound;
+mod combined;
 pub mod misfit;
 mod need;
+mod operation;
 mod operators;
 mod select;
+mod sums;
 pub mod tools;
 mod word;
 

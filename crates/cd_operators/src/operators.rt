@@ -13,6 +13,7 @@ ghost use Rattle.cd_operators.specs.Tools.{AreTools};
 
 use crate::misfit::{Misfit, Side, Stop};
 use crate::need::{need_both, outside};
+use crate::sums::{differences, sums};
 use crate::tools::Tools;
 use cd_empty::{Verdict, World};
 use cd_graph::built_in::{BOOL, DATA, INT, RECORD};
@@ -21,7 +22,6 @@ use cd_program::operator::Op;
 use cd_records::merged;
 use cd_sequences::joined;
 use cd_sets::node_id::NodeId;
-use cd_sums::{differences, sums};
 use cd_typing::rule::Rule;
 use std::alloc::{AllocError, Global};
 

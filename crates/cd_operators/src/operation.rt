@@ -1,5 +1,5 @@
 //! How integers are combined.
-ghost use Rattle.cd_sums.specs.Inner.Bounds.{IsBound, lowest, highest};
+ghost use Rattle.cd_operators.specs.Inner.Bounds.{IsBound, lowest, highest};
 
 use crate::bound::{Bound, difference, sum};
 

@@ -5,8 +5,8 @@ ghost use Rattle.cd_model.specs.Formula.{IsGraph};
 ghost use Rattle.cd_graph.specs.Nodes.{nodes};
 ghost use Rattle.cd_empty.specs.Growth.{Grows};
 ghost use Rattle.cd_empty.specs.Seen.{graph_of};
-ghost use Rattle.cd_sums.specs.Inner.Results.{AreIntegersOf, AreResults};
-ghost use Rattle.cd_sums.specs.Sums.{IsSumOf, IsDifferenceOf};
+ghost use Rattle.cd_operators.specs.Inner.Results.{AreIntegersOf, AreResults};
+ghost use Rattle.cd_operators.specs.Inner.Sums.{IsSumOf, IsDifferenceOf};
 
 use crate::combined::combined;
 use crate::operation::Operation;
@@ -26,7 +26,7 @@ use std::alloc::{AllocError, Global};
 /// # Errors
 ///
 /// Want of memory. The graph stays as it was.
-pub fn sums(
+pub(crate) fn sums(
     alloc: Global,
     world: &mut World,
     first: NodeId,
@@ -53,7 +53,7 @@ pub fn sums(
 /// # Errors
 ///
 /// Want of memory. The graph stays as it was.
-pub fn differences(
+pub(crate) fn differences(
     alloc: Global,
     world: &mut World,
     first: NodeId,

@@ -3,8 +3,8 @@ use Rattle.std.specs.Prelude.{◌≡◌, ◌↔◌, ◌≤ℤ◌, ℤ, true, Lis
 use Rattle.cd_sets.specs.declared.interval.Interval.{Interval}
 use Rattle.cd_sets.specs.Interval.{holds}
 use Rattle.cd_syntax.specs.Integer.{LEAST, GREATEST, IsInteger}
-use Rattle.cd_sums.specs.declared.operation.Operation.{Operation}
-use Rattle.cd_sums.specs.Inner.Bounds.{compute}
+use Rattle.cd_operators.specs.declared.operation.Operation.{Operation}
+use Rattle.cd_operators.specs.Inner.Bounds.{compute}
 
 -- bounds of an interval of integers, and the interval
 pub record IsPiece (bounds : ℤ × ℤ) : Type 0 where

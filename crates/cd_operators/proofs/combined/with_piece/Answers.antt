@@ -1,10 +1,10 @@
 use Rattle.std.proofs.Common.{◌∷◌, [], List, ℤ, pos, get_or, map, subst}
 use Rattle.std.proofs.lemmas.List.{take_all}
 use Rattle.cd_products.proofs.AtPlaces.{each_at}
-use Rattle.cd_sums.specs.Inner.Bounds.{lowest, highest}
-use Rattle.cd_sums.specs.Inner.Combined.{AreOfTwo, IsPiece, interval}
-use Rattle.cd_sums.proofs.OfSets.{none_first, one_and_one, with_more, same_place}
-use Rattle.cd_sums.proofs.combined.with_piece.Goals as goal
+use Rattle.cd_operators.specs.Inner.Bounds.{lowest, highest}
+use Rattle.cd_operators.specs.Inner.Combined.{AreOfTwo, IsPiece, interval}
+use Rattle.cd_operators.proofs.OfSets.{none_first, one_and_one, with_more, same_place}
+use Rattle.cd_operators.proofs.combined.with_piece.Goals as goal
 
 pub loop-piece-init : goal.loop-piece-init
 loop-piece-init c = none_first c.args.operation (interval c.args.bounds ∷ []) c.empty-all.result

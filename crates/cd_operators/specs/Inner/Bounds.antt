@@ -1,10 +1,10 @@
 -- Results of integers, which may be below or above all integers of 128 bits.
 use Rattle.std.specs.Prelude.{◌≡◌, ℤ, ◌+ℤ◌, ◌-ℤ◌, ◌<ℤ◌}
 use Rattle.cd_syntax.specs.Integer.{LEAST, GREATEST}
-use Rattle.cd_sums.specs.declared.bound.Bound.{Bound}
-use Rattle.cd_sums.specs.declared.bound.Bound.TheVariants.{Below, At, Above}
-use Rattle.cd_sums.specs.declared.operation.Operation.{Operation}
-use Rattle.cd_sums.specs.declared.operation.Operation.TheVariants.{Sum, Difference}
+use Rattle.cd_operators.specs.declared.bound.Bound.{Bound}
+use Rattle.cd_operators.specs.declared.bound.Bound.TheVariants.{Below, At, Above}
+use Rattle.cd_operators.specs.declared.operation.Operation.{Operation}
+use Rattle.cd_operators.specs.declared.operation.Operation.TheVariants.{Sum, Difference}
 
 abbrev pub IsBound : ℤ → Bound → Type 0
 IsBound z Below = z <ℤ LEAST

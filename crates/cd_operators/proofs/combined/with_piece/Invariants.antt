@@ -1,6 +1,6 @@
 use Rattle.std.proofs.Common.{◌∷◌, [], map, take}
-use Rattle.cd_sums.specs.Inner.Combined.{AreOfTwo, interval}
-use Rattle.cd_sums.proofs.combined.with_piece.Given as goal
+use Rattle.cd_operators.specs.Inner.Combined.{AreOfTwo, interval}
+use Rattle.cd_operators.proofs.combined.with_piece.Given as goal
 
 -- the results for the first of these bounds
 abbrev pub invariant-loop-piece : goal.invariant-loop-piece

@@ -1,7 +1,7 @@
 use Rattle.std.proofs.Common.{◌≡◌, ◌-◌, ◌^◌, map, take, length}
 use Rattle.cd_model.specs.AllOf.{AllOf}
-use Rattle.cd_sums.specs.Inner.Combined.{IsPiece, interval}
-use Rattle.cd_sums.proofs.combined.pieces.Given as goal
+use Rattle.cd_operators.specs.Inner.Combined.{IsPiece, interval}
+use Rattle.cd_operators.proofs.combined.pieces.Given as goal
 
 -- the bounds so far are those of the first intervals
 abbrev pub invariant-loop-bounds : goal.invariant-loop-bounds

@@ -8,8 +8,8 @@ use Rattle.cd_model.specs.Formula.{Graph, IsIn}
 use Rattle.cd_model.specs.Thing.{Integer}
 use Rattle.cd_meaning.specs.Integers.{IsResultOf}
 use Rattle.cd_meaning.specs.Sets.{◌⊆◌, elements_of}
-use Rattle.cd_sums.specs.declared.operation.Operation.{Operation}
-use Rattle.cd_sums.specs.Inner.Bounds.{compute}
+use Rattle.cd_operators.specs.declared.operation.Operation.{Operation}
+use Rattle.cd_operators.specs.Inner.Bounds.{compute}
 
 abbrev pub AreIntegersOf : Graph → NodeId → List Interval → Type 0
 AreIntegersOf graph id set = (z : ℤ) → IsInteger z

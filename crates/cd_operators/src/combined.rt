@@ -2,7 +2,7 @@
 ghost use Rattle.std.specs.Prelude.{◌≡◌, ◌∷◌, [], map, IfOk};
 ghost use Rattle.cd_model.specs.AllOf.{AllOf};
 ghost use Rattle.cd_sets.specs.Rises.{IsRising};
-ghost use Rattle.cd_sums.specs.Inner.Combined.{AreOfTwo, IsPiece, interval};
+ghost use Rattle.cd_operators.specs.Inner.Combined.{AreOfTwo, IsPiece, interval};
 
 use crate::bound::between;
 use crate::operation::Operation;

@@ -3,9 +3,9 @@ use Rattle.std.proofs.Common.{◌≡◌, ℤ, ◌+ℤ◌, ◌-ℤ◌, ◌≤ℤ�
 use Rattle.std.proofs.Common.{arith}
 use Rattle.std.proofs.lemmas.Int.{ints}
 use Rattle.cd_sets.specs.Interval.{is_between}
-use Rattle.cd_sums.specs.declared.operation.Operation.{Operation}
-use Rattle.cd_sums.specs.declared.operation.Operation.TheVariants.{Sum, Difference}
-use Rattle.cd_sums.specs.Inner.Bounds.{compute, lowest, highest}
+use Rattle.cd_operators.specs.declared.operation.Operation.{Operation}
+use Rattle.cd_operators.specs.declared.operation.Operation.TheVariants.{Sum, Difference}
+use Rattle.cd_operators.specs.Inner.Bounds.{compute, lowest, highest}
 
 -- from the one bound to the other
 pub between_is : (low high z : ℤ) → is_between low high z ≡ true → (low ≤ℤ z) × (z ≤ℤ high)

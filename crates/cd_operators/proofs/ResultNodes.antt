@@ -18,10 +18,10 @@ use Rattle.cd_rules.specs.BasicSets.{question_passes, integer_test}
 use Rattle.cd_rules.specs.Needs.{question}
 use Rattle.cd_rules.proofs.BasicSetsExact.{integers_exact}
 use Rattle.cd_compact.specs.Keeping.{HoldSame}
-use Rattle.cd_sums.specs.declared.operation.Operation.{Operation}
-use Rattle.cd_sums.specs.Inner.Bounds.{compute}
-use Rattle.cd_sums.specs.Inner.Combined.{AreOfTwo}
-use Rattle.cd_sums.specs.Inner.Results.{AreIntegersOf, AreResults}
+use Rattle.cd_operators.specs.declared.operation.Operation.{Operation}
+use Rattle.cd_operators.specs.Inner.Bounds.{compute}
+use Rattle.cd_operators.specs.Inner.Combined.{AreOfTwo}
+use Rattle.cd_operators.specs.Inner.Results.{AreIntegersOf, AreResults}
 
 -- the formula that is put in alone
 at_end : (graph : Graph) (f : Formula) → formula_at (graph ++ f ∷ []) (node (length graph)) ≡ f

@@ -2,9 +2,9 @@ use Rattle.std.proofs.Common.{◌≡◌, ℕ, length, sym, subst, ◌∙◌}
 use Rattle.std.specs.List.{slice_get}
 use Rattle.std.specs.Option.{option_map}
 use Rattle.cd_sets.specs.Interval.{bounds_of}
-use Rattle.cd_sums.proofs.OfSets.{read_more, read_all, pieces_more}
-use Rattle.cd_sums.proofs.combined.pieces.Goals as goal
-use Rattle.cd_sums.proofs.combined.pieces.Goals.{After-piece}
+use Rattle.cd_operators.proofs.OfSets.{read_more, read_all, pieces_more}
+use Rattle.cd_operators.proofs.combined.pieces.Goals as goal
+use Rattle.cd_operators.proofs.combined.pieces.Goals.{After-piece}
 
 -- the interval that is read has the number of those so far
 read : (c : After-piece)

@@ -1,8 +1,8 @@
 use Rattle.std.proofs.Common.{List, ℤ, pos, get_or, map, subst}
 use Rattle.std.proofs.lemmas.List.{take_all}
-use Rattle.cd_sums.specs.Inner.Combined.{AreOfTwo, interval}
-use Rattle.cd_sums.proofs.OfSets.{none_second, of_more, same_place}
-use Rattle.cd_sums.proofs.combined.of_pieces.Goals as goal
+use Rattle.cd_operators.specs.Inner.Combined.{AreOfTwo, interval}
+use Rattle.cd_operators.proofs.OfSets.{none_second, of_more, same_place}
+use Rattle.cd_operators.proofs.combined.of_pieces.Goals as goal
 
 pub loop-bounds-init : goal.loop-bounds-init
 loop-bounds-init c = none_second c.args.operation (map interval c.args.first.now)

@@ -13,10 +13,10 @@ use Rattle.cd_sets.specs.Interval.{holds, is_between, bounds_of}
 use Rattle.cd_sets.specs.Rises.{Rises, IsRising}
 use Rattle.cd_sets.proofs.Rising.{holds_append, rises_bounds}
 use Rattle.cd_syntax.specs.Integer.{LEAST, GREATEST, IsInteger}
-use Rattle.cd_sums.specs.declared.operation.Operation.{Operation}
-use Rattle.cd_sums.specs.Inner.Bounds.{lowest, highest}
-use Rattle.cd_sums.specs.Inner.Combined.{IsPiece, interval, AreOfTwo}
-use Rattle.cd_sums.proofs.OfIntervals.{between_is, is_in, result_between, between_is_result}
+use Rattle.cd_operators.specs.declared.operation.Operation.{Operation}
+use Rattle.cd_operators.specs.Inner.Bounds.{lowest, highest}
+use Rattle.cd_operators.specs.Inner.Combined.{IsPiece, interval, AreOfTwo}
+use Rattle.cd_operators.proofs.OfIntervals.{between_is, is_in, result_between, between_is_result}
 
 -- each interval of a set is one
 piece_from : (from : ℤ) (xs : List Interval) (to : ℤ) (k : ℕ) (x : Interval) → Rises from xs to

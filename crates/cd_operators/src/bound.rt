@@ -2,7 +2,7 @@
 ghost use Rattle.std.specs.Prelude.{◌≡◌, ◌+ℤ◌, ◌-ℤ◌, ℤ, IfOk};
 ghost use Rattle.cd_sets.specs.Interval.{holds, is_between};
 ghost use Rattle.cd_syntax.specs.Integer.{IsInteger};
-ghost use Rattle.cd_sums.specs.Inner.Bounds.{IsBound};
+ghost use Rattle.cd_operators.specs.Inner.Bounds.{IsBound};
 
 use cd_sets::int_set::IntSet;
 use std::alloc::{AllocError, Global};

@@ -1,3 +1,0 @@
-mod OfIntervals
-mod OfSets
-mod ResultNodes
