@@ -1,12 +1,12 @@
 -- Branches that are kept to each arrow of an interface, where the function's own name has its type.
-use Rattle.std.proofs.Common.{◌≡◌, ◌<◌, List, [], ◌∷◌, length, Option, Some, None, refl}
+use Rattle.std.proofs.Common.{◌<◌, List, [], ◌∷◌, length, Option, Some, None, refl}
 use Rattle.cd_sets.specs.declared.node_id.NodeId.{NodeId}
 use Rattle.cd_syntax.specs.Name.{Name}
 use Rattle.cd_model.specs.AllOf.{AllOf}
 use Rattle.cd_model.specs.Formula.{Graph, IsGraph}
 use Rattle.cd_model.specs.Scope.{Scope}
 use Rattle.cd_program.specs.Expr.{Branches}
-use Rattle.cd_meaning.specs.Sets.{Set, ◌⊆◌, elements_of}
+use Rattle.cd_meaning.specs.Sets.{elements_of}
 use Rattle.cd_typing.specs.Branches.{Cover}
 use Rattle.cd_typing.specs.Later.{IsLater}
 use Rattle.cd_typing.specs.Typ.{Typ, In, Types, with_type}
@@ -14,7 +14,7 @@ use Rattle.cd_typing.specs.Typing.{BodiesHave}
 use Rattle.cd_typing.proofs.Later.{later_in, earlier_in, below_later}
 use Rattle.cd_typing.proofs.Widening.{bodies_have_more}
 use Rattle.cd_check.specs.Inner.Environment.{Nodes, AreOfTypes, AreNodesOf, AreSame, with_node}
-use Rattle.cd_check.specs.Inner.Promises.{Keep, KeepAll, ArePairs}
+use Rattle.cd_check.specs.Inner.Promises.{Keep, KeepAll}
 use Rattle.cd_check.proofs.BodiesTyped.{fewer_bodies}
 use Rattle.cd_check.proofs.Promises.{keep_same}
 use Rattle.cd_check.proofs.TypesLater.{types_later}

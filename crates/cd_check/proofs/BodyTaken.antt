@@ -4,7 +4,7 @@ use Rattle.cd_sets.specs.declared.node_id.NodeId.{NodeId}
 use Rattle.cd_model.specs.Formula.{Graph}
 use Rattle.cd_model.specs.Thing.{Thing}
 use Rattle.cd_program.specs.Expr.{Expr}
-use Rattle.cd_meaning.specs.Sets.{◌⊆◌, elements_of}
+use Rattle.cd_meaning.specs.Sets.{elements_of}
 use Rattle.cd_typing.specs.Branches.{HoldCaptured}
 use Rattle.cd_typing.specs.Later.{IsLater}
 use Rattle.cd_typing.specs.Typ.{Types}
@@ -31,7 +31,6 @@ use Rattle.cd_check.proofs.KnownTypes.{known}
 use Rattle.cd_check.proofs.OwnTypes.{own_of_types, are_types}
 use Rattle.cd_check.proofs.ReadyLater.{ready_later}
 use Rattle.cd_check.proofs.TypesLater.{types_later}
-use Rattle.cd_typing.specs.Typing.{Has}
 
 module _ (base : Base) (locals own all : Nodes) (same : all ≡ own ++ locals) (old : Graph) (ready : IsReady base old locals) (sited : Sited)
     (matched : NodeId) (middle : Graph) (is : IsLater old middle) (are : AreNodesOf middle own)

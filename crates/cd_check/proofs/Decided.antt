@@ -6,7 +6,7 @@ use Rattle.cd_syntax.specs.Name.{Name}
 use Rattle.cd_syntax.specs.TypeTree.{Tree}
 use Rattle.cd_model.specs.Formula.{Graph}
 use Rattle.cd_model.specs.Scope.{Scope}
-use Rattle.cd_model.specs.Thing.{Thing, IsElement}
+use Rattle.cd_model.specs.Thing.{IsElement}
 use Rattle.cd_model.specs.Written.{in_written}
 use Rattle.cd_matching.specs.Captures.{Captures}
 use Rattle.cd_matching.specs.Takes.{WrittenTakes}
@@ -14,7 +14,7 @@ use Rattle.cd_matching.specs.Variables.{binds}
 use Rattle.cd_matching.specs.WrittenPattern.{pattern_of}
 use Rattle.cd_matching.proofs.CapturedVariables.{something_answers}
 use Rattle.cd_variables.specs.Occurrences.{Occurrence, has, bound}
-use Rattle.cd_names.specs.ProgramFaults.{is_seen, names_of}
+use Rattle.cd_names.specs.ProgramFaults.{is_seen}
 use Rattle.cd_sites.proofs.WrittenTaken.{answered, takes_answered}
 use Rattle.cd_sites.specs.Sites.{IsSite}
 use Rattle.cd_sites.specs.declared.site.Site.{Site}

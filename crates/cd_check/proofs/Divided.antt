@@ -3,7 +3,6 @@ use Rattle.std.proofs.Common.{◌≡◌, ◌<◌, ap, sym, subst, ◌⊎◌, inl
 use Rattle.cd_sets.specs.declared.node_id.NodeId.{NodeId}
 use Rattle.cd_syntax.specs.Name.{Name}
 use Rattle.cd_syntax.specs.TypeTree.{Tree}
-use Rattle.cd_model.specs.AllOf.{AllOf}
 use Rattle.cd_model.specs.Formula.{Graph, IsGraph}
 use Rattle.cd_model.specs.Scope.{Scope}
 use Rattle.cd_model.specs.Thing.{Thing, IsElement}
@@ -22,7 +21,7 @@ use Rattle.cd_sites.specs.declared.site.Site.{Site}
 use Rattle.cd_sites.specs.TakenElements.{left_of}
 use Rattle.cd_check.specs.declared.sites.Coming.{Coming}
 use Rattle.cd_check.specs.declared.sites.Sited.{Sited}
-use Rattle.cd_check.specs.Inner.Bodies.{Decides, Leaves}
+use Rattle.cd_check.specs.Inner.Bodies.{Decides}
 use Rattle.cd_check.specs.Inner.Divided.{IsSited, AreSited, Come, coming_pattern, sited_pattern}
 use Rattle.cd_check.proofs.Decided.{site_decides}
 

@@ -1,5 +1,5 @@
 -- Forms with branches have types that hold what the bodies give.
-use Rattle.std.proofs.Common.{◌<◌, length, ◌⊎◌, inl, inr, List, [], ◌∷◌, ◌++◌, Option, Some, None}
+use Rattle.std.proofs.Common.{◌⊎◌, inl, inr, [], Some, None}
 use Rattle.cd_sets.specs.declared.node_id.NodeId.{NodeId}
 use Rattle.cd_syntax.specs.Name.{Name}
 use Rattle.cd_syntax.specs.TypeTree.{Tree}
@@ -12,12 +12,11 @@ use Rattle.cd_matching.specs.Takes.{WrittenTakes}
 use Rattle.cd_program.specs.Expr.{Expr, Branches, NoBranch, ABranch, Match, Try, Map, Transform, Let}
 use Rattle.cd_meaning.specs.Sets.{Set, ◌⊆◌, elements_of}
 use Rattle.cd_meaning.specs.Sequences.{IsListOf}
-use Rattle.cd_typing.specs.Typ.{typ, In, IsType, Types, AreTypes, BuiltIn}
-use Rattle.cd_typing.specs.Branches.{Cover, IsFirst, IsTaken, HoldCaptured}
+use Rattle.cd_typing.specs.Typ.{typ, IsType, Types, BuiltIn}
+use Rattle.cd_typing.specs.Branches.{Cover, IsTaken}
 use Rattle.cd_typing.specs.Later.{IsLater}
 use Rattle.cd_typing.specs.Typing.{Has, KindHas, BodiesHave}
 use Rattle.cd_typing.proofs.Later.{later_in}
-use Rattle.cd_typing.proofs.Subsets.{through}
 use Rattle.cd_typing.proofs.Widening.{widen, bodies_have_more}
 use Rattle.cd_check.specs.Inner.Environment.{Nodes, AreOfTypes, AreNodesOf, Gives}
 use Rattle.cd_check.specs.Inner.Bodies.{Decides, BodyGives}

@@ -5,14 +5,13 @@ use Rattle.cd_model.specs.Formula.{Graph, IsGraph}
 use Rattle.cd_model.specs.Scope.{Scope}
 use Rattle.cd_model.specs.Thing.{Thing}
 use Rattle.cd_program.specs.Expr.{Expr}
-use Rattle.cd_meaning.specs.Sets.{◌⊆◌, elements_of}
+use Rattle.cd_meaning.specs.Sets.{elements_of}
 use Rattle.cd_typing.proofs.Later.{earlier_in, type_later, has_later}
 use Rattle.cd_typing.proofs.Subsets.{through}
 use Rattle.cd_typing.specs.Later.{IsLater}
 use Rattle.cd_typing.specs.Typ.{Typ, typ, In, IsType, Types}
 use Rattle.cd_typing.specs.Typing.{Has}
 use Rattle.cd_typing.specs.declared.rule.Rule.{Rule}
-use Rattle.cd_least.specs.Least.{IsLeast}
 use Rattle.cd_check.proofs.TypesLater.{types_later}
 use Rattle.cd_check.specs.Faults.{Reports}
 use Rattle.cd_check.specs.Inner.Environment.{Nodes, AreOfTypes, AreNodesOf, Gives}

@@ -1,5 +1,5 @@
 -- One step of a loop over operands whose nodes are within all types that they have.
-use Rattle.std.proofs.Common.{◌≡◌, ◌<◌, ◌+◌, ℕ, List, [], ◌∷◌, ◌++◌, map, drop, length, get_or, sym, subst}
+use Rattle.std.proofs.Common.{◌≡◌, ◌<◌, ◌+◌, ℕ, List, [], ◌∷◌, ◌++◌, map, drop, length, get_or}
 use Rattle.cd_sets.specs.declared.node_id.NodeId.{NodeId}
 use Rattle.cd_model.specs.Formula.{Graph, IsGraph}
 use Rattle.cd_model.specs.Scope.{Scope}
@@ -9,29 +9,15 @@ use Rattle.cd_program.specs.declared.expr.Expr.{Expr as CodeExpr}
 use Rattle.cd_program.specs.declared.expr.Item.{Item as CodeItem}
 use Rattle.cd_program.specs.declared.expr.FieldExpr.{FieldExpr as CodeField}
 use Rattle.cd_typing.specs.Later.{IsLater}
-use Rattle.cd_typing.specs.Typ.{Typ, Types}
 use Rattle.cd_typing.specs.Typing.{Has}
 use Rattle.cd_check.specs.Inner.Environment.{Nodes, AreNodesOf}
 use Rattle.cd_check.specs.Inner.GoingOn.{Steps, GoesOn}
 use Rattle.cd_check.specs.Inner.Known.{IsBelow}
-use Rattle.cd_check.proofs.Loops.{left_is}
 use Rattle.cd_check.proofs.OperandsLeast.{ExprsLeast, ItemsLeast, FieldsLeast, expr_least_steps, field_least_steps}
-use Rattle.cd_check.proofs.Walks.{goes_further}
+use Rattle.cd_check.proofs.Walks.{one_further}
 
 module _ (old : Graph) (sound : IsGraph old) (nodes : Nodes) (old_nodes : AreNodesOf old nodes) (graph new : Graph)
     (first : IsLater old graph) (is : IsLater graph new) where
-  -- one more of a list, whatever is known of its operands
-  pub one_further : {A X : Type 0} (have : Types → A → List Typ → Type 0) (of_items : List X → A) (all : A) (items : List X) (index : ℕ)
-      (item : X) → item ≡ get_or items index item → index < length items → (done ids : List NodeId)
-      → GoesOn have old nodes graph all (of_items (drop index items)) done
-      → Steps have graph nodes new (of_items (item ∷ drop (index + 1) items)) (of_items (drop (index + 1) items)) ids
-      → GoesOn have old nodes new all (of_items (drop (index + 1) items)) (done ++ ids)
-  one_further have of_items all items index item at within done ids before step =
-      goes_further have old nodes graph new first sound old_nodes is all (of_items (drop index items)) (of_items (drop (index + 1) items)) done
-      ids before
-      (subst (λ left. Steps have graph nodes new (of_items left) (of_items (drop (index + 1) items)) ids) (sym (left_is items index item at within))
-      step)
-
   module _ (scope : Scope) where
     pub least_expr : (all : Exprs) (items : List CodeExpr) (index : ℕ) (item : CodeExpr) → item ≡ get_or items index item
         → index < length items → (done : List NodeId) (id : NodeId)
@@ -39,7 +25,7 @@ module _ (old : Graph) (sound : IsGraph old) (nodes : Nodes) (old_nodes : AreNod
         → IsBelow graph nodes new (λ types t. Has scope types (plain item) t) id
         → GoesOn (ExprsLeast scope) old nodes new all (exprs_of (map plain (drop (index + 1) items))) (done ++ id ∷ [])
     least_expr all items index item at within done id before below least =
-        one_further (ExprsLeast scope) (λ items. exprs_of (map plain items)) all items index item at within done (id ∷ []) before
+        one_further old sound nodes old_nodes graph new first is (ExprsLeast scope) (λ items. exprs_of (map plain items)) all items index item at within done (id ∷ []) before
         (expr_least_steps scope graph nodes new is.sound (plain item) id below least (exprs_of (map plain (drop (index + 1) items))))
 
     pub least_item : (all : Items) (items : List CodeItem) (index : ℕ) (item : CodeItem) → item ≡ get_or items index item
@@ -48,7 +34,7 @@ module _ (old : Graph) (sound : IsGraph old) (nodes : Nodes) (old_nodes : AreNod
         → ((rest : Items) → Steps (ItemsLeast scope) graph nodes new (AnItem (plain_item item) rest) rest ids)
         → GoesOn (ItemsLeast scope) old nodes new all (items_of (map plain_item (drop (index + 1) items))) (done ++ ids)
     least_item all items index item at within done ids before steps =
-        one_further (ItemsLeast scope) (λ items. items_of (map plain_item items)) all items index item at within done ids before
+        one_further old sound nodes old_nodes graph new first is (ItemsLeast scope) (λ items. items_of (map plain_item items)) all items index item at within done ids before
         (steps (items_of (map plain_item (drop (index + 1) items))))
 
     pub least_field : (all : Fields) (items : List CodeField) (index : ℕ) (item : CodeField) → item ≡ get_or items index item
@@ -57,6 +43,6 @@ module _ (old : Graph) (sound : IsGraph old) (nodes : Nodes) (old_nodes : AreNod
         → IsBelow graph nodes new (λ types t. Has scope types (plain_field item).expr t) id
         → GoesOn (FieldsLeast scope) old nodes new all (fields_of (map plain_field (drop (index + 1) items))) (done ++ id ∷ [])
     least_field all items index item at within done id before below least =
-        one_further (FieldsLeast scope) (λ items. fields_of (map plain_field items)) all items index item at within done (id ∷ []) before
+        one_further old sound nodes old_nodes graph new first is (FieldsLeast scope) (λ items. fields_of (map plain_field items)) all items index item at within done (id ∷ []) before
         (field_least_steps scope graph nodes new is.sound (plain_field item).expr id below least (plain_field item).label (plain_field item).at
         (fields_of (map plain_field (drop (index + 1) items))))

@@ -1,5 +1,5 @@
 -- Sequences whose items are all in a set that holds each item of such sequences.
-use Rattle.std.proofs.Common.{◌≡◌, refl, inl, inr, List, [], ◌∷◌, Some}
+use Rattle.std.proofs.Common.{◌≡◌, refl, inl, inr, List, [], ◌∷◌}
 use Rattle.cd_model.specs.AllOf.{AllOf, AnyOf}
 use Rattle.cd_model.specs.Thing.{Thing}
 use Rattle.cd_meaning.specs.Sets.{Set, ◌⊆◌}

@@ -3,7 +3,7 @@ use Rattle.std.proofs.Common.{◌≡◌, ◌<◌, ◌+◌, ℕ, List, [], ◌∷
 use Rattle.cd_sets.specs.declared.node_id.NodeId.{NodeId}
 use Rattle.cd_model.specs.Formula.{Graph, IsGraph}
 use Rattle.cd_model.specs.Scope.{Scope}
-use Rattle.cd_program.specs.Expr.{Exprs, AnExpr, Items, AnItem, Fields, AField, Tails, ATail}
+use Rattle.cd_program.specs.Expr.{Exprs, AnExpr, Items, AnItem, Fields, Tails, ATail}
 use Rattle.cd_program.specs.Expr.{exprs_of, items_of, fields_of, tails_of}
 use Rattle.cd_program.specs.PlainExpr.{plain, plain_item, plain_field, plain_tail}
 use Rattle.cd_program.specs.declared.expr.Expr.{Expr as CodeExpr}
@@ -11,15 +11,15 @@ use Rattle.cd_program.specs.declared.expr.Item.{Item as CodeItem}
 use Rattle.cd_program.specs.declared.expr.FieldExpr.{FieldExpr as CodeField}
 use Rattle.cd_program.specs.declared.expr.Tail.{Tail as CodeTail}
 use Rattle.cd_typing.specs.Later.{IsLater}
-use Rattle.cd_typing.specs.Typ.{Typ, typ, IsType, Types}
+use Rattle.cd_typing.specs.Typ.{Typ, typ}
 use Rattle.cd_typing.specs.Typing.{Has, HaveAll, ItemsHave, FieldsHave, ArgumentsHave, TailsHave}
-use Rattle.cd_check.specs.Inner.Environment.{Nodes, AreOfTypes, AreNodesOf, Gives}
+use Rattle.cd_check.specs.Inner.Environment.{Nodes, AreNodesOf, Gives}
 use Rattle.cd_check.specs.Inner.Following.{Follows}
 use Rattle.cd_check.specs.Inner.GoingOn.{Steps, GoesOn, LeadsOn}
 use Rattle.cd_check.proofs.Loops.{left_is}
 use Rattle.cd_check.proofs.OperandsTyped.{expr_steps, field_steps}
 use Rattle.cd_check.proofs.TypesLater.{types_later}
-use Rattle.cd_check.proofs.Walks.{goes_further, leads_further}
+use Rattle.cd_check.proofs.Walks.{leads_further, one_further}
 
 module _ (scope : Scope) (old : Graph) (sound : IsGraph old) (nodes : Nodes) (old_nodes : AreNodesOf old nodes) (graph new : Graph)
     (first : IsLater old graph) (is : IsLater graph new) where
@@ -27,32 +27,29 @@ module _ (scope : Scope) (old : Graph) (sound : IsGraph old) (nodes : Nodes) (ol
       → (done : List NodeId) (id : NodeId) → GoesOn (HaveAll scope) old nodes graph all (exprs_of (map plain (drop index items))) done
       → Gives graph nodes new (λ types t. Has scope types (plain item) t) id
       → GoesOn (HaveAll scope) old nodes new all (exprs_of (map plain (drop (index + 1) items))) (done ++ id ∷ [])
-  one_expr all items index item at within done id before gives = let rest = exprs_of (map plain (drop (index + 1) items)) in
-      goes_further (HaveAll scope) old nodes graph new first sound old_nodes is all (exprs_of (map plain (drop index items))) rest done
+  one_expr all items index item at within done id before gives =
+      one_further old sound nodes old_nodes graph new first is (HaveAll scope) (λ items. exprs_of (map plain items)) all items index item at within done
       (id ∷ []) before
-      (subst (λ left. Steps (HaveAll scope) graph nodes new (exprs_of (map plain left)) rest (id ∷ [])) (sym (left_is items index item at within))
-      (expr_steps scope graph nodes new is.sound (plain item) id gives rest))
+      (expr_steps scope graph nodes new is.sound (plain item) id gives (exprs_of (map plain (drop (index + 1) items))))
 
   pub one_item : (all : Items) (items : List CodeItem) (index : ℕ) (item : CodeItem) → item ≡ get_or items index item → index < length items
       → (done ids : List NodeId) → GoesOn (ItemsHave scope) old nodes graph all (items_of (map plain_item (drop index items))) done
       → ((rest : Items) → Steps (ItemsHave scope) graph nodes new (AnItem (plain_item item) rest) rest ids)
       → GoesOn (ItemsHave scope) old nodes new all (items_of (map plain_item (drop (index + 1) items))) (done ++ ids)
-  one_item all items index item at within done ids before steps = let rest = items_of (map plain_item (drop (index + 1) items)) in
-      goes_further (ItemsHave scope) old nodes graph new first sound old_nodes is all (items_of (map plain_item (drop index items))) rest done
+  one_item all items index item at within done ids before steps =
+      one_further old sound nodes old_nodes graph new first is (ItemsHave scope) (λ items. items_of (map plain_item items)) all items index item at within done
       ids before
-      (subst (λ left. Steps (ItemsHave scope) graph nodes new (items_of (map plain_item left)) rest ids) (sym (left_is items index item at within))
-      (steps rest))
+      (steps (items_of (map plain_item (drop (index + 1) items))))
 
   pub one_field : (all : Fields) (items : List CodeField) (index : ℕ) (item : CodeField) → item ≡ get_or items index item → index < length items
       → (done : List NodeId) (id : NodeId) → GoesOn (FieldsHave scope) old nodes graph all (fields_of (map plain_field (drop index items))) done
       → Gives graph nodes new (λ types t. Has scope types (plain_field item).expr t) id
       → GoesOn (FieldsHave scope) old nodes new all (fields_of (map plain_field (drop (index + 1) items))) (done ++ id ∷ [])
-  one_field all items index item at within done id before gives = let rest = fields_of (map plain_field (drop (index + 1) items)) in
-      goes_further (FieldsHave scope) old nodes graph new first sound old_nodes is all (fields_of (map plain_field (drop index items))) rest done
+  one_field all items index item at within done id before gives =
+      one_further old sound nodes old_nodes graph new first is (FieldsHave scope) (λ items. fields_of (map plain_field items)) all items index item at within done
       (id ∷ []) before
-      (subst (λ left. Steps (FieldsHave scope) graph nodes new (fields_of (map plain_field left)) rest (id ∷ []))
-      (sym (left_is items index item at within))
-      (field_steps scope graph nodes new is.sound (plain_field item).expr id gives (plain_field item).label (plain_field item).at rest))
+      (field_steps scope graph nodes new is.sound (plain_field item).expr id gives (plain_field item).label (plain_field item).at
+      (fields_of (map plain_field (drop (index + 1) items))))
 
   module _ (start : Typ) (id result : NodeId) where
     pub one_argument : (all : Exprs) (items : List CodeExpr) (index : ℕ) (item : CodeExpr) → item ≡ get_or items index item

@@ -1,17 +1,16 @@
 -- An expression that is sound where some names are seen is sound where more are.
-use Rattle.std.proofs.Common.{◌≡◌, Bool, true, false, List, [], ◌∷◌, ◌++◌, ◌⊎◌, inl, inr, refl, ap, sym, ◌∙◌, bytes_eq, ◌||◌, Option, Some, None}
-use Rattle.std.specs.List.{list_any}
+use Rattle.std.proofs.Common.{◌≡◌, Bool, true, false, [], ◌∷◌, ◌++◌, ◌⊎◌, inl, inr, refl, sym, bytes_eq, ◌||◌, Option, Some, None}
 use Rattle.std.proofs.lemmas.Bool.{or_cases, true≢false}
 use Rattle.cd_syntax.specs.Name.{Name}
-use Rattle.cd_syntax.specs.TypeTree.{Tree, Declarations}
+use Rattle.cd_syntax.specs.TypeTree.{Declarations}
 use Rattle.cd_program.specs.Expr.{Expr, expr, Kind, Constant, Variable, Tuple, Sequence, Record, Xml}
 use Rattle.cd_program.specs.Expr.{Function, Apply, Match, Try, Map, Transform, Let, If, Chain, Call}
 use Rattle.cd_program.specs.Expr.{Exprs, NoExpr, AnExpr, Items, NoItem, AnItem, One, Splice, Run}
 use Rattle.cd_program.specs.Expr.{Fields, NoField, AField, Tails, NoTail, ATail, Operand, Without, Select}
-use Rattle.cd_program.specs.Expr.{Branches, NoBranch, ABranch, FunctionTree, function}
+use Rattle.cd_program.specs.Expr.{Branches, NoBranch, ABranch, function}
 use Rattle.cd_names.specs.ProgramFaults.{Seen, is_seen, names_of, with_name}
 use Rattle.cd_check.specs.Inner.SoundNames.{IsSound, KindIsSound, AreSound, ItemsAreSound, FieldsAreSound}
-use Rattle.cd_check.specs.Inner.SoundNames.{TailsAreSound, BranchesAreSound, FunctionIsSound}
+use Rattle.cd_check.specs.Inner.SoundNames.{TailsAreSound, BranchesAreSound}
 
 -- all that is seen here is seen there
 abbrev pub AllSeen : (seen more : Seen) → Type 0

@@ -1,5 +1,5 @@
 -- A name that is seen has a node.
-use Rattle.std.proofs.Common.{◌≡◌, ◌∙◌, ◌<◌, refl, sym, subst, Bool, true, false, List, [], ◌∷◌, ◌||◌, length, Option, Some, None, bytes_eq, if◌then◌else◌}
+use Rattle.std.proofs.Common.{◌≡◌, ◌<◌, sym, subst, Bool, true, false, [], ◌∷◌, ◌||◌, length, Option, Some, None, bytes_eq, if◌then◌else◌}
 use Rattle.std.proofs.lemmas.Bool.{true≢false}
 use Rattle.cd_sets.specs.declared.node_id.NodeId.{NodeId}
 use Rattle.cd_syntax.specs.Name.{Name}

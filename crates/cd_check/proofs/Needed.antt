@@ -1,5 +1,5 @@
 -- What is not within a node that is needed breaks a rule.
-use Rattle.std.proofs.Common.{◌≡◌, ◌∙◌, ℕ, List, subst, sym}
+use Rattle.std.proofs.Common.{◌≡◌, ◌∙◌, ℕ, List}
 use Rattle.cd_sets.specs.declared.node_id.NodeId.{NodeId}
 use Rattle.cd_model.specs.Formula.{Graph}
 use Rattle.cd_model.specs.Scope.{Scope}
@@ -9,7 +9,7 @@ use Rattle.cd_meaning.specs.Sets.{Set, ◌⊆◌, elements_of}
 use Rattle.cd_typing.specs.Typ.{Types}
 use Rattle.cd_typing.specs.declared.rule.Rule.{Rule}
 use Rattle.cd_least.specs.Faults.{Breaks}
-use Rattle.cd_least.specs.Misses.{HasSome, Misses, place_of}
+use Rattle.cd_least.specs.Misses.{Misses, place_of}
 use Rattle.cd_check.proofs.KnownTypes.{reports_more}
 use Rattle.cd_check.specs.Inner.Environment.{Nodes, AreOfTypes}
 use Rattle.cd_check.specs.Inner.Known.{IsKnown, Fails, IsOutside}

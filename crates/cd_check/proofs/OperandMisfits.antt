@@ -31,6 +31,7 @@ use Rattle.cd_check.specs.Inner.Known.{IsKnown, Fails}
 use Rattle.cd_check.specs.Inner.Sides.{IsMet}
 use Rattle.cd_check.specs.Inner.Stopped.{place_at, placed_at}
 use Rattle.cd_check.proofs.Needed.{known_misses}
+use Rattle.cd_check.proofs.StopsPlaced.{one_place}
 
 -- what is missed is of the table
 both_named : (graph : Graph) (table : List Thing) (self id : NodeId) (needed : Set) (told : Rule) (misfit : Misfit)
@@ -149,10 +150,6 @@ module _ (scope : Scope) (old : Graph) (nodes : Nodes) (graph : Graph) (table : 
   operand_fails first second self id known_first known_second at e_at stands e_stands is met stop.Memory fits = tt
 
   -- and of one that takes fields
-  one_place : (which : Side) (at : ℕ) → place_at which at at ≡ at
-  one_place side.First at = refl
-  one_place side.Second at = refl
-
   pub without_fails : (f : Expr) (self : NodeId) → IsKnown old nodes scope graph f self → (at : ℕ) → at ≡ place_of f → (label : Name)
       → (stopped : Stop) → IsMisfitOf graph table side.First self (BuiltIn RECORD) rule.Record stopped
       → Fails old nodes table (λ types at told d. TailFault scope types f (Without label) at told d) (placed_at stopped at at)

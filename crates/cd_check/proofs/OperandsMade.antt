@@ -1,5 +1,5 @@
 -- What is made of operands whose types are known.
-use Rattle.std.proofs.Common.{◌<◌, lit<}
+use Rattle.std.proofs.Common.{lit<}
 use Rattle.cd_sets.specs.declared.node_id.NodeId.{NodeId}
 use Rattle.cd_model.specs.BuiltIns.{ATOM, RECORD, BOOL}
 use Rattle.cd_model.specs.Formula.{Graph, IsGraph}

@@ -1,5 +1,5 @@
 -- The body of a branch sees the names that its pattern binds, and the branches of a function its name.
-use Rattle.std.proofs.Common.{◌≡◌, ◌∙◌, Bool, refl, ap, sym, subst, ◌⊎◌, inl, inr, true, false, List, [], ◌∷◌, ◌++◌, ◌||◌, map, Option, Some, None, bytes_eq, if◌then◌else◌}
+use Rattle.std.proofs.Common.{◌≡◌, ◌∙◌, Bool, refl, ap, sym, subst, ◌⊎◌, inl, inr, true, false, [], ◌∷◌, ◌++◌, ◌||◌, map, Option, Some, None, bytes_eq, if◌then◌else◌}
 use Rattle.std.proofs.lemmas.Bool.{true≢false}
 use Rattle.std.proofs.lemmas.List.{map-append}
 use Rattle.cd_sets.specs.declared.node_id.NodeId.{NodeId}
@@ -12,7 +12,7 @@ use Rattle.cd_matching.specs.Captures.{Captures}
 use Rattle.cd_program.specs.Expr.{Expr}
 use Rattle.cd_meaning.specs.Sets.{Set}
 use Rattle.cd_names.specs.ProgramFaults.{Seen, is_seen, names_of, with_name}
-use Rattle.cd_typing.specs.Typ.{Typ, typ, Types, type_at}
+use Rattle.cd_typing.specs.Typ.{Typ, typ, type_at}
 use Rattle.cd_typing.specs.Branches.{IsFirst, HoldCaptured, FitsOne}
 use Rattle.cd_sites.specs.CapturedTypes.{types_of}
 use Rattle.cd_check.specs.Inner.Divided.{CaptureAll}

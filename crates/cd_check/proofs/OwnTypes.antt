@@ -1,19 +1,18 @@
 -- The types of the variables of a pattern, before those that were seen outside.
-use Rattle.std.proofs.Common.{◌≡◌, ◌<◌, List, [], ◌∷◌, ◌++◌, Some, map, length, refl}
+use Rattle.std.proofs.Common.{◌≡◌, [], ◌∷◌, ◌++◌, Some, refl}
 use Rattle.cd_sets.specs.declared.node_id.NodeId.{NodeId}
-use Rattle.cd_syntax.specs.Name.{Name}
 use Rattle.cd_syntax.specs.TypeTree.{Tree}
 use Rattle.cd_model.specs.BuiltIns.{built_ins}
 use Rattle.cd_model.specs.Formula.{Graph, IsGraph}
 use Rattle.cd_model.specs.Scope.{Scope}
 use Rattle.cd_program.specs.Expr.{Expr}
-use Rattle.cd_meaning.specs.Sets.{Set, ◌⊆◌, elements_of}
-use Rattle.cd_typing.specs.Typ.{Typ, typ, In, IsType, Types, AreTypes}
+use Rattle.cd_meaning.specs.Sets.{Set, elements_of}
+use Rattle.cd_typing.specs.Typ.{Types, AreTypes}
 use Rattle.cd_typing.specs.Branches.{HoldCaptured}
 use Rattle.cd_typing.specs.Typing.{Has}
 use Rattle.cd_typing.proofs.Subsets.{itself}
 use Rattle.cd_sites.specs.CapturedTypes.{types_of}
-use Rattle.cd_check.specs.Inner.Environment.{Nodes, AreOfTypes, AreNodesOf, AreSame, Gives}
+use Rattle.cd_check.specs.Inner.Environment.{Nodes, AreOfTypes, AreNodesOf, Gives}
 use Rattle.cd_typing.specs.Later.{IsLater}
 use Rattle.cd_check.specs.Inner.Bodies.{BodyGives}
 use Rattle.cd_check.proofs.TypesLater.{types_later}

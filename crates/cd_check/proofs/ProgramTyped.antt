@@ -1,5 +1,5 @@
 -- A program whose functions keep what they promise has types.
-use Rattle.std.proofs.Common.{◌≡◌, ◌<◌, refl, subst, true, List, [], ◌∷◌, ◌++◌, map, length, codes, Option, Some, None, bytes_eq, lit<}
+use Rattle.std.proofs.Common.{◌≡◌, ◌<◌, refl, subst, true, List, [], ◌∷◌, ◌++◌, map, length, codes, Option, Some, None, lit<}
 use Rattle.std.proofs.lemmas.Slice.Eq.{bytes_eq-Decides}
 use Rattle.cd_sets.specs.declared.node_id.NodeId.{NodeId}
 use Rattle.cd_syntax.specs.Name.{Name}
@@ -13,7 +13,6 @@ use Rattle.cd_program.specs.WellMade.{HasName}
 use Rattle.cd_meaning.specs.Sets.{◌⊆◌, elements_of}
 use Rattle.cd_typing.specs.Typ.{typ, In, BuiltIn, Types}
 use Rattle.cd_typing.specs.Typed.{IsOfInterface, AreDeclared, GivesData, HasOwnType, IsTyped}
-use Rattle.cd_typing.specs.Typing.{FunctionHas}
 use Rattle.cd_typing.proofs.BuiltInSets.{node_within}
 use Rattle.cd_typing.proofs.Subsets.{itself, through}
 use Rattle.cd_check.specs.Inner.Environment.{Nodes, AreOfTypes, declared}

@@ -1,24 +1,24 @@
 -- What is promised in a graph is promised in each longer one.
-use Rattle.std.proofs.Common.{◌≡◌, ◌⊎◌, inl, inr, ◌<◌, List, [], ◌∷◌, ◌++◌, sym, subst, map, length}
+use Rattle.std.proofs.Common.{◌<◌, List, [], ◌∷◌, sym, subst, length}
 use Rattle.cd_sets.specs.declared.node_id.NodeId.{NodeId}
 use Rattle.cd_syntax.specs.TypeTree.{Tree}
 use Rattle.cd_model.specs.AllOf.{AllOf}
 use Rattle.cd_model.specs.Formula.{Graph, IsGraph}
 use Rattle.cd_model.specs.Scope.{Scope}
 use Rattle.cd_model.specs.StandsFor.{StandsFor}
-use Rattle.cd_model.specs.Thing.{Thing, IsElement, Function, Pairs, ArePairs as AreElementPairs}
+use Rattle.cd_model.specs.Thing.{IsElement, Pairs, ArePairs as AreElementPairs}
 use Rattle.cd_model.proofs.StandsKept.{stands_kept}
 use Rattle.cd_matching.specs.WrittenPattern.{in_scope}
 use Rattle.cd_program.specs.Expr.{Signature, FunctionTree, function}
-use Rattle.cd_meaning.specs.Sets.{Set, ◌⊆◌, elements_of}
+use Rattle.cd_meaning.specs.Sets.{◌⊆◌, elements_of}
 use Rattle.cd_meaning.specs.Functions.{MapsInto}
 use Rattle.cd_meaning.proofs.FunctionsMapping.{maps_same}
-use Rattle.cd_typing.specs.Typ.{Typ, typ, In, IsType}
-use Rattle.cd_typing.specs.Interfaces.{IsWritten, AreWritten, AllArrows, IsIntersection}
+use Rattle.cd_typing.specs.Typ.{In}
+use Rattle.cd_typing.specs.Interfaces.{AreWritten, AllArrows}
 use Rattle.cd_typing.proofs.Subsets.{through}
 use Rattle.cd_typing.specs.Later.{IsLater}
-use Rattle.cd_check.specs.Inner.Promises.{arrow_in, arrows_in, ArePairs, IsPromise, HasPromise}
-use Rattle.cd_typing.proofs.Later.{later_in, earlier_in, type_later, below_later}
+use Rattle.cd_check.specs.Inner.Promises.{arrows_in, ArePairs, IsPromise, HasPromise}
+use Rattle.cd_typing.proofs.Later.{later_in, earlier_in, type_later}
 
 module _ (graph later : Graph) (is : IsLater graph later) (sound : IsGraph graph) where
   pub in_later_arrows : (arrows : List (NodeId × NodeId)) → ArePairs graph arrows → AllArrows (arrows_in graph arrows) ⊆ AllArrows (arrows_in later arrows)

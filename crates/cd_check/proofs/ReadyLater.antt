@@ -1,11 +1,10 @@
 -- A graph that is ready for a check stays so as it grows.
-use Rattle.std.proofs.Common.{◌≡◌, ◌<◌, Bool, true, false, List, [], ◌∷◌, ◌++◌, sym, subst, ap, ◌∙◌, append_assoc, length}
+use Rattle.std.proofs.Common.{◌≡◌, Bool, true, false, [], ◌∷◌, ◌++◌, sym, subst, ap, ◌∙◌, append_assoc}
 use Rattle.cd_sets.specs.declared.node_id.NodeId.{NodeId}
 use Rattle.cd_model.specs.BuiltIns.{built_ins}
 use Rattle.cd_model.specs.Formula.{Graph, IsGraph}
 use Rattle.cd_resolve.specs.Named.{AreNamed, Names}
 use Rattle.cd_resolve.proofs.Kept.{names_kept}
-use Rattle.cd_meaning.specs.Sets.{elements_of}
 use Rattle.cd_meaning.specs.Sequences.{IsSequence, IsListOf}
 use Rattle.cd_typing.specs.Operators.{truth}
 use Rattle.cd_operators.specs.Tools.{AreTools, IsZero}

@@ -1,10 +1,10 @@
 -- The labels of a record expression that is sound, and how many types its fields have.
-use Rattle.std.proofs.Common.{◌≡◌, ◌≢◌, ◌∙◌, refl, ap, sym, true, false, suc, List, [], ◌∷◌, map, length, bytes_eq}
+use Rattle.std.proofs.Common.{◌≡◌, ◌≢◌, ◌∙◌, refl, ap, sym, suc, List, [], ◌∷◌, map, length}
 use Rattle.std.proofs.lemmas.Bool.{true≢false}
 use Rattle.std.proofs.lemmas.List.{length-map}
 use Rattle.std.proofs.lemmas.Slice.Eq.{bytes_eq-Decides}
 use Rattle.cd_sets.specs.declared.node_id.NodeId.{NodeId}
-use Rattle.cd_syntax.specs.Name.{Name, IsLabel}
+use Rattle.cd_syntax.specs.Name.{Name}
 use Rattle.cd_syntax.specs.TypeTree.{Declarations}
 use Rattle.cd_model.specs.AllOf.{AllOf}
 use Rattle.cd_model.specs.Formula.{Graph}

@@ -1,7 +1,6 @@
 -- What is sound of a list is sound at each place.
 use Rattle.std.proofs.Common.{◌≡◌, ℕ, zero, suc, ◌<◌, ◌++◌, List, [], ◌∷◌, map, length, get_or, sym, subst, arith}
 use Rattle.cd_syntax.specs.TypeTree.{Declarations}
-use Rattle.cd_syntax.specs.PlainTree.{plain as plain_tree}
 use Rattle.cd_program.specs.Expr.{exprs_of, items_of, fields_of, tails_of, branches_of}
 use Rattle.cd_program.specs.PlainExpr.{plain, plain_item, plain_field, plain_tail, plain_branch}
 use Rattle.cd_program.specs.declared.expr.Expr.{Expr as CodeExpr}

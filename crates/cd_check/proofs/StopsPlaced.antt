@@ -23,7 +23,7 @@ use Rattle.cd_check.specs.Inner.Known.{IsKnown, Fails}
 use Rattle.cd_check.specs.Inner.Stopped.{place_at, placed_at}
 
 -- both sides stand at one place
-one_place : (is : Side) (at : ℕ) → place_at is at at ≡ at
+pub one_place : (is : Side) (at : ℕ) → place_at is at at ≡ at
 one_place side.First at = refl
 one_place side.Second at = refl
 

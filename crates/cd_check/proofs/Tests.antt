@@ -12,7 +12,7 @@ use Rattle.cd_program.specs.Expr.{Expr, If, Operand}
 use Rattle.cd_meaning.specs.Sets.{Set, ◌⊆◌, elements_of}
 use Rattle.cd_typing.specs.Typ.{Typ, typ, In, IsType, Types, BuiltIn}
 use Rattle.cd_typing.specs.Later.{IsLater}
-use Rattle.cd_typing.specs.Operators.{truth, Skips, IsReached, Operates}
+use Rattle.cd_typing.specs.Operators.{truth}
 use Rattle.cd_typing.specs.Typing.{Has, KindHas, TailHas}
 use Rattle.cd_typing.proofs.Later.{later_in}
 use Rattle.cd_typing.proofs.Widening.{widen}

@@ -1,5 +1,5 @@
 -- Walks over lists of operands.
-use Rattle.std.proofs.Common.{List, [], ◌∷◌, ◌++◌, sym, subst, ap, ◌∙◌, map, append_assoc, append-nil}
+use Rattle.std.proofs.Common.{◌≡◌, ◌<◌, ◌+◌, ℕ, List, [], ◌∷◌, ◌++◌, sym, subst, ap, ◌∙◌, map, drop, length, get_or, append_assoc, append-nil}
 use Rattle.std.proofs.lemmas.List.{map-append}
 use Rattle.cd_sets.specs.declared.node_id.NodeId.{NodeId}
 use Rattle.cd_model.specs.Formula.{Graph, IsGraph}
@@ -8,6 +8,7 @@ use Rattle.cd_check.specs.Inner.Environment.{Nodes, AreOfTypes, AreNodes, AreNod
 use Rattle.cd_typing.specs.Later.{IsLater}
 use Rattle.cd_check.specs.Inner.GoingOn.{Steps, GoesOn, LeadsOn}
 use Rattle.cd_typing.proofs.Later.{later_still, below_later}
+use Rattle.cd_check.proofs.Loops.{left_is}
 use Rattle.cd_check.proofs.TypesLater.{types_later}
 
 pub nodes_later : (graph later : Graph) → IsLater graph later → (ids : List NodeId) → AreNodes graph ids → AreNodes later ids
@@ -48,3 +49,17 @@ module _ {A : Type 0} (have : Types → (self : Typ) → A → Typ → Type 0) (
     is_type = is_type;
     leads = λ types of t has. before.leads types of t (step types of t has);
   }
+
+module _ (old : Graph) (sound : IsGraph old) (nodes : Nodes) (old_nodes : AreNodesOf old nodes) (graph new : Graph)
+    (first : IsLater old graph) (is : IsLater graph new) where
+  -- a loop has gone over one more of a list, whatever is known of its operands
+  pub one_further : {A X : Type 0} (have : Types → A → List Typ → Type 0) (of_items : List X → A) (all : A) (items : List X) (index : ℕ)
+      (item : X) → item ≡ get_or items index item → index < length items → (done ids : List NodeId)
+      → GoesOn have old nodes graph all (of_items (drop index items)) done
+      → Steps have graph nodes new (of_items (item ∷ drop (index + 1) items)) (of_items (drop (index + 1) items)) ids
+      → GoesOn have old nodes new all (of_items (drop (index + 1) items)) (done ++ ids)
+  one_further have of_items all items index item at within done ids before step =
+      goes_further have old nodes graph new first sound old_nodes is all (of_items (drop index items)) (of_items (drop (index + 1) items)) done
+      ids before
+      (subst (λ left. Steps have graph nodes new (of_items left) (of_items (drop (index + 1) items)) ids) (sym (left_is items index item at within))
+      step)
