@@ -1,3 +1,4 @@
 pub mod CheckReplies
+pub mod FaultsUntyped
 mod Answering
 mod Programs

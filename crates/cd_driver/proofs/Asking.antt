@@ -1,5 +1,5 @@
 -- Words, the commands that they give, and numbers in decimal digits.
-use Rattle.std.proofs.Common.{◌≡◌, ℕ, ◌+◌, ◌*◌, ◌-◌, ◌<◌, ◌≤◌, true, List, [], ◌∷◌, length, get_or, Result, Ok, refl, inl, inr, arith, rules}
+use Rattle.std.proofs.Common.{◌≡◌, ℕ, ◌+◌, ◌*◌, ◌-◌, ◌<◌, ◌≤◌, true, List, [], ◌∷◌, length, get_or, Result, Ok, refl, sym, subst, ◌∙◌, inl, inr, arith, rules}
 use Rattle.std.specs.Prelude.{fold, codes, String, string_bytes}
 use Rattle.std.specs.Global.{Global}
 use Rattle.std.specs.Char.{is_ascii_digit}
@@ -8,8 +8,9 @@ use Rattle.std.specs.Str.Parse.{ParsesUnsigned}
 use Rattle.std.proofs.lemmas.Str.Parse.{IsNumeralModel, numerals_by_fold, digits_value_short, parse_gives}
 use Rattle.cd_syntax.specs.Digits.{AreDigits, decimal_value}
 use Rattle.cd_replies.specs.Bytes.{Bytes}
-use Rattle.cd_driver.specs.Command.{texts, Give, GiveRun, Check, Work, Member, SubTypes, UNITS}
-use Rattle.cd_driver.specs.Inner.Request.{GiveNotBuilt, WritesSize}
+use Rattle.cd_running.specs.RunAnswer.{UNITS}
+use Rattle.cd_driver.specs.Command.{texts, Give, GiveRun, Check, Work, Member, SubTypes, IsSize}
+use Rattle.cd_driver.specs.Inner.Request.{WritesSize}
 
 digits_model : IsNumeralModel (λ digits. list_all is_ascii_digit digits ≡ true) decimal_value
 digits_model = numerals_by_fold _ (search rules) (λ n digits. fold (λ m c. m * 10 + (c - 48)) n digits) (search rules)
@@ -30,7 +31,7 @@ parse_units word r parses are short =
     let small = digits_value_short digits_model word 18 are.0 short in
     parse_gives digits_model 64 word r parses are.0 (not_empty word are.1) (omega (arith, small))
 
--- words that give a command that is built
+-- words that give a command
 pub asks_sub_types : (name option a b c : Bytes) → name ≡ codes "sub" → option ≡ codes "--types"
     → Give (name ∷ option ∷ a ∷ b ∷ c ∷ []) (SubTypes a b c)
 asks_sub_types name option a b c is types = rw (is, types) refl
@@ -49,9 +50,8 @@ pub asks_run_steps : (name option a b c : Bytes) (units : ℕ) → name ≡ code
 asks_run_steps name option a b c units is steps digits short value =
     inr (a, rw (is, steps) refl, record { digits = digits; short = short; value = value })
 
--- and one that isn't
-pub asks_work : (name a : Bytes) → name ≡ codes "work" → WritesSize a → GiveNotBuilt (name ∷ a ∷ []) (codes "work")
-asks_work name a is size = (Work size.0, (a, rw is refl, size.1), λ disk reply says. says)
+pub asks_work : (name a : Bytes) (size : ℕ) → name ≡ codes "work" → WritesSize a → size ≡ decimal_value a → Give (name ∷ a ∷ []) (Work size)
+asks_work name a size is writes value = (a, rw is refl, subst (IsSize a) (writes.1.numeral.value ∙ sym value) writes.1)
 
 -- the texts of four words, and of five
 pub texts_four : (words : List (String Global)) (a b c d : String Global) (p q r s : Bytes) → 4 ≤ length words → length words < 5

@@ -5,25 +5,19 @@ use Rattle.std.specs.declared.alloc.AllocError.{AllocError}
 use Rattle.cd_base.specs.FilesState.{FilesState}
 use Rattle.cd_replies.specs.Bytes.{Bytes}
 use Rattle.cd_driver.specs.Command.{Command, Run, RunSteps, Give, GiveRun, HaveNoForm, files_of}
-use Rattle.cd_replies.specs.Reply.{usage, not_built}
+use Rattle.cd_replies.specs.Reply.{usage}
 use Rattle.cd_replies.specs.Disk.{unmarked, told_disk}
 use Rattle.cd_driver.specs.Answer.{Answer, AnswerOf}
 use Rattle.cd_replies.specs.Message.{IsAnswer, reply_of}
 use Rattle.cd_replies.specs.File.{ReadsThere, ReadsAmong}
 use Rattle.cd_driver.specs.FilesRead.{ReadsFilesOf}
 use Rattle.cd_running.specs.RunAnswer.{RunAnswer}
-use Rattle.cd_driver.specs.Inner.Request.{GiveNotBuilt}
 use Rattle.cd_replies.specs.declared.message.Message.{Message}
 
 pub answers_usage : (words : List Bytes) (files : FilesState) → HaveNoForm words → (r : Result Message AllocError) → IfOk r (λ message. reply_of message ≡ usage)
     → IsAnswer (λ disk. Answer words disk) files files r
 answers_usage words files none (Ok message) is = (told_disk files, unmarked refl, inl (none, is))
 answers_usage words files none (Err error) is = (told_disk files, unmarked refl, tt)
-
-pub answers_not_built : (words : List Bytes) (files : FilesState) (name : Bytes) → GiveNotBuilt words name
-    → (r : Result Message AllocError) → IfOk r (λ message. reply_of message ≡ not_built name) → IsAnswer (λ disk. Answer words disk) files files r
-answers_not_built words files name gives (Ok message) is = (told_disk files, unmarked refl, inr (gives.0, gives.1, gives.2 (told_disk files) (reply_of message) is))
-answers_not_built words files name gives (Err error) is = (told_disk files, unmarked refl, tt)
 
 -- a command that reads no file
 pub answers_at_once : (words : List Bytes) (files : FilesState) (command : Command) → Give words command

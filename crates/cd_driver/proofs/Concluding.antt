@@ -1,6 +1,6 @@
 -- From the put of a message to the theorem about the whole program.
-use Rattle.std.proofs.Common.{◌≡◌, ℕ, Bool, true, false, List, [], ◌++◌, Option, Some, None, refl, sym, ap, subst, inl, inr, ◌⊎◌, rules}
-use Rattle.std.specs.Prelude.{IsTrue, if◌then◌else◌, string_bytes, codes}
+use Rattle.std.proofs.Common.{◌≡◌, ℕ, Bool, true, false, List, [], Option, Some, None, refl, sym, ap, subst, inl, inr, ◌⊎◌, rules}
+use Rattle.std.specs.Prelude.{IsTrue, if◌then◌else◌, string_bytes}
 use Rattle.std.specs.Io.KnownBytes.{Appends}
 use Rattle.cd_base.specs.declared.status.Status.{Status}
 use Rattle.cd_base.specs.declared.status.Status.TheVariants.{NoMemory}
@@ -8,8 +8,8 @@ use Rattle.cd_base.specs.FilesState.{FilesState}
 use Rattle.cd_base.specs.SinkState.{SinkState, Puts}
 use Rattle.cd_syntax.specs.TypeTree.{NoDeclaration}
 use Rattle.cd_replies.specs.Bytes.{Bytes}
-use Rattle.cd_driver.specs.Command.{Command, Sub, SubTypes, Member, Check, Run, RunSteps, UNITS, name_of}
-use Rattle.cd_replies.specs.Reply.{Reply, not_built}
+use Rattle.cd_driver.specs.Command.{Command, Sub, SubTypes, Member, Check, Run, RunSteps, Work}
+use Rattle.cd_replies.specs.Reply.{Reply}
 use Rattle.cd_driver.specs.World.{World, world}
 use Rattle.cd_replies.specs.Disk.{Disk, Met, unmarked, marked}
 use Rattle.cd_driver.specs.Answer.{Answer, AnswerOf}
@@ -18,16 +18,15 @@ use Rattle.cd_driver.specs.Headline.{NothingFailed, IsAnswered, Headline, told_f
 use Rattle.cd_driver.specs.Inner.Telling.{Put, whole as put_whole, refused as put_refused, cut as put_cut}
 use Rattle.cd_replies.specs.declared.message.Message.{Message}
 use Rattle.cd_replies.specs.Message.{reply_of}
-use Rattle.cd_replies.proofs.Replies.{IsReply, line_some}
+use Rattle.cd_replies.proofs.Replies.{IsReply}
 use Rattle.cd_checking.proofs.CheckReplies.{check_is_reply}
 use Rattle.cd_member.proofs.MemberReplies.{member_is_reply}
 use Rattle.cd_running.proofs.RunReplies.{run_is_reply}
+use Rattle.cd_running.specs.RunAnswer.{UNITS}
 use Rattle.cd_sub.proofs.SubReplies.{sub_is_reply, sub_types_is_reply}
+use Rattle.cd_work.proofs.WorkReplies.{work_is_reply}
 
 -- each answer is a reply
-not_built_is_reply : (name : Bytes) (reply : Reply) → reply ≡ not_built name → IsReply reply
-not_built_is_reply name reply is = subst IsReply (sym is) (record { text = λ out err. line_some (name ++ codes ": not built") err; status = λ failed. cc })
-
 command_is_reply : (disk : Disk) (command : Command) (reply : Reply) → AnswerOf command disk reply → IsReply reply
 command_is_reply disk (Sub text1 text2) reply answers = sub_is_reply NoDeclaration text1 text2 reply answers
 command_is_reply disk (SubTypes file text1 text2) reply answers = sub_types_is_reply disk file text1 text2 reply answers
@@ -35,7 +34,7 @@ command_is_reply disk (Member file document text) reply answers = member_is_repl
 command_is_reply disk (Check file) reply answers = check_is_reply disk file reply answers
 command_is_reply disk (Run file document) reply answers = run_is_reply disk UNITS file document reply answers
 command_is_reply disk (RunSteps units file document) reply answers = run_is_reply disk units file document reply answers
-command_is_reply disk command reply is = not_built_is_reply (name_of command) reply is
+command_is_reply disk (Work size) reply answers = work_is_reply size reply answers
 
 pub answer_is_reply : (words : List Bytes) (disk : Disk) (reply : Reply) → Answer words disk reply → IsReply reply
 answer_is_reply words disk reply (inl none) = subst IsReply (sym none.1) (record { text = λ out err. cc; status = λ failed. cc })

@@ -3,9 +3,6 @@ mod Commands
 mod Concluding
 mod Causing
 mod OneCommand
-mod OneFault
-mod OneRefusal
-mod OneDocument
 mod OneStatus
 mod Reasoning
 mod NamedFiles

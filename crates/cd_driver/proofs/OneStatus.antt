@@ -1,21 +1,18 @@
 -- The words and the files decide the status of an answer.
-use Rattle.std.proofs.Common.{true, false, ◌≡◌, ◌≢◌, ◌⊎◌, ◌<◌, ◌≤◌, ℕ, List, [], ◌∷◌, Some, length, refl, sym, ap, subst, ◌∙◌, inl, inr, arith}
+use Rattle.std.proofs.Common.{◌≡◌, ◌<◌, ◌≤◌, ℕ, List, Some, length, refl, sym, ap, subst, ◌∙◌, inl, inr, arith}
 use Rattle.std.specs.Prelude.{codes}
 use Rattle.std.specs.Str.{IsUtf8, chars}
 use Rattle.cd_syntax.specs.TypeTree.{Declarations, NoDeclaration}
-use Rattle.cd_program.specs.Expr.{Program, Signature}
-use Rattle.cd_model.specs.AllOf.{AllOf, AnyOf}
+use Rattle.cd_program.specs.Expr.{Program}
+use Rattle.cd_model.specs.AllOf.{AllOf}
 use Rattle.cd_model.specs.Thing.{Thing, Closure, NoField, IsElement}
-use Rattle.cd_model.specs.Written.{Written, in_written}
+use Rattle.cd_model.specs.Written.{Written}
 use Rattle.cd_model.proofs.ApartAtWritten.{not_both}
 use Rattle.cd_replies.specs.Bytes.{Bytes}
-use Rattle.cd_base.specs.declared.status.Status.{Status}
-use Rattle.cd_base.specs.declared.status.Status.TheVariants.{IllTyped}
-use Rattle.cd_syntax.specs.declared.tokens.LexError.TheVariants.{Memory}
-use Rattle.cd_driver.specs.Command.{Command, Sub, SubTypes, Member, Check, Run, RunSteps, UNITS, Give, files_of, program_of}
-use Rattle.cd_replies.specs.Texts.{Against, Lexical, ReadsAs, Declares, ReadsAsProgram, RefusesType, RefusesDeclarations, RefusesProgram}
+use Rattle.cd_driver.specs.Command.{Command, Sub, SubTypes, Member, Check, Run, RunSteps, Work, files_of}
+use Rattle.cd_replies.specs.Texts.{Against, ReadsAs, Declares, ReadsAsProgram, RefusesType, RefusesDeclarations, RefusesProgram}
 use Rattle.cd_replies.specs.Within.{IsIn, IsOutside, IsWithin}
-use Rattle.cd_replies.specs.Reply.{Reply, refusal, not_input as no_input}
+use Rattle.cd_replies.specs.Reply.{Reply, refusal}
 use Rattle.cd_replies.specs.Disk.{Disk, Has, HasText, LARGEST, FileRefusal, unread, large, encoding, refused}
 use Rattle.cd_sub.specs.SubAnswer.{SubAnswer, yes, no, first_refused, second_refused}
 use Rattle.cd_sub.specs.SubAnswer.{SubTypesAnswer, file_refused, on_texts}
@@ -25,8 +22,8 @@ use Rattle.cd_replies.specs.Documents.{RefusesDocument, FileWrites, IsValueIn, I
 use Rattle.cd_member.specs.MemberAnswer as member
 use Rattle.cd_member.specs.MemberAnswer.{FileDeclares, DocumentAnswer, MemberAnswer}
 use Rattle.cd_checking.specs.CheckAnswer as checking
-use Rattle.cd_checking.specs.CheckAnswer.{CheckAnswer, FileHasProgram, ProgramAnswer, TellsFault, unmet}
-use Rattle.cd_least.proofs.ProgramRefuted.{program_refuted}
+use Rattle.cd_checking.specs.CheckAnswer.{CheckAnswer, FileHasProgram, ProgramAnswer, TellsFault}
+use Rattle.cd_checking.proofs.FaultsUntyped.{fault_status, fault_untyped}
 use Rattle.cd_typing.specs.Typed.{IsTyped}
 use Rattle.cd_evaluation.specs.Code.{place_of}
 use Rattle.cd_evaluation.specs.ProgramCode.{code_of}
@@ -37,13 +34,15 @@ use Rattle.cd_evaluation.proofs.OneResult.{one_meaning}
 use Rattle.cd_evaluation.proofs.ProgramTakes.{takes_once}
 use Rattle.cd_safety.specs.SafeProgram.{IsMain, ComesTo}
 use Rattle.cd_running.specs.Ending.{Tells, done, raised, overflow, spent}
-use Rattle.cd_running.specs.Input.{IsInput, IsNoInput, argument}
+use Rattle.cd_running.specs.Input.{IsInput, IsNoInput}
+use Rattle.cd_running.proofs.InputDecided.{in_or_none}
 use Rattle.cd_running.specs.RunAnswer as run
-use Rattle.cd_running.specs.RunAnswer.{FileHasTyped, Given, HasRun, RunAnswer}
+use Rattle.cd_running.specs.RunAnswer.{FileHasTyped, Given, HasRun, RunAnswer, UNITS}
+use Rattle.cd_work.specs.WorkAnswer.{WorkAnswer, worked}
 use Rattle.cd_driver.proofs.OneCommand.{one_command}
-use Rattle.cd_driver.proofs.OneRefusal.{one_type_refusal, one_declarations_refusal, reads_unrefused, declares_unrefused, reads_one, declares_one}
-use Rattle.cd_driver.proofs.OneRefusal.{one_program_refusal, program_unrefused, reads_one_program}
-use Rattle.cd_driver.proofs.OneDocument.{one_document_refusal, writes_unrefused, writes_one, value_not_both}
+use Rattle.cd_replies.proofs.OneRefusal.{one_type_refusal, one_declarations_refusal, reads_unrefused, declares_unrefused, reads_one, declares_one}
+use Rattle.cd_replies.proofs.OneRefusal.{one_program_refusal, program_unrefused, reads_one_program}
+use Rattle.cd_replies.proofs.OneDocument.{one_document_refusal, writes_unrefused, writes_one, value_not_both}
 
 -- no types are within each other and separated by an element
 not_within : (first second : Written) → IsWithin first second → (element : Thing) → IsElement element → IsIn element first → IsOutside element second → ⊥
@@ -77,13 +76,6 @@ module _ (declared : Declarations) (text1 text2 : Bytes) where
   sub_one _ _ (second_refused c c_is against stands) (no a b a_is b_is element is inside outside) = absurd (reads_unrefused declared text2 b b_is against stands)
   sub_one _ _ (second_refused c c_is against stands) (first_refused other stands') = absurd (reads_unrefused declared text1 c c_is other stands')
   sub_one _ _ (second_refused c c_is against stands) (second_refused a a_is other stands') = one_type_refusal declared (codes "T2") text2 against other stands stands'
-
--- a fault that is said has its status, and leaves the program without types
-fault_status : (file text : Bytes) (program : Program) (reply : Reply) → TellsFault file text program reply → reply.status ≡ IllTyped
-fault_status file text program _ (unmet place rule element fault exists) = refl
-
-pub fault_untyped : (file text : Bytes) (program : Program) (reply : Reply) → TellsFault file text program reply → IsTyped program → ⊥
-fault_untyped file text program _ (unmet place rule element fault exists) typed = program_refuted program place rule element fault typed
 
 -- a file that is known has one content at most
 one_content : (disk : Disk) (file : Bytes) → IsKnown disk file → (a b : Bytes) → Has disk file a → Has disk file b → a ≡ b
@@ -270,14 +262,6 @@ module _ (disk : Disk) (file document text : Bytes) (known : IsKnown disk file) 
       document_one disk document document_known type r s answers
       (subst (λ type. DocumentAnswer disk document type s) same answers')
 
--- a document is in an argument of `main`, or in none
-in_or_none : (program : Program) (v : Thing) (signatures : List Signature)
-    → AnyOf (λ signature. in_written v (argument program signature) true) signatures
-    → AllOf (λ signature. in_written v (argument program signature) false) signatures → ⊥
-in_or_none program v [] inside outside = inside
-in_or_none program v (signature ∷ rest) (inl inside) outside = not_both (argument program signature) v inside outside.0
-in_or_none program v (signature ∷ rest) (inr inside) outside = in_or_none program v rest inside outside.1
-
 -- an outcome is told in one way
 told_once : (outcome : Outcome) (r s : Reply) → Tells outcome r → Tells outcome s → r.status ≡ s.status
 told_once _ _ _ (done v) (done _) = refl
@@ -377,6 +361,10 @@ module _ (disk : Disk) (units : ℕ) (file document : Bytes)
       let same = result_same result result' has has' in
       told_once result.outcome r s tells (subst (λ result. Tells result.outcome s) (sym same) tells')
 
+-- work has one status
+work_one : (size : ℕ) (r s : Reply) → WorkAnswer size r → WorkAnswer size s → r.status ≡ s.status
+work_one size _ _ (worked used value affirmed runs answered) (worked used' value' affirmed' runs' answered') = refl
+
 -- a command and its files decide it
 command_decides : (disk : Disk) (command : Command) → AllOf (IsKnown disk) (files_of command)
     → (r s : Reply) → AnswerOf command disk r → AnswerOf command disk s → r.status ≡ s.status
@@ -389,7 +377,7 @@ command_decides disk (Run file document) known r s answers answers' =
     run_one disk UNITS file document known.0 known.1.0 r s answers answers'
 command_decides disk (RunSteps units file document) known r s answers answers' =
     run_one disk units file document known.0 known.1.0 r s answers answers'
-command_decides disk command known r s is is' = ap (λ reply. reply.status) (is ∙ sym is')
+command_decides disk (Work size) known r s answers answers' = work_one size r s answers answers'
 
 -- and so do the words
 pub one_status : (words : List Bytes) (disk : Disk) → FileIsKnown words disk

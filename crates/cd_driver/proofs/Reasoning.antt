@@ -9,12 +9,12 @@ use Rattle.cd_syntax.specs.declared.tokens.LexError.TheVariants.{Memory}
 use Rattle.cd_syntax.specs.TypeTree.{Declarations, NoDeclaration}
 use Rattle.cd_model.specs.Written.{Written}
 use Rattle.cd_replies.specs.Bytes.{Bytes}
-use Rattle.cd_driver.specs.Command.{Command, Sub, SubTypes, Member, Check, Run, RunSteps, Work, UNITS, Give, GiveRun, name_of}
+use Rattle.cd_driver.specs.Command.{Command, Sub, SubTypes, Member, Check, Run, RunSteps, Work, Give, GiveRun}
 use Rattle.cd_driver.specs.Command.{files_of, program_of}
 use Rattle.cd_model.specs.AllOf.{AnyOf}
 use Rattle.cd_model.specs.Thing.{Thing}
 use Rattle.cd_replies.specs.Texts.{Against, Lexical, ReadsAs, RefusesDeclarations, RefusesProgram}
-use Rattle.cd_replies.specs.Reply.{Reply, refusal, not_built}
+use Rattle.cd_replies.specs.Reply.{Reply, refusal}
 use Rattle.cd_driver.specs.World.{World}
 use Rattle.cd_replies.specs.Disk.{Disk, Met, HasText, unmarked, marked, FileRefusal, unread, large, encoding, refused}
 use Rattle.cd_sub.specs.SubAnswer.{SubAnswer, yes, no, first_refused, second_refused}
@@ -30,10 +30,11 @@ use Rattle.cd_evaluation.specs.Runs as outcome
 use Rattle.cd_evaluation.specs.Runs.{Outcome, Result}
 use Rattle.cd_running.specs.Ending.{Tells, done, raised, overflow, spent}
 use Rattle.cd_running.specs.RunAnswer as run
-use Rattle.cd_running.specs.RunAnswer.{HasRun, RunAnswer}
+use Rattle.cd_running.specs.RunAnswer.{HasRun, RunAnswer, UNITS}
+use Rattle.cd_work.specs.WorkAnswer.{WorkAnswer, worked}
 use Rattle.cd_driver.specs.Answer.{Answer, AnswerOf}
 use Rattle.cd_driver.specs.Causes.{IsCause, Cause}
-use Rattle.cd_driver.specs.Reasons.{GiveTexts, alone, with_file, StandsAgainst, in_file, in_first, in_second, CommandIsNotBuilt, Reason}
+use Rattle.cd_driver.specs.Reasons.{GiveTexts, alone, with_file, StandsAgainst, in_file, in_first, in_second, Reason}
 use Rattle.cd_driver.specs.Reasons.{NamesFile, AskRun, HasEnded, in_declarations, in_type, in_document, in_program, in_run}
 
 -- a file that is marked is the latest whose read failed
@@ -171,7 +172,7 @@ module _ (words : List Bytes) (disk : Disk) (before after : World) (met : Met be
 
     outcome_reason : (result : Result) → HasRun disk units file document result → (is : Outcome) → result.outcome ≡ is → (reply : Reply) → Tells is reply
         → Reason words before after reply.status
-    outcome_reason result has _ same _ (done v) = inr (inr (inr (ended (λ is. (v : Thing) × (is ≡ outcome.Done v)) result has (v, same))))
+    outcome_reason result has _ same _ (done v) = inr (inr (inr (inl (ended (λ is. (v : Thing) × (is ≡ outcome.Done v)) result has (v, same)))))
     outcome_reason result has _ same _ (raised v) = ended (λ is. (v : Thing) × (is ≡ outcome.Raised v)) result has (v, same)
     outcome_reason result has _ same _ overflow = ended (λ is. is ≡ outcome.Overflow) result has same
     outcome_reason result has _ same _ spent = ended (λ is. is ≡ outcome.Spent) result has same
@@ -194,11 +195,16 @@ module _ (words : List Bytes) (disk : Disk) (before after : World) (met : Met be
     }
     run_reason _ (run.ran result has reply tells) = outcome_reason result has result.outcome refl reply tells
 
-  unbuilt_reason : (command : Command) → Give words command → CommandIsNotBuilt command → (reply : Reply) → reply ≡ not_built (name_of command)
-      → Reason words before after reply.status
-  unbuilt_reason command give unbuilt reply is =
-      subst (λ reply. Reason words before after reply.status) (sym is)
-      (record { command = command; give = give; unbuilt = unbuilt })
+  work_reason : (size : ℕ) → Give words (Work size) → (reply : Reply) → WorkAnswer size reply → Reason words before after reply.status
+  work_reason size give _ (worked used value affirmed runs answered) = inr (inr (inr (inr (record {
+    size = size;
+    give = give;
+    used = used;
+    value = value;
+    runs = runs;
+    affirmed = affirmed;
+    answered = answered;
+  }))))
 
   command_reason : (command : Command) → Give words command → (reply : Reply) → AnswerOf command disk reply → Reason words before after reply.status
   command_reason (Sub text1 text2) give reply answers = sub_reason NoDeclaration text1 text2 (alone text1 text2 give) reply answers
@@ -209,7 +215,7 @@ module _ (words : List Bytes) (disk : Disk) (before after : World) (met : Met be
       run_reason UNITS file document (inl (give, refl)) (Run file document) give refl refl reply answers
   command_reason (RunSteps units file document) give reply answers =
       run_reason units file document (inr give) (RunSteps units file document) give refl refl reply answers
-  command_reason (Work size) give reply is = unbuilt_reason (Work size) give tt reply is
+  command_reason (Work size) give reply answers = work_reason size give reply answers
 
   answer_reason : (reply : Reply) → Answer words disk reply → Reason words before after reply.status
   answer_reason reply (inl none) = subst (λ reply. Reason words before after reply.status) (sym none.1) none.0

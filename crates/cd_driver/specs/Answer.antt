@@ -3,16 +3,17 @@ use Rattle.std.specs.Prelude.{◌≡◌, List, Some, ◌⊎◌}
 use Rattle.cd_syntax.specs.TypeTree.{NoDeclaration}
 use Rattle.cd_model.specs.AllOf.{AllOf}
 use Rattle.cd_replies.specs.Bytes.{Bytes}
-use Rattle.cd_driver.specs.Command.{Command, Sub, SubTypes, Member, Check, Give, HaveNoForm}
-use Rattle.cd_driver.specs.Command.{Run, RunSteps, UNITS, name_of, files_of}
-use Rattle.cd_replies.specs.Reply.{Reply, usage, not_built}
+use Rattle.cd_driver.specs.Command.{Command, Sub, SubTypes, Member, Check, Run, RunSteps, Work}
+use Rattle.cd_driver.specs.Command.{Give, HaveNoForm, files_of}
+use Rattle.cd_replies.specs.Reply.{Reply, usage}
 use Rattle.cd_replies.specs.Disk.{Disk}
 use Rattle.cd_checking.specs.CheckAnswer.{CheckAnswer}
 use Rattle.cd_member.specs.MemberAnswer.{MemberAnswer}
-use Rattle.cd_running.specs.RunAnswer.{RunAnswer}
+use Rattle.cd_running.specs.RunAnswer.{RunAnswer, UNITS}
 use Rattle.cd_sub.specs.SubAnswer.{SubAnswer, SubTypesAnswer}
+use Rattle.cd_work.specs.WorkAnswer.{WorkAnswer}
 
--- the answers to a command, where the files are these; of a command that isn't built, that
+-- the answers to a command, where the files are these
 abbrev pub AnswerOf : Command → Disk → Reply → Type 0
 AnswerOf (Sub text1 text2) disk reply = SubAnswer NoDeclaration text1 text2 reply
 AnswerOf (SubTypes file text1 text2) disk reply = SubTypesAnswer disk file text1 text2 reply
@@ -20,7 +21,7 @@ AnswerOf (Member file document text) disk reply = MemberAnswer disk file documen
 AnswerOf (Check file) disk reply = CheckAnswer disk file reply
 AnswerOf (Run file document) disk reply = RunAnswer disk UNITS file document reply
 AnswerOf (RunSteps units file document) disk reply = RunAnswer disk units file document reply
-AnswerOf command disk reply = reply ≡ not_built (name_of command)
+AnswerOf (Work size) disk reply = WorkAnswer size reply
 
 -- the answers to words: those that have no listed form get the usage line
 abbrev pub Answer : List Bytes → Disk → Reply → Type 0

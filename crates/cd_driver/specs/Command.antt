@@ -4,6 +4,7 @@ use Rattle.std.specs.Prelude.{Option, Some, None, string_bytes}
 use Rattle.std.specs.Global.{Global}
 use Rattle.cd_syntax.specs.Digits.{AreDigits, decimal_value}
 use Rattle.cd_replies.specs.Bytes.{Bytes}
+use Rattle.cd_running.specs.RunAnswer.{UNITS}
 
 -- the texts of words
 abbrev pub texts : List (String Global) → List Bytes
@@ -24,10 +25,6 @@ pub data Command : Type 0 where
   RunSteps : (units : ℕ) (file document : Bytes) → Command
   -- run the workload of this size
   Work : (size : ℕ) → Command
-
--- the units of a run whose words say nothing of them
-abbrev pub UNITS : ℕ
-UNITS = 1000000000
 
 -- the word is 1 to `most` decimal digits, which write this number
 pub record IsNumeral (most : ℕ) (word : Bytes) (number : ℕ) : Type 0 where
@@ -64,16 +61,6 @@ GiveRun words units file document = (Give words (Run file document) × (units �
 abbrev pub HaveNoForm : List Bytes → Type 0
 HaveNoForm words = (command : Command) → Give words command → ⊥
 
--- the first word of the words that give a command
-abbrev pub name_of : Command → Bytes
-name_of (Sub first second) = codes "sub"
-name_of (SubTypes file first second) = codes "sub"
-name_of (Member file document type) = codes "member"
-name_of (Check file) = codes "check"
-name_of (Run file document) = codes "run"
-name_of (RunSteps units file document) = codes "run"
-name_of (Work size) = codes "work"
-
 -- the file of the program that a command is about, if it is about one
 abbrev pub program_of : Command → Option Bytes
 program_of (Check file) = Some file
@@ -81,7 +68,7 @@ program_of (Run file document) = Some file
 program_of (RunSteps units file document) = Some file
 program_of command = None
 
--- the files that a command reads, in this order; one that isn't built reads none
+-- the files that a command reads, in this order
 abbrev pub files_of : Command → List Bytes
 files_of (SubTypes file first second) = file ∷ []
 files_of (Member file document type) = file ∷ document ∷ []

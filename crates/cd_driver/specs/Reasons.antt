@@ -28,6 +28,8 @@ use Rattle.cd_evaluation.specs.Runs as outcome
 use Rattle.cd_evaluation.specs.Runs.{Outcome, Result}
 use Rattle.cd_running.specs.Input.{IsNoInput}
 use Rattle.cd_running.specs.RunAnswer.{FileHasTyped, Given, HasRun}
+use Rattle.cd_work.specs.Queries.{Answered}
+use Rattle.cd_work.specs.WorkAnswer.{Runs}
 
 -- the words ask about two type texts, which see these declarations: none, or those of a file
 pub data GiveTexts (words : List Bytes) (disk : Disk) : Declarations → (text1 text2 : Bytes)
@@ -175,17 +177,6 @@ IsLarge bytes = LARGEST < length bytes
 abbrev pub IsNotText : Bytes → Type 0
 IsNotText bytes = (length bytes ≤ LARGEST) × (IsUtf8 bytes → ⊥)
 
--- the commands that aren't built
-abbrev pub CommandIsNotBuilt : Command → Type 0
-CommandIsNotBuilt (Work size) = Unit {0}
-CommandIsNotBuilt command = ⊥
-
--- the words give a command that isn't built
-pub record IsNotBuilt (words : List Bytes) : Type 0 where
-  pub command : Command
-  pub give : Give words command
-  pub unbuilt : CommandIsNotBuilt command
-
 -- the words' command is about the program of a file, which is this one, for the files that were
 -- met; its names are sound
 pub record AskProgram (words : List Bytes) (before after : World) (command : Command)
@@ -240,11 +231,22 @@ pub record IsNotTaken (words : List Bytes) (before after : World) : Type 0 where
   pub given : Given disk file document
   pub outside : IsNoInput given.program given.main given.value
 
--- the reason for each status; want of memory is free
+-- the words ask for the workload, whose run and whose queries have an answer
+pub record HasWorked (words : List Bytes) : Type 0 where
+  pub size : ℕ
+  pub give : Give words (Work size)
+  pub used : ℕ
+  pub value : Thing
+  pub runs : Runs size used value
+  pub affirmed : ℕ
+  pub answered : Answered size affirmed
+
+-- the reason for each status; want of memory is free, and one number stands for nothing
 abbrev pub Reason : List Bytes → World → World → Status → Type 0
 Reason words before after status.Done =
     IsYes words before after ⊎ (IsMember words before after ⊎ (IsWellTyped words before after
-    ⊎ HasEnded words before after (λ is. (v : Thing) × (is ≡ outcome.Done v))))
+    ⊎ (HasEnded words before after (λ is. (v : Thing) × (is ≡ outcome.Done v))
+    ⊎ HasWorked words)))
 Reason words before after status.No = IsNo words before after ⊎ IsNoMember words before after
 Reason words before after status.Usage = HaveNoForm words
 Reason words before after status.ReadFault = IsUnread words before after
@@ -257,7 +259,7 @@ Reason words before after status.Syntax = IsRefused words before after IsSyntax
 Reason words before after status.TooDeep = IsRefused words before after IsTooDeep
 Reason words before after status.Naming = IsRefused words before after IsNaming
 Reason words before after status.IllTyped = IsIllTyped words before after
-Reason words before after status.NotBuilt = IsNotBuilt words
+Reason words before after status.NotBuilt = ⊥
 Reason words before after status.NotInput = IsNotTaken words before after
 Reason words before after status.Uncaught =
     HasEnded words before after (λ is. (v : Thing) × (is ≡ outcome.Raised v))

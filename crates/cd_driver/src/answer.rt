@@ -8,9 +8,10 @@ use crate::request::{Request, request_of};
 use cd_base::files::Files;
 use cd_checking::check;
 use cd_member::member;
-use cd_replies::message::{Message, not_built, usage};
+use cd_replies::message::{Message, usage};
 use cd_running::run;
 use cd_sub::{sub, sub_types};
+use cd_work::work;
 use std::alloc::{AllocError, Global};
 
 /// The answer to words.
@@ -33,6 +34,6 @@ pub(crate) fn answer<F: Files>(
         Some(Request::Member(file, document, text)) => member(alloc, files, file, document, text),
         Some(Request::Check(file)) => check(alloc, files, file),
         Some(Request::Run(file, document, units)) => run(alloc, files, file, document, units),
-        Some(Request::NotBuilt(name)) => not_built(alloc, name),
+        Some(Request::Work(size)) => work(alloc, size),
     }
 }

@@ -20,8 +20,8 @@ pub(crate) enum Request<'a> {
     /// What the program of a file comes to on a document, with so many units: the names of the file
     /// and of the document.
     Run(&'a str, &'a str, u64),
-    /// A command with this first word, that is not built.
-    NotBuilt(&'static str),
+    /// The workload of this size.
+    Work(u32),
 }
 
 /// What the words ask for, where they have a listed form.
@@ -50,7 +50,7 @@ fn of_two<'a>(name: &str, word: &'a str) -> Option<Request<'a>>
 {
     match name {
         "check" => Some(Request::Check(word)),
-        "work" if is_size(word) => Some(Request::NotBuilt("work")),
+        "work" if is_size(word) => Some(Request::Work(number(word))),
         _ => None,
     }
 }

@@ -5,3 +5,6 @@ pub mod TwoFiles
 pub mod Replies
 pub mod TextReading
 pub mod DocumentsRead
+pub mod OneFault
+pub mod OneRefusal
+pub mod OneDocument

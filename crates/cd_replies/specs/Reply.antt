@@ -7,7 +7,6 @@ use Rattle.cd_base.specs.declared.status.Status.TheVariants.{Lexical as IsLexica
 use Rattle.cd_base.specs.declared.status.Status.TheVariants.{Syntax as IsSyntax}
 use Rattle.cd_base.specs.declared.status.Status.TheVariants.{TooDeep as IsTooDeep}
 use Rattle.cd_base.specs.declared.status.Status.TheVariants.{Naming as IsNaming}
-use Rattle.cd_base.specs.declared.status.Status.TheVariants.{NotBuilt as IsNotBuilt}
 use Rattle.cd_base.specs.declared.status.Status.TheVariants.{IllTyped as IsIllTyped, Done}
 use Rattle.cd_base.specs.declared.status.Status.TheVariants.{NotInput, Uncaught}
 use Rattle.cd_base.specs.declared.status.Status.TheVariants.{Overflow as IsOverflow}
@@ -46,10 +45,6 @@ abbrev pub usage : Reply
 usage = complains Usage
     (codes "usage: cduce sub [--types FILE] T1 T2, member FILE DOC T, check FILE, "
     ++ codes "run [--steps N] FILE DOC, work N")
-
--- a command that isn't built, by its first word
-abbrev pub not_built : Bytes → Reply
-not_built name = complains IsNotBuilt (name ++ codes ": not built")
 
 -- files that can't be read, that are too large, and that are UTF-8 just up to a byte
 abbrev pub cannot_read : Bytes → Reply

@@ -51,18 +51,6 @@ pub fn usage(alloc: Global) -> Result<Message, AllocError>
     Ok(complaint(Status::Usage, String::from_str(alloc, USAGE)?))
 }
 
-/// What is said of a command that is not built, by its first word.
-///
-/// # Errors
-///
-/// Want of memory.
-pub fn not_built(alloc: Global, name: &str) -> Result<Message, AllocError>
-    ensures { IfOk result (λ message. reply_of message ≡ reply.not_built name.now) }
-{
-    let text = format!(in alloc; "{name}: not built\n")?;
-    Ok(complaint(Status::NotBuilt, text))
-}
-
 fn cannot_read(alloc: Global, name: &str) -> Result<Message, AllocError>
     ensures { IfOk result (λ message. reply_of message ≡ reply.cannot_read name.now) }
 {

@@ -1,6 +1,8 @@
 pub mod RunReplies
+pub mod InputDecided
 mod FileRefused
-mod TypedPrograms
+pub mod TypedPrograms
+mod SafeRuns
 mod RunsAnswered
 mod DocumentsIn
 mod Literals

@@ -8,7 +8,7 @@ use Rattle.cd_typing.specs.Typed.{IsTyped}
 use Rattle.cd_replies.specs.Bytes.{Bytes}
 use Rattle.cd_replies.specs.Naming.{RefusesNames, naming}
 use Rattle.cd_replies.specs.Texts.{Against, ReadsAsProgram}
-use Rattle.cd_running.specs.Inner.TypedProgram.{IsTypedProgram}
+use Rattle.cd_running.specs.TypedProgram.{IsTypedProgram}
 
 pub typed_program : (text : Bytes) (program : Program) → ReadsAsProgram text program → IsWellMadeProgram program → IsTyped program
     → IsTypedProgram program

@@ -1,5 +1,4 @@
 -- What serves private functions. No public clause speaks of it.
-pub mod TypedProgram
 pub mod OnDocument
 pub mod Inputs
 pub mod ArrowsLeft

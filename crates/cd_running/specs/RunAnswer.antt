@@ -14,6 +14,10 @@ use Rattle.cd_checking.specs.CheckAnswer.{FileHasProgram, TellsFault}
 use Rattle.cd_running.specs.Ending.{Tells}
 use Rattle.cd_running.specs.Input.{IsInput, IsNoInput, IsSafeOn}
 
+-- the units of a run whose words say nothing of them
+abbrev pub UNITS : ℕ
+UNITS = 1000000000
+
 -- the file of this name has a text that reads as this program, and the typing rules type it
 pub record FileHasTyped (disk : Disk) (file : Bytes) (program : Program) : Type 0 where
   pub text : Bytes

@@ -16,7 +16,7 @@ ghost use Rattle.cd_evaluation.specs.ProgramFunctions.{all_functions};
 ghost use Rattle.cd_safety.specs.SafeProgram.{IsMain, IsDocument};
 ghost use Rattle.cd_running.specs.Inner.Inputs.{AnswersAsInput, AnswersAsArguments};
 ghost use Rattle.cd_running.specs.Inner.Inputs.{IsSoundSignature};
-ghost use Rattle.cd_running.specs.Inner.TypedProgram.{IsTypedProgram};
+ghost use Rattle.cd_running.specs.TypedProgram.{IsTypedProgram};
 
 use cd_asking::{Maps, is_in};
 use cd_cells::{ValueId, Values};

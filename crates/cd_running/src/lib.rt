@@ -12,25 +12,27 @@ ghost use Rattle.cd_replies.specs.Finishing.{Finishes};
 ghost use Rattle.cd_replies.specs.Message.{IsAnswer, reply_of};
 ghost use Rattle.cd_running.specs.RunAnswer.{RunAnswer};
 ghost use Rattle.cd_running.specs.Inner.OnDocument.{OnDocument, OnValue};
-ghost use Rattle.cd_running.specs.Inner.TypedProgram.{IsTypedProgram};
+ghost use Rattle.cd_running.specs.TypedProgram.{IsTypedProgram};
 
 use cd_base::files::Files;
-use cd_cells::Values;
+use cd_cells::{ValueId, Values};
 use cd_checking::no_types;
 use cd_program::program::Program;
 use cd_replies::document::read_document;
 use cd_replies::file::read_file;
-use cd_replies::message::{Message, no_text, refused};
+use cd_replies::message::{Message, no_text, not_input, refused};
 use cd_replies::reader::read_program;
-use given::Given;
-use on_value::on_value;
+use cd_safety::laws::typed_programs_have_main;
+use running::told;
 use std::alloc::{AllocError, Global};
 
-mod given;
 mod input;
 mod on_value;
 mod running;
 mod safety;
+
+pub use cd_machine::{Outcome, Ran};
+pub use on_value::run_on;
 
 /// What the program of a file comes to on the value of a document, with so many units: the value
 /// that its `main` gives, an exception that is not caught, an integer beyond 128 bits, or that more
@@ -116,13 +118,30 @@ fn of_text(
 {
     let mut values = Values::new(alloc);
     match read_document(alloc, &mut values, text)? {
-        Ok(value) => on_value(
-            alloc,
-            program,
-            &mut values,
-            Given { document, value },
-            units,
-        ),
+        Ok(value) => of_value(alloc, program, document, &mut values, value, units),
         Err(refusal) => refused(alloc, document, text, refusal),
+    }
+}
+
+// The answer on a document with this value.
+fn of_value(
+    alloc: Global,
+    program: &Program,
+    document: &str,
+    values: &mut Values,
+    value: ValueId,
+    units: u64,
+) -> Result<Message, AllocError>
+    requires typed { IsTypedProgram (plain_program program.now) }
+    requires value { value.0 < length (table values.old) }
+    requires document { IsDocument (thing_at (table values.old) value.0) }
+    ensures { IfOk result (λ message. OnValue (plain_program program.now) units document.now
+        (thing_at (table values.old) value.0) (reply_of message)) }
+{
+    // The contract of this call says that the program has a `main`.
+    typed_programs_have_main();
+    match run_on(alloc, program, values, value, units)? {
+        None => not_input(alloc, document),
+        Some(ran) => told(alloc, values, ran.outcome),
     }
 }

@@ -1,47 +1,53 @@
-//! What is said of a program with types on a value.
-ghost use Rattle.std.specs.Prelude.{◌≡◌, ◌<◌, length, IfOk};
+//! Runs of a program with types on a value.
+ghost use Rattle.std.specs.Prelude.{◌≡◌, ◌<◌, length, option_map, IfOk, IfSome};
 ghost use Rattle.cd_cells.specs.Cells.{thing_at};
 ghost use Rattle.cd_cells.specs.Table.{table, names as labels};
 ghost use Rattle.cd_code.specs.Compiled.{program_of, IsReady};
 ghost use Rattle.cd_empty.specs.Seen.{graph_of};
+ghost use Rattle.cd_machine.specs.PlainRan.{plain_ran, IsOutcome};
 ghost use Rattle.cd_program.specs.PlainProgram.{plain_program};
 ghost use Rattle.cd_resolve.specs.Named.{AreNamed, plain_names, declared_by};
-ghost use Rattle.cd_replies.specs.Message.{reply_of};
 ghost use Rattle.cd_safety.specs.SafeProgram.{IsDocument, IsSafeProgram};
-ghost use Rattle.cd_running.specs.Inner.OnDocument.{OnValue};
-ghost use Rattle.cd_running.specs.Inner.TypedProgram.{IsTypedProgram};
+ghost use Rattle.cd_running.specs.RunsOn.{RunsOn};
+ghost use Rattle.cd_running.specs.TypedProgram.{IsTypedProgram};
 
-use crate::given::Given;
 use crate::input::is_input;
-use crate::running::told;
 use crate::safety::typed_programs_are_safe;
-use cd_cells::Values;
+use cd_cells::{ValueId, Values};
 use cd_code::{Code, compile};
 use cd_constants::constants_are_elements;
 use cd_empty::World;
+use cd_machine::{Ran, run};
 use cd_program::program::Program;
-use cd_replies::message::{Message, not_input};
 use cd_replies::naming::declare;
 use cd_resolve::Names;
 use cd_safety::laws::typed_programs_have_main;
 use std::alloc::{AllocError, Global};
 
-/// What is said of a program on a value, with so many units.
-pub(crate) fn on_value(
+/// What a program that has types comes to on a value, with so many units, if it takes the value.
+/// The value stands in a table to which the values of the run are added.
+///
+/// # Errors
+///
+/// Want of memory.
+pub fn run_on(
     alloc: Global,
     program: &Program,
     values: &mut Values,
-    given: Given<'_>,
+    value: ValueId,
     units: u64,
-) -> Result<Message, AllocError>
+) -> Result<Option<Ran>, AllocError>
     requires typed { IsTypedProgram (plain_program program.now) }
-    requires value { given.value.0 < length (table values.old) }
-    requires document { IsDocument (thing_at (table values.old) given.value.0) }
-    ensures { IfOk result (λ message. OnValue (plain_program program.now) units given.entry.document.now
-        (thing_at (table values.old) given.entry.value.0) (reply_of message)) }
+    requires value { value.0 < length (table values.old) }
+    requires document { IsDocument (thing_at (table values.old) value.0) }
+    ensures runs { IfOk result (λ ran. RunsOn (plain_program program.now)
+        (thing_at (table values.old) value.0) units
+        (option_map (plain_ran (table values.new)) ran)) }
+    ensures within { IfOk result
+        (λ ran. IfSome ran (λ ran. IsOutcome (length (table values.new)) ran.outcome)) }
 {
     let mut world = World::new(alloc)?;
-    in_world(alloc, &mut world, program, values, given, units)
+    in_world(alloc, &mut world, program, values, value, units)
 }
 
 // The same, in a world of no names.
@@ -50,17 +56,20 @@ fn in_world(
     world: &mut World,
     program: &Program,
     values: &mut Values,
-    given: Given<'_>,
+    value: ValueId,
     units: u64,
-) -> Result<Message, AllocError>
+) -> Result<Option<Ran>, AllocError>
     requires typed { IsTypedProgram (plain_program program.now) }
-    requires value { given.value.0 < length (table values.old) }
-    requires document { IsDocument (thing_at (table values.old) given.value.0) }
-    ensures { IfOk result (λ message. OnValue (plain_program program.now) units given.entry.document.now
-        (thing_at (table values.old) given.entry.value.0) (reply_of message)) }
+    requires value { value.0 < length (table values.old) }
+    requires document { IsDocument (thing_at (table values.old) value.0) }
+    ensures runs { IfOk result (λ ran. RunsOn (plain_program program.now)
+        (thing_at (table values.old) value.0) units
+        (option_map (plain_ran (table values.new)) ran)) }
+    ensures within { IfOk result
+        (λ ran. IfSome ran (λ ran. IsOutcome (length (table values.new)) ran.outcome)) }
 {
     match declare(alloc, world, &program.types)? {
-        Ok(names) => with_names(alloc, world, &names, program, values, given, units),
+        Ok(names) => with_names(alloc, world, &names, program, values, value, units),
         Err(_) => unreachable!(),
     }
 }
@@ -72,23 +81,26 @@ fn with_names(
     names: &Names<'_>,
     program: &Program,
     values: &mut Values,
-    given: Given<'_>,
+    value: ValueId,
     units: u64,
-) -> Result<Message, AllocError>
+) -> Result<Option<Ran>, AllocError>
     requires typed { IsTypedProgram (plain_program program.now) }
     requires declared { declared_by names.now ≡ (plain_program program.now).types }
     requires named { AreNamed (graph_of world.old) (plain_names names.now) }
-    requires value { given.value.0 < length (table values.old) }
-    requires document { IsDocument (thing_at (table values.old) given.value.0) }
-    ensures { IfOk result (λ message. OnValue (plain_program program.now) units given.entry.document.now
-        (thing_at (table values.old) given.entry.value.0) (reply_of message)) }
+    requires value { value.0 < length (table values.old) }
+    requires document { IsDocument (thing_at (table values.old) value.0) }
+    ensures runs { IfOk result (λ ran. RunsOn (plain_program program.now)
+        (thing_at (table values.old) value.0) units
+        (option_map (plain_ran (table values.new)) ran)) }
+    ensures within { IfOk result
+        (λ ran. IfSome ran (λ ran. IsOutcome (length (table values.new)) ran.outcome)) }
 {
     // The contracts of these calls say that the program is safe.
     constants_are_elements(program);
     typed_programs_are_safe();
     world.graph();
     let mut code = compile(alloc, world, names, program, values)?;
-    with_code(alloc, world, names, &mut code, values, given, units)
+    with_code(alloc, world, names, &mut code, values, value, units)
 }
 
 // The same, by the code of the program.
@@ -98,24 +110,27 @@ fn with_code(
     names: &Names<'_>,
     code: &mut Code<'_>,
     values: &mut Values,
-    given: Given<'_>,
+    value: ValueId,
     units: u64,
-) -> Result<Message, AllocError>
+) -> Result<Option<Ran>, AllocError>
     requires typed { IsTypedProgram (program_of code.old) }
     requires safe { IsSafeProgram (program_of code.old) }
     requires ready { IsReady (labels values.old) code.old }
     requires declared { declared_by names.now ≡ (program_of code.old).types }
     requires named { AreNamed (graph_of world.old) (plain_names names.now) }
-    requires value { given.value.0 < length (table values.old) }
-    requires document { IsDocument (thing_at (table values.old) given.value.0) }
-    ensures { IfOk result (λ message. OnValue (program_of code.old) units given.entry.document.now
-        (thing_at (table values.old) given.entry.value.0) (reply_of message)) }
+    requires value { value.0 < length (table values.old) }
+    requires document { IsDocument (thing_at (table values.old) value.0) }
+    ensures runs { IfOk result (λ ran. RunsOn (program_of code.old)
+        (thing_at (table values.old) value.0) units
+        (option_map (plain_ran (table values.new)) ran)) }
+    ensures within { IfOk result
+        (λ ran. IfSome ran (λ ran. IsOutcome (length (table values.new)) ran.outcome)) }
 {
     // The contract of this call says that the program has a `main`.
     typed_programs_have_main();
-    if is_input(alloc, world, names, code, values, given.value)? {
-        told(alloc, code, values, given.value, units)
+    if is_input(alloc, world, names, code, values, value)? {
+        Ok(Some(run(alloc, code, values, value, units)?))
     } else {
-        not_input(alloc, given.document)
+        Ok(None)
     }
 }

@@ -7,7 +7,7 @@ ghost use Rattle.cd_safety.specs.PatternTypes.{IsTypedPattern};
 ghost use Rattle.cd_safety.specs.SafeProgram.{IsSafeProgram};
 ghost use Rattle.cd_safety.specs.WellWritten.{InRange};
 ghost use Rattle.cd_typing.specs.Typed.{scope_of};
-ghost use Rattle.cd_running.specs.Inner.TypedProgram.{IsTypedProgram};
+ghost use Rattle.cd_running.specs.TypedProgram.{IsTypedProgram};
 
 use cd_safety::laws::{accepted_programs_are_safe, typed_programs_are_accepted};
 

@@ -1,22 +1,14 @@
 -- What the code makes of words.
-use Rattle.std.specs.Prelude.{◌≡◌, ℕ, List}
+use Rattle.std.specs.Prelude.{ℕ, List}
 use Rattle.cd_driver.specs.declared.request.Request.{Request}
 use Rattle.cd_driver.specs.declared.request.Request.TheVariants.{Sub as AsksSub}
 use Rattle.cd_driver.specs.declared.request.Request.TheVariants.{SubTypes as AsksSubTypes}
 use Rattle.cd_driver.specs.declared.request.Request.TheVariants.{Member as AsksMember}
 use Rattle.cd_driver.specs.declared.request.Request.TheVariants.{Check as AsksCheck}
 use Rattle.cd_driver.specs.declared.request.Request.TheVariants.{Run as AsksRun}
-use Rattle.cd_driver.specs.declared.request.Request.TheVariants.{NotBuilt as AsksNotBuilt}
+use Rattle.cd_driver.specs.declared.request.Request.TheVariants.{Work as AsksWork}
 use Rattle.cd_replies.specs.Bytes.{Bytes}
-use Rattle.cd_driver.specs.Command.{Command, Sub, SubTypes, Member, Check, IsSize, Give, GiveRun}
-use Rattle.cd_replies.specs.Reply.{Reply, not_built}
-use Rattle.cd_replies.specs.Disk.{Disk}
-use Rattle.cd_driver.specs.Answer.{AnswerOf}
-
--- the words give a command whose answer is that the one with this first word isn't built
-abbrev pub GiveNotBuilt : List Bytes → Bytes → Type 0
-GiveNotBuilt words name = (command : Command) × Give words command
-    × ((disk : Disk) (reply : Reply) → reply ≡ not_built name → AnswerOf command disk reply)
+use Rattle.cd_driver.specs.Command.{Sub, SubTypes, Member, Check, Work, IsSize, Give, GiveRun}
 
 -- the words give the command that the request stands for
 abbrev pub StandsFor : List Bytes → Request → Type 0
@@ -27,7 +19,7 @@ StandsFor words (AsksMember file document type) =
     Give words (Member file.now document.now type.now)
 StandsFor words (AsksCheck file) = Give words (Check file.now)
 StandsFor words (AsksRun file document units) = GiveRun words units file.now document.now
-StandsFor words (AsksNotBuilt name) = GiveNotBuilt words name.now
+StandsFor words (AsksWork size) = Give words (Work size)
 
 -- the word is a size
 abbrev pub WritesSize : Bytes → Type 0

@@ -12,8 +12,8 @@ use Rattle.cd_running.specs.RunAnswer.{document_refused}
 use Rattle.cd_running.proofs.of_text.Goals as goal
 
 -- the value of a document is data
-pub on_value-requires-clause-document : goal.on_value-requires-clause-document
-on_value-requires-clause-document c =
+pub of_value-requires-clause-document : goal.of_value-requires-clause-document
+of_value-requires-clause-document c =
     let text = c.args.text.now in
     let v = thing_at (table c.read_document.new.values) c.in-Ok.value.0 in
     let writes = rw c.in-Ok.is at c.in_ok-value.ensures.read in

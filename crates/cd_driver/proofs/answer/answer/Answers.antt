@@ -1,5 +1,5 @@
-use Rattle.cd_driver.specs.Command.{texts, Sub, SubTypes, Member, Check}
-use Rattle.cd_driver.proofs.Commands.{answers_usage, answers_at_once, answers_command, answers_not_built}
+use Rattle.cd_driver.specs.Command.{texts, Sub, SubTypes, Member, Check, Work}
+use Rattle.cd_driver.proofs.Commands.{answers_usage, answers_at_once, answers_command}
 use Rattle.cd_driver.proofs.Commands.{among_one, reads_files, answers_run, reads_run}
 use Rattle.cd_driver.proofs.answer.answer.Goals as goal
 
@@ -54,7 +54,13 @@ returns-in-Some-Run-clause-files g c =
     reads_run (texts c.args.words.now) _ _ c.in-Some-Run.units c.in-Some-Run.file.now c.in-Some-Run.document.now
     (rw c.in-Some-Run.field-0-is at c.in-Some-Run.ensures) c.run.ensures.read
 
-pub returns-in-Some-NotBuilt-clause-answer : goal.returns-in-Some-NotBuilt-clause-answer
-returns-in-Some-NotBuilt-clause-answer g c =
-    answers_not_built (texts c.args.words.now) _ c.in-Some-NotBuilt.name.now (rw c.in-Some-NotBuilt.field-0-is at c.in-Some-NotBuilt.ensures)
-    c.not_built.result c.not_built.ensures
+pub work-requires-clause-least : goal.work-requires-clause-least
+work-requires-clause-least g c = (rw c.in-Some-Work.field-0-is at c.in-Some-Work.ensures).2.least
+
+pub work-requires-clause-most : goal.work-requires-clause-most
+work-requires-clause-most g c = (rw c.in-Some-Work.field-0-is at c.in-Some-Work.ensures).2.most
+
+pub returns-in-Some-Work-clause-answer : goal.returns-in-Some-Work-clause-answer
+returns-in-Some-Work-clause-answer g c =
+    answers_at_once (texts c.args.words.now) _ (Work c.in-Some-Work.size)
+    (rw c.in-Some-Work.field-0-is at c.in-Some-Work.ensures) c.work.result c.work.ensures

@@ -1,5 +1,5 @@
 use Rattle.std.proofs.Common.{◌≡◌, sym, subst}
-use Rattle.std.specs.Prelude.{IfOk}
+use Rattle.std.specs.Prelude.{IfOk, option_map}
 use Rattle.cd_cells.specs.Cells.{thing_at}
 use Rattle.cd_cells.specs.Table.{table}
 use Rattle.cd_model.specs.Thing.{Thing}
@@ -9,10 +9,10 @@ use Rattle.cd_resolve.specs.Named.{plain_names}
 use Rattle.cd_empty.specs.Seen.{graph_of}
 use Rattle.cd_code.specs.Compiled.{program_of}
 use Rattle.cd_code.proofs.CodesMade.{names_grown}
+use Rattle.cd_machine.specs.PlainRan.{plain_ran}
 use Rattle.cd_machine.proofs.Staying.{thing_stays}
-use Rattle.cd_replies.specs.Message.{reply_of}
 use Rattle.cd_safety.specs.SafeProgram.{IsSafeProgram}
-use Rattle.cd_running.specs.Inner.OnDocument.{OnValue}
+use Rattle.cd_running.specs.RunsOn.{RunsOn}
 use Rattle.cd_running.proofs.on_value.with_names.Goals as goal
 
 pub with_code-requires-clause-safe : goal.with_code-requires-clause-safe
@@ -25,12 +25,12 @@ with_code-requires-clause-named c = names_grown (graph_of c.args.world.now) (gra
     c.graph.ensures.sound c.in_ok-code.ensures.grows.graph c.requires.named
 
 -- the value stands in the table that has grown
-pub returns : goal.returns
-returns c =
-    let document = c.args.given.document.now in
-    let new = thing_at (table c.compile.new.values) c.args.given.value.0 in
-    let old = thing_at (table c.args.values.now) c.args.given.value.0 in
-    let stays : new ≡ old = thing_stays c.args.values.now c.compile.new.values c.in_ok-code.ensures.values c.args.given.value.0 c.requires.value in
-    subst (λ (program : Program). IfOk c.with_code.result (λ message. OnValue program c.args.units document old (reply_of message))) c.in_ok-code.ensures.program
-    (subst (λ (v : Thing). IfOk c.with_code.result (λ message. OnValue (program_of c.in_ok-code.code) c.args.units document v (reply_of message))) stays
-    c.with_code.ensures)
+pub returns-clause-runs : goal.returns-clause-runs
+returns-clause-runs c =
+    let new = thing_at (table c.compile.new.values) c.args.value.0 in
+    let old = thing_at (table c.args.values.now) c.args.value.0 in
+    let stays : new ≡ old = thing_stays c.args.values.now c.compile.new.values c.in_ok-code.ensures.values c.args.value.0 c.requires.value in
+    let found = option_map (plain_ran (table c.with_code.new.values)) in
+    subst (λ (program : Program). IfOk c.with_code.result (λ ran. RunsOn program old c.args.units (found ran))) c.in_ok-code.ensures.program
+    (subst (λ (v : Thing). IfOk c.with_code.result (λ ran. RunsOn (program_of c.in_ok-code.code) v c.args.units (found ran))) stays
+    c.with_code.ensures.runs)

@@ -18,7 +18,7 @@ use Rattle.cd_replies.specs.Reply.{refusal}
 use Rattle.cd_replies.specs.Texts.{Against, Lexical, Syntax, TooDeep, Naming, HasTokens, Refuses, lexical, syntax, too_deep, naming}
 use Rattle.cd_replies.specs.Texts.{ReadsAs, Declares, RefusesType, RefusesDeclarations, IsToldOfType, IsToldOfDeclarations, type_of}
 use Rattle.cd_replies.specs.Texts.{ReadsAsProgram, RefusesProgram, IsToldOfProgram}
-use Rattle.cd_driver.proofs.OneFault.{syntax_one, depth_one, not_both, written_no_syntax, written_no_depth}
+use Rattle.cd_replies.proofs.OneFault.{syntax_one, depth_one, not_both, written_no_syntax, written_no_depth}
 
 -- the same thing stands against a text, or a naming fault in each case
 data IsAlike : (a b : Against) → Type 0 where

@@ -1,0 +1,33 @@
+-- The text of the workload's program reads as its program, as no other one, and is not refused.
+use Rattle.std.proofs.Common.{◌≡◌, refl}
+use Rattle.std.specs.Str.{chars}
+use Rattle.cd_program.specs.Expr.{Program}
+use Rattle.cd_program.specs.WellMade.{IsWellMadeProgram}
+use Rattle.cd_grammar.proofs.MadeWell.{text_makes_program}
+use Rattle.cd_replies.specs.Texts.{ReadsAsProgram, Against, RefusesProgram}
+use Rattle.cd_replies.proofs.OneRefusal.{reads_one_program, program_unrefused}
+use Rattle.cd_work.specs.Workload.{program_text}
+use Rattle.cd_work.specs.Inner.WorkProgram.{work_program}
+use Rattle.cd_work.proofs.ProgramTokens.{program_tokens}
+use Rattle.cd_work.proofs.ProgramSpelled.{program_spelled}
+use Rattle.cd_work.proofs.ProgramRun.{tokens_write_program}
+use Rattle.cd_work.proofs.ProgramNamed.{program_named}
+
+pub program_reads : ReadsAsProgram program_text work_program
+program_reads = record {
+  tokens = program_tokens;
+  spelled = program_spelled;
+  written = tokens_write_program;
+  ends = refl;
+  sound = program_named;
+}
+
+pub one_program : (program : Program) → ReadsAsProgram program_text program → program ≡ work_program
+one_program program reads = reads_one_program program_text program work_program reads program_reads
+
+pub program_is_not_refused : (against : Against) → RefusesProgram program_text against → ⊥
+program_is_not_refused = program_unrefused program_text work_program program_reads
+
+pub program_is_well_made : IsWellMadeProgram work_program
+program_is_well_made =
+    text_makes_program (chars program_text) program_tokens 1000 work_program program_spelled tokens_write_program

@@ -1,0 +1,31 @@
+-- The tokens of a query write its type.
+use Rattle.std.proofs.Common.{refl, ℕ, ◌+◌, pos, List, [], ◌∷◌}
+use Rattle.cd_syntax.specs.declared.sign.Sign.TheVariants as sign
+use Rattle.cd_syntax.specs.declared.tokens.Token.{Token}
+use Rattle.cd_syntax.specs.declared.tokens.TokenKind.TheVariants as token
+use Rattle.cd_syntax.specs.Tokens.{at}
+use Rattle.cd_tables.specs.Rows.{row_of}
+use Rattle.cd_grammar.specs.declared.goal.Goal.TheVariants as goal
+use Rattle.cd_grammar.specs.Parts.{ATree}
+use Rattle.cd_grammar.specs.Language.{IsTree}
+use Rattle.cd_grammar.specs.TreesAt.{place}
+use Rattle.cd_work.specs.Inner.WorkQueries.{integers_up_to}
+use Rattle.cd_work.proofs.RunWrites.{written}
+
+-- the tokens of `[(0--number)*]`, where the number has so many digits
+abbrev pub query_tokens : (digits number : ℕ) → List Token
+query_tokens digits number =
+    at (token.Sign sign.OpenBracket) (place 0 1)
+    ∷ at (token.Sign sign.OpenParenthesis) (place 1 2)
+    ∷ at (token.Int (pos 0)) (place 2 3)
+    ∷ at (token.Sign sign.To) (place 3 5)
+    ∷ at (token.Int (pos number)) (place 5 (5 + digits))
+    ∷ at (token.Sign sign.CloseParenthesis) (place (5 + digits) (6 + digits))
+    ∷ at (token.Sign sign.Star) (place (6 + digits) (7 + digits))
+    ∷ at (token.Sign sign.CloseBracket) (place (7 + digits) (8 + digits))
+    ∷ []
+
+pub query_written : (digits number : ℕ) → IsTree 1000 (query_tokens digits number) (integers_up_to digits number)
+unfolding row_of
+query_written digits number =
+    written goal.TypeText 1000 100 (query_tokens digits number) (ATree (integers_up_to digits number)) refl

@@ -1,0 +1,53 @@
+-- The canonical text of a sequence without characters: the texts of its items, with spaces between.
+use Rattle.std.proofs.Common.{◌≡◌, ◌∙◌, List, [], ◌∷◌, ◌++◌, None, map, refl, sym, ap, append_assoc, append-nil}
+use Rattle.std.specs.Prelude.{codes}
+use Rattle.std.specs.List.{flat_map}
+use Rattle.cd_model.specs.Thing.{Thing}
+use Rattle.cd_model.specs.Canonical.{Text, Part, Other, Piece, Alone, piece_text, pieces_of, Row, row_text, written, canonical}
+use Rattle.cd_matching.specs.Sequences.{sequence_of}
+use Rattle.cd_work.specs.Workload.{spaced}
+
+-- these things have these texts, and none is a character
+pub data AreWritten : List Thing → List Text → Type 0 where
+  nothing : AreWritten [] []
+  one : (first : Thing) (text : Text) (rest : List Thing) (texts : List Text) → (written first).part ≡ Other text
+      → AreWritten rest texts → AreWritten (first ∷ rest) (text ∷ texts)
+
+-- what stands along the right of the sequence
+row_is : (things : List Thing) (texts : List Text) → AreWritten things texts
+    → (written (sequence_of things)).row ≡ record { parts = map Other texts; end = None }
+row_is _ _ nothing = refl
+row_is _ _ (one first text rest texts part are) =
+    ap (λ (part : Part). record { parts = part ∷ (written (sequence_of rest)).row.parts; end = (written (sequence_of rest)).row.end }) part
+    ∙ ap (λ (row : Row). record { parts = Other text ∷ row.parts; end = row.end }) (row_is rest texts are)
+
+-- no piece is a run of characters
+pieces_are : (texts : List Text) → pieces_of (map Other texts) ≡ map Alone texts
+pieces_are [] = refl
+pieces_are (text ∷ texts) = ap (λ pieces. Alone text ∷ pieces) (pieces_are texts)
+
+texts_are : (texts : List Text) → map piece_text (map Alone texts) ≡ texts
+texts_are [] = refl
+texts_are (text ∷ texts) = ap (λ rest. text ∷ rest) (texts_are texts)
+
+-- a space before each text but the first, and a space between two texts
+spaces_are : (text : Text) (texts : List Text) → text ++ flat_map (λ next. codes " " ++ next) texts ≡ spaced (text ∷ texts)
+spaces_are text [] = append-nil text
+spaces_are text (next ∷ rest) =
+    let others = flat_map (λ next. codes " " ++ next) rest in
+    ap (λ more. text ++ more) (append_assoc (codes " ") next others) ∙ sym (append_assoc text (codes " ") (next ++ others))
+    ∙ ap (λ more. text ++ codes " " ++ more) (spaces_are next rest)
+
+row_text_is : (text : Text) (texts : List Text) → row_text (Other text ∷ map Other texts) None ≡ codes "[" ++ spaced (text ∷ texts) ++ codes "]"
+row_text_is text texts =
+    ap (λ (pieces : List Piece). codes "[" ++ (text ++ flat_map (λ next. codes " " ++ next) (map piece_text pieces)) ++ codes "]") (pieces_are texts)
+    ∙ ap (λ texts. codes "[" ++ (text ++ flat_map (λ next. codes " " ++ next) texts) ++ codes "]") (texts_are texts)
+    ∙ ap (λ more. codes "[" ++ more ++ codes "]") (spaces_are text texts)
+
+pub sequence_text_is : (things : List Thing) (texts : List Text) → AreWritten things texts
+    → canonical (sequence_of things) ≡ codes "[" ++ spaced texts ++ codes "]"
+sequence_text_is _ _ nothing = refl
+sequence_text_is _ _ (one first text rest texts part are) =
+    ap (λ (part : Part). row_text (part ∷ (written (sequence_of rest)).row.parts) (written (sequence_of rest)).row.end) part
+    ∙ ap (λ (row : Row). row_text (Other text ∷ row.parts) row.end) (row_is rest texts are)
+    ∙ row_text_is text texts

@@ -1,0 +1,4 @@
+pub mod Workload
+pub mod Queries
+pub mod WorkAnswer
+pub mod Inner
