@@ -7,26 +7,84 @@ pub(crate) struct Query {
 }
 
 /// Queries on the files of the folder in which the tour runs.
-pub(crate) const QUERIES: [Query; 24] = [
+pub(crate) const QUERIES: [Query; 29] = [
+    // An address book: validated, made into a page, and both again under a later schema.
     Query {
-        words: &["sub", "--types", "address.cd", "Book", "LaterBook"],
-        meaning: "Each address book is one of the later version too, so those that are written stay valid.",
+        words: &["member", "address.cd", "family.doc", "Book"],
+        meaning: "The document is an address book: its value is in the type `Book`.",
     },
     Query {
-        words: &["sub", "--types", "address.cd", "LaterBook", "Book"],
-        meaning: "The other way it is not so: this book has a phone that does not say of which kind it is.",
+        words: &["check", "page.cd"],
+        meaning: "The book is to become a page of HTML, in which a list has an item at least. Of a book with nobody this program would make an empty list.",
     },
     Query {
-        words: &["member", "address.cd", "friends.doc", "LaterBook"],
-        meaning: "Each document is a value, and this one is an address book of the later version.",
+        words: &["check", "pages.cd"],
+        meaning: "Here such a book gets a paragraph. The program is accepted: each page that it gives is valid.",
+    },
+    Query {
+        words: &["run", "pages.cd", "family.doc"],
+        meaning: "The page of this address book.",
     },
     Query {
         words: &["member", "address.cd", "friends.doc", "Book"],
-        meaning: "It is none of the first version, since the phone of Brian does not say of which kind it is.",
+        meaning: "The schema changes: a phone need not say of which kind it is. That of Brian does not, so this book is none of the first version.",
     },
     Query {
-        words: &["member", "address.cd", "typo.doc", "Book"],
-        meaning: "A fault in a document is told with its line and column: a text stands between quotes.",
+        words: &["member", "address.cd", "friends.doc", "LaterBook"],
+        meaning: "It is an address book of the later version.",
+    },
+    Query {
+        words: &["run", "pages.cd", "friends.doc"],
+        meaning: "The program takes books of the first version alone: whether a document is of the input type is asked before the run.",
+    },
+    Query {
+        words: &["check", "laterpage.cd"],
+        meaning: "This is the program under the later version. At this place it has no branch for a phone such as this one.",
+    },
+    Query {
+        words: &["sub", "--types", "address.cd", "LaterBook", "Book"],
+        meaning: "A whole book with such a phone: it is valid in the later version alone, and the program would make no page of it.",
+    },
+    Query {
+        words: &["check", "laterpages.cd"],
+        meaning: "With a branch for phones without a kind the program is accepted again.",
+    },
+    Query {
+        words: &["run", "laterpages.cd", "friends.doc"],
+        meaning: "The page of the later book.",
+    },
+    Query {
+        words: &["sub", "--types", "address.cd", "Book", "LaterBook"],
+        meaning: "Each address book of the first version is one of the later version too, so those that are written stay valid.",
+    },
+    // `sub` as a service to tools: changes of schemas, content models, cases and dead branches.
+    Query {
+        words: &["sub", "--types", "book.cd", "Chapter", "LaterChapter"],
+        meaning: "A change of a schema: does each chapter stay valid? Not this one, in which a note stands after a paragraph.",
+    },
+    Query {
+        words: &[
+            "sub",
+            "--types",
+            "book.cd",
+            "[(Para | Note)*]",
+            "[Para* Note*]",
+        ],
+        meaning: "A change of a content model: the order of children counts, and here a note stands before a paragraph.",
+    },
+    Query {
+        words: &[
+            "sub",
+            "--types",
+            "book.cd",
+            "Chapter \\ (PlainChapter | NotedChapter)",
+            "Empty",
+        ],
+        meaning: "Are these all cases? No chapter is left beside those without notes and those with some.",
+    },
+    Query {
+        words: &["sub", "--types", "book.cd", "PlainChapter", "Chapter"],
+        meaning: "A dead branch: where an earlier branch takes each chapter, none without notes comes to a later one.",
     },
     Query {
         words: &[
@@ -43,20 +101,6 @@ pub(crate) const QUERIES: [Query; 24] = [
         meaning: "A text is a sequence of characters, so a type for some texts is a content model too.",
     },
     Query {
-        words: &["sub", "--types", "book.cd", "Chapter", "LaterChapter"],
-        meaning: "The order of children counts: in this chapter a note stands after a paragraph.",
-    },
-    Query {
-        words: &[
-            "sub",
-            "--types",
-            "book.cd",
-            "[(Para | Note)*]",
-            "[Para* Note*]",
-        ],
-        meaning: "In `(Para | Note)*` the two may stand in any order, and here a note stands before a paragraph.",
-    },
-    Query {
         words: &[
             "sub",
             "--types",
@@ -66,56 +110,37 @@ pub(crate) const QUERIES: [Query; 24] = [
         ],
         meaning: "`<_ ..>` is an element of any name with any attributes, so both kinds are among them.",
     },
+    // Faults of texts.
     Query {
-        words: &[
-            "sub",
-            "--types",
-            "book.cd",
-            "Chapter \\ (PlainChapter | NotedChapter)",
-            "Empty",
-        ],
-        meaning: "No chapter is left beside those without notes and those with some, so these are all cases.",
+        words: &["member", "address.cd", "typo.doc", "Book"],
+        meaning: "A fault in a document is reported with its line and column: a text stands between quotes.",
     },
     Query {
         words: &["sub", "--types", "letter.cd", "Letter", "Any"],
-        meaning: "A fault in a file is told with its line and column: there `]` should stand.",
+        meaning: "A fault in a file is reported with its line and column: there `]` should stand.",
     },
     Query {
         words: &["sub", "--types", "book.cd", "Chapter", "Appendix"],
         meaning: "The second type is a name that the file does not declare.",
     },
-    Query {
-        words: &["check", "page.cd"],
-        meaning: "In HTML a list has an item at least, and of a book with nobody this program would make a list that is empty.",
-    },
-    Query {
-        words: &["check", "pages.cd"],
-        meaning: "Here such a book gets a paragraph, so whatever the book, the page is valid.",
-    },
+    // Programs that transform documents.
     Query {
         words: &["check", "contents.cd"],
         meaning: "A section need not have a name, and its entry in the table of contents would lead nowhere.",
     },
     Query {
-        words: &["check", "downgrade.cd"],
-        meaning: "A phone of the later version need not say of which kind it is, so some books would not be of the first version.",
+        words: &["run", "outline.cd", "report.doc"],
+        meaning: "Here an entry need not lead anywhere. This is the table of contents of a report, whose sections stand in one another.",
     },
     Query {
-        words: &["run", "pages.cd", "family.doc"],
-        meaning: "The page of this address book. That `check` accepts the program says that each such page is valid.",
+        words: &["check", "downgrade.cd"],
+        meaning: "The program is to give books of the first version, but it may give this one, whose phone does not say of which kind it is.",
     },
     Query {
         words: &["run", "downgraded.cd", "friends.doc"],
         meaning: "Here such a phone counts as one at home, and this book becomes one of the first version.",
     },
-    Query {
-        words: &["run", "pages.cd", "friends.doc"],
-        meaning: "A document is asked first whether it is of the input type: this book is one of the later version alone.",
-    },
-    Query {
-        words: &["run", "outline.cd", "report.doc"],
-        meaning: "The table of contents of this report, whose sections stand in one another.",
-    },
+    // Exceptions.
     Query {
         words: &["run", "bill.cd", "order.doc"],
         meaning: "What this order costs.",
@@ -124,6 +149,7 @@ pub(crate) const QUERIES: [Query; 24] = [
         words: &["run", "bill.cd", "wrong.doc"],
         meaning: "This one has a price below zero, for which the program raises an exception that nothing catches.",
     },
+    // Patterns of texts.
     Query {
         words: &["run", "emphasis.cd", "plain.doc"],
         meaning: "A pattern of a text takes its first way: from one star to the next, and what is left is gone over again.",
