@@ -314,9 +314,9 @@ module _ (disk : Disk) (units : ℕ) (file document : Bytes)
   result_same first second one other =
       let moved = subst (λ program. ComesTo program one.given.main one.given.value units second) (sym (programs_same one.given other.given))
       (subst (λ main. ComesTo other.given.program main one.given.value units second) (sym (mains_same one.given other.given))
-      (subst (λ v. ComesTo other.given.program other.given.main v units second) (sym (values_same one.given other.given)) other.comes)) in
+      (subst (λ v. ComesTo other.given.program other.given.main v units second) (sym (values_same one.given other.given)) other.run.comes)) in
       one_meaning (code_of one.given.program) (takes_once one.given.program) (Closure (place_of one.given.main) NoField) one.given.value units
-      first second one.comes moved
+      first second one.run.comes moved
 
   run_one : (r s : Reply) → RunAnswer disk units file document r → RunAnswer disk units file document s → r.status ≡ s.status
   run_one _ _ (run.file_refused r refusal) (run.file_refused s refusal') =
@@ -350,13 +350,13 @@ module _ (disk : Disk) (units : ℕ) (file document : Bytes)
   run_one _ _ (run.not_input given outside) (run.document_refused program has s refusal) =
       unwritten disk document document_known s given.value refusal given.writes
   run_one _ _ (run.not_input given outside) (run.not_input given' outside') = refl
-  run_one _ _ (run.not_input given outside) (run.ran result has s tells) = taken_or_not given has.given outside has.input
+  run_one _ _ (run.not_input given outside) (run.ran result has s tells) = taken_or_not given has.given outside has.run.input
   run_one _ _ (run.ran result has r tells) (run.file_refused s refusal) = unprogrammed s has.given.program refusal has.given.has
   run_one _ _ (run.ran result has r tells) (run.program_refused text program has' s tells') =
       faulty text has.given.program program has.given.has has' s tells'
   run_one _ _ (run.ran result has r tells) (run.document_refused program has' s refusal) =
       unwritten disk document document_known s has.given.value refusal has.given.writes
-  run_one _ _ (run.ran result has r tells) (run.not_input given outside) = taken_or_not given has.given outside has.input
+  run_one _ _ (run.ran result has r tells) (run.not_input given outside) = taken_or_not given has.given outside has.run.input
   run_one _ _ (run.ran result has r tells) (run.ran result' has' s tells') =
       let same = result_same result result' has has' in
       told_once result.outcome r s tells (subst (λ result. Tells result.outcome s) (sym same) tells')

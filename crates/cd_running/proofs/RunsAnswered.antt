@@ -23,7 +23,5 @@ module _ (program : Program) (main : FunctionTree) (is_main : IsMain program mai
       → OnValue program units document v reply
   run_answered result run reply tells disk writes file has = ran result (record {
     given = record { program = program; has = has; main = main; is_main = is_main; value = v; writes = writes };
-    input = run.input;
-    comes = run.comes;
-    safe = run.safe;
+    run = run;
   }) reply tells

@@ -4,7 +4,7 @@ use Rattle.cd_model.specs.Thing.{Thing}
 use Rattle.cd_program.specs.Expr.{FunctionTree, Program}
 use Rattle.cd_typing.specs.Typed.{IsTyped}
 use Rattle.cd_evaluation.specs.Runs.{Result}
-use Rattle.cd_safety.specs.SafeProgram.{IsMain, ComesTo}
+use Rattle.cd_safety.specs.SafeProgram.{IsMain}
 use Rattle.cd_replies.specs.Bytes.{Bytes}
 use Rattle.cd_replies.specs.Disk.{Disk, FileRefusal}
 use Rattle.cd_replies.specs.Documents.{RefusesDocument, FileWrites}
@@ -12,7 +12,8 @@ use Rattle.cd_replies.specs.Reply.{Reply, not_input as no_input}
 use Rattle.cd_replies.specs.Texts.{RefusesProgram}
 use Rattle.cd_checking.specs.CheckAnswer.{FileHasProgram, TellsFault}
 use Rattle.cd_running.specs.Ending.{Tells}
-use Rattle.cd_running.specs.Input.{IsInput, IsNoInput, IsSafeOn}
+use Rattle.cd_running.specs.Input.{IsNoInput}
+use Rattle.cd_running.specs.RunsOn.{IsRun}
 
 -- the units of a run whose words say nothing of them
 abbrev pub UNITS : ℕ
@@ -33,13 +34,10 @@ pub record Given (disk : Disk) (file document : Bytes) : Type 0 where
   pub value : Thing
   pub writes : FileWrites disk document value
 
--- the program takes the document, a run of it with so many units comes to the result, and it is
--- safe on the document
+-- a run of the program on the document, with so many units, comes to the result
 pub record HasRun (disk : Disk) (units : ℕ) (file document : Bytes) (result : Result) : Type 0 where
   pub given : Given disk file document
-  pub input : IsInput given.program given.main given.value
-  pub comes : ComesTo given.program given.main given.value units result
-  pub safe : IsSafeOn given.program given.main given.value
+  pub run : IsRun given.program given.main given.value units result
 
 -- the file of the program is taken first, then its types, then the document, and then the run
 pub data RunAnswer (disk : Disk) (units : ℕ) (file document : Bytes) : Reply → Type 0 where

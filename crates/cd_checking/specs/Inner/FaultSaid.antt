@@ -15,7 +15,8 @@ abbrev pub IsNamed : List Thing → CheckError → Type 0
 IsNamed table (IllTyped fault) = Names table fault.element
 IsNamed table Memory = Unit {0}
 
--- the place, the rule and the element, which is one, are said; nothing is where memory ran out
+-- the place, the rule and the element are said, and the element is one of the model; nothing is
+-- said where memory ran out
 abbrev pub IsSaid : (file text : Bytes) → List Thing → CheckError → Reply → Type 0
 IsSaid file text table (IllTyped fault) said = IsElement (element_at table fault.element)
     × (said ≡ reply.ill_typed file text fault.at (text_of fault.rule)
