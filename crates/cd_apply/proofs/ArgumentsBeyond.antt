@@ -14,7 +14,7 @@ use Rattle.cd_rules.specs.Needs.{question}
 use Rattle.cd_rules.specs.Within.{IsPairWithin}
 use Rattle.cd_rules.proofs.Answered.{map_of_each, each_of_asked}
 use Rattle.cd_rules.proofs.Asking.{each_of_map, each_of_set, asked_of_each}
-use Rattle.cd_rules.proofs.Ones.{each_weaker}
+use Rattle.cd_model.proofs.Ones.{each_weaker}
 use Rattle.cd_apply.specs.Inner.Found.{IsFoundIn, IsFoundBeyond}
 use Rattle.cd_apply.specs.Inner.Results.{IsInQuestion, IsBeyond}
 

@@ -8,7 +8,7 @@ use Rattle.cd_rules.specs.BasicSets.{IsBasic}
 use Rattle.cd_rules.specs.Clauses.{Clause, Arrows, IsClauseOfQuestion}
 use Rattle.cd_rules.specs.Needs.{question}
 use Rattle.cd_rules.proofs.Asking.{each_of_map}
-use Rattle.cd_rules.proofs.Ones.{each_weaker, each_of_lists, one_on_left, one_on_right, one_of_map}
+use Rattle.cd_model.proofs.Ones.{each_weaker, each_of_lists, one_on_left, one_on_right, one_of_map}
 use Rattle.cd_rules.proofs.PartsAsk.{clause_is_within}
 use Rattle.cd_apply.specs.Inner.FunctionClauses.{FunctionClause, IsClauseWithin, IsClauseOf}
 use Rattle.cd_apply.specs.Inner.FunctionClauses.{AreClausesOf, function_clause_of, functions_among}

@@ -9,7 +9,7 @@ use Rattle.cd_model.proofs.DecidedAtNodes.{in_or_outside}
 use Rattle.cd_rules.specs.Clauses.{Pair}
 use Rattle.cd_rules.specs.Family.{AsksNodes}
 use Rattle.cd_rules.specs.Within.{IsPairWithin}
-use Rattle.cd_rules.proofs.Ones.{each_of_lists}
+use Rattle.cd_model.proofs.Ones.{each_of_lists}
 use Rattle.cd_apply.specs.Inner.Found.{Divided, IsRightBy, IsOfNodes, IsDivided, Divides}
 use Rattle.cd_apply.specs.Inner.Found.{AddsResults, AddsImage}
 use Rattle.cd_apply.specs.Inner.Results.{IsInQuestion, IsInOne, IsRight, IsResult, IsResultIn}

@@ -11,7 +11,7 @@ use Rattle.cd_model.specs.Thing.{ArePairs}
 use Rattle.cd_rules.specs.Clauses.{Pair, Arrows, IsInClause}
 use Rattle.cd_rules.proofs.ArrowsForward.{IsInArrow}
 use Rattle.cd_rules.proofs.MembersOfArrows.{IsInArrows, none_in_arrows, with_maps, with_fails}
-use Rattle.cd_rules.proofs.Ones.{each_weaker}
+use Rattle.cd_model.proofs.Ones.{each_weaker}
 use Rattle.cd_apply.specs.Inner.Results.{IsBeyond, IsRight, CanRefuse}
 use Rattle.cd_apply.specs.Inner.FunctionClauses.{FunctionClause, HasFunction}
 

@@ -11,7 +11,7 @@ use Rattle.cd_rules.specs.Clauses.{Clause, Arrows, IsClauseOfQuestion, IsInClaus
 use Rattle.cd_rules.specs.Needs.{question}
 use Rattle.cd_rules.proofs.ArrowsForward.{IsInArrow}
 use Rattle.cd_rules.proofs.ClausesExact.{thing_exact}
-use Rattle.cd_rules.proofs.Ones.{each_weaker, one_weaker, one_leads, one_with_each}
+use Rattle.cd_model.proofs.Ones.{each_weaker, one_weaker, one_leads, one_with_each}
 use Rattle.cd_meaning.specs.Sets.{elements_of}
 use Rattle.cd_meaning.specs.Functions as functions
 use Rattle.cd_meaning.specs.Functions.{HasPair, FailsAt, IsGiven, IsOutsideDomain, AllMapInto}

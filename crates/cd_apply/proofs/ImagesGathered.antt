@@ -12,7 +12,7 @@ use Rattle.cd_rules.specs.Clauses.{Pair}
 use Rattle.cd_rules.specs.Family.{AsksNodes}
 use Rattle.cd_rules.specs.Needs.{question}
 use Rattle.cd_rules.proofs.Answered.{map_of_each}
-use Rattle.cd_rules.proofs.Ones.{one_of_map}
+use Rattle.cd_model.proofs.Ones.{one_of_map}
 use Rattle.cd_apply.specs.Inner.Found.{IsFoundBeyond, AddsImage}
 use Rattle.cd_apply.specs.Inner.FunctionClauses.{FunctionClause, HasFunction, GivesResult}
 use Rattle.cd_apply.specs.Inner.FunctionClauses.{MayFailAt, IsClauseWithin}

@@ -4,7 +4,7 @@ use Rattle.cd_syntax.specs.Name.{Name}
 use Rattle.cd_model.specs.Formula as formula
 use Rattle.cd_model.specs.Formula.{Formula, Formulas, NoFormula, AFormula, Field, IsFormula}
 use Rattle.cd_model.specs.Formula.{AreFormulas}
-use Rattle.cd_rules.proofs.Ones.{each_weaker}
+use Rattle.cd_model.proofs.Ones.{each_weaker}
 
 module _ (count more : ℕ) (larger : count ≤ more) where
   mutual

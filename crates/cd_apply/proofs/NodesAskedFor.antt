@@ -6,7 +6,7 @@ use Rattle.cd_sets.specs.IdSet.{holds}
 use Rattle.cd_sets.specs.declared.node_id.NodeId.{NodeId}
 use Rattle.cd_sets.proofs.Members.{holds_first}
 use Rattle.cd_model.specs.AllOf.{AllOf}
-use Rattle.cd_rules.proofs.Ones.{each_weaker}
+use Rattle.cd_model.proofs.Ones.{each_weaker}
 
 module _ (count : ℕ) where
   all_below : (ids : List NodeId) → ((one : NodeId) → holds ids one ≡ true → one.0 < count)

@@ -7,7 +7,7 @@ use Rattle.cd_model.specs.Thing.{Thing, Pairs, NoPair, Maps, Fails, IsElement, A
 use Rattle.cd_rules.specs.Clauses.{Pair}
 use Rattle.cd_rules.proofs.ArrowsForward.{IsInArrow}
 use Rattle.cd_rules.proofs.MembersOfArrows.{IsInArrows, IsOutsideArrow}
-use Rattle.cd_rules.proofs.Ones.{each_weaker}
+use Rattle.cd_model.proofs.Ones.{each_weaker}
 use Rattle.cd_rules.proofs.PairsBack.{both_of_each}
 use Rattle.cd_meaning.specs.Functions.{HasPair, FailsAt}
 use Rattle.cd_apply.specs.Inner.Results.{IsBeyond, IsRight}

@@ -4,7 +4,7 @@ use Rattle.std.proofs.Common.{◌-◌, zero, suc, length, take, drop, get_or, re
 use Rattle.std.proofs.Common.{arith}
 use Rattle.std.proofs.lemmas.List.{take_more, take_all, map-append, get_or_default, take_rest}
 use Rattle.cd_model.specs.AllOf.{AllOf, AnyOf}
-use Rattle.cd_rules.proofs.Ones.{each_of_lists, one_on_left, one_on_right, one_on_a_side}
+use Rattle.cd_model.proofs.Ones.{each_of_lists, one_on_left, one_on_right, one_on_a_side}
 
 -- of two lists, one after the other
 pub each_apart : {X : Type 0} (fact : X → Type 0) (xs ys : List X) → AllOf fact (xs ++ ys)

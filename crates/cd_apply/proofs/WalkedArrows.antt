@@ -12,7 +12,7 @@ use Rattle.cd_rules.specs.Clauses.{Pair}
 use Rattle.cd_rules.specs.Family.{AsksNoLess}
 use Rattle.cd_rules.specs.Members.{HasElement}
 use Rattle.cd_rules.proofs.Among.{each_of_among}
-use Rattle.cd_rules.proofs.Ones.{one_weaker, one_on_left, one_on_right, one_on_a_side}
+use Rattle.cd_model.proofs.Ones.{one_weaker, one_on_left, one_on_right, one_on_a_side}
 use Rattle.cd_products.specs.QuestionBoxes.{within_node, without_node}
 use Rattle.cd_apply.specs.Inner.Found.{AddsResults, IsSeenToAdd}
 use Rattle.cd_apply.specs.Inner.Results.{IsInQuestion, IsInOne, IsRight, IsResultIn}

@@ -6,7 +6,7 @@ use Rattle.cd_model.specs.Formula.{Graph, IsGraph, in_node, nodes}
 use Rattle.cd_model.specs.Interfaces.{Interfaces, admits, value_in_node}
 use Rattle.cd_model.specs.Thing.{IsElement, IsValue}
 use Rattle.cd_model.specs.Types.{no_closure, closure_maps}
-use Rattle.cd_rules.proofs.Ones.{each_weaker}
+use Rattle.cd_model.proofs.Ones.{each_weaker}
 use Rattle.cd_products.specs.Products.{AreInterfacesOf}
 use Rattle.cd_filter.specs.CapturedFormulas.{captured_formula, IsStepFormula}
 use Rattle.cd_filter.specs.CapturedNodes.{IsNodeOf, AreNodes}

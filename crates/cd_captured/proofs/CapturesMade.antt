@@ -8,7 +8,7 @@ use Rattle.cd_model.specs.AllOf.{AllOf}
 use Rattle.cd_model.specs.Formula.{Graph, Formula, IsFormula, IsGraph}
 use Rattle.cd_matching.specs.Kernel.{Kernel}
 use Rattle.cd_rules.specs.Family.{AsksNodes}
-use Rattle.cd_rules.proofs.Ones.{each_weaker}
+use Rattle.cd_model.proofs.Ones.{each_weaker}
 use Rattle.cd_rules.proofs.Asking.{each_of_map}
 use Rattle.cd_filter.specs.Accepting.{IsAcceptedFrom, place_of}
 use Rattle.cd_filter.specs.Table.{Place, Step, Table, first_place}

@@ -14,7 +14,7 @@ use Rattle.cd_model.specs.Thing.{Thing, IsElement}
 use Rattle.cd_model.specs.Types.{Answers}
 use Rattle.cd_matching.specs.Kernel.{Kernel, KernelNode, KernelField, Present, Optional, Test, Bind}
 use Rattle.cd_matching.specs.Kernel.{Put, Pair, Xml, Record, Both, First, Gather, IsSoundNode}
-use Rattle.cd_rules.proofs.Ones.{one_on_a_side}
+use Rattle.cd_model.proofs.Ones.{one_on_a_side}
 use Rattle.cd_filter.specs.Capturing.{AreSteps, IsSettled}
 use Rattle.cd_filter.specs.Table.{Place, Step, Takes, Puts, Leads, Table, IsAmong, HasStep}
 use Rattle.cd_filter.specs.Table.{at, pair_steps, gather_steps, triple_steps, cell_steps, row_steps}

@@ -13,7 +13,7 @@ use Rattle.cd_model.proofs.BothWays.{itself}
 use Rattle.cd_model.proofs.Extending.{kept_elements, kept_values}
 use Rattle.cd_matching.specs.Kernel.{Kernel, KernelNode, Test, Bind, Put, Pair, Xml, Record, Both}
 use Rattle.cd_matching.specs.Kernel.{First, Gather, Ends, IsSoundNode, optional_types, taken}
-use Rattle.cd_rules.proofs.Ones.{each_weaker}
+use Rattle.cd_model.proofs.Ones.{each_weaker}
 use Rattle.cd_products.specs.Products.{AreInterfacesOf}
 use Rattle.cd_filter.specs.Accepting.{place_if, place_of, IsAcceptedFrom, AreRight, AreAccepting}
 use Rattle.cd_filter.specs.Capturing.{IsSettled, IsWhole, IsAccepted}

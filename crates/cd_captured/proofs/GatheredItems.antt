@@ -12,7 +12,7 @@ use Rattle.cd_model.specs.Types.{Answers}
 use Rattle.cd_matching.specs.Kernel.{Kernel, KernelNode, KernelField, Present, Optional, Test, Bind}
 use Rattle.cd_matching.specs.Kernel.{Put, Pair, Xml, Record, Both, First, Gather}
 use Rattle.cd_rules.specs.Family.{AsksNodes}
-use Rattle.cd_rules.proofs.Ones.{each_weaker, each_of_two}
+use Rattle.cd_model.proofs.Ones.{each_weaker, each_of_two}
 use Rattle.cd_products.proofs.Appending.{all_append}
 use Rattle.cd_filter.specs.Capturing.{AreSteps, IsSettled}
 use Rattle.cd_filter.specs.Table.{Place, Step, Gathers, Table, HasStep}

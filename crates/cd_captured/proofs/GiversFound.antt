@@ -4,7 +4,7 @@ use Rattle.std.proofs.Common.{◌+◌, ◌<◌, suc, length, drop, get_or, ap, s
 use Rattle.std.specs.List.{slice_get}
 use Rattle.std.specs.Option.{unwrap_or}
 use Rattle.cd_model.specs.AllOf.{AllOf, AnyOf}
-use Rattle.cd_rules.proofs.Ones.{each_of_lists, one_on_left, one_on_right}
+use Rattle.cd_model.proofs.Ones.{each_of_lists, one_on_left, one_on_right}
 use Rattle.cd_captured.specs.declared.givers.Giver.{Giver}
 use Rattle.cd_captured.specs.declared.step.Step.{Step}
 use Rattle.cd_captured.specs.Inner.Givers.{gives, givers_in, givers_of, row_of}

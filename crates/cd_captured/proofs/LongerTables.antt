@@ -11,7 +11,7 @@ use Rattle.cd_model.proofs.BothWays.{itself, both_agree}
 use Rattle.cd_model.proofs.Extending.{kept_elements}
 use Rattle.cd_matching.specs.Kernel.{Kernel}
 use Rattle.cd_rules.specs.Family.{AsksNodes}
-use Rattle.cd_rules.proofs.Ones.{each_weaker, each_of_two}
+use Rattle.cd_model.proofs.Ones.{each_weaker, each_of_two}
 use Rattle.cd_products.specs.Products.{AreInterfacesOf}
 use Rattle.cd_filter.specs.Accepting.{AreRight}
 use Rattle.cd_filter.specs.Capturing.{IsSettled}

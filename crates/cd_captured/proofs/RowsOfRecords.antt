@@ -13,7 +13,7 @@ use Rattle.cd_matching.specs.Kernel.{KernelField, Present, Optional, AreRisingLa
 use Rattle.cd_matching.specs.Take.{at_label}
 use Rattle.cd_rules.specs.InRow.{thing_at, IsInCell}
 use Rattle.cd_rules.specs.Rows.{Cell, Row}
-use Rattle.cd_rules.proofs.Ones.{one_of_map, one_weaker}
+use Rattle.cd_model.proofs.Ones.{one_of_map, one_weaker}
 use Rattle.cd_rows.specs.RecordRows.{cell_in, asked_at, InRecordRow, IsLivingRow, CoverRecords}
 use Rattle.cd_rows.specs.RecordRows.{AreRecordRows}
 use Rattle.cd_filter.specs.Rows.{ArePresent, InRow, Picks, CoverRows, AreRows}

@@ -14,7 +14,7 @@ use Rattle.cd_model.specs.Types.{Answers}
 use Rattle.cd_model.proofs.BothWays.{itself, both_agree, three_agree, one_agrees}
 use Rattle.cd_matching.specs.Kernel.{KernelNode, KernelField, Present, Optional, Test, Bind, Put}
 use Rattle.cd_matching.specs.Kernel.{Pair, Xml, Record, Both, First, Gather}
-use Rattle.cd_rules.proofs.Ones.{each_of_two}
+use Rattle.cd_model.proofs.Ones.{each_of_two}
 use Rattle.cd_products.specs.QuestionBoxes.{IsInhabited}
 use Rattle.cd_products.specs.Products.{InProduct, InTriple, AreProducts, AreTriples}
 use Rattle.cd_filter.specs.Capturing.{IsNarrowed, AreSteps, IsSettled, IsInhabitedPlace}

@@ -3,7 +3,7 @@ use Rattle.std.proofs.Common.{◌≡◌, ◌∙◌, ◌<◌, ◌+◌, ℕ, List,
 use Rattle.std.proofs.lemmas.List.{map-append, drop_more}
 use Rattle.cd_model.specs.AllOf.{AllOf}
 use Rattle.cd_resolve.proofs.Views.{at_item}
-use Rattle.cd_rules.proofs.Ones.{each_of_lists}
+use Rattle.cd_model.proofs.Ones.{each_of_lists}
 
 -- the next thing has it, and those after it
 pub one_left : {X : Type 0} (fact : X → Type 0) (all : List X) (index : ℕ) (one : X) → one ≡ get_or all index one → index < length all

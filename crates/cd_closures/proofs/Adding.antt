@@ -7,7 +7,7 @@ use Rattle.std.specs.Cmp.{second_so}
 use Rattle.cd_sets.specs.declared.node_id.NodeId.{NodeId}
 use Rattle.cd_model.specs.Formula.{Graph}
 use Rattle.cd_model.proofs.Covered.{each_both}
-use Rattle.cd_rules.proofs.Ones.{each_weaker}
+use Rattle.cd_model.proofs.Ones.{each_weaker}
 use Rattle.cd_asking.specs.MappedArrows.{same, AddsEntry}
 use Rattle.cd_asking.specs.Mappings.{Mappings}
 use Rattle.cd_closures.specs.Inner.Asked.{AllIn, Decides}

@@ -5,7 +5,7 @@ use Rattle.cd_syntax.specs.TypeTree.{Declarations}
 use Rattle.cd_model.specs.AllOf.{AllOf}
 use Rattle.cd_model.specs.Formula.{Graph, IsGraph}
 use Rattle.cd_model.specs.Scope.{Scope}
-use Rattle.cd_rules.proofs.Ones.{each_weaker}
+use Rattle.cd_model.proofs.Ones.{each_weaker}
 use Rattle.cd_program.specs.Expr.{FunctionTree}
 use Rattle.cd_resolve.proofs.Kept.{names_kept}
 use Rattle.cd_resolve.specs.Faults.{Fault, IsFaultOfDeclarations}

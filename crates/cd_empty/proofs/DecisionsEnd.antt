@@ -5,7 +5,7 @@ use Rattle.cd_model.specs.AllOf.{AllOf, AnyOf}
 use Rattle.cd_model.specs.Formula.{Graph}
 use Rattle.cd_members.specs.Facts.{AreRight}
 use Rattle.cd_rules.specs.Family.{AsksNodes, IsClosed}
-use Rattle.cd_rules.proofs.Ones.{each_of_lists, one_on_left, one_on_right}
+use Rattle.cd_model.proofs.Ones.{each_of_lists, one_on_left, one_on_right}
 use Rattle.cd_rules.specs.Machine.{IsWitness, NotIn}
 use Rattle.cd_rules.specs.Right.{Differ, IsRight, HasFirst}
 use Rattle.cd_rules.proofs.FramesKept.{closed_at_last}

@@ -19,7 +19,7 @@ use Rattle.cd_rules.specs.Clauses.{Clause, Ints, Chars, Atoms, Pairs, Xmls, Reco
 use Rattle.cd_rules.specs.MadeForTasks.{IsFunctionBut, arrows_of}
 use Rattle.cd_rules.specs.Tasks.{Task, PairTask, XmlTask, ArrowTask, RecordTask, AreCases, IsForClause, tasks_of}
 use Rattle.cd_rules.proofs.MembersOfTasks.{function_of_none, arrows_at_first, arrows_of_cases, function_of_arrows}
-use Rattle.cd_rules.proofs.Ones.{each_weaker, each_of_lists}
+use Rattle.cd_model.proofs.Ones.{each_weaker, each_of_lists}
 use Rattle.cd_empty.specs.Inner.Fit.{IsFunctionSoFar}
 use Rattle.cd_empty.specs.Inner.Working.{IsMember}
 

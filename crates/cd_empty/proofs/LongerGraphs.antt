@@ -13,7 +13,7 @@ use Rattle.cd_members.proofs.FactsKept.{right_in_more}
 use Rattle.cd_rules.specs.Machine.{Witness, IsWitness}
 use Rattle.cd_rules.specs.Family.{AsksNodes}
 use Rattle.cd_rules.proofs.ClosedStays.{closed_stays}
-use Rattle.cd_rules.proofs.Ones.{each_weaker, each_of_two}
+use Rattle.cd_model.proofs.Ones.{each_weaker, each_of_two}
 use Rattle.cd_empty.specs.declared.decider.Decider.{Decider}
 use Rattle.cd_empty.specs.declared.verdict.Verdict.{Verdict}
 use Rattle.cd_empty.specs.declared.verdict.Verdict.TheVariants.{Empty, Inhabited}

@@ -12,7 +12,7 @@ use Rattle.cd_elements.specs.declared.shape.ElementId.{ElementId}
 use Rattle.cd_rules.specs.Machine.{NotIn}
 use Rattle.cd_rules.specs.Family.{IsOfFamily, IsCovered}
 use Rattle.cd_rules.proofs.Covering.{covers_own}
-use Rattle.cd_rules.proofs.Ones.{one_on_left, one_on_right}
+use Rattle.cd_model.proofs.Ones.{one_on_left, one_on_right}
 use Rattle.cd_empty.specs.declared.decider.Decider.{Decider}
 use Rattle.cd_empty.specs.declared.verdict.Verdict.{Verdict}
 use Rattle.cd_empty.specs.declared.verdict.Verdict.TheVariants.{Empty, Inhabited}

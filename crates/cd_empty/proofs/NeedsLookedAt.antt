@@ -7,7 +7,7 @@ use Rattle.cd_normal.specs.ChoicesGoOn.{IsNeededByTop}
 use Rattle.cd_rules.specs.Family.{AreAmong, IsCovered}
 use Rattle.cd_rules.specs.PartialChoices.{Partial, PartialFails}
 use Rattle.cd_rules.proofs.Covering.{covers_on, covered_where}
-use Rattle.cd_rules.proofs.Ones.{one_leads, one_with_each}
+use Rattle.cd_model.proofs.Ones.{one_leads, one_with_each}
 use Rattle.cd_empty.specs.declared.decider.Decider.{Decider}
 use Rattle.cd_empty.specs.declared.doing.Doing.{Doing}
 use Rattle.cd_empty.specs.Inner.Working.{IsLook}

@@ -9,7 +9,7 @@ use Rattle.cd_sets.specs.Asking.{same_question}
 use Rattle.cd_sets.proofs.Same.{questions_decide}
 use Rattle.cd_model.specs.AllOf.{AllOf, AnyOf}
 use Rattle.cd_rules.proofs.Among.{of_each, each_of_its}
-use Rattle.cd_rules.proofs.Ones.{one_on_left, one_on_right, each_of_all}
+use Rattle.cd_model.proofs.Ones.{one_on_left, one_on_right, each_of_all}
 use Rattle.cd_rules.specs.Machine.{NotIn}
 use Rattle.cd_rules.specs.Right.{Differ}
 use Rattle.cd_rules.proofs.QuestionsOnce.{in_neither}

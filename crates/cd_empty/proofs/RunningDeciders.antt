@@ -7,7 +7,7 @@ use Rattle.cd_model.specs.Formula.{Graph}
 use Rattle.cd_model.specs.Thing.{Thing}
 use Rattle.cd_rules.specs.Family.{AsksNodes}
 use Rattle.cd_rules.proofs.Among.{of_each}
-use Rattle.cd_rules.proofs.Ones.{each_weaker, one_on_right}
+use Rattle.cd_model.proofs.Ones.{each_weaker, one_on_right}
 use Rattle.cd_elements.specs.declared.shape.ElementId.{ElementId}
 use Rattle.cd_elements.specs.Table.{element_at}
 use Rattle.cd_rules.specs.Machine.{Work, State, state, frame, IsWitness, IsDone, Works, NotIn, all_questions}

@@ -7,7 +7,7 @@ use Rattle.cd_model.specs.AllOf.{AllOf, AnyOf}
 use Rattle.cd_model.specs.Thing.{Thing}
 use Rattle.cd_rules.specs.Machine.{NotIn}
 use Rattle.cd_rules.specs.Right.{Differ}
-use Rattle.cd_rules.proofs.Ones.{each_weaker, each_of_two, one_on_right}
+use Rattle.cd_model.proofs.Ones.{each_weaker, each_of_two, one_on_right}
 use Rattle.cd_elements.specs.Table.{element_at}
 use Rattle.cd_empty.specs.declared.verdict.Verdict.{Verdict}
 use Rattle.cd_empty.specs.declared.verdict.Verdict.TheVariants.{Empty, Inhabited}

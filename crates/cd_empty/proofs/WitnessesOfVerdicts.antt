@@ -3,7 +3,7 @@ use Rattle.std.proofs.Common.{◌≡◌, ◌≤◌, ◌⊎◌, List, [], ◌∷�
 use Rattle.cd_sets.specs.declared.question.Question.{Question}
 use Rattle.cd_model.specs.AllOf.{AnyOf}
 use Rattle.cd_model.specs.Thing.{Thing}
-use Rattle.cd_rules.proofs.Ones.{map_of_one}
+use Rattle.cd_model.proofs.Ones.{map_of_one}
 use Rattle.cd_elements.specs.declared.shape.ElementId.{ElementId}
 use Rattle.cd_elements.specs.Table.{element_at}
 use Rattle.cd_rules.specs.Machine.{NotIn}

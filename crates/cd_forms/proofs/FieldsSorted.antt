@@ -14,7 +14,7 @@ use Rattle.cd_syntax.specs.Name.{Name, IsLabel, IsAbove}
 use Rattle.cd_model.specs.AllOf.{AllOf}
 use Rattle.cd_model.specs.Formula.{AreRisingLabels}
 use Rattle.cd_model.specs.Types.{FieldOf, field_of}
-use Rattle.cd_rules.proofs.Ones.{each_of_two}
+use Rattle.cd_model.proofs.Ones.{each_of_two}
 use Rattle.cd_forms.specs.Inner.Sorting.{by_order, inserted, sorted_over}
 
 module _ {X : Type 0} where

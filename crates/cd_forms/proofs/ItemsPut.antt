@@ -17,7 +17,7 @@ use Rattle.cd_meaning.specs.Sequences.{IsJoinOf}
 use Rattle.cd_program.specs.Expr.{Expr, Items, Item, One, Splice, Run, items_of}
 use Rattle.cd_program.specs.PlainExpr.{plain_item}
 use Rattle.cd_program.specs.declared.expr.Item.{Item as CodeItem}
-use Rattle.cd_rules.proofs.Ones.{each_weaker}
+use Rattle.cd_model.proofs.Ones.{each_weaker}
 use Rattle.cd_typing.specs.Results.{IsSequenceOf}
 use Rattle.cd_typing.specs.Typ.{typ, In, AreIn}
 use Rattle.cd_forms.specs.Inner.Chains.{AreBefore, IsTextBefore}

@@ -13,7 +13,7 @@ use Rattle.cd_model.specs.Formula.{Graph, Formula, Formulas, Field, NoFormula, A
 use Rattle.cd_model.specs.Formula.{AreFormulas, IsGraph}
 use Rattle.cd_model.specs.Membership.{holds, reader, answers}
 use Rattle.cd_model.specs.Thing.{Thing}
-use Rattle.cd_rules.proofs.Ones.{each_weaker}
+use Rattle.cd_model.proofs.Ones.{each_weaker}
 use Rattle.cd_forms.proofs.LongerGraphs.{new_node_holds}
 
 -- a formula of a graph is one of a longer one

@@ -10,7 +10,7 @@ use Rattle.cd_model.specs.Formula.{Graph, Formula, IsFormula, IsGraph, formula_a
 use Rattle.cd_model.specs.Membership.{holds, reader, answers}
 use Rattle.cd_model.specs.Thing.{Thing, Character, IsElement}
 use Rattle.cd_model.proofs.Extending.{kept_elements}
-use Rattle.cd_rules.proofs.Ones.{each_of_lists}
+use Rattle.cd_model.proofs.Ones.{each_of_lists}
 use Rattle.cd_meaning.specs.Sets.{◌⊆◌, elements_of}
 use Rattle.cd_meaning.specs.Sequences.{followed_by}
 use Rattle.cd_typing.specs.Typ.{typ, AreIn}

@@ -14,7 +14,7 @@ use Rattle.cd_model.specs.Membership.{holds, one_holds, reader, answers}
 use Rattle.cd_model.specs.Thing.{Thing, IsElement}
 use Rattle.cd_meaning.specs.Sets.{◌⊆◌, elements_of}
 use Rattle.cd_model.proofs.BothWays.{itself, turned, through, one_agrees}
-use Rattle.cd_rules.proofs.Ones.{one_of_map, map_of_one, each_of_lists, each_weaker}
+use Rattle.cd_model.proofs.Ones.{one_of_map, map_of_one, each_of_lists, each_weaker}
 use Rattle.cd_typing.specs.Typ.{In, typ}
 use Rattle.cd_forms.specs.Inner.Members.{is_member}
 use Rattle.cd_forms.specs.Unions.{IsInOne}

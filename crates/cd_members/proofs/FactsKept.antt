@@ -10,7 +10,7 @@ use Rattle.cd_syntax.specs.Name.{Name}
 use Rattle.cd_model.specs.Formula.{Formula, Field, Record, Graph, IsGraph, formula_at}
 use Rattle.cd_model.specs.Membership.{answers, holds, reader}
 use Rattle.cd_model.proofs.Extending.{kept_elements}
-use Rattle.cd_rules.proofs.Ones.{each_of_lists, each_weaker}
+use Rattle.cd_model.proofs.Ones.{each_of_lists, each_weaker}
 use Rattle.cd_elements.specs.declared.shape.ElementId.{ElementId}
 use Rattle.cd_elements.specs.declared.shape.Shape.{Shape}
 use Rattle.cd_elements.specs.Table.{element_at, element_by}

@@ -8,7 +8,7 @@ use Rattle.cd_model.specs.AllOf.{AllOf}
 use Rattle.cd_rules.specs.Rows.{Cell, Row}
 use Rattle.cd_rules.specs.Tasks.{present}
 use Rattle.cd_rules.proofs.FreshLabels.{row_of_a, row_is_long, row_is_label, longest, no_longer}
-use Rattle.cd_rules.proofs.Ones.{each_of_lists}
+use Rattle.cd_model.proofs.Ones.{each_of_lists}
 use Rattle.cd_members.specs.Inner.RecordFields.{present_fields, fresh_fields, record_fields, labels}
 use Rattle.cd_members.proofs.LabelsOnce.{IsOne, AreOnce, both_once}
 

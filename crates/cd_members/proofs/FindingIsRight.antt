@@ -12,7 +12,7 @@ use Rattle.cd_model.specs.Membership.{answers, holds, reader, labelled, mapping,
 use Rattle.cd_model.specs.Membership.{either}
 use Rattle.cd_model.proofs.Labels.{IsOneOf, names_of}
 use Rattle.cd_rules.proofs.LabelsNamed.{named_or_free}
-use Rattle.cd_rules.proofs.Ones.{one_on_left, one_on_right}
+use Rattle.cd_model.proofs.Ones.{one_on_left, one_on_right}
 use Rattle.cd_elements.specs.declared.shape.ElementId.{ElementId}
 use Rattle.cd_elements.specs.declared.shape.Shape.{Shape}
 use Rattle.cd_elements.specs.declared.shape.Shape.TheVariants.{Int, Char, Atom, Pair, Xml, Record, Fun}

@@ -7,7 +7,7 @@ use Rattle.cd_syntax.specs.Name.{Name}
 use Rattle.cd_model.specs.AllOf.{AnyOf}
 use Rattle.cd_rules.specs.Clauses.{RecordType}
 use Rattle.cd_rules.specs.Rows.{with_label, labels_after, labels_of}
-use Rattle.cd_rules.proofs.Ones.{one_on_a_side}
+use Rattle.cd_model.proofs.Ones.{one_on_a_side}
 
 -- a label is one of these
 abbrev pub IsOne : List Name → Name → Type 0

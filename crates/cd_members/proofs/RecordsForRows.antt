@@ -17,7 +17,7 @@ use Rattle.cd_rules.specs.Rows.{Cell, Row}
 use Rattle.cd_rules.proofs.FreshLabels.{row_of_a, row_is_long, longest, no_longer}
 use Rattle.cd_rules.proofs.Among.{among_itself}
 use Rattle.cd_rules.proofs.Answered.{map_of_each}
-use Rattle.cd_rules.proofs.Ones.{one_of_map, map_of_one, one_on_a_side, each_of_two}
+use Rattle.cd_model.proofs.Ones.{one_of_map, map_of_one, one_on_a_side, each_of_two}
 use Rattle.cd_elements.specs.declared.shape.ElementId.{ElementId}
 use Rattle.cd_elements.specs.Table.{element_at, fields_of}
 use Rattle.cd_members.specs.Inner.RecordFields.{put, put_all, present_fields, fresh_fields, record_fields, labels}

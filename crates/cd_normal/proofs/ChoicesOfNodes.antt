@@ -13,7 +13,7 @@ use Rattle.cd_rules.specs.KindChoices.{is_of, literal_by, kind_choices, kind_of_
 use Rattle.cd_rules.specs.PartialChoices.{Partial, Signed, partial, each_signed, IsConjunction, wants_each, refuses_each, denies}
 use Rattle.cd_rules.specs.PartialChoices.{IsDisjunction, wants_one, refuses_one, GoesOn, unfolds, divides, extends, partial_choices}
 use Rattle.cd_rules.proofs.Asking.{each_of_map}
-use Rattle.cd_rules.proofs.Ones.{each_weaker, each_of_lists}
+use Rattle.cd_model.proofs.Ones.{each_weaker, each_of_lists}
 use Rattle.cd_normal.specs.ChoicesGoOn.{IsOfNodes, TopGoesOn, GoesBy}
 use Rattle.cd_normal.specs.declared.advance.Advance.{Advance}
 use Rattle.cd_normal.specs.declared.advance.Advance.TheVariants.{Nothing, Went, Complete}

@@ -15,7 +15,7 @@ use Rattle.cd_rules.proofs.Among.{each_of_its}
 use Rattle.cd_rules.proofs.Answered.{map_of_each}
 use Rattle.cd_rules.proofs.Asking.{each_of_map}
 use Rattle.cd_rules.proofs.ClausesOfKind.{HasParts, pairs_of_kind, xmls_of_kind, records_of_kind, arrows_of_kind}
-use Rattle.cd_rules.proofs.Ones.{each_of_lists, one_weaker, one_of_map, map_of_one, one_on_left, one_on_right}
+use Rattle.cd_model.proofs.Ones.{each_of_lists, one_weaker, one_of_map, map_of_one, one_on_left, one_on_right}
 use Rattle.cd_normal.specs.declared.clause.Clause.{Clause as CodeClause}
 use Rattle.cd_normal.specs.declared.kind.Kind.{Kind}
 use Rattle.cd_normal.specs.declared.kind.Kind.TheVariants.{Pair, Xml, Record, Function}

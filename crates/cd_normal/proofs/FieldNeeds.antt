@@ -8,7 +8,7 @@ use Rattle.cd_model.specs.AllOf.{AllOf, AnyOf}
 use Rattle.cd_rules.specs.Clauses.{RecordType}
 use Rattle.cd_rules.specs.Needs.{question}
 use Rattle.cd_rules.specs.Rows.{field_at}
-use Rattle.cd_rules.proofs.Ones.{each_of_lists}
+use Rattle.cd_model.proofs.Ones.{each_of_lists}
 use Rattle.cd_normal.specs.Inner.IsNeed.{IsFieldNeed}
 
 one_asks : (label : Name) (types : List RecordType) → list_any (λ type. not (field_at type label).optional) types ≡ true

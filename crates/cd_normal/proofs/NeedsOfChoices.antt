@@ -14,7 +14,7 @@ use Rattle.cd_rules.specs.Within.{IsPairWithin, IsXmlWithin, IsTypeWithin}
 use Rattle.cd_rules.proofs.Among.{of_each, among_itself}
 use Rattle.cd_rules.proofs.Asking.{each_of_map}
 use Rattle.cd_rules.proofs.CoveredChoices.{pair_cut, xml_cut, record_cut, arrow_cut}
-use Rattle.cd_rules.proofs.Ones.{each_weaker, one_weaker, one_with_each, one_leads}
+use Rattle.cd_model.proofs.Ones.{each_weaker, one_weaker, one_with_each, one_leads}
 use Rattle.cd_rules.proofs.PartsAsk.{pair_way_asks, xml_way_asks, arrow_way_asks, row_asks}
 use Rattle.cd_normal.specs.ChoicesGoOn.{IsOfNodes, IsNeededByTop}
 use Rattle.cd_normal.specs.Inner.IsNeed.{IsNeed, AreNeedsOfFirst}

@@ -8,7 +8,7 @@ use Rattle.cd_normal.specs.declared.clause.Clause.{Clause as CodeClause}
 use Rattle.cd_rules.specs.BasicSets.{IsBasic}
 use Rattle.cd_rules.specs.Clauses.{Clause, IsClauseOfQuestion}
 use Rattle.cd_rules.proofs.Asking.{each_of_map}
-use Rattle.cd_rules.proofs.Ones.{one_of_map}
+use Rattle.cd_model.proofs.Ones.{one_of_map}
 use Rattle.cd_products.specs.Inner.ClauseBoxes.{AreClauses}
 
 pub are_clauses : (graph : Graph) (question : Question) (all : List CodeClause)

@@ -14,7 +14,7 @@ use Rattle.cd_rules.specs.Choices.{Choice, choices, joined, choices_at, choices_
 use Rattle.cd_rules.specs.Clauses.{Clause, IsClauseOf}
 use Rattle.cd_rules.specs.Family.{AsksNodes}
 use Rattle.cd_rules.specs.Members.{HasElement}
-use Rattle.cd_rules.proofs.Ones.{each_of_two}
+use Rattle.cd_model.proofs.Ones.{each_of_two}
 use Rattle.cd_products.specs.Inner.ClauseBoxes.{AreClauses}
 use Rattle.cd_products.specs.Inner.Tests.{IsTested, IsTest}
 

@@ -12,7 +12,7 @@ use Rattle.cd_model.specs.Formula.{Graph, IsGraph, asked, in_node}
 use Rattle.cd_model.specs.Thing.{Thing}
 use Rattle.cd_model.proofs.BothWays.{through}
 use Rattle.cd_rules.specs.Family.{AsksNodes}
-use Rattle.cd_rules.proofs.Ones.{each_of_lists}
+use Rattle.cd_model.proofs.Ones.{each_of_lists}
 use Rattle.cd_records.specs.Inner.Alone.{IsOnly, AsksAlone, IsKnown, AreAlone}
 use Rattle.cd_records.specs.Inner.Entries.{InOneQuestion}
 use Rattle.cd_records.specs.Inner.Plain.{plain_questions}

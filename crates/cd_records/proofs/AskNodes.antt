@@ -9,7 +9,7 @@ use Rattle.cd_model.specs.Thing.{IsElement}
 use Rattle.cd_rules.specs.Family.{AsksNodes}
 use Rattle.cd_rules.specs.Rows.{Cell, Row}
 use Rattle.cd_rules.proofs.Asking.{each_of_map, each_of_set}
-use Rattle.cd_rules.proofs.Ones.{each_of_lists, each_weaker}
+use Rattle.cd_model.proofs.Ones.{each_of_lists, each_weaker}
 use Rattle.cd_rows.specs.RecordRows.{IsLivingRow, RowAsksNodes, asked_at, cell_in}
 use Rattle.cd_rows.specs.RecordRows.{may_lack}
 use Rattle.cd_records.specs.Inner.Entries.{Entry}

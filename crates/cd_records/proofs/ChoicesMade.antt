@@ -13,7 +13,7 @@ use Rattle.cd_rules.specs.Members.{HasElement}
 use Rattle.cd_rules.specs.Rows.{Cell, Row}
 use Rattle.cd_rules.proofs.Answered.{each_of_asked}
 use Rattle.cd_rules.proofs.Asking.{asked_of_each}
-use Rattle.cd_rules.proofs.Ones.{each_weaker, each_of_lists, one_on_left, one_on_right}
+use Rattle.cd_model.proofs.Ones.{each_weaker, each_of_lists, one_on_left, one_on_right}
 use Rattle.cd_rows.proofs.LivingRows.{IsOfSort}
 use Rattle.cd_records.specs.Inner.Leaving.{Choice, both_questions, take, leave, IsStep, AreSteps}
 use Rattle.cd_records.specs.Inner.Leaving.{AreChoices, first_choice}

@@ -8,7 +8,7 @@ use Rattle.cd_model.specs.Membership.{Answers}
 use Rattle.cd_model.specs.Thing.{Thing, Fields, Record, IsElement}
 use Rattle.cd_rules.specs.InRow.{thing_at, IsInCell, HasElsewhere, IsInRow}
 use Rattle.cd_rules.specs.Rows.{Cell, Row}
-use Rattle.cd_rules.proofs.Ones.{each_weaker}
+use Rattle.cd_model.proofs.Ones.{each_weaker}
 use Rattle.cd_products.specs.QuestionBoxes.{InQuestion, IsInhabited}
 use Rattle.cd_rows.specs.RecordRows.{HaveOwnLabels, InRecordRow, IsLivingRow, cell_in}
 use Rattle.cd_rows.proofs.LivingRows.{IsOfSort}

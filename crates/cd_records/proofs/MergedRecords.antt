@@ -20,7 +20,7 @@ use Rattle.cd_model.proofs.Sorts as sort
 use Rattle.cd_rules.specs.InRow.{thing_at}
 use Rattle.cd_rules.specs.Rows.{Cell, Row}
 use Rattle.cd_rules.proofs.FreshLabels.{row_of_a, row_is_label}
-use Rattle.cd_rules.proofs.Ones.{each_weaker, one_of_map, one_with_each}
+use Rattle.cd_model.proofs.Ones.{each_weaker, one_of_map, one_with_each}
 use Rattle.cd_rows.specs.RecordRows.{InRecordRow, IsLivingRow, asked_at, may_lack, cell_in}
 use Rattle.cd_rows.proofs.LivingRows.{IsOfSort, at_labels}
 use Rattle.cd_meaning.specs.Records.{IsMergedAt, IsMergeOf}

@@ -15,7 +15,7 @@ use Rattle.cd_model.specs.Membership.{reader}
 use Rattle.cd_model.specs.Thing.{Thing, IsElement}
 use Rattle.cd_model.proofs.BothWays.{itself, through, turned}
 use Rattle.cd_model.proofs.Extending.{kept_elements, kept_formulas}
-use Rattle.cd_rules.proofs.Ones.{each_weaker, each_of_lists}
+use Rattle.cd_model.proofs.Ones.{each_weaker, each_of_lists}
 use Rattle.cd_records.specs.Inner.Entries.{Entry, InOneQuestion}
 use Rattle.cd_records.specs.Inner.Standing.{Adds, IsUnion, HoldsUnion, HoldsOutside, IsFieldOf}
 use Rattle.cd_records.specs.Inner.Standing.{AreFieldsOf, longer}

@@ -7,7 +7,7 @@ use Rattle.cd_sets.proofs.Same.{questions_decide}
 use Rattle.cd_sets.specs.Asking.{same_question}
 use Rattle.cd_sets.specs.declared.question.Question.{Question}
 use Rattle.cd_model.specs.AllOf.{AllOf, AnyOf}
-use Rattle.cd_rules.proofs.Ones.{one_on_left, one_on_right, one_on_a_side, each_of_lists}
+use Rattle.cd_model.proofs.Ones.{one_on_left, one_on_right, one_on_a_side, each_of_lists}
 use Rattle.cd_records.specs.Inner.Saying.{with_question, with_questions}
 
 module _ (Fact : Question → Type 0) where

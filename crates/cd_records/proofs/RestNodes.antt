@@ -9,7 +9,7 @@ use Rattle.cd_model.specs.Formula.{Graph, in_node}
 use Rattle.cd_model.specs.Thing as thing
 use Rattle.cd_model.specs.Thing.{Thing, Fields, IsElement, IsRecord}
 use Rattle.cd_rules.specs.Rows.{Row}
-use Rattle.cd_rules.proofs.Ones.{one_of_map, map_of_one, one_on_left, one_on_right, one_on_a_side}
+use Rattle.cd_model.proofs.Ones.{one_of_map, map_of_one, one_on_left, one_on_right, one_on_a_side}
 use Rattle.cd_rows.specs.RecordRows.{InRecordRow, IsLivingRow}
 use Rattle.cd_meaning.specs.Records.{HasRecord, IsRestOf, IsWithout}
 use Rattle.cd_meaning.specs.Sets.{elements_of}

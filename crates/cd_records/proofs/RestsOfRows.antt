@@ -15,8 +15,8 @@ use Rattle.cd_rules.specs.InRow.{thing_at, IsInCell, IsOfNoCell, HasElsewhere}
 use Rattle.cd_rules.specs.Rows.{Cell, Row}
 use Rattle.cd_rules.proofs.MembersFields.{found, put, found_there, found_elsewhere, put_rises}
 use Rattle.cd_rules.proofs.MembersFields.{put_fields}
-use Rattle.cd_rules.proofs.Ones.{each_weaker, map_of_one, one_of_map, one_weaker, picked}
-use Rattle.cd_rules.proofs.Ones.{one_with_each}
+use Rattle.cd_model.proofs.Ones.{each_weaker, map_of_one, one_of_map, one_weaker, picked}
+use Rattle.cd_model.proofs.Ones.{one_with_each}
 use Rattle.cd_rows.specs.RecordRows.{InRecordRow, IsLivingRow, asked_at, may_lack, cell_in}
 use Rattle.cd_rows.proofs.LivingRows.{IsOfSort, at_labels}
 use Rattle.cd_meaning.specs.Records.{IsWithout}

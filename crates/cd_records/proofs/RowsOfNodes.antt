@@ -10,7 +10,7 @@ use Rattle.cd_model.specs.Thing.{Thing, Fields, Record, IsElement}
 use Rattle.cd_rules.specs.InRow.{thing_at, IsInCell}
 use Rattle.cd_rules.specs.Needs.{question}
 use Rattle.cd_rules.specs.Rows.{Row}
-use Rattle.cd_rules.proofs.Ones.{one_weaker, one_with_each, picked}
+use Rattle.cd_model.proofs.Ones.{one_weaker, one_with_each, picked}
 use Rattle.cd_products.specs.QuestionBoxes.{InQuestion}
 use Rattle.cd_rows.specs.RecordRows.{InRecordRow, IsLivingRow, cell_in}
 use Rattle.cd_rows.proofs.LivingRows.{IsOfSort}

@@ -18,7 +18,7 @@ use Rattle.cd_rules.specs.InRow.{thing_at, IsInRow}
 use Rattle.cd_rules.specs.Rows.{Row, field_at}
 use Rattle.cd_rules.proofs.ClausesExact.{thing_exact}
 use Rattle.cd_rules.proofs.InCells.{Says}
-use Rattle.cd_rules.proofs.Ones.{each_weaker, each_for_all}
+use Rattle.cd_model.proofs.Ones.{each_weaker, each_for_all}
 use Rattle.cd_rules.proofs.RowsOfThings.{thing_says}
 use Rattle.cd_rules.proofs.Things.{answers_of, reader_of}
 use Rattle.cd_products.specs.QuestionBoxes.{InQuestion}

@@ -12,7 +12,7 @@ use Rattle.cd_rules.specs.Rows.{Cell, Row, field_at, labels_of, cell_at}
 use Rattle.cd_rules.proofs.Asking.{each_of_map}
 use Rattle.cd_rules.proofs.InCells.{Says, value_in, into_cell}
 use Rattle.cd_rules.proofs.LabelsNamed.{free_field, IsUnnamed, unnamed_parts}
-use Rattle.cd_rules.proofs.Ones.{each_of_all, each_of_two, one_of_map}
+use Rattle.cd_model.proofs.Ones.{each_of_all, each_of_two, one_of_map}
 use Rattle.cd_rules.proofs.RowsExact.{unnamed_by_all, say_no_more, wanted_in_row}
 use Rattle.cd_rows.specs.Inner.Refining.{first_row}
 use Rattle.cd_rows.proofs.LessRows.{labels_in}

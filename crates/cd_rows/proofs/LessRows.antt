@@ -15,8 +15,8 @@ use Rattle.cd_rules.specs.InRow.{IsInCell, IsOfNoCell, HasElsewhere, IsInRow}
 use Rattle.cd_rules.specs.Rows.{Cell, Row, field_at}
 use Rattle.cd_rules.proofs.InCells.{Says}
 use Rattle.cd_rules.proofs.LabelsNamed.{free_field}
-use Rattle.cd_rules.proofs.Ones.{each_weaker, one_weaker, one_of_map, map_of_one, one_with_each}
-use Rattle.cd_rules.proofs.Ones.{one_leads, one_on_left, one_on_right, one_on_a_side}
+use Rattle.cd_model.proofs.Ones.{each_weaker, one_weaker, one_of_map, map_of_one, one_with_each}
+use Rattle.cd_model.proofs.Ones.{one_leads, one_on_left, one_on_right, one_on_a_side}
 use Rattle.cd_products.specs.QuestionBoxes.{without_node}
 use Rattle.cd_rows.specs.Inner.Refining.{within_type, less_cells, with_cells}
 use Rattle.cd_rows.specs.Inner.Refining.{outside_rest, less_row}

@@ -16,7 +16,7 @@ use Rattle.cd_rules.specs.InRow.{thing_at, IsInCell, HasElsewhere, IsInRow}
 use Rattle.cd_rules.specs.Rows.{Cell, Row}
 use Rattle.cd_rules.specs.Tasks.{present}
 use Rattle.cd_rules.proofs.InCells.{Says}
-use Rattle.cd_rules.proofs.Ones.{each_of_all}
+use Rattle.cd_model.proofs.Ones.{each_of_all}
 use Rattle.cd_rules.proofs.Asking.{each_of_map}
 use Rattle.cd_products.specs.QuestionBoxes.{InQuestion, InQuestions, AreDecided, IsInhabited}
 use Rattle.cd_products.specs.QuestionBoxes.{DropsEmpty}

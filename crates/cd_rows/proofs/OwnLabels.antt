@@ -11,7 +11,7 @@ use Rattle.cd_rules.specs.Rows.{Cell, Row, with_label, labels_after, labels_of}
 use Rattle.cd_rules.specs.Members.{HaveLabels}
 use Rattle.cd_rules.proofs.Answered.{map_of_each}
 use Rattle.cd_rules.proofs.MembersOfRecords.{labels_are}
-use Rattle.cd_rules.proofs.Ones.{one_of_map}
+use Rattle.cd_model.proofs.Ones.{one_of_map}
 use Rattle.cd_products.proofs.Appending.{all_append}
 use Rattle.cd_rows.specs.RecordRows.{HaveOwnLabels}
 use Rattle.cd_rows.proofs.LessRows.{labels_in}

@@ -18,7 +18,7 @@ use Rattle.cd_rules.proofs.FreshLabels.{row_of_a, row_is_long, row_is_label, len
 use Rattle.cd_rules.proofs.FreshLabels.{longest, no_longer}
 use Rattle.cd_rules.proofs.MembersFields.{found, put, found_there, found_elsewhere, put_rises}
 use Rattle.cd_rules.proofs.MembersFields.{put_fields}
-use Rattle.cd_rules.proofs.Ones.{each_weaker, one_of_map}
+use Rattle.cd_model.proofs.Ones.{each_weaker, one_of_map}
 use Rattle.cd_products.specs.QuestionBoxes.{InQuestion, IsInhabited}
 use Rattle.cd_rows.specs.RecordRows.{IsLivingRow, InRecordRow, HaveOwnLabels, cell_in, asked_at}
 use Rattle.cd_rows.proofs.LessRows.{labels_in}

@@ -13,7 +13,7 @@ use Rattle.cd_rules.specs.InRow.{IsInRow, IsOfNoCell}
 use Rattle.cd_rules.specs.Rows.{Row, field_at}
 use Rattle.cd_rules.proofs.InCells.{Says}
 use Rattle.cd_rules.proofs.LabelsNamed.{free_field}
-use Rattle.cd_rules.proofs.Ones.{each_weaker}
+use Rattle.cd_model.proofs.Ones.{each_weaker}
 use Rattle.cd_rules.proofs.Asking.{each_of_map}
 use Rattle.cd_products.proofs.Appending.{any_left, any_right, any_split, all_append}
 use Rattle.cd_rows.specs.Inner.Refining as refining

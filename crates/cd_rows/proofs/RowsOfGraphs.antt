@@ -13,7 +13,7 @@ use Rattle.cd_rules.specs.Rows.{Cell, Row, field_at, labels_of}
 use Rattle.cd_rules.specs.Tasks.{present}
 use Rattle.cd_rules.specs.Within.{IsWithin, IsTypeWithin}
 use Rattle.cd_rules.proofs.Asking.{each_of_map, each_of_set}
-use Rattle.cd_rules.proofs.Ones.{each_weaker}
+use Rattle.cd_model.proofs.Ones.{each_weaker}
 use Rattle.cd_rules.proofs.PartsAsk.{clause_is_within, row_asks}
 use Rattle.cd_products.proofs.Appending.{all_append}
 use Rattle.cd_products.proofs.OneMore.{each_with}

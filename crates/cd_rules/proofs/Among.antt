@@ -6,7 +6,7 @@ use Rattle.cd_rules.specs.Family.{AreAmong}
 use Rattle.cd_rules.specs.Needs.{set_of}
 use Rattle.cd_rules.proofs.Asking.{each_of_map, each_of_set}
 use Rattle.cd_rules.proofs.Answered.{set_of_each}
-use Rattle.cd_rules.proofs.Ones.{each_weaker, one_weaker, one_of_map, one_on_left, one_leads, one_with_each}
+use Rattle.cd_model.proofs.Ones.{each_weaker, one_weaker, one_of_map, one_on_left, one_leads, one_with_each}
 
 -- what is so of each of a list is so of one of it
 pub of_each : {X : Type 0} (fact : X → Type 0) (all : List X) (x : X) → AllOf fact all → AnyOf (λ other. other ≡ x) all → fact x

@@ -18,7 +18,7 @@ use Rattle.cd_model.proofs.Logic.{both_or, swapped, maps_or, both_apart, maps_ap
 use Rattle.cd_rules.specs.Clauses.{Pair}
 use Rattle.cd_rules.specs.Needs.{question, splits, result_questions, arrow_way}
 use Rattle.cd_rules.proofs.Asking.{each_of_map, asked_of_each}
-use Rattle.cd_rules.proofs.Ones.{each_weaker, one_weaker, one_of_map}
+use Rattle.cd_model.proofs.Ones.{each_weaker, one_weaker, one_of_map}
 use Rattle.cd_rules.proofs.Sides.{HaveBoth, AllToOne, one_splits, one_gives_all}
 use Rattle.cd_rules.proofs.Things.{IsAskedFact, answers_of, mapping_of}
 

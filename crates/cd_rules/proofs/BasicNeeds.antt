@@ -17,7 +17,7 @@ use Rattle.cd_model.proofs.Labels.{IsOneOf}
 use Rattle.cd_model.proofs.SoundOrNot.{names_or_not, label_or_not}
 use Rattle.cd_rules.specs.Needs.{Need, empty_or_not}
 use Rattle.cd_rules.proofs.FreshLabels.{row_of_a, row_is_long, row_is_label, longest, no_longer}
-use Rattle.cd_rules.proofs.Ones.{one_weaker, one_leads, one_on_left, one_on_right}
+use Rattle.cd_model.proofs.Ones.{one_weaker, one_leads, one_on_left, one_on_right}
 use Rattle.cd_model.proofs.HoldsOrNot.{HoldsOrNot, both_or_not, three_or_not, each_or_not, one_or_not, same_or_not, below_or_not}
 
 -- a test of each of some sets has the outcome or not

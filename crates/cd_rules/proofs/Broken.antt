@@ -12,7 +12,7 @@ use Rattle.cd_rules.specs.Rows.{Cell, Row, rows_of}
 use Rattle.cd_rules.specs.Members.{IsLiving}
 use Rattle.cd_rules.specs.Family.{IsCovered, BreaksNeed, BreaksRow, Breaks}
 use Rattle.cd_rules.proofs.ClauseOf.{in_pairs, in_xmls, in_records, kind_of_pair, kind_of_xml, kind_of_record}
-use Rattle.cd_rules.proofs.Ones.{one_alone}
+use Rattle.cd_model.proofs.Ones.{one_alone}
 use Rattle.cd_rules.proofs.PairsForward.{pairs_forward}
 use Rattle.cd_rules.proofs.XmlsForward.{xmls_forward}
 use Rattle.cd_rules.proofs.RecordsForward.{HasAt, records_forward}

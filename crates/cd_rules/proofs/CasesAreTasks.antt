@@ -10,7 +10,7 @@ use Rattle.cd_rules.specs.Tasks.{AreCases, pair_cases, xml_cases, arrow_cases, r
 use Rattle.cd_rules.proofs.Among.{among_itself, among_on, each_of_its}
 use Rattle.cd_rules.proofs.Asking.{each_of_map}
 use Rattle.cd_rules.proofs.PairsBack.{both_of_each}
-use Rattle.cd_rules.proofs.Ones.{each_weaker, each_of_all}
+use Rattle.cd_model.proofs.Ones.{each_weaker, each_of_all}
 
 -- what is taken out of a list is one of it, and the others are what is left
 pub taken_one : {X : Type 0} (Fact : X → Type 0) (x : X) (all rest : List X) → Takes x all rest

@@ -15,7 +15,7 @@ use Rattle.cd_rules.proofs.Among.{each_of_its}
 use Rattle.cd_rules.proofs.BasicsWithoutMembers.{basic_breaks}
 use Rattle.cd_rules.proofs.ClausesOfKind.{pairs_of_kind, xmls_of_kind, records_of_kind, arrows_of_kind}
 use Rattle.cd_rules.proofs.Completions.{completions_of_question}
-use Rattle.cd_rules.proofs.Ones.{one_weaker}
+use Rattle.cd_model.proofs.Ones.{one_weaker}
 
 -- a fact of each clause that a choice with nothing yet may become is one of each of the question's choices of the kind, and back
 module _ (fact : Clause → Type 0) (kind : Kind) (graph : Graph) (question : Question) where

@@ -12,7 +12,7 @@ use Rattle.cd_rules.proofs.ChoicesExact.{question_exact}
 use Rattle.cd_rules.proofs.ClauseBack.{clause_back}
 use Rattle.cd_rules.proofs.ClauseOf.{IsOfKind, in_clause, kind_of_thing}
 use Rattle.cd_rules.proofs.Elsewhere.{IsElsewhere, thing_is_elsewhere}
-use Rattle.cd_rules.proofs.Ones.{one_weaker}
+use Rattle.cd_model.proofs.Ones.{one_weaker}
 use Rattle.cd_rules.proofs.Things.{reader_of, answers_of}
 
 module _ (kind : Kind) (reader : Reader) where

@@ -14,7 +14,7 @@ use Rattle.cd_rules.specs.PartialChoices.{each_signed, IsConjunction, wants_each
 use Rattle.cd_rules.specs.PartialChoices.{IsDisjunction, wants_one, refuses_one, GoesOn, unfolds, divides, extends}
 use Rattle.cd_rules.proofs.Answered.{map_of_each}
 use Rattle.cd_rules.proofs.Asking.{each_of_map}
-use Rattle.cd_rules.proofs.Ones.{each_weaker, each_of_lists}
+use Rattle.cd_model.proofs.Ones.{each_weaker, each_of_lists}
 
 -- a fact of each of the joined ones is one of each with each, and back
 module _ (Fact : Choice → Type 0) where

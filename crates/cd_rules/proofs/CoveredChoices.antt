@@ -24,7 +24,7 @@ use Rattle.cd_rules.proofs.Among.{among_longer, among_map, among_both, one_of_am
 use Rattle.cd_rules.proofs.Covering.{asks_more, covers_more}
 use Rattle.cd_rules.proofs.FailingTasks.{covered_fails, task_breaks}
 use Rattle.cd_rules.proofs.LabelsNamed.{IsUnnamed, named_or_unnamed, unnamed_parts}
-use Rattle.cd_rules.proofs.Ones.{one_weaker, one_of_map, each_of_all}
+use Rattle.cd_model.proofs.Ones.{one_weaker, one_of_map, each_of_all}
 
 -- the parts of a longer choice are those of both
 one_more_longer : {X : Type 0} (sign wanted : Bool) (is : Option X) (some others : List X)

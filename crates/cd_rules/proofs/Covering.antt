@@ -10,7 +10,7 @@ use Rattle.cd_rules.specs.Needs.{Way, Need, question}
 use Rattle.cd_rules.specs.Rows.{Cell, Row, rows_of}
 use Rattle.cd_rules.specs.Family.{AsksNoLess, ContradictsItself, IsOfFamily, IsCovered, BreaksNeed, BreaksRow, HasBrokenNeed, Breaks, AreAmong}
 use Rattle.cd_rules.proofs.Among.{of_each, one_of_among, each_of_its, each_of_among, among_itself, among_on, among_sets}
-use Rattle.cd_rules.proofs.Ones.{each_weaker, one_weaker, one_leads, one_with_each}
+use Rattle.cd_model.proofs.Ones.{each_weaker, one_weaker, one_leads, one_with_each}
 
 -- each question asks no less than itself
 pub asks_itself : (question : Question) → AsksNoLess question question

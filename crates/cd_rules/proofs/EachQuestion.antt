@@ -25,7 +25,7 @@ use Rattle.cd_rules.proofs.Covering.{covers_own, covers_more}
 use Rattle.cd_rules.proofs.MembersOfClauses.{supplied_has}
 use Rattle.cd_rules.proofs.NoMember.{element_out, value_out}
 use Rattle.cd_rules.proofs.NumbersBeyond.{has_built_ins, named, of_nodes, asks_nodes, asked_there, asked_back}
-use Rattle.cd_rules.proofs.Ones.{each_weaker, each_of_all}
+use Rattle.cd_model.proofs.Ones.{each_weaker, each_of_all}
 use Rattle.cd_rules.proofs.Settling.{each_or_one, clause_settled}
 use Rattle.cd_rules.specs.Within.{IsWithin}
 use Rattle.cd_rules.proofs.PartsAsk.{RowAsks, clause_is_within, clause_names_labels, pair_ways_ask, xml_ways_ask, arrow_ways_ask, rows_ask}

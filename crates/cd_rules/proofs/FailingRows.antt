@@ -15,7 +15,7 @@ use Rattle.cd_rules.proofs.Among.{of_each, one_of_among, each_of_its, each_of_am
 use Rattle.cd_rules.proofs.Asking.{each_of_map}
 use Rattle.cd_rules.proofs.Covering.{asks_more, covers_more}
 use Rattle.cd_rules.proofs.InCells.{all_pass, each_passes}
-use Rattle.cd_rules.proofs.Ones.{picked, each_weaker, one_weaker, one_of_map, map_of_one}
+use Rattle.cd_model.proofs.Ones.{picked, each_weaker, one_weaker, one_of_map, map_of_one}
 use Rattle.cd_rules.proofs.ReasonsOf.{each_of_reasons, refused_at, refused_elsewhere}
 
 -- a reason of a choice gives its type to its label

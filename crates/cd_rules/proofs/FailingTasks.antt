@@ -11,7 +11,7 @@ use Rattle.cd_rules.specs.Needs.{pair_way, arrow_way, splits}
 use Rattle.cd_rules.specs.Rows.{Cell, labels_of}
 use Rattle.cd_rules.proofs.Among.{of_each}
 use Rattle.cd_rules.proofs.Answered.{map_of_each}
-use Rattle.cd_rules.proofs.Ones.{one_weaker, one_of_map, map_of_one, one_on_a_side}
+use Rattle.cd_model.proofs.Ones.{one_weaker, one_of_map, map_of_one, one_on_a_side}
 use Rattle.cd_rules.specs.Fails.{seen, cases, three_seen, three_cases, row_seen, row_cases}
 use Rattle.cd_rules.specs.Tasks.{Task, PairTask, XmlTask, ArrowTask, RecordTask, TaskFails, IsTask, tasks_of, questions_of}
 use Rattle.cd_rules.specs.Tasks.{present, row_of_given, Takes, AreCases, pair_cases, xml_cases, arrow_cases, record_cases}

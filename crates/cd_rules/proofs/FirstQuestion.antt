@@ -2,7 +2,7 @@
 use Rattle.std.proofs.Common.{◌≡◌, ◌⊎◌, List, [], ◌∷◌, ◌++◌, take, inl, inr, sym, ap, ◌∙◌}
 use Rattle.cd_sets.specs.declared.question.Question.{Question}
 use Rattle.cd_model.specs.Formula.{Graph}
-use Rattle.cd_rules.proofs.Ones.{one_on_left, one_on_right}
+use Rattle.cd_model.proofs.Ones.{one_on_left, one_on_right}
 use Rattle.cd_rules.specs.Machine.{Witness, State, state, Step, opens, knows, works, finds, leaves}
 use Rattle.cd_rules.specs.Right.{IsRight, HasFirst}
 use Rattle.cd_rules.proofs.FramesKept.{cut_to_place}

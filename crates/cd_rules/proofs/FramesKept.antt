@@ -10,7 +10,7 @@ use Rattle.cd_rules.specs.PartialChoices.{PartialFails}
 use Rattle.cd_rules.specs.Tasks.{TaskFails}
 use Rattle.cd_rules.proofs.Among.{among_longer, among_on, among_itself}
 use Rattle.cd_rules.proofs.Covering.{covered_where, breaks_on}
-use Rattle.cd_rules.proofs.Ones.{each_weaker, each_of_lists}
+use Rattle.cd_model.proofs.Ones.{each_weaker, each_of_lists}
 use Rattle.cd_rules.specs.Machine.{Frame, State, Work, IsDone, Step, opens, knows, works, finds, leaves}
 use Rattle.cd_rules.specs.Right.{IsBroken, IsWorkOf, AreFrames}
 use Rattle.cd_rules.proofs.WorkKept.{broken_on, work_on, work_kept}

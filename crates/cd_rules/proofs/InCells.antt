@@ -9,7 +9,7 @@ use Rattle.cd_rules.specs.Rows.{Cell}
 use Rattle.cd_rules.specs.InRow.{IsInCell}
 use Rattle.cd_rules.proofs.Asking.{each_of_map, asked_of_each}
 use Rattle.cd_rules.proofs.Answered.{map_of_each, each_of_asked}
-use Rattle.cd_rules.proofs.Ones.{each_weaker}
+use Rattle.cd_model.proofs.Ones.{each_weaker}
 
 -- whether what is at a label is as a field says: nothing where the field may be absent, or a value in its node
 abbrev pub Says : {X : Type 0} → (X → Answers) → Option X → Field → Bool → Type 0

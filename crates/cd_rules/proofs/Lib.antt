@@ -11,7 +11,6 @@ pub mod EndlessRun
 pub mod Things
 pub mod Asking
 pub mod Answered
-pub mod Ones
 pub mod Sides
 pub mod ChoicesExact
 pub mod ClauseOf

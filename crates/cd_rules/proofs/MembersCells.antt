@@ -12,7 +12,7 @@ use Rattle.cd_model.proofs.Labels.{IsOneOf}
 use Rattle.cd_rules.specs.Clauses.{RecordType}
 use Rattle.cd_rules.specs.Members.{HasElement}
 use Rattle.cd_rules.specs.Rows.{Cell}
-use Rattle.cd_rules.proofs.Ones.{each_weaker}
+use Rattle.cd_model.proofs.Ones.{each_weaker}
 use Rattle.cd_rules.proofs.FreshLabels.{row_of_a, row_is_long, row_is_label, lengths_differ}
 use Rattle.cd_rules.proofs.MembersFields.{found, put, found_there, found_elsewhere, put_rises, put_fields}
 

@@ -10,7 +10,7 @@ use Rattle.cd_rules.specs.Members.{HasElement, HasMember, IsMet, HasAllNeeds}
 use Rattle.cd_rules.specs.Needs.{splits, arrow_way}
 use Rattle.cd_rules.proofs.Answered.{map_of_each, each_of_asked}
 use Rattle.cd_rules.proofs.ArrowsForward.{ArgumentIsOutside, ResultIsInside, IsInArrow}
-use Rattle.cd_rules.proofs.Ones.{each_weaker, one_picked}
+use Rattle.cd_model.proofs.Ones.{each_weaker, one_picked}
 use Rattle.cd_rules.proofs.PairsBack.{both_of_each}
 use Rattle.cd_rules.proofs.Sides.{splits_back}
 

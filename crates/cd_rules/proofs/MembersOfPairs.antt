@@ -7,7 +7,7 @@ use Rattle.cd_model.specs.Membership.{answers}
 use Rattle.cd_rules.specs.Clauses.{Pair, Pairs}
 use Rattle.cd_rules.specs.Needs.{Way, Need, pair_way, splits}
 use Rattle.cd_rules.specs.Members.{HasElement, HasMember, IsMet, HasAllNeeds}
-use Rattle.cd_rules.proofs.Ones.{one_picked}
+use Rattle.cd_model.proofs.Ones.{one_picked}
 use Rattle.cd_rules.proofs.PairsBack.{pairs_back}
 
 -- where all needs are met, and there is one need whose ways are made of a list, all questions of a way have elements

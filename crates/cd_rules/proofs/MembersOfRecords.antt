@@ -13,7 +13,7 @@ use Rattle.cd_rules.specs.Rows.{Cell, with_label, labels_after, labels_of, types
 use Rattle.cd_rules.specs.Rows.{cell_at, reasons_of, row_of, rows_of}
 use Rattle.cd_rules.proofs.Asking.{each_of_map}
 use Rattle.cd_rules.proofs.Answered.{map_of_each}
-use Rattle.cd_rules.proofs.Ones.{map_of_one}
+use Rattle.cd_model.proofs.Ones.{map_of_one}
 use Rattle.cd_rules.proofs.FreshLabels.{longest}
 use Rattle.cd_rules.proofs.MembersReasons.{Chosen, reasons_back}
 use Rattle.cd_rules.proofs.MembersRows.{InRests, HasRest, in_rests, in_wanted, out_of_refused}

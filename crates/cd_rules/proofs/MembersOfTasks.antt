@@ -23,7 +23,7 @@ use Rattle.cd_rules.proofs.Asking.{asked_of_each, each_of_map}
 use Rattle.cd_rules.proofs.ArrowsForward.{ArgumentIsOutside, ResultIsInside}
 use Rattle.cd_rules.proofs.LabelsNamed.{IsUnnamed, unnamed_parts}
 use Rattle.cd_rules.proofs.MembersOfArrows.{IsInArrows, IsOutsideArrow, none_in_arrows, with_maps, with_fails}
-use Rattle.cd_rules.proofs.Ones.{each_weaker, one_weaker, map_of_one, each_of_two, each_of_lists, each_of_all, each_for_all, one_leads}
+use Rattle.cd_model.proofs.Ones.{each_weaker, one_weaker, map_of_one, each_of_two, each_of_lists, each_of_all, each_for_all, one_leads}
 use Rattle.cd_rules.proofs.PairsBack.{both_of_each, three_of_each, parts_of_asked, parts_of_asked_more}
 use Rattle.cd_rules.proofs.ReasonsOf.{IsNamed}
 use Rattle.cd_rules.proofs.RowsExact.{SaysNoMore, labelled_by, IsAs, IsReason, of_reason, wanted_in_row, refused_in_row}

@@ -8,7 +8,7 @@ use Rattle.cd_model.specs.AllOf.{AllOf, AnyOf}
 use Rattle.cd_model.proofs.Labels.{IsOneOf}
 use Rattle.cd_rules.specs.Clauses.{RecordType}
 use Rattle.cd_rules.specs.Rows.{Reason, Reasons, each_with, reasons_of, types_at, types_elsewhere}
-use Rattle.cd_rules.proofs.Ones.{one_weaker, map_of_one, one_on_a_side}
+use Rattle.cd_model.proofs.Ones.{one_weaker, map_of_one, one_on_a_side}
 
 -- a reason is a label of these, or none
 abbrev pub IsKnown : List Name → Reason → Type 0

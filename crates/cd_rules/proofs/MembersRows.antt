@@ -15,7 +15,7 @@ use Rattle.cd_rules.specs.Needs.{question}
 use Rattle.cd_rules.specs.Rows.{Reasons, field_at, labels_of, types_at, types_elsewhere, cell_at}
 use Rattle.cd_rules.proofs.InCells.{both_hold, each_passes}
 use Rattle.cd_rules.proofs.Asking.{each_of_map}
-use Rattle.cd_rules.proofs.Ones.{each_weaker}
+use Rattle.cd_model.proofs.Ones.{each_weaker}
 use Rattle.cd_rules.proofs.PairsBack.{both_of_each, parts_of_asked}
 use Rattle.cd_rules.proofs.LabelsNamed.{free_field, IsUnnamed, named_or_unnamed, unnamed_parts}
 use Rattle.cd_rules.proofs.FreshLabels.{longest, no_longer}

@@ -31,7 +31,7 @@ use Rattle.cd_rules.proofs.ClauseOf.{in_integers, in_characters, in_atoms, in_ar
 use Rattle.cd_rules.proofs.ArrowsForward.{IsInArrow, PartsHave, arrows_forward, closure_forward}
 use Rattle.cd_rules.proofs.RecordsOfThings.{FieldsHave, record_has}
 use Rattle.cd_rules.proofs.Covering.{asked_less, contradicts_none, of_covered}
-use Rattle.cd_rules.proofs.Ones.{each_weaker}
+use Rattle.cd_model.proofs.Ones.{each_weaker}
 use Rattle.cd_rules.proofs.Broken.{IsBroken, broken_one, IsOut, AskedOut, need_out, member_out, pair_out, xml_out, record_out}
 use Rattle.cd_rules.proofs.Things.{answers_of, labelled_of, mapping_of}
 

@@ -11,7 +11,7 @@ use Rattle.cd_rules.specs.Family.{AsksNodes}
 use Rattle.cd_rules.specs.Needs.{question}
 use Rattle.cd_rules.proofs.Answered.{map_of_each, each_of_asked}
 use Rattle.cd_rules.proofs.Asking.{each_of_map, each_of_set, asked_of_each}
-use Rattle.cd_rules.proofs.Ones.{each_weaker, each_of_all}
+use Rattle.cd_model.proofs.Ones.{each_weaker, each_of_all}
 
 pub beyond : (graph : Graph) (id : ℕ) → length graph ≤ id → formula_at graph (node id) ≡ Nothing
 beyond [] id least = refl

@@ -9,7 +9,7 @@ use Rattle.cd_rules.specs.Clauses.{Pair}
 use Rattle.cd_rules.specs.InWay.{AreInWay}
 use Rattle.cd_rules.specs.Needs.{Way, question, pair_way, splits}
 use Rattle.cd_rules.proofs.Asking.{each_of_map, asked_of_each}
-use Rattle.cd_rules.proofs.Ones.{each_weaker, one_weaker, one_of_map}
+use Rattle.cd_model.proofs.Ones.{each_weaker, one_weaker, one_of_map}
 use Rattle.cd_rules.proofs.Sides.{HaveBoth, one_splits}
 use Rattle.cd_rules.proofs.Things.{IsAskedFact}
 

@@ -21,7 +21,7 @@ use Rattle.cd_rules.specs.Needs.{splits, splits_in_three, to_one, to_other, to_f
 use Rattle.cd_rules.specs.Rows.{Cell, Row, Reason, Reasons, field_at, labels_of, each_with, reasons_of, is_reason}
 use Rattle.cd_rules.specs.Rows.{types_at, types_elsewhere, cell_at, row_of, rows_of}
 use Rattle.cd_rules.proofs.Asking.{each_of_map, each_of_set}
-use Rattle.cd_rules.proofs.Ones.{each_weaker, each_of_all, each_of_lists, one_with_each, one_leads}
+use Rattle.cd_model.proofs.Ones.{each_weaker, each_of_all, each_of_lists, one_with_each, one_leads}
 use Rattle.cd_rules.specs.Within.{IsPairWithin, IsXmlWithin, IsTypeWithin, IsWithin}
 
 -- what each literal of these choices and of those has, each of the joined choices has

@@ -3,7 +3,7 @@ use Rattle.std.proofs.Common.{◌≡◌, ◌⊎◌, List, [], ◌∷◌, ◌++�
 use Rattle.cd_sets.specs.declared.question.Question.{Question}
 use Rattle.cd_model.specs.AllOf.{AnyOf}
 use Rattle.cd_model.specs.Formula.{Graph}
-use Rattle.cd_rules.proofs.Ones.{one_on_left, one_on_right, one_on_a_side}
+use Rattle.cd_model.proofs.Ones.{one_on_left, one_on_right, one_on_a_side}
 use Rattle.cd_rules.specs.Machine.{Witness, State, state, NotIn, all_questions, Step, opens, knows, works, finds, leaves}
 use Rattle.cd_rules.specs.Right.{Differ, AreFrames}
 use Rattle.cd_rules.proofs.FramesKept.{cut_to_place}

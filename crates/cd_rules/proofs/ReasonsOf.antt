@@ -8,8 +8,8 @@ use Rattle.cd_model.specs.AllOf.{AllOf, AnyOf}
 use Rattle.cd_model.proofs.Labels.{IsOneOf}
 use Rattle.cd_rules.specs.Clauses.{RecordType}
 use Rattle.cd_rules.specs.Rows.{Reason, Reasons, each_with, reasons_of, types_at, types_elsewhere}
-use Rattle.cd_rules.proofs.Ones.{one_weaker, one_of_map, map_of_one, one_on_left, one_on_right, one_on_a_side}
-use Rattle.cd_rules.proofs.Ones.{one_leads, each_of_lists}
+use Rattle.cd_model.proofs.Ones.{one_weaker, one_of_map, map_of_one, one_on_left, one_on_right, one_on_a_side}
+use Rattle.cd_model.proofs.Ones.{one_leads, each_of_lists}
 
 module _ (IsReason : RecordType → Reason → Type 0) where
   -- each type of these has its reason

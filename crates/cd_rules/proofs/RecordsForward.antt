@@ -11,7 +11,7 @@ use Rattle.cd_rules.specs.Members.{IsLiving}
 use Rattle.cd_rules.specs.Rows.{Cell, Row, rows_of}
 use Rattle.cd_rules.specs.InRow.{IsInCell, HasElsewhere, IsInRow}
 use Rattle.cd_rules.proofs.InCells.{Says}
-use Rattle.cd_rules.proofs.Ones.{each_weaker, one_weaker}
+use Rattle.cd_model.proofs.Ones.{each_weaker, one_weaker}
 use Rattle.cd_rules.proofs.RowsExact.{labelled_by, rows_exact}
 use Rattle.cd_rules.proofs.Things.{IsAskedFact}
 

@@ -15,8 +15,8 @@ use Rattle.cd_rules.specs.Rows.{types_elsewhere, cell_at, row_of, rows_of}
 use Rattle.cd_rules.specs.InRow.{IsInCell, IsOfNoCell, HasElsewhere, IsInRow}
 use Rattle.cd_rules.proofs.InCells.{Says, cell_of, value_in, value_says, into_cell, out_of_cell}
 use Rattle.cd_rules.proofs.LabelsNamed.{free_field, IsUnnamed, named_or_unnamed, unnamed_parts}
-use Rattle.cd_rules.proofs.Ones.{each_weaker, one_weaker, one_of_map, map_of_one, one_with_each, one_leads}
-use Rattle.cd_rules.proofs.Ones.{each_of_all, each_of_two, each_for_all}
+use Rattle.cd_model.proofs.Ones.{each_weaker, one_weaker, one_of_map, map_of_one, one_with_each, one_leads}
+use Rattle.cd_model.proofs.Ones.{each_of_all, each_of_two, each_for_all}
 use Rattle.cd_rules.proofs.Asking.{each_of_map}
 use Rattle.cd_rules.proofs.Answered.{map_of_each}
 use Rattle.cd_rules.proofs.ReasonsOf.{AreReasons, AreNamed, HasReason, reasons_of_each, each_of_reasons, reasons_named}

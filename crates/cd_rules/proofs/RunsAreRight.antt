@@ -5,7 +5,7 @@ use Rattle.cd_model.specs.AllOf.{AllOf}
 use Rattle.cd_model.specs.Formula.{Graph}
 use Rattle.cd_model.proofs.Covered.{each_parts}
 use Rattle.cd_rules.specs.Family.{AsksNodes}
-use Rattle.cd_rules.proofs.Ones.{each_of_lists}
+use Rattle.cd_model.proofs.Ones.{each_of_lists}
 use Rattle.cd_rules.specs.Machine.{Witness, State, state, IsWitness, all_questions, Step, opens, knows, works, finds, leaves, Steps, no_step, one_more}
 use Rattle.cd_rules.specs.Right.{Differ, AreFrames, IsRight}
 use Rattle.cd_rules.proofs.FramesKept.{frames_kept, cut_to_place}

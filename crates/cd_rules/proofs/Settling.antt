@@ -9,7 +9,7 @@ use Rattle.cd_rules.specs.Family.{IsCovered, BreaksNeed, BreaksRow, HasBrokenNee
 use Rattle.cd_rules.specs.Members.{IsMet, IsLiving, HasAllNeeds, IsSupplied}
 use Rattle.cd_rules.specs.Needs.{Way, Need}
 use Rattle.cd_rules.specs.Rows.{Cell, Row, rows_of}
-use Rattle.cd_rules.proofs.Ones.{each_weaker}
+use Rattle.cd_model.proofs.Ones.{each_weaker}
 use Rattle.cd_rules.specs.Settled.{IsSettled, AreSettled, HasSettledRow, HasSettledNeeds, IsSettledClause}
 
 -- each of a list has the one fact, or one of them has the other

@@ -1,7 +1,7 @@
 -- Each of a list given to one of two sides, or of three: the facts of the sides, and one of the ways to split the list.
 use Rattle.std.proofs.Common.{◌≡◌, List, [], ◌∷◌, ◌++◌, ◌⊎◌, inl, inr, map, refl, sym, subst}
 use Rattle.cd_model.specs.AllOf.{AllOf, AnyOf}
-use Rattle.cd_rules.proofs.Ones.{one_weaker, one_of_map, map_of_one, one_on_left, one_on_right, one_on_a_side}
+use Rattle.cd_model.proofs.Ones.{one_weaker, one_of_map, map_of_one, one_on_left, one_on_right, one_on_a_side}
 use Rattle.cd_rules.specs.Needs.{splits, splits_in_three, to_one, to_other, to_first, to_middle, to_last}
 
 -- two sides

@@ -18,7 +18,7 @@ use Rattle.cd_rules.specs.Within.{IsWithin, IsPairWithin, IsXmlWithin, IsTypeWit
 use Rattle.cd_rules.proofs.Among.{of_each, each_of_among}
 use Rattle.cd_rules.proofs.Answered.{map_of_each}
 use Rattle.cd_rules.proofs.MembersOfRecords.{labels_are}
-use Rattle.cd_rules.proofs.Ones.{each_of_lists}
+use Rattle.cd_model.proofs.Ones.{each_of_lists}
 use Rattle.cd_rules.proofs.PartsAsk.{clause_is_within, clause_names_labels, pair_way_asks, xml_way_asks, arrow_way_asks, row_asks}
 
 -- what each member has, each one that was given has, and each one that is left

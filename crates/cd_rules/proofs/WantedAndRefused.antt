@@ -9,7 +9,7 @@ use Rattle.cd_rules.specs.Clauses.{Pairs, Xmls, Arrows, Pair, Triple}
 use Rattle.cd_rules.specs.Family.{IsCovered, Breaks}
 use Rattle.cd_rules.specs.Needs.{question}
 use Rattle.cd_rules.proofs.Covering.{asks_more, covers_more}
-use Rattle.cd_rules.proofs.Ones.{one_weaker, one_of_map}
+use Rattle.cd_model.proofs.Ones.{one_weaker, one_of_map}
 use Rattle.cd_rules.specs.Fails.{seen, cases, three_seen, three_cases}
 use Rattle.cd_rules.specs.Tasks.{TaskFails, ArrowTask}
 use Rattle.cd_rules.proofs.FailingTasks.{task_breaks}

@@ -8,7 +8,7 @@ use Rattle.cd_model.specs.Membership.{Answers, pair_reader, xml_reader}
 use Rattle.cd_rules.specs.Clauses.{Pair, Triple, Pairs, Xmls, IsInClause}
 use Rattle.cd_rules.specs.InWay.{AreInWay}
 use Rattle.cd_rules.specs.Needs.{pair_way, xml_way, splits, splits_in_three}
-use Rattle.cd_rules.proofs.Ones.{one_picked}
+use Rattle.cd_model.proofs.Ones.{one_picked}
 use Rattle.cd_rules.proofs.PairsBack.{pairs_back, xmls_back}
 use Rattle.cd_rules.proofs.PairsForward.{pair_in_way}
 use Rattle.cd_rules.proofs.XmlsForward.{xml_in_way}

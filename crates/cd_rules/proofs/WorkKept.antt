@@ -12,7 +12,7 @@ use Rattle.cd_rules.proofs.Among.{among_on}
 use Rattle.cd_rules.proofs.CasesAreTasks.{cases_of_task, tasks_are}
 use Rattle.cd_rules.proofs.Covering.{covered_where, covers_on}
 use Rattle.cd_rules.proofs.FailingTasks.{covered_fails, cases_fail, task_breaks}
-use Rattle.cd_rules.proofs.Ones.{each_weaker, one_weaker, each_of_lists}
+use Rattle.cd_model.proofs.Ones.{each_weaker, one_weaker, each_of_lists}
 use Rattle.cd_rules.proofs.Completions.{of_more, to_more, of_complete, to_complete}
 use Rattle.cd_rules.specs.Machine.{Work, Works, goes_further, cuts, begins, drops, splits, goes_on}
 use Rattle.cd_rules.specs.Right.{AreTasksOf, IsWorkOf, IsBroken}

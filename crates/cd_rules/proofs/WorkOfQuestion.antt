@@ -11,7 +11,7 @@ use Rattle.cd_model.specs.Types.{no_closure}
 use Rattle.cd_rules.specs.Clauses.{Clause, IsClauseOfQuestion, IsInClause}
 use Rattle.cd_rules.specs.Tasks.{Task, IsTaskOf, IsTaskOfNodes}
 use Rattle.cd_rules.proofs.ClausesExact.{thing_exact}
-use Rattle.cd_rules.proofs.Ones.{each_weaker}
+use Rattle.cd_model.proofs.Ones.{each_weaker}
 use Rattle.cd_rules.proofs.TasksOfNodes.{task_of_nodes}
 use Rattle.cd_rules.specs.Machine.{IsWitness}
 use Rattle.cd_rules.specs.Right.{AreTasksOf}

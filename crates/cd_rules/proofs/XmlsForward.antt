@@ -11,7 +11,7 @@ use Rattle.cd_rules.specs.InWay.{AreInWay}
 use Rattle.cd_rules.specs.Needs.{question, xml_way, splits_in_three}
 use Rattle.cd_rules.proofs.Asking.{each_of_map, asked_of_each}
 use Rattle.cd_rules.proofs.PairsForward.{asked_of_parts, facts_of_way}
-use Rattle.cd_rules.proofs.Ones.{each_weaker, one_weaker, one_of_map}
+use Rattle.cd_model.proofs.Ones.{each_weaker, one_weaker, one_of_map}
 use Rattle.cd_rules.proofs.Sides.{HaveThree, one_splits_in_three}
 use Rattle.cd_rules.proofs.Things.{IsAskedFact}
 

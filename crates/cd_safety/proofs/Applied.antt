@@ -17,7 +17,7 @@ use Rattle.cd_rules.specs.Needs.{question}
 use Rattle.cd_rules.proofs.Answered.{each_of_asked}
 use Rattle.cd_rules.proofs.Asking.{asked_of_each}
 use Rattle.cd_rules.proofs.EachQuestion.{element_too}
-use Rattle.cd_rules.proofs.Ones.{each_weaker}
+use Rattle.cd_model.proofs.Ones.{each_weaker}
 use Rattle.cd_meaning.specs.Functions.{MapsInto, IsFunction}
 use Rattle.cd_typing.specs.Interfaces.{Arrow}
 use Rattle.cd_typing.specs.Later.{IsLater}

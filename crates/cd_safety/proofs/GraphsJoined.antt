@@ -16,7 +16,7 @@ use Rattle.cd_model.proofs.Extending.{kept_elements, kept_values}
 use Rattle.cd_model.proofs.FormulasAlike as stand
 use Rattle.cd_model.proofs.FormulasAlike.{FormulasStand, AllStand, formulas_alike}
 use Rattle.cd_model.proofs.ValuesAlike.{AlwaysAlike, elements_alike, values_alike}
-use Rattle.cd_rules.proofs.Ones.{each_weaker, each_of_lists}
+use Rattle.cd_model.proofs.Ones.{each_weaker, each_of_lists}
 use Rattle.cd_typing.specs.Later.{IsLater}
 use Rattle.cd_typing.specs.Typ.{Typ, typ}
 use Rattle.cd_safety.specs.HoldsAs.{HoldsAs, HasJoined}

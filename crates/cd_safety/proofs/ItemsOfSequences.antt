@@ -3,7 +3,7 @@ use Rattle.std.proofs.Common.{◌≡◌, ◌∙◌, List, [], ◌∷◌, ◌++�
 use Rattle.cd_model.specs.AllOf.{AllOf}
 use Rattle.cd_model.specs.Thing.{Thing, Pair}
 use Rattle.cd_matching.specs.Sequences.{sequence_of, items}
-use Rattle.cd_rules.proofs.Ones.{each_of_lists}
+use Rattle.cd_model.proofs.Ones.{each_of_lists}
 use Rattle.cd_meaning.specs.Sets.{Set}
 use Rattle.cd_meaning.specs.Sequences.{followed_by, IsListOf}
 use Rattle.cd_meaning.proofs.SequencesFollowed.{sequence_of_items}

@@ -7,7 +7,7 @@ use Rattle.cd_model.specs.Formula.{Graph, IsGraph}
 use Rattle.cd_model.specs.Interfaces.{Interfaces}
 use Rattle.cd_model.specs.Thing.{Thing, Fields, IsElement, AreFields}
 use Rattle.cd_matching.specs.Sequences.{nil, sequence_of}
-use Rattle.cd_rules.proofs.Ones.{each_weaker}
+use Rattle.cd_model.proofs.Ones.{each_weaker}
 use Rattle.cd_meaning.specs.Sets.{◌⊆◌}
 use Rattle.cd_meaning.specs.Sequences.{IsListOf}
 use Rattle.cd_typing.specs.Typ.{Typ, In, IsType}

@@ -5,7 +5,7 @@ use Rattle.cd_model.specs.Interfaces.{Interfaces}
 use Rattle.cd_model.specs.Scope.{Scope}
 use Rattle.cd_model.specs.Thing as thing
 use Rattle.cd_model.specs.Thing.{Thing}
-use Rattle.cd_rules.proofs.Ones.{each_weaker}
+use Rattle.cd_model.proofs.Ones.{each_weaker}
 use Rattle.cd_matching.specs.Sequences.{nil}
 use Rattle.cd_program.specs.Expr.{Expr, Match, Try, Map, Transform, Let, Branches, NoBranch, ABranch}
 use Rattle.cd_meaning.specs.Sets.{Set, ◌⊆◌}

@@ -5,7 +5,7 @@ use Rattle.cd_model.specs.Interfaces.{Interfaces}
 use Rattle.cd_model.specs.Scope.{Scope}
 use Rattle.cd_model.specs.Thing as thing
 use Rattle.cd_model.specs.Thing.{Thing, Closure, Fields}
-use Rattle.cd_rules.proofs.Ones.{each_weaker}
+use Rattle.cd_model.proofs.Ones.{each_weaker}
 use Rattle.cd_program.specs.Expr.{Branches, FunctionTree, function}
 use Rattle.cd_typing.specs.Branches.{Cover}
 use Rattle.cd_typing.specs.Interfaces.{Arrow}

@@ -5,7 +5,7 @@ use Rattle.cd_model.specs.AllOf.{AllOf}
 use Rattle.cd_model.specs.Thing.{Thing, Fields, Character, Atom, Pair}
 use Rattle.cd_matching.specs.Sequences.{nil, sequence_of, items, text_of}
 use Rattle.cd_matching.proofs.NilIsElement.{nil_is_element}
-use Rattle.cd_rules.proofs.Ones.{each_of_lists}
+use Rattle.cd_model.proofs.Ones.{each_of_lists}
 use Rattle.cd_evaluation.specs.Lists.{before, both_items, all_items, listed}
 use Rattle.cd_safety.specs.ByParts.{IsByParts, OutcomeOf}
 

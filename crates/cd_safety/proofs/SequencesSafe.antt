@@ -5,7 +5,7 @@ use Rattle.cd_model.specs.Formula.{Graph}
 use Rattle.cd_model.specs.Interfaces.{Interfaces}
 use Rattle.cd_model.specs.Thing.{Thing, Fields, Character, IsElement, AreFields}
 use Rattle.cd_matching.specs.Sequences.{sequence_of, items}
-use Rattle.cd_rules.proofs.Ones.{each_of_lists}
+use Rattle.cd_model.proofs.Ones.{each_of_lists}
 use Rattle.cd_program.specs.Expr.{Expr, Items, NoItem, AnItem, One, Splice, Run}
 use Rattle.cd_meaning.specs.Sets.{◌⊆◌}
 use Rattle.cd_meaning.specs.Sequences.{IsSequence}

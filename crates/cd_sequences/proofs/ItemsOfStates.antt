@@ -17,7 +17,7 @@ use Rattle.cd_matching.proofs.NilIsElement.{nil_is_element}
 use Rattle.cd_meaning.specs.Sets.{elements_of}
 use Rattle.cd_meaning.specs.Sequences.{IsItemOf}
 use Rattle.cd_rules.specs.Family.{AsksNodes, AreAmong}
-use Rattle.cd_rules.proofs.Ones.{picked}
+use Rattle.cd_model.proofs.Ones.{picked}
 use Rattle.cd_products.specs.QuestionBoxes.{IsInhabited}
 use Rattle.cd_products.proofs.Appending.{any_left, any_right, any_split, all_append}
 use Rattle.cd_sequences.specs.declared.step.Step.{Step}

@@ -17,7 +17,7 @@ use Rattle.cd_model.specs.Thing.{Thing, IsElement}
 use Rattle.cd_matching.specs.Sequences.{sequence_of}
 use Rattle.cd_matching.proofs.NilIsElement.{nil_is_element}
 use Rattle.cd_meaning.specs.Sequences.{followed_by}
-use Rattle.cd_rules.proofs.Ones.{picked}
+use Rattle.cd_model.proofs.Ones.{picked}
 use Rattle.cd_sequences.specs.declared.step.Step.{Step}
 use Rattle.cd_sequences.specs.Inner.Numbered.{IsAmong}
 use Rattle.cd_sequences.specs.Inner.States.{State, IsState}

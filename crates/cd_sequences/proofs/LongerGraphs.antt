@@ -12,7 +12,7 @@ use Rattle.cd_model.specs.Formula.{Atoms}
 use Rattle.cd_model.specs.Formula.{Pair, Xml, Record, Arrow, And, Or, Not, NoFormula, AFormula}
 use Rattle.cd_model.specs.Formula.{Field}
 use Rattle.cd_model.specs.Formula.{IsGraph, IsFormula, AreFormulas, formula_at, formulas_of}
-use Rattle.cd_rules.proofs.Ones.{each_weaker}
+use Rattle.cd_model.proofs.Ones.{each_weaker}
 use Rattle.cd_sequences.proofs.ByNumber.{got_after}
 
 mutual

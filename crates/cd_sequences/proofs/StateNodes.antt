@@ -18,7 +18,7 @@ use Rattle.cd_model.proofs.Extending.{kept_elements, kept_formulas}
 use Rattle.cd_meaning.specs.Sets.{◌⊆◌, elements_of}
 use Rattle.cd_meaning.specs.Sequences.{IsJoinOf}
 use Rattle.cd_rules.specs.Family.{AsksNodes}
-use Rattle.cd_rules.proofs.Ones.{each_of_lists}
+use Rattle.cd_model.proofs.Ones.{each_of_lists}
 use Rattle.cd_compact.specs.Keeping.{IsFormulaOfQuestion}
 use Rattle.cd_sequences.specs.declared.step.Step.{Step}
 use Rattle.cd_sequences.specs.Inner.Asking.{asking}

@@ -12,7 +12,7 @@ use Rattle.cd_model.specs.Formula.{Graph, in_node, asked, IsIn}
 use Rattle.cd_model.specs.Thing.{Thing, Pair, IsElement}
 use Rattle.cd_matching.specs.Sequences.{sequence_of}
 use Rattle.cd_rules.specs.Family.{AsksNodes}
-use Rattle.cd_rules.proofs.Ones.{picked, each_of_all}
+use Rattle.cd_model.proofs.Ones.{picked, each_of_all}
 use Rattle.cd_products.proofs.Appending.{any_left, any_right, any_split}
 use Rattle.cd_products.specs.Products.{InProduct}
 use Rattle.cd_products.specs.QuestionBoxes.{IsInhabited}

@@ -14,7 +14,7 @@ use Rattle.cd_model.specs.Thing.{Thing, IsElement}
 use Rattle.cd_model.proofs.BothWays.{through, turned}
 use Rattle.cd_model.proofs.Extending.{kept_formulas}
 use Rattle.cd_rules.specs.Family.{AsksNodes}
-use Rattle.cd_rules.proofs.Ones.{one_leads}
+use Rattle.cd_model.proofs.Ones.{one_leads}
 use Rattle.cd_empty.specs.Verdicts.{HasNoElement}
 use Rattle.cd_products.specs.QuestionBoxes.{without_node}
 use Rattle.cd_products.proofs.Decided.{elements_decided}

@@ -8,7 +8,7 @@ use Rattle.cd_rules.specs.Rows.{Reason, Reasons, labels_of}
 use Rattle.cd_rules.specs.Tasks.{Task, RecordTask, AreCases}
 use Rattle.cd_rules.proofs.Answered.{map_of_each}
 use Rattle.cd_rules.proofs.Asking.{each_of_map}
-use Rattle.cd_rules.proofs.Ones.{each_of_all}
+use Rattle.cd_model.proofs.Ones.{each_of_all}
 use Rattle.cd_needs.specs.PlainReasons.{plain_labels}
 
 pub two_cases : (task : Task) (cases : List Task) (first second one other : Task) → cases ≡ first ∷ second ∷ []

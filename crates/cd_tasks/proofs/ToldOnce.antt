@@ -3,7 +3,7 @@ use Rattle.std.proofs.Common.{◌≡◌, ◌≢◌, refl, ℕ, zero, suc, ◌+�
 use Rattle.std.proofs.lemmas.Bool.{cases_lt}
 use Rattle.cd_model.specs.AllOf.{AllOf, AnyOf}
 use Rattle.cd_rules.proofs.Asking.{each_of_map}
-use Rattle.cd_rules.proofs.Ones.{each_weaker, each_of_all, each_of_lists, one_weaker, one_of_map, one_on_left, one_on_right}
+use Rattle.cd_model.proofs.Ones.{each_weaker, each_of_all, each_of_lists, one_weaker, one_of_map, one_on_left, one_on_right}
 use Rattle.cd_tasks.specs.Assignments.{Differ, Word, each_side, all_words}
 
 -- words with a side before them differ where they do

@@ -1,7 +1,7 @@
 use Rattle.std.proofs.Common.{◌≡◌, ◌++◌}
 use Rattle.cd_rules.proofs.NoMember.{element_out}
 use Rattle.cd_rules.proofs.Covering.{covers_own}
-use Rattle.cd_rules.proofs.Ones.{one_on_right}
+use Rattle.cd_model.proofs.Ones.{one_on_right}
 use Rattle.cd_rules.proofs.FramesKept.{closed_at_last}
 use Rattle.cd_rules.proofs.QuestionsOnce.{once_again}
 use Rattle.cd_rules.proofs.RunsAreRight.{right_at_first}
