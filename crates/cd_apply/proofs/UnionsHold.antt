@@ -14,13 +14,13 @@ use Rattle.cd_model.specs.Membership.{reader, holds, one_holds}
 use Rattle.cd_model.specs.Thing.{Thing, IsElement}
 use Rattle.cd_model.proofs.BothWays.{one_agrees}
 use Rattle.cd_model.proofs.Extending.{kept_formulas}
+use Rattle.cd_model.proofs.FormulasAmongMore.{formula_among_more}
 use Rattle.cd_graph.specs.PlainFormula.{plain}
 use Rattle.cd_graph.specs.declared.formula.Formula.{Formula as CodeFormula}
 use Rattle.cd_rules.specs.Family.{AsksNodes}
 use Rattle.cd_compact.specs.Keeping.{IsFormulaOfQuestion, HoldSame}
 use Rattle.cd_apply.specs.Inner.Results.{IsInOne}
 use Rattle.cd_apply.specs.Inner.Unions.{IsUnion, HoldsUnion, IsNodeOfUnion}
-use Rattle.cd_apply.proofs.LargerGraphs.{larger_formula}
 use Rattle.cd_apply.proofs.TakenThings.{taken_more}
 
 -- the last formula of a graph
@@ -87,7 +87,7 @@ module _ (graph : Graph) where
         → AllOf (IsFormula (length graph + length batch)) batch
     union_extends batch same =
         subst (λ (all : List Formula). AllOf (IsFormula (length graph + length all)) all) (sym same)
-        (larger_formula (length graph) (length graph + 1) (omega arith) f union_sound, tt)
+        (formula_among_more (length graph) (length graph + 1) (omega arith) f union_sound, tt)
 
     -- and then holds what is in one of the questions
     pub union_node : IsGraph graph → (batch : List Formula) → batch ≡ f ∷ [] → (after : Graph)

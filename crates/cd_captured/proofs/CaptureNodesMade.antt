@@ -13,6 +13,8 @@ use Rattle.cd_model.specs.Formula.{Graph, Formula, Nothing, Or, IsGraph, formula
 use Rattle.cd_model.specs.Interfaces.{admits}
 use Rattle.cd_model.specs.Thing.{IsElement, IsValue}
 use Rattle.cd_model.specs.Types.{no_closure, closure_maps}
+use Rattle.cd_model.proofs.ByNumber.{got_some, got_more}
+use Rattle.cd_model.proofs.ByNumber.{got_after}
 use Rattle.cd_rules.specs.Family.{AsksNodes}
 use Rattle.cd_filter.specs.CapturedFormulas.{Entry, of_entry, IsOfVariable}
 use Rattle.cd_filter.specs.CapturedNodes.{Reaches}
@@ -29,19 +31,12 @@ use Rattle.cd_captured.specs.Inner.PlainSteps.{IsStep, AreEntries}
 use Rattle.cd_captured.specs.Inner.Reached.{ReachesBy}
 use Rattle.cd_captured.proofs.EntriesMade.{IsEntryOf, HasTexts, entry_holds}
 use Rattle.cd_captured.proofs.GiversFound.{giver, each_giver, giver_there}
-use Rattle.cd_captured.proofs.Listed.{got_more, got_contains, contains_any, any_contains}
+use Rattle.cd_captured.proofs.Listed.{got_contains, contains_any, any_contains}
 use Rattle.cd_captured.proofs.NodesFound.{id_of, id_found}
 use Rattle.cd_captured.proofs.QuestionsKept.{HoldsQuestions, of_elements, of_values}
 use Rattle.cd_captured.proofs.Tables.{one_step, step_there, code_there, reaches, reached_by}
 use Rattle.cd_captured.proofs.Tables.{row_of_entry, code_gathers}
-use Rattle.cd_captured.proofs.WantedNodes.{StandFrom, got_some}
-
--- the formulas of a batch stand after those of a graph
-got_after : (graph batch : Graph) (k : ℕ) → slice_get (graph ++ batch) (length graph + k) ≡ slice_get batch k
-got_after [] batch k = ap (slice_get batch) (omega arith)
-got_after (f ∷ graph) batch k =
-    let more : suc (length graph) + k ≡ suc (length graph + k) = omega arith in
-    ap (slice_get (f ∷ graph ++ batch)) more ∙ got_after graph batch k
+use Rattle.cd_captured.proofs.WantedNodes.{StandFrom}
 
 stand_after : (graph batch : Graph) → StandFrom (length graph) batch (graph ++ batch)
 stand_after graph batch k f is =

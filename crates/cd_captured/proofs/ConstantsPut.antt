@@ -15,6 +15,7 @@ use Rattle.cd_model.specs.Types.{Answers}
 use Rattle.cd_matching.specs.Kernel.{Kernel, KernelNode, KernelField, Present, Optional, Test, Bind}
 use Rattle.cd_matching.specs.Kernel.{Put, Pair, Xml, Record, Both, First, Gather, IsSoundNode}
 use Rattle.cd_model.proofs.Ones.{one_on_a_side}
+use Rattle.cd_model.proofs.ByNumber.{all_got}
 use Rattle.cd_filter.specs.Capturing.{AreSteps, IsSettled}
 use Rattle.cd_filter.specs.Table.{Place, Step, Takes, Puts, Leads, Table, IsAmong, HasStep}
 use Rattle.cd_filter.specs.Table.{at, pair_steps, gather_steps, triple_steps, cell_steps, row_steps}
@@ -26,7 +27,6 @@ use Rattle.cd_captured.specs.Inner.Plan.{IsSoundStep, text_in, text_of}
 use Rattle.cd_captured.specs.Inner.PlainSteps.{IsStep, AreEntries}
 use Rattle.cd_captured.specs.Inner.PlainSteps as plain
 use Rattle.cd_captured.specs.Inner.Reached.{Rows}
-use Rattle.cd_captured.proofs.Listed.{all_got}
 
 abbrev IsPut : Step → Type 0
 IsPut (Puts variable constant) = Unit {0}

@@ -19,6 +19,9 @@ use Rattle.cd_graph.specs.PlainFormula.{plain}
 use Rattle.cd_graph.specs.declared.formula.Formula.{Formula as CodeFormula}
 use Rattle.cd_matching.specs.Sequences.{thing_of}
 use Rattle.cd_model.proofs.Ones.{each_weaker}
+use Rattle.cd_model.proofs.ByNumber.{each_got, got_some, past_end}
+use Rattle.cd_model.proofs.FormulasAmongMore.{formula_among_more}
+use Rattle.cd_model.proofs.SoundBuiltIns.{nil_is_label}
 use Rattle.cd_filter.specs.Table.{Place}
 use Rattle.cd_captured.specs.declared.givers.Giver.{Giver}
 use Rattle.cd_captured.specs.declared.step.Step.{Step}
@@ -32,7 +35,6 @@ use Rattle.cd_captured.specs.Inner.Plan.{Plan, IsSoundPlan, IsSoundStep}
 use Rattle.cd_captured.specs.Inner.Wanted.{GrowTo}
 use Rattle.cd_captured.proofs.GiversFound.{sound_givers}
 use Rattle.cd_captured.proofs.GrowingWants.{made_more}
-use Rattle.cd_captured.proofs.WantedNodes.{got_some}
 
 module _ (plan : Plan) (old new : List Want) (grow : GrowTo old new) (batch after : List CodeFormula)
     (formula : CodeFormula) (put : after ≡ batch ++ formula ∷ []) (want : Want)
@@ -54,41 +56,8 @@ pub batch_ends : (wants : List Want) (batch : List CodeFormula) → length batch
     → slice_get wants (length batch) ≡ None → length (map plain batch) ≡ length wants
 batch_ends wants batch within none = omega (arith, length-map batch plain, within, past)
   where
-    past_of : (xs : List Want) (k : ℕ) → slice_get xs k ≡ None → length xs ≤ k
-    past_of [] k none = omega arith
-    past_of (x ∷ xs) zero none = absurd (none-some x (sym none))
-    past_of (x ∷ xs) (suc k) none = omega (arith, past_of xs k none)
-
     past : length wants ≤ length batch
-    past = past_of wants (length batch) none
-
--- a formula of a graph is one of a larger graph
-mutual
-  larger_formula : (nodes more : ℕ) → nodes ≤ more → (is : Formula) → IsFormula nodes is → IsFormula more is
-  larger_formula nodes more larger Nothing sound = tt
-  larger_formula nodes more larger Everything sound = tt
-  larger_formula nodes more larger (Ints set) sound = tt
-  larger_formula nodes more larger (Chars set) sound = tt
-  larger_formula nodes more larger (Atoms set) sound = sound
-  larger_formula nodes more larger (Pair first second) sound = (omega arith, omega arith)
-  larger_formula nodes more larger (Xml tag attributes content) sound =
-      (omega arith, omega arith, omega arith)
-  larger_formula nodes more larger (Record named rest) sound =
-      let below : (limit : ℕ) → Name × Field → Type 0 = λ limit field. field.1.type.0 < limit in
-      (sound.0, each_weaker (below nodes) (below more) (λ field small. omega arith) named sound.1, omega arith)
-  larger_formula nodes more larger (Arrow argument result) sound = (omega arith, omega arith)
-  larger_formula nodes more larger (And formulas) sound = larger_formulas nodes more larger formulas sound
-  larger_formula nodes more larger (Or formulas) sound = larger_formulas nodes more larger formulas sound
-  larger_formula nodes more larger (Not is) sound = larger_formula nodes more larger is sound
-
-  larger_formulas : (nodes more : ℕ) → nodes ≤ more → (formulas : Formulas) → AreFormulas nodes formulas
-      → AreFormulas more formulas
-  larger_formulas nodes more larger NoFormula sound = tt
-  larger_formulas nodes more larger (AFormula is rest) sound =
-      (larger_formula nodes more larger is sound.0, larger_formulas nodes more larger rest sound.1)
-
-nil_is_label : IsLabel (codes "nil")
-nil_is_label = (refl, λ same. true≢false (sym ((bytes_eq-Decides (codes "nil") (codes "_")).1 same)))
+    past = past_end wants (length batch) none
 
 module _ (plan : Plan) (sound : IsSoundPlan plan) (wants : List Want)
     (first_is : plan.first ≡ length plan.graph) where
@@ -105,7 +74,7 @@ module _ (plan : Plan) (sound : IsSoundPlan plan) (wants : List Want)
 
   coming_sound : (found : Option Place) (f : Formula) → IsComing plan found f → Sound f
   coming_sound None f is = subst Sound (sym is) tt
-  coming_sound (Some place) f is = larger_formula (length plan.graph)
+  coming_sound (Some place) f is = formula_among_more (length plan.graph)
       (length plan.graph + length wants) (omega arith) f is.sound
 
   nil_sound : (f : Formula) → f ≡ atoms_of (codes "nil" ∷ []) → Sound f
@@ -159,16 +128,10 @@ module _ (plan : Plan) (sound : IsSoundPlan plan) (wants : List Want)
       text_sound number (from + 1) (slice_get (text_at plan number) from) f made
   made_sound (Character c) f made = subst Sound (sym made) tt
 
-  all_by_numbers : (fact : Formula → Type 0) (fs : List Formula)
-      → ((k : ℕ) (f : Formula) → slice_get fs k ≡ Some f → fact f) → AllOf fact fs
-  all_by_numbers fact [] each = tt
-  all_by_numbers fact (f ∷ fs) each =
-      (each zero f refl, all_by_numbers fact fs (λ k g is. each (suc k) g is))
-
   pub batch_sound : (batch : List Formula) → AreMade plan wants batch → length batch ≡ length wants
       → AllOf (IsFormula (length plan.graph + length batch)) batch
   batch_sound batch are count =
       subst (λ (n : ℕ). AllOf (IsFormula (length plan.graph + n)) batch) (sym count)
-      (all_by_numbers Sound batch (λ k f is.
+      (each_got Sound batch (λ k f is.
       let found = got_some wants k (omega (arith, count, slice_get_within batch k f is)) in
       made_sound found.0 f (are k found.0 f found.1 is)))

@@ -5,12 +5,13 @@ use Rattle.std.specs.List.{slice_get}
 use Rattle.std.specs.Option.{unwrap_or}
 use Rattle.cd_model.specs.AllOf.{AllOf, AnyOf}
 use Rattle.cd_model.proofs.Ones.{each_of_lists, one_on_left, one_on_right}
+use Rattle.cd_model.proofs.ByNumber.{all_got}
 use Rattle.cd_captured.specs.declared.givers.Giver.{Giver}
 use Rattle.cd_captured.specs.declared.step.Step.{Step}
 use Rattle.cd_captured.specs.Inner.Givers.{gives, givers_in, givers_of, row_of}
 use Rattle.cd_captured.specs.Inner.Plan.{IsSoundStep}
 use Rattle.cd_captured.specs.Inner.Reached.{Rows}
-use Rattle.cd_captured.proofs.Listed.{all_got, contains_any, got_contains}
+use Rattle.cd_captured.proofs.Listed.{contains_any, got_contains}
 
 abbrev pub giver : ℕ → Step → Giver
 giver number step = record { number = number; step = step }

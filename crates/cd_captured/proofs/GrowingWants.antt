@@ -8,6 +8,7 @@ use Rattle.cd_syntax.specs.Name.{first}
 use Rattle.cd_syntax.specs.declared.constant.Constant.{Constant}
 use Rattle.cd_syntax.specs.declared.constant.Constant.TheVariants as constant
 use Rattle.cd_model.specs.Formula.{Formula}
+use Rattle.cd_model.proofs.ByNumber.{got_more, got_pushed, zip_weaker}
 use Rattle.cd_filter.specs.Table.{Place}
 use Rattle.cd_captured.specs.declared.givers.Giver.{Giver}
 use Rattle.cd_captured.specs.declared.step.Step.{Step}
@@ -19,7 +20,7 @@ use Rattle.cd_captured.specs.Inner.Made.{IsNodeOfWant, IsPairOf, IsText, IsConst
 use Rattle.cd_captured.specs.Inner.Made.{IsMember, IsMade, AreMade, text_at}
 use Rattle.cd_captured.specs.Inner.Plan.{Plan}
 use Rattle.cd_captured.specs.Inner.Wanted.{GrowTo}
-use Rattle.cd_captured.proofs.Listed.{got_more, got_before, got_pushed, zip_weaker}
+use Rattle.cd_captured.proofs.Listed.{got_before}
 
 pub grow_itself : (wants : List Want) → GrowTo wants wants
 grow_itself wants = ([], sym (append-nil wants))

@@ -9,31 +9,13 @@ use Rattle.std.specs.List.{slice_get, AllZip, Contains}
 use Rattle.cd_model.specs.AllOf.{AllOf, AnyOf}
 
 module _ {X : Type 0} where
-  -- what is in a list is in a longer one, under the same number
-  pub got_more : (xs more : List X) (k : ℕ) (x : X) → slice_get xs k ≡ Some x
-      → slice_get (xs ++ more) k ≡ Some x
-  got_more [] more k x is = absurd (none-some x is)
-  got_more (y ∷ xs) more zero x is = is
-  got_more (y ∷ xs) more (suc k) x is = got_more xs more k x is
-
-  -- and back, for a number of the shorter one
+  -- what is in a list under a number of a shorter one is there
   pub got_before : (xs more : List X) (k : ℕ) (x : X) → k < length xs
       → slice_get (xs ++ more) k ≡ Some x → slice_get xs k ≡ Some x
   got_before [] more k x below is = absurd (omega (arith, below))
   got_before (y ∷ xs) more zero x below is = is
   got_before (y ∷ xs) more (suc k) x below is =
       got_before xs more k x (omega (arith, below)) is
-
-  -- in a list with one more it was there, or is the last
-  pub got_pushed : (xs : List X) (y : X) (k : ℕ) (x : X) → slice_get (xs ++ y ∷ []) k ≡ Some x
-      → (slice_get xs k ≡ Some x) ⊎ ((k ≡ length xs) × (y ≡ x))
-  got_pushed [] y zero x is = inr (refl, same_Some y x is)
-  got_pushed [] y (suc k) x is = absurd (none-some x is)
-  got_pushed (z ∷ xs) y zero x is = inl is
-  got_pushed (z ∷ xs) y (suc k) x is = elim (got_pushed xs y k x is) [
-    | inl before ↦ inl before
-    | inr last ↦ inr (omega (arith, last.0), last.1)
-  ]
 
   -- the last one has the number of those before it
   pub got_last : (xs : List X) (x : X) → slice_get (xs ++ x ∷ []) (length xs) ≡ Some x
@@ -73,26 +55,3 @@ module _ {X : Type 0} where
       → Contains (take k xs) one
   all_taken xs k one past has =
       subst (λ (all : List X). Contains all one) (sym (take_all k xs past)) has
-
-  -- what all of a list have, one of it has
-  pub all_got : (fact : X → Type 0) (xs : List X) (k : ℕ) (x : X) → AllOf fact xs
-      → slice_get xs k ≡ Some x → fact x
-  all_got fact [] k x all is = absurd (none-some x is)
-  all_got fact (y ∷ xs) zero x all is = subst fact (same_Some y x is) all.0
-  all_got fact (y ∷ xs) (suc k) x all is = all_got fact xs k x all.1 is
-
-module _ {A B : Type 0} where
-  pub zip_pushed : (fact : A → B → Type 0) (xs : List A) (ys : List B) (x : A) (y : B)
-      → AllZip fact xs ys → fact x y → AllZip fact (xs ++ x ∷ []) (ys ++ y ∷ [])
-  zip_pushed fact [] [] x y all is = (is, tt)
-  zip_pushed fact [] (b ∷ ys) x y all is = absurd all
-  zip_pushed fact (a ∷ xs) [] x y all is = absurd all
-  zip_pushed fact (a ∷ xs) (b ∷ ys) x y all is = (all.0, zip_pushed fact xs ys x y all.1 is)
-
-  pub zip_weaker : (one other : A → B → Type 0) → ((x : A) (y : B) → one x y → other x y)
-      → (xs : List A) (ys : List B) → AllZip one xs ys → AllZip other xs ys
-  zip_weaker one other weaker [] [] all = tt
-  zip_weaker one other weaker [] (b ∷ ys) all = all
-  zip_weaker one other weaker (a ∷ xs) [] all = all
-  zip_weaker one other weaker (a ∷ xs) (b ∷ ys) all =
-      (weaker a b all.0, zip_weaker one other weaker xs ys all.1)

@@ -7,6 +7,7 @@ use Rattle.std.specs.Result.{IfOk}
 use Rattle.std.specs.declared.alloc.AllocError.{AllocError}
 use Rattle.cd_model.specs.AllOf.{AllOf}
 use Rattle.cd_model.specs.Formula.{Formula, Nothing}
+use Rattle.cd_model.proofs.ByNumber.{all_got}
 use Rattle.cd_graph.specs.PlainFormula.{plain}
 use Rattle.cd_graph.specs.declared.formula.Formula.{Formula as CodeFormula}
 use Rattle.cd_rules.specs.Family.{AsksNodes}
@@ -16,7 +17,6 @@ use Rattle.cd_captured.specs.declared.place.Place.{Place as CodePlace}
 use Rattle.cd_captured.specs.Inner.Made.{IsComing}
 use Rattle.cd_captured.specs.Inner.Plan.{Plan}
 use Rattle.cd_captured.specs.Inner.PlainSteps.{plain_place, plain_places}
-use Rattle.cd_captured.proofs.Listed.{all_got}
 
 pub place_there : (places : List CodePlace) (number : ℕ) (place : CodePlace)
     → Some place ≡ slice_get places number

@@ -3,7 +3,8 @@ use Rattle.std.proofs.Common.{◌≡◌, ◌⊎◌, inl, inr, ℕ, zero, suc, Li
 use Rattle.std.proofs.Common.{refl, sym, subst, ◌∙◌, ap, append_assoc, append-nil}
 use Rattle.std.proofs.lemmas.Option.{none-some}
 use Rattle.std.specs.List.{slice_get}
-use Rattle.cd_products.proofs.Appending.{any_left, any_right}
+use Rattle.cd_model.proofs.ByNumber.{got_more}
+use Rattle.cd_model.proofs.Ones.{one_on_left, one_on_right}
 use Rattle.cd_filter.specs.Table.{Place, Step, Leads, Gathers}
 use Rattle.cd_captured.specs.Inner.NumberedSteps.{IsNumbered, GrowTo, LeadsTo, AreNumbered}
 use Rattle.cd_captured.specs.Inner.PlainSteps.{IsStep, AreSteps}
@@ -11,18 +12,11 @@ use Rattle.cd_captured.specs.declared.step.Step.{Step as CodeStep}
 use Rattle.cd_captured.specs.declared.step.Step.TheVariants as step
 
 -- a place keeps its number
-pub still_there : {X : Type 0} (xs ys : List X) (number : ℕ) (x : X) → slice_get xs number ≡ Some x
-    → slice_get (xs ++ ys) number ≡ Some x
-still_there [] ys zero x there = absurd (none-some x there)
-still_there [] ys (suc number) x there = absurd (none-some x there)
-still_there (y ∷ xs) ys zero x there = there
-still_there (y ∷ xs) ys (suc number) x there = still_there xs ys number x there
-
 pub grown_there : (old new : List Place) (number : ℕ) (place : Place) → GrowTo old new
     → slice_get old number ≡ Some place → slice_get new number ≡ Some place
 grown_there old new number place (more, same) there =
     subst (λ (places : List Place). slice_get places number ≡ Some place) (sym same)
-    (still_there old more number place there)
+    (got_more old more number place there)
 
 pub grow_not : (places : List Place) → GrowTo places places
 grow_not places = ([], sym (append-nil places))
@@ -73,9 +67,9 @@ numbered_then old mid new codes others steps more one other = record {
   led = λ place there. elim (other.led place there) [
     | inl before ↦ elim (one.led place before) [
       | inl first ↦ inl first
-      | inr led ↦ inr (any_left (LeadsTo place) steps more led)
+      | inr led ↦ inr (one_on_left (LeadsTo place) steps more led)
     ]
-    | inr led ↦ inr (any_right (LeadsTo place) steps more led)
+    | inr led ↦ inr (one_on_right (LeadsTo place) steps more led)
   ];
 }
 

@@ -2,6 +2,7 @@
 use Rattle.std.proofs.Common.{◌≡◌, ◌<◌, ◌+◌, ℕ, List, [], ◌∷◌, ◌++◌, map, take, get_or, length, sym, ap, subst, ◌∙◌}
 use Rattle.std.proofs.lemmas.List.{take_more, map-append}
 use Rattle.std.specs.List.{AllZip}
+use Rattle.cd_model.proofs.ByNumber.{zip_pushed}
 use Rattle.cd_graph.specs.PlainFormula.{plain}
 use Rattle.cd_graph.specs.declared.formula.Formula.{Formula as CodeFormula}
 use Rattle.cd_captured.specs.declared.givers.Giver.{Giver}
@@ -10,7 +11,6 @@ use Rattle.cd_captured.specs.Inner.Made.{IsMember}
 use Rattle.cd_captured.specs.Inner.Plan.{Plan}
 use Rattle.cd_captured.specs.Inner.Wanted.{GrowTo}
 use Rattle.cd_captured.proofs.GrowingWants.{members_stay}
-use Rattle.cd_captured.proofs.Listed.{zip_pushed}
 
 module _ (plan : Plan) (old new : List Want) (grow : GrowTo old new) (variable : ℕ) where
   pub members_more : (givers : List Giver) (k : ℕ) (giver : Giver) → k < length givers

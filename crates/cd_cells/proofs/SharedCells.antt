@@ -10,6 +10,7 @@ use Rattle.std.proofs.lemmas.Slice.Eq.{bytes_eq-Decides}
 use Rattle.cd_syntax.specs.Name.{Name, IsLabel}
 use Rattle.cd_model.specs.Thing as thing
 use Rattle.cd_model.specs.Thing.{Thing, NoField}
+use Rattle.cd_model.proofs.SoundBuiltIns.{nil_is_label}
 use Rattle.cd_cells.specs.declared.cell.ValueId.{ValueId}
 use Rattle.cd_cells.specs.declared.cell.Stored.{Stored}
 use Rattle.cd_cells.specs.declared.cell.Stored.TheVariants.{Short, Letter, Atom, Record}
@@ -82,11 +83,7 @@ shared_pushed (Ok value) lists cells after cell shared are same =
 shared_pushed (Err error) lists cells after cell shared are same =
     subst (λ (cells : List Stored). AreShared lists cells shared) (sym same) are
 
--- `nil` is a label
-pub nil_label : IsLabel (codes "nil")
-nil_label = (refl, λ same. true≢false (sym ((bytes_eq-Decides (codes "nil") (codes "_")).1 same)))
-
--- as the code writes it
+-- the text of `nil`, as the code writes it
 pub nil_text : chars (110 ∷ 105 ∷ 108 ∷ []) ≡ codes "nil"
 unfolding chars
 nil_text = refl
@@ -96,7 +93,7 @@ module _ (old new : Lists) (grows : Grows old.names new.names) where
   still_nil : (cell : Stored) → is_nil old.names cell ≡ true → is_nil new.names cell ≡ true
   still_nil (Atom name) is =
       let named = (bytes_eq-Decides (name_at old.names name) (codes "nil")).0 is in
-      let label = subst IsLabel (sym named) nil_label in
+      let label = subst IsLabel (sym named) nil_is_label in
       ap (λ (name : Name). bytes_eq name (codes "nil"))
       (label_stays old.names new.names grows name label) ∙ is
   still_nil _ is = absurd (true≢false (sym is))

@@ -8,6 +8,7 @@ use Rattle.cd_model.specs.BuiltIns.{BOOL}
 use Rattle.cd_model.specs.Formula.{Graph, IsGraph}
 use Rattle.cd_model.specs.Scope.{Scope}
 use Rattle.cd_model.specs.Thing.{IsElement}
+use Rattle.cd_model.proofs.SoundBuiltIns.{a_label}
 use Rattle.cd_program.specs.Expr.{Expr, If, Operand}
 use Rattle.cd_meaning.specs.Sets.{Set, ◌⊆◌, elements_of}
 use Rattle.cd_typing.specs.Typ.{Typ, typ, In, IsType, Types, BuiltIn}
@@ -19,9 +20,6 @@ use Rattle.cd_typing.proofs.Widening.{widen}
 use Rattle.cd_check.specs.Inner.Environment.{Nodes, AreOfTypes, AreNodesOf, Gives}
 use Rattle.cd_check.specs.Inner.Sides.{short_op, HoldsSome, MaySkip}
 use Rattle.cd_check.proofs.TypesLater.{types_later}
-
-a_label : (name : Name) → IsTrue (is_word name) → bytes_eq name (codes "_") ≡ false → IsLabel name
-a_label name word other = (word, λ same. true≢false (sym ((bytes_eq-Decides name (codes "_")).1 same) ∙ other))
 
 pub is_truth : (value : Bool) → IsElement (truth value)
 is_truth true = a_label (codes "true") refl refl

@@ -9,7 +9,7 @@ use Rattle.cd_model.specs.BuiltIns.{node}
 use Rattle.cd_model.specs.Formula.{Graph, Formula, IsFormula, formula_at}
 use Rattle.cd_model.proofs.Covered.{each_both}
 use Rattle.cd_model.proofs.Ones.{each_weaker}
-use Rattle.cd_resolve.proofs.FormulasAmongMore.{formula_among_more}
+use Rattle.cd_model.proofs.FormulasAmongMore.{formula_among_more}
 use Rattle.cd_empty.specs.Growth.{Grows}
 use Rattle.cd_empty.specs.Seen.{Seen, graph_of}
 use Rattle.cd_closures.specs.Inner.Asked.{IsAsked, IsBelow}

@@ -12,10 +12,10 @@ use Rattle.cd_model.specs.Interfaces.{Interfaces}
 use Rattle.cd_model.specs.Scope.{Scope}
 use Rattle.cd_model.specs.Thing.{Thing, IsValue}
 use Rattle.cd_model.proofs.Closures.{every_closure}
+use Rattle.cd_model.proofs.ByNumber.{all_got}
 use Rattle.cd_matching.specs.Captures.{Captures}
 use Rattle.cd_matching.specs.Kernel.{Kernel, by_name}
 use Rattle.cd_matching.specs.PlainKernel.{plain_kernel}
-use Rattle.cd_matching.proofs.AllOf.{all_at}
 use Rattle.cd_matching.proofs.ResolvedPatterns.{resolved_stands}
 use Rattle.cd_names.specs.ProgramFaults.{names_of}
 use Rattle.cd_asking.specs.MappedArrows.{MapsRight}
@@ -62,7 +62,7 @@ pub found_code : (all : List Tree) → StartsDiffer all → (codes : List Patter
     → plain code.pattern.now ≡ pattern
 found_code all differ codes among pattern known number code found same =
     one_place all differ (plain code.pattern.now) pattern
-    (all_at (λ code. AnyOf (λ tree. tree ≡ plain code.pattern.now) all) codes number code among found) known same
+    (all_got (λ code. AnyOf (λ tree. tree ≡ plain code.pattern.now) all) codes number code among found) known same
 
 module _ (graph : Graph) (interfaces : Interfaces) (maps : Mappings) (tested : AreTested graph interfaces maps) where
   by_tests : (kernel : Kernel NodeId) (v : Thing) (bound : List (ℕ × Name)) (answer : Bool) (env : Env)

@@ -9,6 +9,7 @@ use Rattle.std.proofs.lemmas.Str.{scalars-chars}
 use Rattle.cd_syntax.specs.Name.{IsLabel}
 use Rattle.cd_model.specs.AllOf.{AllOf}
 use Rattle.cd_model.specs.Thing.{IsElement}
+use Rattle.cd_model.proofs.SoundBuiltIns.{nil_is_label}
 use Rattle.cd_matching.specs.Sequences.{text_of}
 
 both_true : (a b : Bool) → (a && b) ≡ true → (a ≡ true) × (b ≡ true)
@@ -24,10 +25,6 @@ each_scalar (c ∷ text) are =
 
 pub characters_scalar : (text : List ℕ) → IsUtf8 text → AllOf IsScalar (chars text)
 characters_scalar text utf8 = each_scalar (chars text) (scalars-chars text utf8)
-
-nil_is_label : IsLabel (codes "nil")
-nil_is_label =
-    (refl, λ same. true≢false (sym ((bytes_eq-Decides (codes "nil") (codes "_")).1 same)))
 
 pub text_is_element : (text : List ℕ) → AllOf IsScalar text → IsElement (text_of text)
 text_is_element [] are = nil_is_label

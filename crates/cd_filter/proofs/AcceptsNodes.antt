@@ -11,11 +11,11 @@ use Rattle.cd_model.specs.Formula as formula
 use Rattle.cd_model.specs.Formula.{Graph, Formula, formulas_of, formula_at, at_formula, holds}
 use Rattle.cd_model.specs.Thing.{Thing}
 use Rattle.cd_model.specs.Types.{Reader, Products, Xmls, Records}
+use Rattle.cd_model.proofs.ByNumber.{all_got}
 use Rattle.cd_matching.specs.Captures.{Captures, or_else}
 use Rattle.cd_matching.specs.Kernel.{Kernel, KernelNode, KernelField, Test, Bind, Put, Pair, Xml}
 use Rattle.cd_matching.specs.Kernel.{Record, Both, First, Gather, Apart, Taken, leads_to, parts_of}
 use Rattle.cd_matching.specs.Kernel.{by_node, IsSoundNode, IsSound}
-use Rattle.cd_matching.proofs.AllOf.{all_at}
 use Rattle.cd_filter.specs.Accepting.{place, fields_of, rest_of, AgreesAtFirst, IsOwn, own_formula}
 use Rattle.cd_filter.specs.Accepting.{Accepts, by_itself, by_both, by_members, AllAccept, no_more}
 use Rattle.cd_filter.specs.Accepting.{one_more}
@@ -95,8 +95,8 @@ module _ (graph : Graph) (kernel : Kernel NodeId) (first : ℕ) (test : NodeId �
       accepts_in _ _ (by_itself number node there own) = subst
           (λ (o : Option (Captures ℕ)). Holds (own_formula graph first node) (is_some o))
           (sym (by_rule number node there))
-          (at_node node (all_at IsInRange kernel.nodes number node is.parts there)
-          (all_at IsFit kernel.nodes number node is.nodes there) own)
+          (at_node node (all_got IsInRange kernel.nodes number node is.parts there)
+          (all_got IsFit kernel.nodes number node is.nodes there) own)
       accepts_in _ _ (by_both number p q f g there accepts_p accepts_q) = subst
           (λ (o : Option (Captures ℕ)).
           Holds (formula.And (formulas_of (f ∷ g ∷ []))) (is_some o))

@@ -12,6 +12,7 @@ use Rattle.cd_model.specs.Thing as thing
 use Rattle.cd_model.specs.Thing.{Thing, IsElement, IsValue}
 use Rattle.cd_model.proofs.Sorts as sorts
 use Rattle.cd_model.proofs.Sorts.{Sort}
+use Rattle.cd_model.proofs.ByNumber.{all_got}
 use Rattle.cd_matching.specs.Captures.{Captures, both, or_else, if_so}
 use Rattle.cd_matching.specs.Kernel.{KernelNode, KernelField, Present, Optional, Test, Bind, Put}
 use Rattle.cd_matching.specs.Kernel.{Pair, Xml, Record, Both, First, Gather, Taken, Apart, no_parts}
@@ -19,7 +20,6 @@ use Rattle.cd_matching.specs.Kernel.{on_pair, on_xml, on_record, on_field, on_fi
 use Rattle.cd_matching.specs.Kernel.{gathered, by_node, in_a_row, all_named, taken, taken_at}
 use Rattle.cd_matching.specs.Kernel.{IsSoundNode}
 use Rattle.cd_matching.specs.Sequences.{thing_of, text_of}
-use Rattle.cd_matching.proofs.AllOf.{all_at}
 use Rattle.cd_matching.proofs.TakenCaptures.{both_some, or_else_some, if_some, just_some}
 use Rattle.cd_matching.proofs.TakenCaptures.{if_so_nothing, option_map_some, gathered_some}
 
@@ -167,7 +167,7 @@ module _ (sort : Sort)
   some_sound d sound apart parts others sound_others number None there = none_sound
   some_sound d sound apart parts others sound_others number (Some node) there =
       node_sound d sound apart parts others sound_others node
-      (all_at (IsSoundNode nodes variables IsType) nodes number node sound_nodes there)
+      (all_got (IsSoundNode nodes variables IsType) nodes number node sound_nodes there)
 
   row_sound : (d : Thing) → sort.Of d → (apart : Apart T)
       → ((node : KernelNode T) → IsSound (apart node)) → (steps : ℕ)

@@ -15,6 +15,7 @@ use Rattle.cd_model.specs.Formula.{asked}
 use Rattle.cd_model.specs.Thing as thing
 use Rattle.cd_model.specs.Thing.{Thing}
 use Rattle.cd_model.specs.Types.{Answers}
+use Rattle.cd_model.proofs.ByNumber.{all_got}
 use Rattle.cd_matching.specs.Captures.{Captures, or_else, joined, both}
 use Rattle.cd_matching.specs.Kernel.{KernelNode, KernelField, Present, Optional, Test, Bind, Put}
 use Rattle.cd_matching.specs.Kernel.{Pair, Xml, Record, Both, First, Gather, field_nodes, leads_to}
@@ -23,7 +24,6 @@ use Rattle.cd_matching.specs.Kernel.{gathered}
 use Rattle.cd_matching.specs.Kernel.{by_node, all_named, apart_of, taken}
 use Rattle.cd_matching.specs.Sequences.{thing_of}
 use Rattle.cd_matching.specs.Take.{at_label}
-use Rattle.cd_matching.proofs.AllOf.{all_at}
 use Rattle.cd_matching.proofs.Binding.{bound}
 use Rattle.cd_matching.proofs.TakenCaptures.{both_some}
 use Rattle.cd_matching.proofs.Unfolding.{unfolds}
@@ -182,10 +182,10 @@ module _ (answers : Thing → Answers NodeId) (Sort : Thing → Type 0)
 
     is_sound : IsSoundNode nodes variables IsType node
     is_sound =
-        all_at (IsSoundNode nodes variables IsType) nodes place.number node are.sound there
+        all_got (IsSoundNode nodes variables IsType) nodes place.number node are.sound there
 
     is_in_range : AllOf (λ number. number < length nodes) (leads_to node ++ parts_of node)
-    is_in_range = all_at
+    is_in_range = all_got
         (λ node. AllOf (λ number. number < length nodes) (leads_to node ++ parts_of node)) nodes
         place.number node are.in_range there
 

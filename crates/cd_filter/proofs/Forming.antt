@@ -9,10 +9,10 @@ use Rattle.std.proofs.lemmas.Bool.{true≢false}
 use Rattle.std.proofs.lemmas.Option.{none-some}
 use Rattle.cd_sets.specs.declared.node_id.NodeId.{NodeId}
 use Rattle.cd_model.specs.Formula.{Graph, Formula}
+use Rattle.cd_model.proofs.ByNumber.{all_got}
 use Rattle.cd_graph.specs.PlainFormula.{plain}
 use Rattle.cd_matching.specs.Kernel.{Kernel, KernelNode, Test, Bind, Put, Pair, Xml, Record, Both}
 use Rattle.cd_matching.specs.Kernel.{First, Gather, IsSound, IsSoundNode}
-use Rattle.cd_matching.proofs.AllOf.{all_at}
 use Rattle.cd_filter.specs.Accepting.{AreMembers, IsOwn, own_formula, Accepts}
 use Rattle.cd_filter.specs.Accepting.{by_itself, by_both, by_members, AllAccept, no_more, one_more}
 use Rattle.cd_filter.specs.Inner.Forming.{is_among, others, joined, row_formula, row_members}
@@ -251,7 +251,7 @@ pub has_types : (types : ℕ) (kernel : Kernel NodeId) → IsSound (λ id. id.0 
     → (number : ℕ) (node : KernelNode NodeId) → slice_get kernel.nodes number ≡ Some node
     → HasTypes types node
 has_types types kernel is number node there = by_kind node
-    (all_at (IsSoundNode kernel.nodes (length kernel.variables) (λ id. id.0 < types)) kernel.nodes
+    (all_got (IsSoundNode kernel.nodes (length kernel.variables) (λ id. id.0 < types)) kernel.nodes
     number node is.nodes there)
   where
     by_kind : (node : KernelNode NodeId)

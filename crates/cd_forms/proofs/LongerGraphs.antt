@@ -10,20 +10,8 @@ use Rattle.cd_model.specs.Formula.{Graph, Formula, Nothing, IsFormula, IsGraph, 
 use Rattle.cd_model.specs.Membership.{holds, reader, answers}
 use Rattle.cd_model.specs.Thing.{Thing}
 use Rattle.cd_model.proofs.Extending.{kept_elements, kept_formulas}
+use Rattle.cd_model.proofs.FormulasAmongMore.{formula_after}
 use Rattle.cd_typing.specs.Typ.{typ, AreIn}
-
-got_after : (graph batch : Graph) (k : ℕ)
-    → slice_get (graph ++ batch) (length graph + k) ≡ slice_get batch k
-got_after [] batch k = ap (slice_get batch) (omega arith)
-got_after (f ∷ graph) batch k =
-    let more : suc (length graph) + k ≡ suc (length graph + k) = omega arith in
-    ap (slice_get (f ∷ graph ++ batch)) more ∙ got_after graph batch k
-
--- the formula of a new node
-pub formula_after : (graph batch : Graph) (k : ℕ) (f : Formula) → slice_get batch k ≡ Some f
-    → formula_at (graph ++ batch) (node (length graph + k)) ≡ f
-formula_after graph batch k f is =
-    ap (λ found. unwrap_or found Nothing) (got_after graph batch k ∙ is)
 
 module _ (graph batch : Graph) (sound : IsGraph graph) where
   -- elements of old types are elements of the same types

@@ -14,43 +14,15 @@ use Rattle.cd_model.specs.Formula.{AreFormulas, IsGraph}
 use Rattle.cd_model.specs.Membership.{holds, reader, answers}
 use Rattle.cd_model.specs.Thing.{Thing}
 use Rattle.cd_model.proofs.Ones.{each_weaker}
+use Rattle.cd_model.proofs.FormulasAmongMore.{formula_among_more}
 use Rattle.cd_forms.proofs.LongerGraphs.{new_node_holds}
-
--- a formula of a graph is one of a longer one
-mutual
-  still_formula : (count more : ℕ) → count ≤ more → (f : Formula) → IsFormula count f
-      → IsFormula more f
-  still_formula count more long formula.Nothing is = tt
-  still_formula count more long formula.Everything is = tt
-  still_formula count more long (formula.Ints set) is = tt
-  still_formula count more long (formula.Chars set) is = tt
-  still_formula count more long (formula.Atoms set) is = is
-  still_formula count more long (formula.Pair first second) is = (omega arith, omega arith)
-  still_formula count more long (formula.Xml tag attributes content) is =
-      (omega arith, omega arith, omega arith)
-  still_formula count more long (formula.Record named rest) is = (
-    is.0,
-    each_weaker (λ (field : Name × Field). field.1.type.0 < count)
-        (λ (field : Name × Field). field.1.type.0 < more) (λ field below. omega arith) named is.1,
-    omega arith,
-  )
-  still_formula count more long (formula.Arrow argument result) is = (omega arith, omega arith)
-  still_formula count more long (formula.And all) is = still_formulas count more long all is
-  still_formula count more long (formula.Or all) is = still_formulas count more long all is
-  still_formula count more long (formula.Not f) is = still_formula count more long f is
-
-  still_formulas : (count more : ℕ) → count ≤ more → (all : Formulas) → AreFormulas count all
-      → AreFormulas more all
-  still_formulas count more long NoFormula are = tt
-  still_formulas count more long (AFormula f rest) are =
-      (still_formula count more long f are.0, still_formulas count more long rest are.1)
 
 -- as code finds it
 module _ (graph : Graph) (f : Formula) (is : IsFormula (length graph) f) (batch : List Formula)
     (alone : batch ≡ f ∷ []) where
   pub one_is_sound : AllOf (IsFormula (length graph + length batch)) batch
   one_is_sound = subst (λ (all : List Formula). AllOf (IsFormula (length graph + length all)) all)
-      (sym alone) (still_formula (length graph) (length graph + 1) (omega arith) f is, tt)
+      (sym alone) (formula_among_more (length graph) (length graph + 1) (omega arith) f is, tt)
 
   pub one_holds : IsGraph graph → (longer : Graph) → longer ≡ graph ++ batch → (id : NodeId)
       → id.0 ≡ length graph → (e : Thing)

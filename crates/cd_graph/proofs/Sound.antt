@@ -1,11 +1,10 @@
 -- What a graph is known by: it is sound, it begins with the built-in nodes, and both stay so where formulas are added.
-use Rattle.std.proofs.Common.{◌≡◌, ℕ, zero, suc, map, get_or, ◌+◌, ◌<◌, ◌≤◌, List, [], ◌∷◌, ◌++◌, length, take, drop, Option, Some, None, Result, Ok, Err, OnOk, OnErr, IsTrue, false, codes, bytes_eq, refl, sym, ap, ◌∙◌, subst, arith, length-append, lit<, true≢false}
+use Rattle.std.proofs.Common.{◌≡◌, ℕ, zero, suc, map, get_or, ◌<◌, ◌≤◌, List, [], ◌∷◌, ◌++◌, length, take, drop, Option, Some, None, Result, Ok, Err, OnOk, OnErr, sym, ap, ◌∙◌, subst, arith}
 use Rattle.std.proofs.Props.{props}
 use Rattle.std.proofs.lemmas.List.{take-append-le, take-append-drop, length-take}
-use Rattle.std.proofs.lemmas.Slice.Eq.{bytes_eq-Decides}
 use Rattle.std.specs.Coded.{×_prop, Unit-prop}
 use mathlib.Core.Logic.{∥∥₁_elim}
-use Rattle.cd_syntax.specs.Name.{Name, IsLabel, is_word}
+use Rattle.cd_syntax.specs.Name.{Name, IsLabel}
 use Rattle.cd_syntax.specs.Name.{IsAbove}
 use Rattle.cd_model.specs.AllOf.{AllOf}
 use Rattle.cd_model.specs.Formula.{Formula, Formulas, Nothing, Everything, Ints, Chars, Atoms, Pair, Xml, Record, Arrow, And, Or, Not, NoFormula, AFormula, Field, Graph, AreRisingLabels, IsFormula, AreFormulas, IsGraph}
@@ -72,50 +71,6 @@ with_others graph begun = (drop 14 graph, sym (take-append-drop 14 graph) ∙ ap
 pub without_others : (graph : Graph) → ((more : Graph) × (graph ≡ built_ins ++ more)) → take 14 graph ≡ built_ins
 without_others graph all = ap (take 14) all.1
 
--- a fact of each that follows from another
-each_also : {X : Type 0} → (fact other : X → Type 0) → ((one : X) → fact one → other one)
-    → (list : List X) → AllOf fact list → AllOf other list
-each_also fact other also [] each = tt
-each_also fact other also (one ∷ rest) each = (also one each.0, each_also fact other also rest each.1)
-
-each_of_both : {X : Type 0} → (fact : X → Type 0) → (list others : List X) → AllOf fact list → AllOf fact others
-    → AllOf fact (list ++ others)
-each_of_both fact [] others each more = more
-each_of_both fact (one ∷ rest) others each more = (each.0, each_of_both fact rest others each.1 more)
-
--- a formula of a graph is one of a larger graph
-mutual
-  still_formula : (nodes more : ℕ) → nodes ≤ more → (is : Formula) → IsFormula nodes is → IsFormula more is
-  still_formula nodes more larger Nothing sound = tt
-  still_formula nodes more larger Everything sound = tt
-  still_formula nodes more larger (Ints set) sound = tt
-  still_formula nodes more larger (Chars set) sound = tt
-  still_formula nodes more larger (Atoms set) sound = sound
-  still_formula nodes more larger (Pair first second) sound = (omega arith, omega arith)
-  still_formula nodes more larger (Xml tag attributes content) sound = (omega arith, omega arith, omega arith)
-  still_formula nodes more larger (Record named rest) sound =
-      let below : (limit : ℕ) → Name × Field → Type 0 = λ limit field. field.1.type.0 < limit in
-      (sound.0, each_also (below nodes) (below more) (λ field small. omega arith) named sound.1, omega arith)
-  still_formula nodes more larger (Arrow argument result) sound = (omega arith, omega arith)
-  still_formula nodes more larger (And formulas) sound = still_formulas nodes more larger formulas sound
-  still_formula nodes more larger (Or formulas) sound = still_formulas nodes more larger formulas sound
-  still_formula nodes more larger (Not is) sound = still_formula nodes more larger is sound
-
-  still_formulas : (nodes more : ℕ) → nodes ≤ more → (formulas : Formulas) → AreFormulas nodes formulas
-      → AreFormulas more formulas
-  still_formulas nodes more larger NoFormula sound = tt
-  still_formulas nodes more larger (AFormula is rest) sound =
-      (still_formula nodes more larger is sound.0, still_formulas nodes more larger rest sound.1)
-
--- a graph with more formulas
-pub still_sound : (graph batch : Graph) → IsGraph graph → AllOf (IsFormula (length graph + length batch)) batch
-    → IsGraph (graph ++ batch)
-still_sound graph batch sound more =
-    let all : ℕ = length graph + length batch in
-    let first : AllOf (IsFormula all) graph =
-    each_also (IsFormula (length graph)) (IsFormula all) (still_formula (length graph) all (omega arith)) graph sound in
-    rw (length-append graph batch) (each_of_both (IsFormula all) graph batch first more)
-
 pub still_begins : (graph batch : Graph) → take 14 graph ≡ built_ins → take 14 (graph ++ batch) ≡ built_ins
 still_begins graph batch begins =
     let count : length (take 14 graph) ≡ 14 = ap length begins in
@@ -127,24 +82,6 @@ pub either_way : {T E : Type 0} → (fact : Graph → Type 0) (graph both now : 
     → OnOk result (now ≡ both) → OnErr result (now ≡ graph) → fact graph → fact both → fact now
 either_way fact graph both now (Ok one) added kept was is = subst fact (sym added) is
 either_way fact graph both now (Err one) added kept was is = subst fact (sym kept) was
-
--- a word other than `_` is the name of an atom
-a_label : (name : Name) → IsTrue (is_word name) → bytes_eq name (codes "_") ≡ false → IsLabel name
-a_label name word other = (word, λ same. true≢false (sym ((bytes_eq-Decides name (codes "_")).1 same) ∙ other))
-
--- the graph of the built-in nodes
-pub built_ins_are_sound : IsGraph built_ins
-built_ins_are_sound =
-    let no : IsLabel (codes "false") = a_label (codes "false") refl refl in
-    let yes : IsLabel (codes "true") = a_label (codes "true") refl refl in
-    let nil : IsLabel (codes "nil") = a_label (codes "nil") refl refl in
-    let empty : 0 < 14 = lit< tt in
-    let any : 1 < 14 = lit< tt in
-    let char : 3 < 14 = lit< tt in
-    let atom : 5 < 14 = lit< tt in
-    let string : 7 < 14 = lit< tt in
-    let data_node : 12 < 14 = lit< tt in
-    assumption
 
 -- where all formulas are of a graph, the one at a place is
 pub item_is_sound : (nodes : ℕ) (items : List CodeFormula) (place : ℕ) (d : CodeFormula) → AllOf (IsFormula nodes) (map plain items)

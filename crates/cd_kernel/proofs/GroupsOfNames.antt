@@ -8,10 +8,10 @@ use Rattle.std.proofs.lemmas.Bool.{true≢false}
 use Rattle.cd_sets.specs.declared.node_id.NodeId.{NodeId}
 use Rattle.cd_syntax.specs.Name.{Name}
 use Rattle.cd_model.specs.AllOf.{AllOf}
+use Rattle.cd_model.proofs.ByNumber.{all_got}
 use Rattle.cd_matching.specs.Pattern as pattern
 use Rattle.cd_matching.specs.Pattern.{Regular, Regulars, NoRegular, ARegular}
 use Rattle.cd_matching.specs.Variables.{is_gathered}
-use Rattle.cd_matching.proofs.AllOf.{all_at}
 use Rattle.cd_kernel.specs.Automaton.{ItemOf, items_of, items_of_all}
 use Rattle.cd_kernel.specs.Copies.{IsNumber, is_among, AreDistinct, gatherer}
 use Rattle.cd_kernel.specs.Inner.Gathering.{with_gathered, nests, one_nests, singly, groups_of}
@@ -126,7 +126,7 @@ single_is_alone r one place of name found in_group in_around = alone_by_name one
 
 whole_is_alone : (r : Regular NodeId) (group : List Name) → nests false r ≡ false → IsAlone r group
 whole_is_alone r group none place of name found in_group in_around = only_gathers group of.1 name
-    (all_at HasAtMostOne (items_of [] r) place of (at_most_one r false [] none refl) found)
+    (all_got HasAtMostOne (items_of [] r) place of (at_most_one r false [] none refl) found)
     in_group in_around
 
 have_numbers : (variables names : List Name)

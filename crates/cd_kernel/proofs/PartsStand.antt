@@ -4,6 +4,7 @@ use Rattle.std.proofs.Common.{◌≡◌, ℕ, zero, suc, ◌+◌, List, [], ◌�
 use Rattle.std.proofs.Common.{subst, ◌∙◌, arith, length-append}
 use Rattle.std.specs.List.{slice_get}
 use Rattle.std.proofs.lemmas.Option.{none-some}
+use Rattle.cd_model.proofs.ByNumber.{got_more, got_after}
 use Rattle.cd_syntax.specs.Name.{Name}
 use Rattle.cd_matching.specs.Pattern as pattern
 use Rattle.cd_matching.specs.Pattern.{Regular, Regulars, NoRegular, ARegular}
@@ -30,32 +31,15 @@ first_stands all before a some stand =
     none_more : (n : ℕ) → n + 0 ≡ n
     none_more n = omega arith
 
-get_left : {A : Type 0} (xs ys : List A) (k : ℕ) (a : A) → slice_get xs k ≡ Some a
-    → slice_get (xs ++ ys) k ≡ Some a
-get_left [] ys zero a h = absurd (none-some a h)
-get_left [] ys (suc k) a h = absurd (none-some a h)
-get_left (x ∷ xs) ys zero a h = h
-get_left (x ∷ xs) ys (suc k) a h = get_left xs ys k a h
-
-get_right : {A : Type 0} (xs ys : List A) (k : ℕ) (a : A) → slice_get ys k ≡ Some a
-    → slice_get (xs ++ ys) (length xs + k) ≡ Some a
-get_right [] ys k a h = stand_whole ys k a h
-get_right (x ∷ xs) ys k a h =
-    subst (λ n. slice_get (x ∷ (xs ++ ys)) n ≡ Some a) (one_more (length xs) k)
-    (get_right xs ys k a h)
-  where
-    one_more : (n k : ℕ) → suc (n + k) ≡ suc n + k
-    one_more n k = omega arith
-
 pub stand_left : {A : Type 0} (all : List A) (before : ℕ) (xs ys : List A)
     → Stand all before (xs ++ ys) → Stand all before xs
-stand_left all before xs ys stand k a h = stand k a (get_left xs ys k a h)
+stand_left all before xs ys stand k a h = stand k a (got_more xs ys k a h)
 
 pub stand_right : {A : Type 0} (all : List A) (before : ℕ) (xs ys : List A) (count : ℕ)
     → length xs ≡ count → Stand all before (xs ++ ys) → Stand all (before + count) ys
 stand_right all before xs ys count long stand k a h =
     subst (λ n. slice_get all n ≡ Some a) (regroup before count (length xs) k long)
-    (stand (length xs + k) a (get_right xs ys k a h))
+    (stand (length xs + k) a (got_after xs ys k ∙ h))
   where
     regroup : (before count n k : ℕ) → n ≡ count → before + (n + k) ≡ before + count + k
     regroup before count n k long = omega (arith, long)

@@ -9,6 +9,7 @@ use Rattle.cd_syntax.specs.Name.{Name}
 use Rattle.cd_model.specs.AllOf.{AllOf, AnyOf}
 use Rattle.cd_model.specs.Thing as thing
 use Rattle.cd_model.specs.Thing.{Thing}
+use Rattle.cd_model.proofs.ByNumber.{all_got}
 use Rattle.cd_matching.specs.Captures.{Captures, joined, both, if_so}
 use Rattle.cd_matching.specs.Kernel.{KernelNode, KernelField, Present, Optional, Test, Bind, Put}
 use Rattle.cd_matching.specs.Kernel.{Pair, Xml, Record, Both, First, Gather, leads_to, parts_of}
@@ -16,7 +17,7 @@ use Rattle.cd_matching.specs.Kernel.{field_nodes, Ends, EachEnds, Binds, itself,
 use Rattle.cd_matching.specs.Kernel.{Labelled, just, before, on_field, on_fields, all_named}
 use Rattle.cd_matching.specs.Kernel.{by_node, apart_of, taken, taken_at}
 use Rattle.cd_matching.specs.Sequences.{thing_of}
-use Rattle.cd_matching.proofs.AllOf.{all_at, any_is_one}
+use Rattle.cd_matching.proofs.AllOf.{any_is_one}
 use Rattle.cd_matching.proofs.TakenCaptures.{both_some, or_else_some, if_some, just_some}
 use Rattle.cd_matching.proofs.TakenCaptures.{if_so_nothing, gathered_some}
 use Rattle.cd_matching.proofs.Unfolding.{unfolds}
@@ -217,7 +218,7 @@ module _ (T : Type 0) (test : T → Thing → Bool) (nodes : List (KernelNode T)
         → Binds nodes variable number
     at_some d parts again None there short takes = absurd short
     at_some d parts again (Some node) there short takes = at_node d parts again node there short
-        (all_at
+        (all_got
         (λ node. AllOf (λ next. next < length nodes) (leads_to node ++ parts_of node)) nodes number
         node in_range there) takes
 

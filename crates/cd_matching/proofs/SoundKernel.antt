@@ -6,10 +6,10 @@ use Rattle.std.specs.List.{slice_get}
 use Rattle.std.proofs.lemmas.Option.{same_Some}
 use Rattle.cd_syntax.specs.declared.constant.Constant.TheVariants as constant
 use Rattle.cd_model.specs.AllOf.{AllOf, AnyOf}
+use Rattle.cd_model.proofs.ByNumber.{all_got}
 use Rattle.cd_matching.specs.Examples.{Test, IsTest, greedy_kernel}
 use Rattle.cd_matching.specs.Kernel.{KernelNode, Put, leads_to, parts_of, variables_of, Ends, Binds}
 use Rattle.cd_matching.specs.Kernel.{itself, further, BindApart, IsSound}
-use Rattle.cd_matching.proofs.AllOf.{all_at}
 use Rattle.cd_matching.proofs.NilIsElement.{nil_is_element}
 
 -- a fact of each number below the length of a list
@@ -35,7 +35,7 @@ module _ {T : Type 0} (nodes : List (KernelNode T)) where
   bound_is : (P : ℕ → Type 0) → AllOf (λ node. AllOf P (variables_of node)) nodes
       → (variable number : ℕ) → Binds nodes variable number → P variable
   bound_is P all variable number (itself _ node there any) = says_of P variable (variables_of node)
-      (all_at (λ other. AllOf P (variables_of other)) nodes number node all there) any
+      (all_got (λ other. AllOf P (variables_of other)) nodes number node all there) any
   bound_is P all variable number (further _ next node there among binds) =
       bound_is P all variable next binds
 

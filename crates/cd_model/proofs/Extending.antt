@@ -1,5 +1,5 @@
 -- A longer graph answers alike at old nodes.
-use Rattle.std.proofs.Common.{◌≡◌, ℕ, zero, suc, Bool, true, List, [], ◌∷◌, ◌++◌, length, ◌<◌, ◌↔◌, refl, subst, inl, inr, arith, bytes_eq}
+use Rattle.std.proofs.Common.{◌≡◌, ℕ, Bool, true, List, [], ◌∷◌, ◌++◌, length, ◌<◌, ◌↔◌, refl, subst, inl, inr, bytes_eq}
 use Rattle.std.proofs.lemmas.Bool.{cases_Bool}
 use Rattle.cd_sets.specs.declared.node_id.NodeId.{NodeId}
 use Rattle.cd_syntax.specs.Name.{Name}
@@ -14,6 +14,7 @@ use Rattle.cd_model.specs.Types.{FieldOf, field_of, Reader, Admits, reader, answ
 use Rattle.cd_model.proofs.FormulasAlike as stand
 use Rattle.cd_model.proofs.FormulasAlike.{FormulasStand, AllStand, formulas_alike}
 use Rattle.cd_model.proofs.BothWays.{itself, both_agree}
+use Rattle.cd_model.proofs.FormulasAmongMore.{formula_kept, sound_at}
 use Rattle.cd_model.proofs.ValuesAlike.{AlwaysAlike, AdmitSame, element_reads_alike, elements_alike, maps_alike, value_reads_alike, values_alike}
 
 -- an old node stands for itself
@@ -61,25 +62,13 @@ module _ (count : ℕ) where
       → (is : Formula) → IsFormula count is → (answer : Bool) → holds (at_formula first) is answer ↔ holds (at_formula second) is answer
   holds_alike first second alike is sound = formulas_alike (IsOld count) first second alike is is (old_formula is sound)
 
-kept : (graph more : Graph) (id : ℕ) → id < length graph
-    → formula_at graph (record { 0 = id }) ≡ formula_at (graph ++ more) (record { 0 = id })
-kept [] more id below = absurd (omega arith)
-kept (is ∷ graph) more zero below = refl
-kept (is ∷ graph) more (suc id) below = kept graph more id (omega arith)
-
-sound_at : (count : ℕ) (graph : Graph) (id : ℕ) → AllOf (IsFormula count) graph → id < length graph
-    → IsFormula count (formula_at graph (record { 0 = id }))
-sound_at count [] id each below = absurd (omega arith)
-sound_at count (is ∷ graph) zero each below = each.0
-sound_at count (is ∷ graph) (suc id) each below = sound_at count graph id each.1 (omega arith)
-
 module _ (graph more : Graph) (sound : IsGraph graph) where
   pub nodes_alike : AlwaysAlike (IsOld (length graph)) (nodes graph) (nodes (graph ++ more))
   nodes_alike closed closing is of alike one other old answer =
       let first = reader (nodes graph) closed is in
       let second = reader (nodes (graph ++ more)) closing is in
       subst (λ id. holds (at_formula first) (formula_at graph one) answer ↔ holds (at_formula second) (formula_at (graph ++ more) id) answer) old.same
-      (subst (λ form. holds (at_formula first) (formula_at graph one) answer ↔ holds (at_formula second) form answer) (kept graph more one.0 old.below)
+      (subst (λ form. holds (at_formula first) (formula_at graph one) answer ↔ holds (at_formula second) form answer) (formula_kept graph more one.0 old.below)
       (holds_alike (length graph) first second alike (formula_at graph one) (sound_at (length graph) graph one.0 sound old.below) answer))
 
   pub kept_elements : (is : Thing) (id : NodeId) (answer : Bool) → id.0 < length graph

@@ -7,6 +7,7 @@ use Rattle.cd_model.specs.Kinds.{kind_of, AnInteger, ARecord, Kind}
 use Rattle.cd_model.specs.Thing.{Thing, Integer, Record, IsElement}
 use Rattle.cd_model.specs.Types.{no_closure}
 use Rattle.cd_model.proofs.BuiltIns.{elements_are_sound, integers_are, records_are, nothing_is_empty}
+use Rattle.cd_model.proofs.SoundBuiltIns.{a_label}
 use Rattle.cd_program.specs.declared.operator.BuiltIn.TheVariants as word
 use Rattle.cd_meaning.specs.Integers.{IsResultOf}
 use Rattle.cd_meaning.specs.Records.{IsMergeOf}
@@ -35,7 +36,7 @@ integer_or_record e element integer record_type =
 
 -- there is a label, at which merged records are looked at
 some_label : IsLabel (codes "a")
-some_label = (refl, λ same. true≢false (sym ((bytes_eq-Decides (codes "a") (codes "_")).1 same)))
+some_label = a_label (codes "a") refl refl
 
 -- what `+` makes of integers, and of records, is within what it gives for wider operands
 module _ (one other more last result : Set) (first : one ⊆ more) (second : other ⊆ last)

@@ -17,25 +17,7 @@ use Rattle.cd_rules.specs.Members.{HasElement}
 use Rattle.cd_model.proofs.Ones.{each_of_two}
 use Rattle.cd_products.specs.Inner.ClauseBoxes.{AreClauses}
 use Rattle.cd_products.specs.Inner.Tests.{IsTested, IsTest}
-
-formula_kept : (graph more : Graph) (id : ℕ) → id < length graph
-    → formula_at graph (node id) ≡ formula_at (graph ++ more) (node id)
-formula_kept [] more id below = absurd (omega arith)
-formula_kept (is ∷ graph) more zero below = refl
-formula_kept (is ∷ graph) more (suc id) below = formula_kept graph more id (omega arith)
-
-at_kept : (graph more : Graph) (ids : List NodeId) (wanted : Bool)
-    → AllOf (λ id. id.0 < length graph) ids
-    → choices_at graph ids wanted ≡ choices_at (graph ++ more) ids wanted
-at_kept graph more [] wanted below = refl
-at_kept graph more (id ∷ ids) wanted below = ap₂ joined
-    (ap (λ is. choices is wanted) (formula_kept graph more id.0 below.0))
-    (at_kept graph more ids wanted below.1)
-
-choices_kept : (graph more : Graph) (question : Question) → AsksNodes (length graph) question
-    → choices_of graph question ≡ choices_of (graph ++ more) question
-choices_kept graph more question below = ap₂ joined (at_kept graph more question.pos true below.0)
-    (at_kept graph more question.neg false below.1)
+use Rattle.cd_rules.proofs.ClosedStays.{choices_kept}
 
 -- all clauses by the conjuncts
 abbrev AreAll : List Clause → List Choice → Type 0

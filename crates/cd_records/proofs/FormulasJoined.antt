@@ -19,6 +19,7 @@ use Rattle.cd_model.specs.Thing as thing
 use Rattle.cd_model.specs.Thing.{Thing, Fields, IsElement, IsRecord}
 use Rattle.cd_model.proofs.BothWays.{both_agree, itself, one_agrees, through, turned}
 use Rattle.cd_model.proofs.Sorts as sort
+use Rattle.cd_model.proofs.FormulasAmongMore.{formula_among_more}
 use Rattle.cd_rules.specs.InRow.{thing_at, IsInCell}
 use Rattle.cd_rules.proofs.InCells.{Says}
 use Rattle.cd_rows.proofs.LivingRows.{IsOfSort, at_labels}
@@ -29,7 +30,6 @@ use Rattle.cd_records.specs.Inner.Standing.{Adds, HasOther, HoldsOther, HoldsOut
 use Rattle.cd_records.specs.Inner.Standing.{IsAsSaid, IsRest, IsUnion, longer, open_fields}
 use Rattle.cd_records.proofs.AloneNodes.{at_least}
 use Rattle.cd_records.proofs.Lookups.{names_differ, not_same, same_name}
-use Rattle.cd_records.proofs.NodesStand.{still_formula}
 use Rattle.cd_records.proofs.RecordsStand.{as_had, had}
 
 -- what holds for some formulas still holds where more come after them
@@ -43,7 +43,7 @@ module _ (graph : Graph) (old new : List Formula) (adds : Adds graph old new) wh
 
   still_sound : (f : Formula) → IsFormula (length graph + length old) f
       → IsFormula (length graph + length new) f
-  still_sound f sound = still_formula (length graph + length old) (length graph + length new)
+  still_sound f sound = formula_among_more (length graph + length old) (length graph + length new)
       (let most = larger in omega arith) f sound
 
   pub records_stay : (IsSo : Fields → Type 0) (f : Formula) → HoldsRecords graph old IsSo f

@@ -8,10 +8,11 @@ use Rattle.cd_model.specs.AllOf.{AllOf}
 use Rattle.cd_model.specs.Formula.{Graph, Formula, IsFormula, IsGraph, in_node}
 use Rattle.cd_model.specs.Thing.{Thing, IsElement}
 use Rattle.cd_model.proofs.BothWays.{through}
+use Rattle.cd_model.proofs.FormulasAmongMore.{formula_among_more}
 use Rattle.cd_compact.specs.Keeping.{HoldSame}
 use Rattle.cd_records.specs.Inner.Entries.{InOneQuestion}
 use Rattle.cd_records.specs.Inner.Standing.{HoldsUnion, IsUnion, IsUnionNode}
-use Rattle.cd_records.proofs.NodesStand.{holds_new, still_formula}
+use Rattle.cd_records.proofs.NodesStand.{holds_new}
 
 module _ (graph : Graph) (sound : IsGraph graph) (questions : List Question) (f : Formula)
     (union : IsUnion graph questions f) (all : List Formula) (one : all ≡ f ∷ []) where
@@ -19,7 +20,7 @@ module _ (graph : Graph) (sound : IsGraph graph) (questions : List Question) (f 
   pub alone_sound : AllOf (IsFormula (length graph + length all)) all
   alone_sound = subst (λ (all : List Formula). AllOf (IsFormula (length graph + length all)) all)
       (sym one) (
-        still_formula (length graph) (length graph + length (f ∷ [])) (omega arith) f
+        formula_among_more (length graph) (length graph + length (f ∷ [])) (omega arith) f
             union.sound,
         tt,
       )

@@ -1,9 +1,8 @@
 -- The states of an expression ask for nodes below the first of them, and lead to one another.
-use Rattle.std.proofs.Common.{ℕ, ◌+◌, ◌<◌, ◌≤◌, Bool, true, false, List, [], ◌∷◌, ◌++◌, map, codes, refl, sym, true≢false, arith}
-use Rattle.std.proofs.lemmas.Slice.Eq.{bytes_eq-Decides}
-use Rattle.cd_syntax.specs.Name.{IsLabel}
+use Rattle.std.proofs.Common.{ℕ, ◌+◌, ◌<◌, ◌≤◌, Bool, true, false, List, [], ◌∷◌, ◌++◌, map, arith}
 use Rattle.cd_model.specs.AllOf.{AllOf}
 use Rattle.cd_model.specs.Formula.{Formula, formulas_of, IsFormula, AreFormulas}
+use Rattle.cd_model.proofs.SoundBuiltIns.{nil_is_label}
 use Rattle.cd_regex.specs.Regular.{Regular, Regulars, NoRegular, ARegular, Nothing, Item, Seq, Alt, Star, Plus, Opt}
 use Rattle.cd_regex.specs.Regular.{items_in, items_in_all, AsksBelow, AskBelow}
 use Rattle.cd_regex.specs.Automaton.{Next, nullable, all_nullable, edges_if, heads, heads_in_turn, heads_of_one}
@@ -112,11 +111,8 @@ module _ (first past : ℕ) where
       (sound_heads is first asks (omega arith, fit), sound_states is first finish asks (omega arith, fit) tt)
 
 -- so their formulas are those of a graph
-nil_is : IsLabel (codes "nil")
-nil_is = (refl, λ same. true≢false (sym ((bytes_eq-Decides (codes "nil") (codes "_")).1 same)))
-
 sound_end : (past : ℕ) (ends : Bool) → AreFormulas past (formulas_of (end_formulas ends))
-sound_end past true = ((nil_is, tt), tt)
+sound_end past true = ((nil_is_label, tt), tt)
 sound_end past false = tt
 
 sound_edges : (first past : ℕ) (edges : List Edge) (others : List Formula) → first < past → AllOf (IsEdge first past) edges

@@ -20,8 +20,8 @@ use Rattle.cd_resolve.specs.Inner.Members.{Sign}
 use Rattle.cd_resolve.specs.Inner.Solves.{IsNode}
 use Rattle.cd_resolve.specs.Inner.Walk.{pushed, leaf, walked_text, chained, united, met, ReadRegular, sequenced}
 use Rattle.cd_resolve.proofs.Growing.{appends_longer, pushed_appends, leaf_appends, chained_appends}
-use Rattle.cd_resolve.proofs.MembersKept.{each_weaker}
-use Rattle.cd_resolve.proofs.FormulasAmongMore.{formula_among_more}
+use Rattle.cd_model.proofs.FormulasAmongMore.{formula_among_more}
+use Rattle.cd_model.proofs.Ones.{each_weaker}
 use Rattle.cd_resolve.proofs.NodesOfWalks.{IsOfNodes, built_in_below, leaf_has, text_has, chained_has}
 use Rattle.cd_resolve.proofs.NodesBounded.{AreBounded, both_bounded, pushed_bounded, formulas_bounded}
 use Rattle.cd_resolve.proofs.Rising.{sorted_rises}

@@ -10,6 +10,7 @@ use Rattle.cd_syntax.specs.TypeTree as type
 use Rattle.cd_syntax.specs.TypeTree.{Tree, tree, Kind, Trees, NoTree, ATree, Signs, NoSign, ASign, Fields, NoField}
 use Rattle.cd_syntax.specs.TypeTree.{AField, Declarations, NoDeclaration, ADeclaration}
 use Rattle.cd_model.specs.Formula.{Formula, Field}
+use Rattle.cd_model.proofs.ByNumber.{got_after}
 use Rattle.cd_regex.specs.Regular.{Regular}
 use Rattle.cd_resolve.specs.Inner.Equation.{Equation, Equations, Same}
 use Rattle.cd_resolve.specs.Inner.Frames.{Frames, number_in}
@@ -19,7 +20,7 @@ use Rattle.cd_resolve.specs.Inner.Walk.{Read, unread, entered, settled, pushed, 
 use Rattle.cd_resolve.specs.Inner.Walk.{one_more, frame_after, walked, walked_kind, walked_trees, walked_signs}
 use Rattle.cd_resolve.specs.Inner.Walk.{walked_fields, walked_regular, walked_regular_kind, walked_regulars}
 use Rattle.cd_resolve.specs.Inner.Walk.{walked_declared, walked_list}
-use Rattle.cd_resolve.proofs.GrowingLists.{get_before, get_later, get_set, get_other, set_later}
+use Rattle.cd_resolve.proofs.GrowingLists.{get_before, get_set, get_other, set_later}
 
 -- the equations of the first are those of the second, and more may follow
 pub record Grows (s t : Equations) : Type 0 where
@@ -98,7 +99,7 @@ entered_unread declarations s = record {
   none = λ n from to.
       let place : length s + (n - length s) ≡ n = omega arith in
       subst (λ (n : ℕ). slice_get (entered declarations s) n ≡ Some None) place
-      (get_later s (unread (number_in declarations)) (n - length s)
+      (got_after s (unread (number_in declarations)) (n - length s)
       ∙ unread_none (number_in declarations) (n - length s) (omega arith));
 }
 

@@ -11,7 +11,6 @@ pub mod MadeOrigins
 pub mod WalkedOrigins
 pub mod Rising
 pub mod SortedKept
-pub mod FormulasAmongMore
 pub mod NodesBounded
 pub mod BoundsMade
 pub mod Bounds

@@ -7,6 +7,7 @@ use Rattle.cd_syntax.specs.Name.{Name}
 use Rattle.cd_syntax.specs.TypeTree as type
 use Rattle.cd_syntax.specs.TypeTree.{Trees, NoTree, ATree, Signs, Fields}
 use Rattle.cd_model.specs.Formula.{Formula, Field, Pair}
+use Rattle.cd_model.proofs.ByNumber.{got_after}
 use Rattle.cd_regex.specs.Regular.{Regular, regulars_of}
 use Rattle.cd_regex.specs.Automaton.{sequence_formulas}
 use Rattle.cd_resolve.specs.Inner.Equation.{Equation, Equations, Is, And, Or}
@@ -16,7 +17,7 @@ use Rattle.cd_resolve.specs.Inner.Members.{Sign}
 use Rattle.cd_resolve.specs.Inner.Equates.{IsAt, HasLeaf, EquatesText, HasUnion, HasMeet, HaveFormulas, EquatesChain}
 use Rattle.cd_resolve.specs.Inner.Equates.{EquatesEach, EquatesSigns, EquatesFields, EquatesRegulars}
 use Rattle.cd_resolve.specs.Inner.Walk.{pushed, leaf, walked_text, chained, united, met, ReadRegular, sequenced}
-use Rattle.cd_resolve.proofs.GrowingLists.{get_next, get_later}
+use Rattle.cd_resolve.proofs.GrowingLists.{get_next}
 use Rattle.cd_resolve.proofs.Growing.{Grows, grows_then, appends_grows, pushed_appends, leaf_appends}
 
 -- The equations grow to the final ones, in which what was made stands still
@@ -93,7 +94,7 @@ module _ (first : ℕ) (final : Equations) where
       let formulas = sequence_formulas (first + length one.1) one.0 in
       formulas_at (length one.1) formulas (λ n formula is.
       grows.still (length one.1 + n) (Is formula)
-      (get_later one.1 (map (λ formula. Some (Is formula)) formulas) n ∙ is))
+      (got_after one.1 (map (λ formula. Some (Is formula)) formulas) n ∙ is))
 
   module _ (names : List (Name × NodeId)) where
     -- a chain of the nodes of trees is a chain of the trees

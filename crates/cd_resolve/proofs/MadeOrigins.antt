@@ -12,6 +12,7 @@ use Rattle.cd_model.specs.BuiltIns.{node}
 use Rattle.cd_model.specs.Formula.{Formula, Pair}
 use Rattle.cd_model.specs.Scope.{Scope, Declared, names_in, names_declared, names_over}
 use Rattle.cd_model.proofs.Covered.{Covered, each_parts, covered_tree}
+use Rattle.cd_model.proofs.ByNumber.{got_after}
 use Rattle.cd_resolve.specs.Inner.Equation.{Equation, Equations, Is, Same}
 use Rattle.cd_resolve.specs.Inner.Frames.{Frames, scope_of, number_in}
 use Rattle.cd_resolve.specs.Inner.Leaves.{characters, Joint, joined}
@@ -20,7 +21,7 @@ use Rattle.cd_resolve.specs.Inner.Equates.{IsAt, Equates, EquatesKind, AreEquate
 use Rattle.cd_resolve.specs.Inner.Walk.{entered, pushed, leaf, walked_text, chained, united, met, frame_after}
 use Rattle.cd_resolve.proofs.Origins.{HasOrigin}
 use Rattle.cd_resolve.proofs.Origins as origin
-use Rattle.cd_resolve.proofs.GrowingLists.{get_next, get_later}
+use Rattle.cd_resolve.proofs.GrowingLists.{get_next}
 use Rattle.cd_resolve.proofs.Growing.{Grows, grows_then, appends_grows, entered_length, pushed_appends, leaf_appends}
 
 -- what holds of each number of some equations, and of the next one, holds of each where there is one more
@@ -119,7 +120,7 @@ module _ (first : ℕ) (names : List (Name × NodeId)) (base : Scope) (Fact : De
       by_cases (inr past) within =
           let place : length s + (n - length s) ≡ n = omega arith in
           let is = formula_is formulas (n - length s) (omega arith) in
-          let there = get_later s (map (λ (formula : Formula). Some (Is formula)) formulas) (n - length s) ∙ is.1 in
+          let there = got_after s (map (λ (formula : Formula). Some (Is formula)) formulas) (n - length s) ∙ is.1 in
           let known = grows.still (length s + (n - length s)) (Is is.0) there in
           subst Origin place (origin.formula (length s + (n - length s)) is.0 known)
 

@@ -1,5 +1,5 @@
 -- What is read of declarations, and of types that see them, stands for them in a graph that solves its equations.
-use Rattle.std.proofs.Common.{◌≡◌, ℕ, zero, suc, ◌+◌, ◌<◌, ◌≤◌, inl, inr, List, [], ◌∷◌, ◌++◌, Some, length, map}
+use Rattle.std.proofs.Common.{◌≡◌, ℕ, ◌+◌, ◌<◌, ◌≤◌, inl, inr, List, [], ◌∷◌, ◌++◌, Some, length, map}
 use Rattle.std.proofs.Common.{refl, sym, ap, subst, ◌∙◌, arith}
 use Rattle.std.proofs.lemmas.List.{append_assoc, length-append}
 use Rattle.cd_sets.specs.declared.node_id.NodeId.{NodeId}
@@ -9,7 +9,7 @@ use Rattle.cd_syntax.specs.declared.tokens.Span.{Span}
 use Rattle.cd_syntax.specs.WellMadePattern.{IsWellMadePattern, AreWellMadePatterns, AreWellMadePatternDeclarations}
 use Rattle.cd_model.specs.AllOf.{AllOf}
 use Rattle.cd_model.specs.BuiltIns.{built_ins, node}
-use Rattle.cd_model.specs.Formula.{Graph, IsGraph, formula_at}
+use Rattle.cd_model.specs.Formula.{Graph, IsGraph}
 use Rattle.cd_model.specs.Guarded.{IsGuarded, IsOneOf, NamesAreGuarded}
 use Rattle.cd_model.specs.Scope.{Scope, Declared, names_in, names_in_trees, names_over, names_declared, names_seen}
 use Rattle.cd_model.specs.StandsFor.{StandsFor}
@@ -43,16 +43,11 @@ use Rattle.cd_resolve.proofs.Numbered.{all_named}
 use Rattle.cd_resolve.proofs.Standing.{stands}
 use Rattle.cd_resolve.proofs.WalkedEquations.{trees_equate, list_equates}
 use Rattle.cd_resolve.proofs.WalkedOrigins.{trees_origins, list_origins}
+use Rattle.cd_model.proofs.FormulasAmongMore.{formula_kept}
 
 -- a graph that begins with another agrees with it
-kept : (graph more : Graph) (id : ℕ) → id < length graph
-    → formula_at graph (node id) ≡ formula_at (graph ++ more) (node id)
-kept [] more id below = absurd (omega arith)
-kept (is ∷ graph) more zero below = refl
-kept (is ∷ graph) more (suc id) below = kept graph more id (omega arith)
-
 pub begins_agree : (old graph rest : Graph) → graph ≡ old ++ rest → AgreesWith old graph
-begins_agree old graph rest begins id below = rw begins (kept old rest id.0 below)
+begins_agree old graph rest begins id below = rw begins (formula_kept old rest id.0 below)
 
 -- and has as many nodes at least
 pub begins_with : (graph : Graph) → Begins graph → 14 ≤ length graph

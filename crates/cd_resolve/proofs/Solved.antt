@@ -12,15 +12,16 @@ use Rattle.cd_sets.specs.declared.node_id.NodeId.{NodeId}
 use Rattle.cd_model.specs.AllOf.{AllOf}
 use Rattle.cd_model.specs.BuiltIns.{node}
 use Rattle.cd_model.specs.Formula.{Graph, Formula, Nothing, IsFormula, IsGraph, formula_at}
+use Rattle.cd_model.proofs.Ones.{each_weaker}
+use Rattle.cd_model.proofs.FormulasAmongMore.{each_among_more}
 use Rattle.cd_resolve.specs.Inner.Order.{IsOrder, ComeAfter}
 use Rattle.cd_resolve.specs.Inner.Equation.{Equation, Equations, Is, Same, And, Or}
 use Rattle.cd_resolve.specs.Inner.Solves.{made, IsNode, IsEquation, AreEquations, Solves, AgreesWith}
 use Rattle.cd_resolve.specs.Inner.Links.{numbers_under, links}
 use Rattle.cd_resolve.specs.Inner.Filling.{at_once, left, so_far, filled, AreFilled}
 use Rattle.cd_resolve.proofs.LinksRows.{found, found_at, links_length}
-use Rattle.cd_resolve.proofs.MembersKept.{each_weaker}
 use Rattle.cd_resolve.proofs.Settling.{Under, made_same, all_settled, all_kept, filled_length}
-use Rattle.cd_resolve.proofs.SoundFormulas.{FormulaIn, each_among_more, filled_are}
+use Rattle.cd_resolve.proofs.SoundFormulas.{FormulaIn, filled_are}
 
 -- what is left leads where all does, since a formula leads nowhere
 under_left : (first : ℕ) (equation : Option Equation)

@@ -1,5 +1,5 @@
 -- The formulas that are made of sound equations are those of a graph.
-use Rattle.std.proofs.Common.{◌≡◌, ℕ, zero, suc, ◌-◌, ◌≤◌, Bool, true, false, List, [], ◌∷◌, map, Option, Some, None}
+use Rattle.std.proofs.Common.{◌≡◌, ℕ, zero, suc, ◌-◌, Bool, true, false, List, [], ◌∷◌, map, Option, Some, None}
 use Rattle.std.proofs.Common.{refl, if◌then◌else◌}
 use Rattle.std.specs.Prelude.{nat_le}
 use Rattle.std.specs.List.{slice_get}
@@ -12,15 +12,7 @@ use Rattle.cd_resolve.specs.Inner.Equation.{Equation, Equations, Is, Same, And, 
 use Rattle.cd_resolve.specs.Inner.Solves.{signed, made}
 use Rattle.cd_resolve.specs.Inner.Filling.{so_far, with_made, filled}
 use Rattle.cd_resolve.proofs.EachOne.{each_set}
-use Rattle.cd_resolve.proofs.FormulasAmongMore.{formula_among_more}
 use Rattle.cd_resolve.proofs.LinksRows.{found}
-use Rattle.cd_resolve.proofs.MembersKept.{each_weaker}
-
--- the formulas of a graph are those of a longer graph
-pub each_among_more : (nodes more : ℕ) → nodes ≤ more → (graph : Graph) → AllOf (IsFormula nodes) graph
-    → AllOf (IsFormula more) graph
-each_among_more nodes more larger graph each =
-    each_weaker (IsFormula nodes) (IsFormula more) (formula_among_more nodes more larger) graph each
 
 -- the formula of any number is one of the graph
 at_is_formula : (nodes : ℕ) (graph : Graph) (number : ℕ) → AllOf (IsFormula nodes) graph

@@ -1,19 +1,14 @@
 -- A question has the same choices in each longer graph, so a closed family stays closed.
-use Rattle.std.proofs.Common.{◌≡◌, ℕ, zero, suc, ◌<◌, Bool, true, false, List, [], ◌∷◌, ◌++◌, length, refl, sym, ap, subst, arith}
+use Rattle.std.proofs.Common.{◌≡◌, ◌<◌, Bool, true, false, List, [], ◌∷◌, ◌++◌, length, refl, sym, ap, subst}
 use Rattle.std.proofs.Math.Path.{ap₂}
 use Rattle.cd_sets.specs.declared.node_id.NodeId.{NodeId}
 use Rattle.cd_sets.specs.declared.question.Question.{Question}
-use Rattle.cd_model.specs.BuiltIns.{node}
 use Rattle.cd_model.specs.AllOf.{AllOf, AnyOf}
-use Rattle.cd_model.specs.Formula.{Graph, formula_at}
+use Rattle.cd_model.specs.Formula.{Graph}
 use Rattle.cd_rules.specs.Choices.{choices, joined, choices_at, choices_of}
 use Rattle.cd_rules.specs.Clauses.{Clause, IsClauseOf, IsClauseOfQuestion}
 use Rattle.cd_rules.specs.Family.{Breaks, IsClosed, AsksNodes}
-
-formula_kept : (graph more : Graph) (id : ℕ) → id < length graph → formula_at graph (node id) ≡ formula_at (graph ++ more) (node id)
-formula_kept [] more id below = absurd (omega arith)
-formula_kept (is ∷ graph) more zero below = refl
-formula_kept (is ∷ graph) more (suc id) below = formula_kept graph more id (omega arith)
+use Rattle.cd_model.proofs.FormulasAmongMore.{formula_kept}
 
 at_kept : (graph more : Graph) (ids : List NodeId) (wanted : Bool) → AllOf (λ id. id.0 < length graph) ids
     → choices_at graph ids wanted ≡ choices_at (graph ++ more) ids wanted
@@ -21,7 +16,7 @@ at_kept graph more [] wanted below = refl
 at_kept graph more (id ∷ ids) wanted below = ap₂ joined
     (ap (λ is. choices is wanted) (formula_kept graph more id.0 below.0)) (at_kept graph more ids wanted below.1)
 
-choices_kept : (graph more : Graph) (question : Question) → AsksNodes (length graph) question
+pub choices_kept : (graph more : Graph) (question : Question) → AsksNodes (length graph) question
     → choices_of graph question ≡ choices_of (graph ++ more) question
 choices_kept graph more question below =
     ap₂ joined (at_kept graph more question.pos true below.0) (at_kept graph more question.neg false below.1)

@@ -18,6 +18,7 @@ use Rattle.cd_rules.proofs.Answered.{each_of_asked}
 use Rattle.cd_rules.proofs.Asking.{asked_of_each}
 use Rattle.cd_rules.proofs.EachQuestion.{element_too}
 use Rattle.cd_model.proofs.Ones.{each_weaker}
+use Rattle.cd_model.proofs.FormulasAmongMore.{graph_with_more}
 use Rattle.cd_meaning.specs.Functions.{MapsInto, IsFunction}
 use Rattle.cd_typing.specs.Interfaces.{Arrow}
 use Rattle.cd_typing.specs.Later.{IsLater}
@@ -30,7 +31,7 @@ use Rattle.cd_safety.specs.StandsIn.{Agrees, StandsIn, HasStandIn}
 use Rattle.cd_safety.specs.ValueIn.{ValueIn, IsTypedValue}
 use Rattle.cd_safety.proofs.ArrowsPlaced.{ArrowsHold, arrows_placed, arrows_still_hold, node_placed, types_of, admitted}
 use Rattle.cd_safety.proofs.ClosuresDecided.{closure_decided}
-use Rattle.cd_safety.proofs.GraphsJoined.{sound_with, behind, later_holds, still_holds}
+use Rattle.cd_safety.proofs.GraphsJoined.{behind, later_holds, still_holds}
 use Rattle.cd_safety.proofs.StandInsAgree.{agree}
 use Rattle.cd_safety.proofs.StandIns.{stand_in}
 
@@ -61,7 +62,7 @@ module _ (graph : Graph) (a b : NodeId) where
   arrow_is_later sound a_below b_below = record {
     more = formula.Arrow a b ∷ [];
     is = refl;
-    sound = sound_with graph (formula.Arrow a b ∷ []) sound ((omega (arith, a_below), omega (arith, b_below)), tt);
+    sound = graph_with_more graph (formula.Arrow a b ∷ []) sound ((omega (arith, a_below), omega (arith, b_below)), tt);
   }
 
   is_the_arrow : formula_at with_arrow the_arrow ≡ formula.Arrow a b

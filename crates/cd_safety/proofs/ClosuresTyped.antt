@@ -13,6 +13,7 @@ use Rattle.cd_model.specs.Thing.{Thing, Fields, Function, Closure, Pairs, NoPair
 use Rattle.cd_model.specs.Types.{AllMap, element_maps}
 use Rattle.cd_model.proofs.Apart.{element_apart}
 use Rattle.cd_model.proofs.ApartAtNodes.{nodes_keep}
+use Rattle.cd_model.proofs.FormulasAmongMore.{graph_with_more}
 use Rattle.cd_meaning.specs.Functions.{MapsInto, HasPair, FailsAt}
 use Rattle.cd_typing.specs.Interfaces.{Arrow, AllArrows, IsIntersection}
 use Rattle.cd_typing.specs.Later.{IsLater}
@@ -24,7 +25,7 @@ use Rattle.cd_safety.specs.StandsIn as stand
 use Rattle.cd_safety.specs.StandsIn.{Agrees, StandsIn}
 use Rattle.cd_safety.specs.ValueIn.{ValueIn}
 use Rattle.cd_safety.proofs.ArrowsPlaced.{ArrowsHold, arrows_placed, arrows_still_hold, types_of, admitted}
-use Rattle.cd_safety.proofs.GraphsJoined.{sound_with, behind, later_holds}
+use Rattle.cd_safety.proofs.GraphsJoined.{behind, later_holds}
 use Rattle.cd_safety.proofs.StandIns.{stand_in}
 
 abbrev Ids : Type 0
@@ -139,7 +140,7 @@ module _ (interfaces : Interfaces) (function : ℕ) (env : Fields) (are_values :
       let last : IsLater placed.later graph = record {
         more = batch;
         is = refl;
-        sound = sound_with placed.later batch placed.is_later.sound
+        sound = graph_with_more placed.later batch placed.is_later.sound
             (arrow_formulas placed.later (length batch) placed.ids arrows placed.hold);
       } in
       let later : IsLater t.graph graph = later_still t.graph placed.later graph placed.is_later last in

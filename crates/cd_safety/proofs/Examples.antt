@@ -15,6 +15,8 @@ use Rattle.cd_model.specs.Types.{no_closure}
 use Rattle.cd_model.specs.Written.{in_written}
 use Rattle.cd_model.proofs.BuiltIns.{elements_are_sound, data_are}
 use Rattle.cd_model.proofs.BuiltInsStand.{built_in_stands}
+use Rattle.cd_model.proofs.FormulasAmongMore.{graph_with_more}
+use Rattle.cd_model.proofs.SoundBuiltIns.{built_ins_are_sound}
 use Rattle.cd_matching.specs.Captures.{Captures, just}
 use Rattle.cd_matching.specs.Pattern as pattern
 use Rattle.cd_matching.specs.Pattern.{Pattern}
@@ -27,7 +29,6 @@ use Rattle.cd_typing.specs.Interfaces.{Arrow, AllArrows, AreWritten, IsIntersect
 use Rattle.cd_typing.specs.Typ.{Typ, typ, In, IsType, BuiltIn, Types}
 use Rattle.cd_typing.specs.Typed.{scope_of}
 use Rattle.cd_typing.specs.Typing.{FunctionHas}
-use Rattle.cd_typing.proofs.BuiltInSets.{built_ins_are_sound}
 use Rattle.cd_typing.proofs.Subsets.{itself}
 use Rattle.cd_safety.specs.Accepted.{IsAccepted}
 use Rattle.cd_safety.specs.Examples.{int_tree, x_tree, identity, identity_program}
@@ -37,7 +38,7 @@ use Rattle.cd_safety.specs.TypedClosure.{CapturesItsNames}
 use Rattle.cd_safety.proofs.Applied.{maps_at}
 use Rattle.cd_safety.proofs.BuiltInElements.{integer_here}
 use Rattle.cd_safety.proofs.ClosuresTyped.{maps_into}
-use Rattle.cd_safety.proofs.GraphsJoined.{sound_with, behind, later_holds}
+use Rattle.cd_safety.proofs.GraphsJoined.{behind, later_holds}
 
 abbrev scope : Scope
 scope = scope_of identity_program
@@ -56,7 +57,7 @@ abbrev self : Typ
 self = typ arrow_graph (node (length built_ins + 0))
 
 arrow_graph_is : IsGraph arrow_graph
-arrow_graph_is = sound_with built_ins (formula.Arrow INT INT ∷ []) built_ins_are_sound ((lit< tt, lit< tt), tt)
+arrow_graph_is = graph_with_more built_ins (formula.Arrow INT INT ∷ []) built_ins_are_sound ((lit< tt, lit< tt), tt)
 
 self_is : IsType self
 self_is = record { more = formula.Arrow INT INT ∷ []; begins = refl; sound = arrow_graph_is; is_node = lit< tt }

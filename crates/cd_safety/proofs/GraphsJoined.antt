@@ -17,6 +17,7 @@ use Rattle.cd_model.proofs.FormulasAlike as stand
 use Rattle.cd_model.proofs.FormulasAlike.{FormulasStand, AllStand, formulas_alike}
 use Rattle.cd_model.proofs.ValuesAlike.{AlwaysAlike, elements_alike, values_alike}
 use Rattle.cd_model.proofs.Ones.{each_weaker, each_of_lists}
+use Rattle.cd_model.proofs.FormulasAmongMore.{graph_with_more}
 use Rattle.cd_typing.specs.Later.{IsLater}
 use Rattle.cd_typing.specs.Typ.{Typ, typ}
 use Rattle.cd_safety.specs.HoldsAs.{HoldsAs, HasJoined}
@@ -135,42 +136,6 @@ module _ (count : ℕ) where
   raised_length [] = refl
   raised_length (is ∷ graph) = ap suc (raised_length graph)
 
--- what is sound stays so in a graph with more nodes
-module _ (nodes count : ℕ) (fits : nodes ≤ count) where
-  still_below : (id : NodeId) → id.0 < nodes → id.0 < count
-  still_below id below = omega (arith, fits, below)
-
-  mutual
-    still_sound : (is : Formula) → IsFormula nodes is → IsFormula count is
-    still_sound formula.Nothing sound = tt
-    still_sound formula.Everything sound = tt
-    still_sound (formula.Ints set) sound = tt
-    still_sound (formula.Chars set) sound = tt
-    still_sound (formula.Atoms set) sound = sound
-    still_sound (formula.Pair a b) sound = (still_below a sound.0, still_below b sound.1)
-    still_sound (formula.Xml a b c) sound = (still_below a sound.0, still_below b sound.1, still_below c sound.2)
-    still_sound (formula.Record named rest) sound = (
-      sound.0,
-      each_weaker (λ (field : Name × FieldOf NodeId). field.1.type.0 < nodes) (λ field. field.1.type.0 < count)
-          (λ field. still_below field.1.type) named sound.1,
-      still_below rest sound.2,
-    )
-    still_sound (formula.Arrow a b) sound = (still_below a sound.0, still_below b sound.1)
-    still_sound (formula.And all) sound = all_still_sound all sound
-    still_sound (formula.Or all) sound = all_still_sound all sound
-    still_sound (formula.Not is) sound = still_sound is sound
-
-    all_still_sound : (all : Formulas) → AreFormulas nodes all → AreFormulas count all
-    all_still_sound NoFormula sound = tt
-    all_still_sound (AFormula is rest) sound = (still_sound is sound.0, all_still_sound rest sound.1)
-
--- a graph with more formulas
-pub sound_with : (graph batch : Graph) → IsGraph graph → AllOf (IsFormula (length graph + length batch)) batch → IsGraph (graph ++ batch)
-sound_with graph batch sound more = let all : ℕ = length graph + length batch in
-    subst (λ nodes. AllOf (IsFormula nodes) (graph ++ batch)) (sym (length-append graph batch))
-    (each_of_lists (IsFormula all) graph batch
-    (each_weaker (IsFormula (length graph)) (IsFormula all) (still_sound (length graph) all (omega arith)) graph sound) more)
-
 pub behind : (first rest : Graph) (n : ℕ) → formula_at (first ++ rest) (node (length first + n)) ≡ formula_at rest (node n)
 behind [] rest n = let same : 0 + n ≡ n = omega arith in ap (λ n. formula_at rest (node n)) same
 behind (is ∷ first) rest n =
@@ -203,7 +168,7 @@ module _ (first second : Graph) where
   joined_length = length-append first (raised_graph count second) ∙ ap (λ n. count + n) (raised_length count second)
 
   joined_is_sound : IsGraph first → IsGraph second → IsGraph joined
-  joined_is_sound sound sound' = sound_with first (raised_graph count second) sound
+  joined_is_sound sound sound' = graph_with_more first (raised_graph count second) sound
       (subst (λ n. AllOf (IsFormula (count + n)) (raised_graph count second)) (sym (raised_length count second))
       (graph_raised count (length second) second sound'))
 

@@ -6,8 +6,8 @@ use Rattle.cd_model.specs.BuiltIns.{built_ins}
 use Rattle.cd_model.specs.Formula.{Graph, IsGraph}
 use Rattle.cd_model.specs.Interfaces.{Interfaces}
 use Rattle.cd_model.specs.Thing.{Thing, Fields, IsElement}
+use Rattle.cd_model.proofs.SoundBuiltIns.{built_ins_are_sound}
 use Rattle.cd_typing.specs.Typ.{Typ, In, IsType, AreIn}
-use Rattle.cd_typing.proofs.BuiltInSets.{built_ins_are_sound}
 use Rattle.cd_evaluation.specs.Runs.{Outcome, Done, Raised, Overflow, Spent, Stuck}
 use Rattle.cd_safety.specs.ByParts.{OutcomeOf}
 use Rattle.cd_safety.specs.Gives.{Gives}

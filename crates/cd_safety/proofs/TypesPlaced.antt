@@ -4,9 +4,9 @@ use Rattle.cd_model.specs.AllOf.{AllOf}
 use Rattle.cd_model.specs.BuiltIns.{built_ins}
 use Rattle.cd_model.specs.Formula.{Graph, IsGraph}
 use Rattle.cd_model.proofs.Ones.{each_weaker}
+use Rattle.cd_model.proofs.SoundBuiltIns.{built_ins_are_sound}
 use Rattle.cd_typing.specs.Later.{IsLater}
 use Rattle.cd_typing.specs.Typ.{Typ, IsType}
-use Rattle.cd_typing.proofs.BuiltInSets.{built_ins_are_sound}
 use Rattle.cd_typing.proofs.Later.{later_still}
 use Rattle.cd_safety.specs.HoldsAs.{HoldsAs}
 use Rattle.cd_safety.specs.SharedGraph.{HaveNodes, SharedGraph}

@@ -1,52 +1,13 @@
--- Things of lists, by their numbers.
+-- Things of lists, and of two lists, one for each of the other.
 use Rattle.std.proofs.Common.{◌≡◌, ◌<◌, ◌≤◌, ◌+◌, ℕ, zero, suc, List, [], ◌∷◌, ◌++◌, ◌⊎◌, inl, inr}
 use Rattle.std.proofs.Common.{length, Some, None, refl, sym, ap, subst, ◌∙◌, arith, take}
 use Rattle.std.proofs.lemmas.Option.{none-some, same_Some}
 use Rattle.std.specs.List.{slice_get, AllZip}
 use Rattle.cd_model.specs.AllOf.{AllOf, AnyOf}
+use Rattle.cd_model.proofs.ByNumber.{zip_pushed}
 use Rattle.cd_sequences.specs.Inner.Numbered.{IsAmong}
 
 module _ {X : Type 0} where
-  -- what is in a list is in a longer one, under the same number
-  pub got_more : (xs more : List X) (k : ℕ) (x : X) → slice_get xs k ≡ Some x
-      → slice_get (xs ++ more) k ≡ Some x
-  got_more [] more k x is = absurd (none-some x is)
-  got_more (y ∷ xs) more zero x is = is
-  got_more (y ∷ xs) more (suc k) x is = got_more xs more k x is
-
-  -- what comes after a list, by the number after it
-  pub got_after : (xs ys : List X) (k : ℕ)
-      → slice_get (xs ++ ys) (length xs + k) ≡ slice_get ys k
-  got_after [] ys k = ap (slice_get ys) (omega arith)
-  got_after (x ∷ xs) ys k =
-      let more : suc (length xs) + k ≡ suc (length xs + k) = omega arith in
-      ap (slice_get (x ∷ xs ++ ys)) more ∙ got_after xs ys k
-
-  -- in a list with one more it was there, or is the last
-  pub got_pushed : (xs : List X) (y : X) (k : ℕ) (x : X) → slice_get (xs ++ y ∷ []) k ≡ Some x
-      → (slice_get xs k ≡ Some x) ⊎ ((k ≡ length xs) × (y ≡ x))
-  got_pushed [] y zero x is = inr (refl, same_Some y x is)
-  got_pushed [] y (suc k) x is = absurd (none-some x is)
-  got_pushed (z ∷ xs) y zero x is = inl is
-  got_pushed (z ∷ xs) y (suc k) x is = elim (got_pushed xs y k x is) [
-    | inl before ↦ inl before
-    | inr last ↦ inr (omega (arith, last.0), last.1)
-  ]
-
-  -- what all of a list have, one of it has
-  pub all_got : (fact : X → Type 0) (xs : List X) (k : ℕ) (x : X) → AllOf fact xs
-      → slice_get xs k ≡ Some x → fact x
-  all_got fact [] k x all is = absurd (none-some x is)
-  all_got fact (y ∷ xs) zero x all is = subst fact (same_Some y x is) all.0
-  all_got fact (y ∷ xs) (suc k) x all is = all_got fact xs k x all.1 is
-
-  -- and back
-  pub each_got : (fact : X → Type 0) (xs : List X)
-      → ((k : ℕ) (x : X) → slice_get xs k ≡ Some x → fact x) → AllOf fact xs
-  each_got fact [] each = tt
-  each_got fact (x ∷ xs) each =
-      (each zero x refl, each_got fact xs (λ k y is. each (suc k) y is))
-
   pub all_among : (fact : X → Type 0) (xs : List X) (x : X) → AllOf fact xs → IsAmong xs x
       → fact x
   all_among fact [] x all is = absurd is
@@ -92,26 +53,7 @@ module _ {X : Type 0} where
   taken_more (y ∷ xs) zero x is = ap (λ one. one ∷ []) (same_Some y x is)
   taken_more (y ∷ xs) (suc k) x is = ap (λ all. y ∷ all) (taken_more xs k x is)
 
-  -- a number of a list has a thing
-  pub got_some : (xs : List X) (k : ℕ) → k < length xs → (x : X) × (slice_get xs k ≡ Some x)
-  got_some [] k below = absurd (omega (arith, below))
-  got_some (x ∷ xs) zero below = (x, refl)
-  got_some (x ∷ xs) (suc k) below = got_some xs k (omega (arith, below))
-
-  -- past the end is nothing, and back
-  pub past_end : (xs : List X) (k : ℕ) → slice_get xs k ≡ None → length xs ≤ k
-  past_end [] k none = omega arith
-  past_end (x ∷ xs) zero none = absurd (none-some x (sym none))
-  past_end (x ∷ xs) (suc k) none = omega (arith, past_end xs k none)
-
 module _ {A B : Type 0} (R : A → B → Type 0) where
-  pub zip_pushed : (xs : List A) (ys : List B) (x : A) (y : B) → AllZip R xs ys → R x y
-      → AllZip R (xs ++ x ∷ []) (ys ++ y ∷ [])
-  zip_pushed [] [] x y all is = (is, tt)
-  zip_pushed [] (b ∷ ys) x y all is = absurd all
-  zip_pushed (a ∷ xs) [] x y all is = absurd all
-  zip_pushed (a ∷ xs) (b ∷ ys) x y all is = (all.0, zip_pushed xs ys x y all.1 is)
-
   -- one more of both
   pub zip_more : (xs : List A) (ys more : List B) (x : A) (y : B)
       → AllZip R (take (length ys) xs) ys → slice_get xs (length ys) ≡ Some x → R x y
@@ -120,7 +62,7 @@ module _ {A B : Type 0} (R : A → B → Type 0) where
       subst (λ (more : List B). AllZip R (take (length more) xs) more) (sym put)
       (subst (λ (k : ℕ). AllZip R (take k xs) (ys ++ y ∷ [])) (sym (count ys))
       (subst (λ (some : List A). AllZip R some (ys ++ y ∷ []))
-      (sym (taken_more xs (length ys) x is)) (zip_pushed (take (length ys) xs) ys x y all has)))
+      (sym (taken_more xs (length ys) x is)) (zip_pushed R (take (length ys) xs) ys x y all has)))
     where
       count : (ys : List B) → length (ys ++ y ∷ []) ≡ suc (length ys)
       count [] = refl
@@ -198,12 +140,3 @@ module _ {A B : Type 0} (R : A → B → Type 0) where
   zip_all_back one other leads (a ∷ xs) [] all each = absurd all
   zip_all_back one other leads (a ∷ xs) (b ∷ ys) all each =
       (leads a b all.0 each.0, zip_all_back one other leads xs ys all.1 each.1)
-
-module _ {A B : Type 0} where
-  pub zip_weaker : (one other : A → B → Type 0) → ((x : A) (y : B) → one x y → other x y)
-      → (xs : List A) (ys : List B) → AllZip one xs ys → AllZip other xs ys
-  zip_weaker one other weaker [] [] all = tt
-  zip_weaker one other weaker [] (b ∷ ys) all = all
-  zip_weaker one other weaker (a ∷ xs) [] all = all
-  zip_weaker one other weaker (a ∷ xs) (b ∷ ys) all =
-      (weaker a b all.0, zip_weaker one other weaker xs ys all.1)

@@ -17,9 +17,9 @@ use Rattle.cd_matching.proofs.NilIsElement.{nil_is_element}
 use Rattle.cd_meaning.specs.Sets.{elements_of}
 use Rattle.cd_meaning.specs.Sequences.{IsItemOf}
 use Rattle.cd_rules.specs.Family.{AsksNodes, AreAmong}
-use Rattle.cd_model.proofs.Ones.{picked}
+use Rattle.cd_model.proofs.Ones.{picked, one_on_left, one_on_right, one_on_a_side, each_of_lists}
+use Rattle.cd_model.proofs.ByNumber.{all_got, each_got, got_some}
 use Rattle.cd_products.specs.QuestionBoxes.{IsInhabited}
-use Rattle.cd_products.proofs.Appending.{any_left, any_right, any_split, all_append}
 use Rattle.cd_sequences.specs.declared.step.Step.{Step}
 use Rattle.cd_sequences.specs.Inner.Asking.{asking}
 use Rattle.cd_sequences.specs.Inner.Ending.{Ends, ends_here, goes_on, AreMarked}
@@ -27,8 +27,8 @@ use Rattle.cd_sequences.specs.Inner.ItemQuestions.{is_marked, items_of_steps, it
 use Rattle.cd_sequences.specs.Inner.ItemQuestions.{AreItems}
 use Rattle.cd_sequences.specs.Inner.Numbered.{IsAmong}
 use Rattle.cd_sequences.specs.Inner.States.{State, IsState, AreExplored, IsReached}
-use Rattle.cd_sequences.proofs.ByNumber.{all_got, each_got, all_among, any_among, zip_got}
-use Rattle.cd_sequences.proofs.ByNumber.{zip_got_back, got_some}
+use Rattle.cd_sequences.proofs.ByNumber.{all_among, any_among, zip_got}
+use Rattle.cd_sequences.proofs.ByNumber.{zip_got_back}
 use Rattle.cd_meaning.proofs.SequencesFollowed.{item_of_sequence, sequence_of_item}
 use Rattle.cd_sequences.proofs.StatesExplored.{GoesBy, pair_goes, goes_pair, items_ask, items_live}
 use Rattle.cd_sequences.proofs.StatesExplored.{rests_below}
@@ -93,12 +93,12 @@ module _ (marks : List Bool) (fact : Question → Type 0) where
       → AnyOf fact (items_of_states marks states)
   into_states [] number state step at among mark has = absurd (none-some state at)
   into_states (one ∷ states) zero state step at among mark has =
-      any_left fact (items_of_steps marks one.steps) (items_of_states marks states)
+      one_on_left fact (items_of_steps marks one.steps) (items_of_states marks states)
       (into_steps one.steps step
       (subst (λ (state : State). IsAmong state.steps step) (sym (same_Some one state at)) among)
       mark has)
   into_states (one ∷ states) (suc number) state step at among mark has =
-      any_right fact (items_of_steps marks one.steps) (items_of_states marks states)
+      one_on_right fact (items_of_steps marks one.steps) (items_of_states marks states)
       (into_states states number state step at among mark has)
 
   -- the step of an item that has the fact
@@ -126,7 +126,7 @@ module _ (marks : List Bool) (fact : Question → Type 0) where
       → HasStep states
   out_of_states [] any = absurd any
   out_of_states (one ∷ states) any =
-      elim (any_split fact (items_of_steps marks one.steps) (items_of_states marks states) any) [
+      elim (one_on_a_side fact (items_of_steps marks one.steps) (items_of_states marks states) any) [
         | inl here ↦ let found = out_of_steps one.steps here in record {
           number = zero;
           state = one;
@@ -162,7 +162,7 @@ module _ (marks : List Bool) (fact : Question → Type 0) where
       → AllOf (λ state. AllOf (λ step. fact step.item) state.steps) states
       → AllOf fact (items_of_states marks states)
   all_of_states [] all = tt
-  all_of_states (one ∷ states) all = all_append fact (items_of_steps marks one.steps)
+  all_of_states (one ∷ states) all = each_of_lists fact (items_of_steps marks one.steps)
       (items_of_states marks states) (all_of_steps one.steps all.0) (all_of_states states all.1)
 
 module _ (graph : Graph) (start : NodeId) (questions : List Question) (states : List State)
@@ -257,7 +257,7 @@ module _ (graph : Graph) (start : NodeId) (questions : List Question) (states : 
         let whole = (all_got (IsReached graph start) questions found.number of.0 explored.reached
         of.1).1 (e ∷ rest.0) (element, rest.1) inside in
         item_of_sequence (elements_of graph start) e (whole.0 ++ e ∷ rest.0) whole.1 whole.2
-        (any_right (λ one. one ≡ e) whole.0 (e ∷ rest.0) (inl refl))
+        (one_on_right (λ one. one ≡ e) whole.0 (e ∷ rest.0) (inl refl))
 
     -- and an item is asked so
     item_asked : (ds : List Thing) → IsElement (sequence_of ds) → (number : ℕ)

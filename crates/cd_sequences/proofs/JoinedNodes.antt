@@ -18,11 +18,12 @@ use Rattle.cd_matching.specs.Sequences.{sequence_of}
 use Rattle.cd_matching.proofs.NilIsElement.{nil_is_element}
 use Rattle.cd_meaning.specs.Sequences.{followed_by}
 use Rattle.cd_model.proofs.Ones.{picked}
+use Rattle.cd_model.proofs.ByNumber.{got_some}
 use Rattle.cd_sequences.specs.declared.step.Step.{Step}
 use Rattle.cd_sequences.specs.Inner.Numbered.{IsAmong}
 use Rattle.cd_sequences.specs.Inner.States.{State, IsState}
 use Rattle.cd_sequences.specs.Inner.StateFormulas.{when_ends}
-use Rattle.cd_sequences.proofs.ByNumber.{zip_any, zip_any_back, any_among, all_among, got_some}
+use Rattle.cd_sequences.proofs.ByNumber.{zip_any, zip_any_back, any_among, all_among}
 use Rattle.cd_sequences.proofs.StatesExplored.{GoesBy, pair_goes, goes_pair, rests_below}
 
 -- what holds at one of some formulas

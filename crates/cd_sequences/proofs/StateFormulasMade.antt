@@ -9,6 +9,7 @@ use Rattle.cd_sets.specs.declared.question.Question.{Question}
 use Rattle.cd_model.specs.AllOf.{AllOf}
 use Rattle.cd_model.specs.BuiltIns.{node}
 use Rattle.cd_model.specs.Formula.{Formula, Pair}
+use Rattle.cd_model.proofs.ByNumber.{zip_pushed, zip_weaker}
 use Rattle.cd_graph.specs.PlainFormula.{plain}
 use Rattle.cd_graph.specs.declared.formula.Formula.{Formula as CodeFormula}
 use Rattle.cd_rules.specs.Family.{AsksNodes}
@@ -18,7 +19,7 @@ use Rattle.cd_sequences.specs.Inner.Numbered.{GrowTo}
 use Rattle.cd_sequences.specs.Inner.StateFormulas.{StepsAsk, StatesAsk, IsItemNode, IsStepFormula}
 use Rattle.cd_sequences.specs.Inner.StateFormulas.{IsStateFormula}
 use Rattle.cd_sequences.specs.Inner.States.{State, plain_state}
-use Rattle.cd_sequences.proofs.ByNumber.{zip_pushed, zip_weaker, all_pushed, all_before}
+use Rattle.cd_sequences.proofs.ByNumber.{all_pushed, all_before}
 use Rattle.cd_sequences.proofs.StatesExplored.{grown_there, grow_not}
 
 -- a question that is added, and the others, ask nodes

@@ -19,6 +19,8 @@ use Rattle.cd_meaning.specs.Sets.{◌⊆◌, elements_of}
 use Rattle.cd_meaning.specs.Sequences.{IsJoinOf}
 use Rattle.cd_rules.specs.Family.{AsksNodes}
 use Rattle.cd_model.proofs.Ones.{each_of_lists}
+use Rattle.cd_model.proofs.FormulasAmongMore.{formula_among_more, are_formulas, formula_after, sound_at}
+use Rattle.cd_model.proofs.ByNumber.{got_more, got_after, each_got}
 use Rattle.cd_compact.specs.Keeping.{IsFormulaOfQuestion}
 use Rattle.cd_sequences.specs.declared.step.Step.{Step}
 use Rattle.cd_sequences.specs.Inner.Asking.{asking}
@@ -26,12 +28,10 @@ use Rattle.cd_sequences.specs.Inner.Joins.{IsJoin}
 use Rattle.cd_sequences.specs.Inner.States.{State, IsState, AreExplored}
 use Rattle.cd_sequences.specs.Inner.StateFormulas.{IsItemNode, IsStepFormula, when_ends}
 use Rattle.cd_sequences.specs.Inner.StateFormulas.{IsStateFormula, AreStateFormulas}
-use Rattle.cd_sequences.proofs.ByNumber.{got_after, got_more, zip_length, zip_got}
-use Rattle.cd_sequences.proofs.ByNumber.{zip_got_back, each_got}
+use Rattle.cd_sequences.proofs.ByNumber.{zip_length, zip_got}
+use Rattle.cd_sequences.proofs.ByNumber.{zip_got_back}
 use Rattle.cd_sequences.proofs.JoinedNodes.{HoldsItem, IsPairs, IsStateNode, node_is_joined}
 use Rattle.cd_sequences.proofs.JoinedNodes.{joined_in_node}
-use Rattle.cd_sequences.proofs.LongerGraphs.{formula_among_more, are_formulas, sound_at}
-use Rattle.cd_sequences.proofs.LongerGraphs.{formula_after}
 use Rattle.cd_meaning.proofs.SequencesFollowed.{join_of_sequence, sequence_of_join}
 use Rattle.cd_sequences.proofs.StatesExplored.{items_ask, rests_below}
 
@@ -100,7 +100,7 @@ module _ (graph : Graph) (sound : IsGraph graph) (first second : NodeId)
         is = of.2;
         end = formula_at graph second;
         ending = λ e element. turned (kept_formulas graph batch sound e
-            (formula_at graph second) true (sound_at graph second sound below));
+            (formula_at graph second) true (sound_at (length graph) graph second.0 sound below));
         members = made.2.0;
         pairs = pairs_of of.0 of.2 made.2.0 made.2.1;
         formula_is = state_stands number made.0 made.1 ∙ made.2.2;
@@ -185,7 +185,7 @@ module _ (graph : Graph) (sound : IsGraph graph) (first second : NodeId)
     where
       end_sound : (ends : Bool) → AllOf (IsFormula count) (when_ends ends (formula_at graph second))
       end_sound true = (
-        more_sound (formula_at graph second) (sound_at graph second sound below),
+        more_sound (formula_at graph second) (sound_at (length graph) graph second.0 sound below),
         tt,
       )
       end_sound false = tt

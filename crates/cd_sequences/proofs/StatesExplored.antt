@@ -12,8 +12,8 @@ use Rattle.cd_model.specs.Formula.{Graph, in_node, asked, IsIn}
 use Rattle.cd_model.specs.Thing.{Thing, Pair, IsElement}
 use Rattle.cd_matching.specs.Sequences.{sequence_of}
 use Rattle.cd_rules.specs.Family.{AsksNodes}
-use Rattle.cd_model.proofs.Ones.{picked, each_of_all}
-use Rattle.cd_products.proofs.Appending.{any_left, any_right, any_split}
+use Rattle.cd_model.proofs.Ones.{picked, each_of_all, one_on_left, one_on_right, one_on_a_side}
+use Rattle.cd_model.proofs.ByNumber.{got_more, got_pushed, all_got, got_some, past_end, zip_pushed, zip_weaker}
 use Rattle.cd_products.specs.Products.{InProduct}
 use Rattle.cd_products.specs.QuestionBoxes.{IsInhabited}
 use Rattle.cd_sequences.specs.declared.step.Step.{Step}
@@ -21,9 +21,9 @@ use Rattle.cd_sequences.specs.Inner.Asking.{asking}
 use Rattle.cd_sequences.specs.Inner.Numbered.{IsAmong, GrowTo, IsStepOf, AreNumbered}
 use Rattle.cd_sequences.specs.Inner.States.{State, AreSound, IsState, IsStateAfter, AreRests}
 use Rattle.cd_sequences.specs.Inner.States.{IsReached, AreExploring, AreExplored}
-use Rattle.cd_sequences.proofs.ByNumber.{got_more, got_pushed, all_got, all_among, any_among}
-use Rattle.cd_sequences.proofs.ByNumber.{each_among, past_end, got_some, zip_weaker, zip_of_got}
-use Rattle.cd_sequences.proofs.ByNumber.{zip_any, zip_any_back, zip_all, zip_all_back, zip_pushed}
+use Rattle.cd_sequences.proofs.ByNumber.{all_among, any_among}
+use Rattle.cd_sequences.proofs.ByNumber.{each_among, zip_of_got}
+use Rattle.cd_sequences.proofs.ByNumber.{zip_any, zip_any_back, zip_all, zip_all_back}
 
 -- a question keeps its number
 pub grown_there : (old new : List Question) (number : ℕ) (question : Question) → GrowTo old new
@@ -259,10 +259,10 @@ numbered_then old mid new steps more done item rest step so_far there grows is p
         | inl before ↦ elim (so_far.second question before) [
           | inl first ↦ inl first
           | inr some ↦
-              inr (any_left (λ product. product.1 ≡ question) done ((item, rest) ∷ []) some)
+              inr (one_on_left (λ product. product.1 ≡ question) done ((item, rest) ∷ []) some)
         ]
         | inr last ↦
-            inr (any_right (λ product. product.1 ≡ question) done ((item, rest) ∷ []) (inl last))
+            inr (one_on_right (λ product. product.1 ≡ question) done ((item, rest) ∷ []) (inl last))
       ];
     })
   where
@@ -277,7 +277,7 @@ numbered_then old mid new steps more done item rest step so_far there grows is p
     added question (inl same) among =
         inl (subst (λ (all : List Question). IsAmong all question) same among)
     added question (inr one) among =
-        elim (any_split (λ other. other ≡ question) mid (rest ∷ [])
+        elim (one_on_a_side (λ other. other ≡ question) mid (rest ∷ [])
         (subst (λ (all : List Question). IsAmong all question) one among)) [
           | inl before ↦ inl before
           | inr last ↦ elim last [ inl same ↦ inr same | inr none ↦ absurd none ]

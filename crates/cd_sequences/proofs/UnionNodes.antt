@@ -15,6 +15,7 @@ use Rattle.cd_model.proofs.BothWays.{through, turned}
 use Rattle.cd_model.proofs.Extending.{kept_formulas}
 use Rattle.cd_rules.specs.Family.{AsksNodes}
 use Rattle.cd_model.proofs.Ones.{one_leads}
+use Rattle.cd_model.proofs.FormulasAmongMore.{formula_among_more, are_formulas}
 use Rattle.cd_empty.specs.Verdicts.{HasNoElement}
 use Rattle.cd_products.specs.QuestionBoxes.{without_node}
 use Rattle.cd_products.proofs.Decided.{elements_decided}
@@ -25,7 +26,7 @@ use Rattle.cd_sequences.specs.Inner.Numbered.{IsAmong}
 use Rattle.cd_sequences.specs.Inner.Unions.{IsUnion, IsWithinNode}
 use Rattle.cd_sequences.proofs.ByNumber.{all_among, any_among, zip_all, zip_any, zip_any_back}
 use Rattle.cd_sequences.proofs.JoinedNodes.{one_of_formulas, of_one_formula}
-use Rattle.cd_sequences.proofs.LongerGraphs.{formula_among_more, are_formulas, formula_last}
+use Rattle.cd_sequences.proofs.LongerGraphs.{formula_last}
 use Rattle.cd_sequences.proofs.NilAsked.{none_empty}
 
 -- nothing is in the empty node

@@ -6,15 +6,10 @@ use Rattle.cd_model.specs.BuiltIns.{built_ins, node}
 use Rattle.cd_model.specs.Formula.{Graph, Formula, formula_at}
 use Rattle.cd_matching.specs.Kernel.{Kernel, KernelNode, Test, Bind, Put, Pair, Xml, Record, Both}
 use Rattle.cd_matching.specs.Kernel.{First, Gather, IsSoundNode}
-use Rattle.cd_matching.proofs.AllOf.{all_at}
 use Rattle.cd_filter.specs.Accepting.{place, own_formula, Accepts, by_itself, by_both, by_members}
 use Rattle.cd_filter.specs.Accepting.{AllAccept, no_more, one_more, IsAcceptedFrom}
-
-pub old_formula : (graph more : Graph) (id : ℕ) → id < length graph
-    → formula_at graph (node id) ≡ formula_at (graph ++ more) (node id)
-old_formula [] more id below = absurd (omega (arith, below))
-old_formula (is ∷ graph) more zero below = refl
-old_formula (is ∷ graph) more (suc id) below = old_formula graph more id (omega (arith, below))
+use Rattle.cd_model.proofs.FormulasAmongMore.{formula_kept}
+use Rattle.cd_model.proofs.ByNumber.{all_got}
 
 module _ (graph more : Graph) (kernel : Kernel NodeId) (first : ℕ)
     (is : IsAcceptedFrom graph kernel first) where
@@ -26,7 +21,7 @@ module _ (graph more : Graph) (kernel : Kernel NodeId) (first : ℕ)
 
   same_own : (node : KernelNode NodeId) → IsFit node
       → own_formula graph first node ≡ own_formula longer first node
-  same_own (Test id) fits = old_formula graph more id.0 (omega (arith, fits, is.within))
+  same_own (Test id) fits = formula_kept graph more id.0 (omega (arith, fits, is.within))
   same_own (Bind variable) fits = refl
   same_own (Put variable constant) fits = refl
   same_own (Pair p q) fits = refl
@@ -41,7 +36,7 @@ module _ (graph more : Graph) (kernel : Kernel NodeId) (first : ℕ)
         → Accepts longer kernel.nodes first number f
     accepts_later _ _ (by_itself number node there own) =
         subst (Accepts longer kernel.nodes first number)
-        (sym (same_own node (all_at IsFit kernel.nodes number node is.sound.nodes there)))
+        (sym (same_own node (all_got IsFit kernel.nodes number node is.sound.nodes there)))
         (by_itself number node there own)
     accepts_later _ _ (by_both number p q f g there accepts_p accepts_q) =
         by_both number p q f g there (accepts_later p f accepts_p) (accepts_later q g accepts_q)
@@ -64,6 +59,6 @@ module _ (graph more : Graph) (kernel : Kernel NodeId) (first : ℕ)
     everything = rw begins refl;
     nothing = rw begins refl;
     formulas = λ number below. subst (Accepts longer kernel.nodes first number)
-        (old_formula graph more (first + number) (omega (arith, below, is.within)))
+        (formula_kept graph more (first + number) (omega (arith, below, is.within)))
         (accepts_later number (formula_at graph (place first number)) (is.formulas number below));
   }

@@ -9,6 +9,7 @@ use Rattle.cd_syntax.specs.Name.{Name}
 use Rattle.cd_model.specs.AllOf.{AllOf, AnyOf}
 use Rattle.cd_model.specs.Thing as thing
 use Rattle.cd_model.specs.Thing.{Thing}
+use Rattle.cd_model.proofs.ByNumber.{all_got}
 use Rattle.cd_matching.specs.Captures.{Captures, or_else, joined, both}
 use Rattle.cd_matching.specs.Kernel.{KernelNode, KernelField, Present, Optional, Test, Bind, Put}
 use Rattle.cd_matching.specs.Kernel.{Pair, Xml, Record, Both, First, Gather, leads_to, parts_of}
@@ -16,7 +17,6 @@ use Rattle.cd_matching.specs.Kernel.{variables_of, field_nodes, Ends, EachEnds, 
 use Rattle.cd_matching.specs.Kernel.{further, IsSoundNode, Taken, Labelled, just, before, on_field}
 use Rattle.cd_matching.specs.Kernel.{on_fields, all_named, by_node, apart_of, taken, taken_at}
 use Rattle.cd_matching.specs.Sequences.{thing_of}
-use Rattle.cd_matching.proofs.AllOf.{all_at}
 use Rattle.cd_matching.proofs.TakenCaptures.{both_some, or_else_some, gathered_some}
 use Rattle.cd_matching.proofs.Unfolding.{unfolds}
 
@@ -254,10 +254,10 @@ module _ (T : Type 0) (test : T → Thing → Bool) (nodes : List (KernelNode T)
     at_some d parts again None there short takes binds = absurd short
     at_some d parts again (Some node) there short takes binds =
         at_node d parts again node short
-        (all_at
+        (all_got
         (λ node. AllOf (λ next. next < length nodes) (leads_to node ++ parts_of node)) nodes number
         node in_range there)
-        (all_at (IsSoundNode nodes variables IsType) nodes number node sound there) takes
+        (all_got (IsSoundNode nodes variables IsType) nodes number node sound there) takes
         (opened number node there binds)
 
   captured_in : (d : Thing) → PartsCaptured d → (count : ℕ)

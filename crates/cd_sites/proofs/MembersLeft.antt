@@ -14,9 +14,10 @@ use Rattle.cd_model.specs.Formula.{Graph, Formula, IsFormula, IsGraph, formulas_
 use Rattle.cd_model.specs.Formula.{formula_at, in_node}
 use Rattle.cd_model.specs.Membership.{Reader, holds, one_holds, reader}
 use Rattle.cd_model.specs.Thing.{Thing}
+use Rattle.cd_model.proofs.FormulasAmongMore.{are_formulas}
 use Rattle.cd_sites.specs.Inner.Differences.{IsLeftOver, IsRest, AreLeft, formulas_in}
 use Rattle.cd_sites.proofs.DifferencesMade.{new_formula, last_is_node, last_holds}
-use Rattle.cd_sites.proofs.MembersOfUnions.{among_more, are_formulas}
+use Rattle.cd_sites.proofs.MembersOfUnions.{among_more}
 
 -- one of these holds, by its number
 module _ (read : Reader) where

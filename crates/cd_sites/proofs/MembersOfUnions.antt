@@ -8,6 +8,7 @@ use Rattle.cd_model.specs.Formula.{formulas_of}
 use Rattle.cd_model.specs.Membership.{Reader, holds, one_holds}
 use Rattle.cd_sites.specs.Inner.Members.{basic_members, all_basic_members, other_members}
 use Rattle.cd_sites.specs.Inner.Members.{all_other_members, with_union, members_of}
+use Rattle.cd_model.proofs.FormulasAmongMore.{are_formulas}
 
 pub crossed : {A B C D : Type 0} → ((A ⊎ B) ⊎ (C ⊎ D)) ↔ ((A ⊎ C) ⊎ (B ⊎ D))
 crossed = (
@@ -126,11 +127,6 @@ module _ (read : Reader) where
   pub held_by_members : (f : Formula)
       → holds read f true ↔ one_holds read (formulas_of (members_of f)) true
   held_by_members f = through (held f) (of_both (other_members f) (basic_members f))
-
-pub are_formulas : (count : ℕ) (all : List Formula) → AllOf (IsFormula count) all
-    → AreFormulas count (formulas_of all)
-are_formulas count [] each = tt
-are_formulas count (f ∷ all) each = (each.0, are_formulas count all each.1)
 
 module _ (count : ℕ) where
   abbrev Sound : List Formula → Type 0

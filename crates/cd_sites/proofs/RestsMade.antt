@@ -11,7 +11,7 @@ use Rattle.cd_model.specs.Membership.{answers, holds, reader}
 use Rattle.cd_model.specs.Thing.{Thing}
 use Rattle.cd_rules.specs.Needs.{question}
 use Rattle.cd_rules.proofs.Asking.{asked_of_each}
-use Rattle.cd_resolve.proofs.FormulasAmongMore.{formula_among_more}
+use Rattle.cd_model.proofs.FormulasAmongMore.{each_among_more}
 use Rattle.cd_compact.specs.Keeping.{IsFormulaOfQuestion}
 use Rattle.cd_empty.specs.Verdicts.{HasNoElement}
 use Rattle.cd_sites.specs.Inner.Differences.{IsRest}
@@ -19,19 +19,11 @@ use Rattle.cd_sites.proofs.DifferencesMade.{both_asked}
 use Rattle.cd_sites.proofs.RightTests.{one_answer}
 
 -- formulas of a graph may be put after it
-still_sound : (count more : ℕ) (all : List Formula) → AllOf (IsFormula count) all
-    → AllOf (IsFormula (count + more)) all
-still_sound count more [] each = tt
-still_sound count more (f ∷ all) each = (
-  formula_among_more count (count + more) (omega arith) f each.0,
-  still_sound count more all each.1,
-)
-
 pub may_be_put : (count : ℕ) (all list : List Formula) → list ≡ all
     → AllOf (IsFormula count) all → AllOf (IsFormula (count + length list)) list
 may_be_put count all list same each =
     subst (λ (formulas : List Formula). AllOf (IsFormula (count + length formulas)) formulas)
-    (sym same) (still_sound count (length all) all each)
+    (sym same) (each_among_more count (count + length all) (omega arith) all each)
 
 module _ (old seen : Graph) (same : seen ≡ old) (one other : NodeId) where
   -- nothing is in both

@@ -6,10 +6,10 @@ use Rattle.cd_sets.specs.declared.node_id.NodeId.{NodeId}
 use Rattle.cd_model.specs.AllOf.{AllOf}
 use Rattle.cd_model.specs.Thing as thing
 use Rattle.cd_model.specs.Thing.{Thing}
+use Rattle.cd_model.proofs.ByNumber.{all_got}
 use Rattle.cd_matching.specs.Kernel as kernel
 use Rattle.cd_matching.specs.Kernel.{KernelField, Present, Optional, optional_types, IsSoundNode}
 use Rattle.cd_matching.specs.Take.{at_label}
-use Rattle.cd_matching.proofs.AllOf.{all_at}
 use Rattle.cd_taking.specs.Inner.Machine.{Node, Named, as_record, record_node, FieldWork, Ends, Lacks, Passes, Asks, Looks, field_work, next_field, work_at}
 
 module _ (IsType : NodeId → Type 0) where
@@ -55,7 +55,7 @@ module _ (IsType : NodeId → Type 0) where
       → (parts : Named × Bool) → record_node found ≡ Some parts → AllOf IsType (optional_types parts.0)
   sound_record all variables n sound (Some (kernel.Record named more)) there parts is =
       subst (λ (parts : Named × Bool). AllOf IsType (optional_types parts.0)) (same_Some _ parts is)
-      (all_at (IsSoundNode all variables IsType) all n (kernel.Record named more) sound there).2
+      (all_got (IsSoundNode all variables IsType) all n (kernel.Record named more) sound there).2
   sound_record all variables n sound _ there parts is = absurd (none-some parts is)
 
   pub asked_type : (all : List Node) (variables n : ℕ) → AllOf (IsSoundNode all variables IsType) all → (d : Thing) (index : ℕ) (type : NodeId) (e : Thing)

@@ -8,7 +8,7 @@ use Rattle.cd_program.specs.declared.expr.Branch.{Branch as CodeBranch}
 use Rattle.cd_model.specs.AllOf.{AllOf}
 use Rattle.cd_model.specs.Formula.{Graph, Formula, IsGraph, IsFormula}
 use Rattle.cd_resolve.specs.Named.{Names, AreNamed}
-use Rattle.cd_resolve.proofs.FormulasAmongMore.{formula_among_more}
+use Rattle.cd_model.proofs.FormulasAmongMore.{formula_among_more}
 use Rattle.cd_resolve.proofs.Kept.{names_kept}
 use Rattle.cd_trials_patterns.specs.Sound.{AreSoundBranches}
 

@@ -4,27 +4,12 @@ use Rattle.std.proofs.lemmas.Slice.Eq.{bytes_eq-Decides}
 use Rattle.cd_sets.specs.declared.node_id.NodeId.{NodeId}
 use Rattle.cd_model.specs.BuiltIns.{built_ins}
 use Rattle.cd_model.specs.Formula.{Graph, IsGraph}
+use Rattle.cd_model.proofs.SoundBuiltIns.{built_ins_are_sound}
 use Rattle.cd_syntax.specs.Name.{Name, IsLabel, is_word}
 use Rattle.cd_meaning.specs.Sets.{Set, ◌⊆◌, elements_of}
 use Rattle.cd_typing.specs.Typ.{BuiltIn}
 use Rattle.cd_typing.proofs.Later.{in_later, in_earlier}
 use Rattle.cd_typing.proofs.Subsets.{through}
-
-a_label : (name : Name) → IsTrue (is_word name) → bytes_eq name (codes "_") ≡ false → IsLabel name
-a_label name word other = (word, λ same. true≢false (sym ((bytes_eq-Decides name (codes "_")).1 same) ∙ other))
-
-pub built_ins_are_sound : IsGraph built_ins
-built_ins_are_sound =
-    let is_false : IsLabel (codes "false") = a_label (codes "false") refl refl in
-    let is_true : IsLabel (codes "true") = a_label (codes "true") refl refl in
-    let is_nil : IsLabel (codes "nil") = a_label (codes "nil") refl refl in
-    let empty : 0 < 14 = lit< tt in
-    let any : 1 < 14 = lit< tt in
-    let char : 3 < 14 = lit< tt in
-    let atom : 5 < 14 = lit< tt in
-    let string : 7 < 14 = lit< tt in
-    let data_node : 12 < 14 = lit< tt in
-    assumption
 
 module _ (graph more : Graph) (begins : graph ≡ built_ins ++ more) (id : NodeId) (below : id.0 < length built_ins) where
   pub built_in_within : BuiltIn id ⊆ elements_of graph id

@@ -8,22 +8,20 @@ use Rattle.cd_syntax.specs.Name.{IsLabel}
 use Rattle.cd_model.specs.AllOf.{AllOf}
 use Rattle.cd_model.specs.Thing.{Thing, IsElement, IsValue, IsData}
 use Rattle.cd_model.proofs.Closures.{data_are_elements}
+use Rattle.cd_model.proofs.SoundBuiltIns.{a_label, nil_is_label}
 use Rattle.cd_matching.specs.Sequences.{sequence_of}
 use Rattle.cd_work.specs.Workload.{numbers}
 use Rattle.cd_work.specs.Inner.WorkValues.{integer, held, entry, entries, document}
 
 -- the names in a document are labels
 pub log_label : IsLabel (codes "log")
-log_label = (refl, λ same. true≢false (sym ((bytes_eq-Decides (codes "log") (codes "_")).1 same)))
+log_label = a_label (codes "log") refl refl
 
 pub e_label : IsLabel (codes "e")
-e_label = (refl, λ same. true≢false (sym ((bytes_eq-Decides (codes "e") (codes "_")).1 same)))
+e_label = a_label (codes "e") refl refl
 
 pub n_label : IsLabel (codes "n")
-n_label = (refl, λ same. true≢false (sym ((bytes_eq-Decides (codes "n") (codes "_")).1 same)))
-
-nil_label : IsLabel (codes "nil")
-nil_label = (refl, λ same. true≢false (sym ((bytes_eq-Decides (codes "nil") (codes "_")).1 same)))
+n_label = a_label (codes "n") refl refl
 
 -- small numbers are of 128 bits
 pub is_integer : (n : ℕ) → n ≤ 1000000 → IsInteger (pos n)
@@ -31,7 +29,7 @@ is_integer n small = omega (arith, ints, small)
 
 -- the sequence of values is one, and that of data is data
 pub sequence_is_value : (things : List Thing) → AllOf IsValue things → IsValue (sequence_of things)
-sequence_is_value [] are = nil_label
+sequence_is_value [] are = nil_is_label
 sequence_is_value (v ∷ things) are = (are.0, sequence_is_value things are.1)
 
 sequence_is_data : (things : List Thing) → AllOf IsData things → IsData (sequence_of things)

@@ -6,6 +6,7 @@ use Rattle.cd_sets.specs.declared.node_id.NodeId.{NodeId}
 use Rattle.cd_syntax.specs.Name.{Name, IsLabel, is_word}
 use Rattle.cd_model.specs.BuiltIns.{built_ins, atoms_of, node, EMPTY, ANY, INT}
 use Rattle.cd_model.specs.Formula.{Graph, IsGraph, Xml, Record, Arrow}
+use Rattle.cd_model.proofs.SoundBuiltIns.{a_label}
 use Rattle.cd_regex.specs.Automaton.{sequence_formulas}
 use Rattle.cd_regex.specs.Regular.{Regular, Item, Star}
 use Rattle.cd_typing.specs.Typ.{Typ, typ, IsType}
@@ -61,9 +62,6 @@ more = sequence_formulas 14 integers ++ (entry_formulas ++ (sequence_formulas 19
 
 abbrev pub graph : Graph
 graph = built_ins ++ more
-
-a_label : (name : Name) → IsTrue (is_word name) → bytes_eq name (codes "_") ≡ false → IsLabel name
-a_label name word other = (word, λ same. true≢false (sym ((bytes_eq-Decides name (codes "_")).1 same) ∙ other))
 
 pub graph_is_sound : IsGraph graph
 graph_is_sound =

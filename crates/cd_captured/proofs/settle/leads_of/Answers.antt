@@ -2,9 +2,9 @@ use Rattle.std.proofs.Common.{◌≡◌, ◌<◌, ◌++◌, ℕ, Some, sym, subs
 use Rattle.std.proofs.lemmas.Result.{IfOk-weaker}
 use Rattle.std.specs.List.{slice_get}
 use Rattle.cd_model.specs.AllOf.{AllOf}
+use Rattle.cd_model.proofs.ByNumber.{all_got}
 use Rattle.cd_matching.specs.Kernel.{IsSoundNode, leads_to, parts_of}
 use Rattle.cd_matching.specs.PlainKernel.{plain_kernel, plain_node, plain_nodes}
-use Rattle.cd_matching.proofs.AllOf.{all_at}
 use Rattle.cd_empty.specs.Seen.{graph_of, table_of}
 use Rattle.cd_captured.specs.Inner.Exploring.{AreSettling}
 use Rattle.cd_captured.specs.Inner.NodeSteps.{AreNodeSteps}
@@ -22,14 +22,14 @@ there c = node_there c.args.base.now.kernel.now.nodes.items c.args.place.now.num
 pub node_steps-requires-clause-sound : goal.node_steps-requires-clause-sound
 node_steps-requires-clause-sound c =
     let nodes = plain_nodes c.args.base.now.kernel.now.nodes.items in
-    all_at (IsSoundNode nodes (length c.args.base.now.kernel.now.variables.items)
+    all_got (IsSoundNode nodes (length c.args.base.now.kernel.now.variables.items)
     (λ id. id.0 < c.args.base.now.first)) nodes c.args.place.now.number
     (plain_node c.index.result.now) c.requires.accepted.sound.nodes (there c)
 
 pub node_steps-requires-clause-parts : goal.node_steps-requires-clause-parts
 node_steps-requires-clause-parts c =
     let nodes = plain_nodes c.args.base.now.kernel.now.nodes.items in
-    all_at (λ node. AllOf (λ (number : ℕ). number < length nodes) (leads_to node ++ parts_of node))
+    all_got (λ node. AllOf (λ (number : ℕ). number < length nodes) (leads_to node ++ parts_of node))
     nodes c.args.place.now.number (plain_node c.index.result.now)
     c.requires.accepted.sound.parts (there c)
 

@@ -3,12 +3,13 @@ use Rattle.std.proofs.Common.{Vec, Global}
 use Rattle.std.proofs.lemmas.List.{length-map, map_push, take_all}
 use Rattle.std.specs.List.{slice_get, AllZip}
 use Rattle.std.specs.Vec.{vec_len}
+use Rattle.cd_model.proofs.ByNumber.{past_end}
 use Rattle.cd_sets.specs.declared.question.Question.{Question}
 use Rattle.cd_graph.specs.Nodes.{nodes}
 use Rattle.cd_graph.specs.PlainFormula.{plain}
 use Rattle.cd_graph.specs.declared.formula.Formula.{Formula as CodeFormula}
 use Rattle.cd_compact.specs.Keeping.{IsFormulaOfQuestion}
-use Rattle.cd_sequences.proofs.ByNumber.{zip_more, past_end}
+use Rattle.cd_sequences.proofs.ByNumber.{zip_more}
 use Rattle.cd_sequences.proofs.question_formulas.question_formulas.Goals as goal
 
 -- how many formulas there are

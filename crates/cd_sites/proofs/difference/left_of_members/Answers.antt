@@ -2,10 +2,10 @@ use Rattle.std.proofs.Common.{List, length, map, sym, subst, ap, ◌∙◌}
 use Rattle.cd_model.specs.AllOf.{AllOf}
 use Rattle.cd_model.specs.Formula as formula
 use Rattle.cd_model.specs.Formula.{Graph, Formula, IsFormula, formulas_of}
+use Rattle.cd_model.proofs.FormulasAmongMore.{are_formulas}
 use Rattle.cd_graph.specs.PlainFormula.{plain, plain_list}
 use Rattle.cd_empty.specs.Seen.{graph_of}
 use Rattle.cd_sites.proofs.MembersLeft.{as_put}
-use Rattle.cd_sites.proofs.MembersOfUnions.{are_formulas}
 use Rattle.cd_sites.proofs.RestsMade.{may_be_put}
 use Rattle.cd_sites.proofs.difference.left_of_members.Goals as goal
 

@@ -1,12 +1,13 @@
 use Rattle.std.proofs.Common.{List, ℕ, subst, sym}
 use Rattle.cd_syntax.specs.Name.{IsLabel}
 use Rattle.cd_model.specs.Thing.{Atom}
+use Rattle.cd_model.proofs.SoundBuiltIns.{nil_is_label}
 use Rattle.cd_cells.specs.Table.{table, IsAt}
-use Rattle.cd_cells.proofs.SharedCells.{nil_label, nil_text, nil_cell}
+use Rattle.cd_cells.proofs.SharedCells.{nil_text, nil_cell}
 use Rattle.cd_cells.proofs.values.Values.new_nil.Goals as goal
 
 pub atom-requires : goal.atom-requires
-atom-requires c = subst IsLabel (sym nil_text) nil_label
+atom-requires c = subst IsLabel (sym nil_text) nil_is_label
 
 pub invariant_of-self : goal.invariant_of-self
 invariant_of-self c =

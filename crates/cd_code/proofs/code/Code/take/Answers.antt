@@ -1,11 +1,11 @@
 use Rattle.std.proofs.Common.{◌≡◌, Some, subst}
 use Rattle.std.proofs.lemmas.Result.{IfOk-weaker, on_ok_weaker}
 use Rattle.std.specs.List.{slice_get}
+use Rattle.cd_model.proofs.ByNumber.{all_got}
 use Rattle.cd_syntax.specs.PlainTree.{plain}
 use Rattle.cd_graph.specs.Nodes.{nodes}
 use Rattle.cd_cells.specs.Cells.{thing_at}
 use Rattle.cd_cells.specs.Table.{table, names}
-use Rattle.cd_matching.proofs.AllOf.{all_at}
 use Rattle.cd_typing.specs.Typed.{scope_of}
 use Rattle.cd_evaluation.specs.ProgramInterfaces.{interfaces_of}
 use Rattle.cd_evaluation.specs.ProgramCode.{TakesAs}
@@ -23,7 +23,7 @@ found c = subst (λ codes. slice_get codes c.in-Some.ensures.0 ≡ Some c.in-Som
 
 is_code : (c : After-knows) → IsCodeOf (nodes c.args.self.now.tests.graph) (scope_of (program_of c.args.self.now)) (names c.args.values.now)
     c.in-Some.code.now
-is_code c = all_at (IsCodeOf (nodes c.args.self.now.tests.graph) (scope_of (program_of c.args.self.now)) (names c.args.values.now))
+is_code c = all_got (IsCodeOf (nodes c.args.self.now.tests.graph) (scope_of (program_of c.args.self.now)) (names c.args.values.now))
     c.args.self.now.codes.items c.in-Some.ensures.0 c.in-Some.code.now c.requires.ready.codes (found c)
 
 pub take-requires-clause-kernel : goal.take-requires-clause-kernel

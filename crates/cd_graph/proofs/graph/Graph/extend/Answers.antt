@@ -5,8 +5,9 @@ use Rattle.cd_model.specs.Membership.{answers, value_answers}
 use Rattle.cd_model.specs.Interfaces.{admits}
 use Rattle.cd_model.proofs.BothWays.{itself}
 use Rattle.cd_model.proofs.Extending.{kept_elements, kept_values}
+use Rattle.cd_model.proofs.FormulasAmongMore.{graph_with_more}
 use Rattle.cd_graph.specs.Nodes.{nodes}
-use Rattle.cd_graph.proofs.Sound.{still_sound, still_begins, either_way, without_others}
+use Rattle.cd_graph.proofs.Sound.{still_begins, either_way, without_others}
 use Rattle.cd_graph.proofs.graph.Graph.extend.Goals as goal
 
 begins : Graph → Type 0
@@ -19,7 +20,7 @@ invariant_of-self c =
     let call = c.append in
     record {
       sound = ∣ either_way IsGraph _ _ _ call.result call.ensures.added call.ensures.kept
-          was.sound (still_sound _ _ was.sound c.requires) ∣₁;
+          was.sound (graph_with_more _ _ was.sound c.requires) ∣₁;
       built_in = ∣ either_way begins _ _ _ call.result call.ensures.added call.ensures.kept
           (without_others _ was.built_in) (still_begins _ _ (without_others _ was.built_in)) ∣₁;
     }
@@ -29,7 +30,7 @@ returns-clause-sound c =
     let was = c.len.ensures in
     let call = c.append in
     either_way IsGraph _ _ _ call.result call.ensures.added call.ensures.kept
-    was.sound (still_sound _ _ was.sound c.requires)
+    was.sound (graph_with_more _ _ was.sound c.requires)
 
 -- the new graph is the old one and the batch after it
 pub returns-clause-elements : goal.returns-clause-elements

@@ -1,7 +1,7 @@
 use Rattle.std.proofs.Common.{◌≡◌, refl, sym, subst, take}
 use Rattle.cd_model.specs.Formula.{Graph, IsGraph}
 use Rattle.cd_model.specs.BuiltIns.{built_ins}
-use Rattle.cd_graph.proofs.Sound.{built_ins_are_sound}
+use Rattle.cd_model.proofs.SoundBuiltIns.{built_ins_are_sound}
 use Rattle.cd_graph.proofs.graph.Graph.new.Goals as goal
 
 pub invariant_of-result : goal.invariant_of-result
