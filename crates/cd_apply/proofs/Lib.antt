@@ -10,7 +10,6 @@ pub mod RefusedArrows
 pub mod ImagesGathered
 pub mod ApplicationsAnswered
 pub mod SubsumedQuestions
-pub mod LargerGraphs
 pub mod NodesAskedFor
 pub mod UnionsHold
 pub mod QuestionsNarrowed

@@ -12,8 +12,7 @@ use Rattle.cd_model.specs.Types.{Answers}
 use Rattle.cd_matching.specs.Kernel.{Kernel, KernelNode, KernelField, Present, Optional, Test, Bind}
 use Rattle.cd_matching.specs.Kernel.{Put, Pair, Xml, Record, Both, First, Gather}
 use Rattle.cd_rules.specs.Family.{AsksNodes}
-use Rattle.cd_model.proofs.Ones.{each_weaker, each_of_two}
-use Rattle.cd_products.proofs.Appending.{all_append}
+use Rattle.cd_model.proofs.Ones.{each_weaker, each_of_two, each_of_lists}
 use Rattle.cd_filter.specs.Capturing.{AreSteps, IsSettled}
 use Rattle.cd_filter.specs.Table.{Place, Step, Gathers, Table, HasStep}
 use Rattle.cd_filter.specs.Table.{pair_steps, gather_steps, triple_steps, cell_steps, row_steps}
@@ -58,7 +57,7 @@ module _ (fact : Question → Type 0) where
   row_items : (named : List (Name × KernelField NodeId)) (rows : List (List Question))
       → AllOf ItemHas (row_steps named rows)
   row_items named [] = tt
-  row_items named (row ∷ rows) = all_append ItemHas (cell_steps named row) (row_steps named rows)
+  row_items named (row ∷ rows) = each_of_lists ItemHas (cell_steps named row) (row_steps named rows)
       (cell_items named row) (row_items named rows)
 
   module _ (answers : Thing → Answers NodeId) (Sort : Thing → Type 0) (accepts : ℕ → NodeId)

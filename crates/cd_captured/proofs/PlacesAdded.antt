@@ -5,7 +5,7 @@ use Rattle.std.proofs.lemmas.List.{map-append}
 use Rattle.std.proofs.lemmas.Option.{slice_get-map}
 use Rattle.std.specs.List.{slice_get}
 use Rattle.std.specs.Option.{option_map}
-use Rattle.cd_products.proofs.Appending.{any_split}
+use Rattle.cd_model.proofs.Ones.{one_on_a_side}
 use Rattle.cd_filter.specs.Table.{Place}
 use Rattle.cd_captured.specs.Inner.NumberedSteps.{IsNumbered, GrowTo}
 use Rattle.cd_captured.specs.Inner.PlainSteps.{plain_place, plain_places}
@@ -35,7 +35,7 @@ is_added old new number place found grows = record {
   led = λ other there. elim grows [
     | inl same ↦ inl (subst (λ (new : List CodePlace). IsNumbered (plain_places new) other) same
         there)
-    | inr more ↦ elim (any_split (λ one. one ≡ other) (plain_places old) (plain_place place ∷ [])
+    | inr more ↦ elim (one_on_a_side (λ one. one ≡ other) (plain_places old) (plain_place place ∷ [])
         (subst (λ (new : List Place). IsNumbered new other)
         (ap plain_places more ∙ map-append plain_place old (place ∷ [])) there)) [
           | inl before ↦ inl before

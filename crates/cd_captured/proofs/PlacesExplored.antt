@@ -7,8 +7,8 @@ use Rattle.std.specs.List.{slice_get}
 use Rattle.cd_sets.specs.declared.node_id.NodeId.{NodeId}
 use Rattle.cd_model.specs.AllOf.{AllOf, AnyOf}
 use Rattle.cd_model.specs.Formula.{Graph}
+use Rattle.cd_model.proofs.Ones.{each_of_lists}
 use Rattle.cd_matching.specs.Kernel.{Kernel}
-use Rattle.cd_products.proofs.Appending.{all_append}
 use Rattle.cd_filter.specs.Accepting.{place_of, IsAcceptedFrom}
 use Rattle.cd_filter.specs.Table.{Place, Step, Takes, Puts, Leads, Gathers, Table, HasPlace, HasStep}
 use Rattle.cd_filter.specs.Table.{IsAmong}
@@ -107,7 +107,7 @@ module _ (graph : Graph) (kernel : Kernel NodeId) (first : ℕ)
             ∙ take_more old numbered.grown.0 (length codes) place there
             ∙ ap (λ places. take (suc (length codes)) places) (sym numbered.grown.1)
             ∙ ap (λ count. take count new) counted;
-        settled = all_append (IsSettledPlace graph kernel (place_of kernel.nodes first))
+        settled = each_of_lists (IsSettledPlace graph kernel (place_of kernel.nodes first))
             so_far.table ((place, all) ∷ []) so_far.settled (settling.settled, tt);
         places_are = λ next now. elim (numbered.led next now) [
           | inl before ↦ so_far.places_are next before

@@ -13,6 +13,7 @@ use Rattle.cd_model.specs.Formula.{asked}
 use Rattle.cd_model.specs.Thing as thing
 use Rattle.cd_model.specs.Thing.{Thing}
 use Rattle.cd_model.specs.Types.{Answers}
+use Rattle.cd_model.proofs.Ones.{each_of_lists}
 use Rattle.cd_matching.specs.Captures.{Captures, or_else, both}
 use Rattle.cd_matching.specs.Kernel.{KernelNode, KernelField, Present, Optional, Pair, Xml, Record}
 use Rattle.cd_matching.specs.Kernel.{Test, Bind, Put, Both, First, Gather, Ends, by_node}
@@ -20,7 +21,6 @@ use Rattle.cd_matching.specs.Kernel.{all_named, apart_of, taken}
 use Rattle.cd_matching.proofs.Unfolding.{unfolds}
 use Rattle.cd_products.specs.QuestionBoxes.{IsInhabited}
 use Rattle.cd_products.specs.Products.{InProduct, InTriple, AreProducts, AreTriples}
-use Rattle.cd_products.proofs.Appending.{all_append}
 use Rattle.cd_filter.specs.Capturing.{IsAccepted, IsNarrowed, AreSteps}
 use Rattle.cd_filter.specs.Rows.{Picks}
 use Rattle.cd_filter.specs.Table.{Place, Step, at, pair_steps, gather_steps}
@@ -299,7 +299,7 @@ module _ (answers : Thing → Answers NodeId) (Sort : Thing → Type 0)
       → AllOf (λ row. AllOf (NextHas Accepted) (cell_steps named row)) rows
       → AllOf (NextHas Accepted) (row_steps named rows)
   rows_step named [] all = tt
-  rows_step named (row ∷ rows) all = all_append (NextHas Accepted) (cell_steps named row)
+  rows_step named (row ∷ rows) all = each_of_lists (NextHas Accepted) (cell_steps named row)
       (row_steps named rows) all.0 (rows_step named rows all.1)
 
   -- where these nodes accept what the first of two nodes takes

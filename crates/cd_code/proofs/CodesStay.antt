@@ -5,10 +5,10 @@ use Rattle.cd_syntax.specs.PlainTree.{plain}
 use Rattle.cd_model.specs.AllOf.{AllOf}
 use Rattle.cd_model.specs.Formula.{Graph, IsGraph}
 use Rattle.cd_model.specs.Scope.{Scope}
+use Rattle.cd_model.proofs.Ones.{each_weaker}
 use Rattle.cd_matching.specs.Kernel.{Kernel, KernelNode, Test, Bind, Put, Pair, Xml, Record, Both, First, Gather, IsSound, IsSoundNode}
 use Rattle.cd_matching.specs.Kernel.{optional_types}
 use Rattle.cd_matching.specs.PlainKernel.{plain_kernel}
-use Rattle.cd_matching.proofs.AllOf.{all_weaker}
 use Rattle.cd_matching.proofs.ResolvedPatterns.{resolved_kept}
 use Rattle.cd_code.specs.Codes.{IsCodeOf}
 use Rattle.cd_code.specs.declared.pattern_code.PatternCode.{PatternCode}
@@ -23,7 +23,7 @@ module _ {T : Type 0} (P Q : T → Type 0) (weaker : (type : T) → P type → Q
   sound_node nodes variables (Put variable constant) sound = sound
   sound_node nodes variables (Pair first second) sound = sound
   sound_node nodes variables (Xml tag attributes content) sound = sound
-  sound_node nodes variables (Record fields more) sound = (sound.0, sound.1, all_weaker P Q weaker (optional_types fields) sound.2)
+  sound_node nodes variables (Record fields more) sound = (sound.0, sound.1, each_weaker P Q weaker (optional_types fields) sound.2)
   sound_node nodes variables (Both first second) sound = sound
   sound_node nodes variables (First first second) sound = sound
   sound_node nodes variables (Gather variable first second) sound = sound
@@ -32,7 +32,7 @@ module _ {T : Type 0} (P Q : T → Type 0) (weaker : (type : T) → P type → Q
   sound_weaker kernel sound = record {
     root = sound.root;
     parts = sound.parts;
-    nodes = all_weaker (IsSoundNode kernel.nodes (length kernel.variables) P) (IsSoundNode kernel.nodes (length kernel.variables) Q)
+    nodes = each_weaker (IsSoundNode kernel.nodes (length kernel.variables) P) (IsSoundNode kernel.nodes (length kernel.variables) Q)
         (sound_node kernel.nodes (length kernel.variables)) kernel.nodes sound.nodes;
     ends = sound.ends;
     binds = sound.binds;
@@ -54,7 +54,7 @@ module _ (graph more : Graph) (sound : IsGraph graph) (scope : Scope) (names oth
 
   pub codes_stay : (codes : List PatternCode) → AllOf (IsCodeOf graph scope names) codes
       → AllOf (IsCodeOf (graph ++ more) scope (names ++ others)) codes
-  codes_stay codes are = all_weaker (IsCodeOf graph scope names) (IsCodeOf (graph ++ more) scope (names ++ others)) code_stays codes are
+  codes_stay codes are = each_weaker (IsCodeOf graph scope names) (IsCodeOf (graph ++ more) scope (names ++ others)) code_stays codes are
 
 -- as lists that grew
 pub codes_grown : (scope : Scope) (graph new : Graph) (names longer : List Name) → IsGraph graph → (more : Graph) × (new ≡ graph ++ more)
@@ -81,4 +81,4 @@ module _ (graph : Graph) (scope : Scope) (names others : List Name) where
 
   pub codes_renamed : (codes : List PatternCode) → AllOf (IsCodeOf graph scope names) codes
       → AllOf (IsCodeOf graph scope (names ++ others)) codes
-  codes_renamed codes are = all_weaker (IsCodeOf graph scope names) (IsCodeOf graph scope (names ++ others)) code_renamed codes are
+  codes_renamed codes are = each_weaker (IsCodeOf graph scope names) (IsCodeOf graph scope (names ++ others)) code_renamed codes are

@@ -6,7 +6,7 @@ use Rattle.cd_syntax.specs.TypeTree.{Tree}
 use Rattle.cd_model.specs.AllOf.{AllOf, AnyOf}
 use Rattle.cd_model.specs.Formula.{Graph, IsGraph}
 use Rattle.cd_model.specs.Scope.{Scope}
-use Rattle.cd_matching.proofs.AllOf.{all_weaker}
+use Rattle.cd_model.proofs.Ones.{each_weaker}
 use Rattle.cd_program.specs.Expr.{Program}
 use Rattle.cd_typing.specs.Typed.{scope_of}
 use Rattle.cd_safety.specs.PatternsIn.{EachOfFunction}
@@ -23,7 +23,7 @@ each_among : (codes : List PatternCode) → AllOf (λ code. AnyOf (λ one. one �
 each_among [] = tt
 each_among (first ∷ rest) = (
   inl refl,
-  all_weaker (λ code. AnyOf (λ one. one ≡ pattern_of code) (map pattern_of rest))
+  each_weaker (λ code. AnyOf (λ one. one ≡ pattern_of code) (map pattern_of rest))
       (λ code. AnyOf (λ one. one ≡ pattern_of code) (map pattern_of (first ∷ rest))) (λ code later. inr later) rest (each_among rest),
 )
 

@@ -15,6 +15,7 @@ use Rattle.cd_model.specs.Thing as thing
 use Rattle.cd_model.specs.Thing.{Thing}
 use Rattle.cd_model.specs.Types.{Answers}
 use Rattle.cd_model.proofs.Sorts.{Sort}
+use Rattle.cd_model.proofs.Ones.{one_on_left, one_on_right}
 use Rattle.cd_matching.specs.Captures.{Captures, or_else, joined, both, nothing}
 use Rattle.cd_matching.specs.Kernel.{KernelNode, KernelField, Present, Optional, Test, Bind, Put}
 use Rattle.cd_matching.specs.Kernel.{Pair, Xml, Record, Both, First, Gather, Ends, EachEnds, just}
@@ -26,7 +27,6 @@ use Rattle.cd_matching.proofs.TakenCaptures.{both_some, or_else_some, if_some, j
 use Rattle.cd_matching.proofs.TakenCaptures.{if_so_nothing, option_map_some, gathered_some}
 use Rattle.cd_matching.proofs.Unfolding.{unfolds}
 use Rattle.cd_products.specs.Products.{InProduct, InTriple}
-use Rattle.cd_products.proofs.Appending.{any_left, any_right}
 use Rattle.cd_filter.specs.Accepting.{AreAccepting}
 use Rattle.cd_filter.specs.Capturing.{AreSteps, IsSettled, IsWhole}
 use Rattle.cd_filter.specs.Caught.{Caught, CapturedIsCaught, takes_it, puts_it, leads_on}
@@ -260,12 +260,12 @@ module _ (answers : Thing → Answers NodeId) (sort : Sort) (test : NodeId → T
     at_rows fields catch named (row ∷ rows) all listed (inl inside) takes_all has =
         at_cells fields catch named row all
         (λ step it. listed step
-        (any_left (λ other. other ≡ step) (cell_steps named row) (row_steps named rows) it)) inside
+        (one_on_left (λ other. other ≡ step) (cell_steps named row) (row_steps named rows) it)) inside
         takes_all has
     at_rows fields catch named (row ∷ rows) all listed (inr later) takes_all has =
         at_rows fields catch named rows all
         (λ step it. listed step
-        (any_right (λ other. other ≡ step) (cell_steps named row) (row_steps named rows) it)) later
+        (one_on_right (λ other. other ≡ step) (cell_steps named row) (row_steps named rows) it)) later
         takes_all has
 
     -- the node of the place, where what it captures at nodes that leave the thing whole is caught

@@ -11,10 +11,10 @@ use Rattle.cd_model.specs.Thing.{Thing, IsElement}
 use Rattle.cd_model.specs.Types.{Answers}
 use Rattle.cd_model.proofs.Sorts as sorts
 use Rattle.cd_model.proofs.Sorts.{Sort}
+use Rattle.cd_model.proofs.Ones.{each_weaker}
 use Rattle.cd_matching.specs.Captures.{Captures}
 use Rattle.cd_matching.specs.Kernel.{KernelNode, Kernel, Test, Bind, Put, Pair, Xml, Record, Both}
 use Rattle.cd_matching.specs.Kernel.{First, Gather, taken}
-use Rattle.cd_matching.proofs.AllOf.{all_weaker}
 use Rattle.cd_products.proofs.Decided.{elements_apart}
 use Rattle.cd_products.proofs.OneMore.{each_with, each_without}
 use Rattle.cd_filter.specs.Accepting.{AreRight}
@@ -55,7 +55,7 @@ module _ (answers : Thing → Answers NodeId) (Sort : Thing → Type 0)
   pub whole_covers : (table : Table) → IsWhole answers Sort nodes true accepts table
       → IsWhole answers Sort nodes false accepts table
   whole_covers table whole = record {
-    settled = all_weaker (IsSettled answers Sort nodes true accepts)
+    settled = each_weaker (IsSettled answers Sort nodes true accepts)
         (IsSettled answers Sort nodes false accepts) settled_covers table whole.settled;
     ends = whole.ends;
     leads = whole.leads;

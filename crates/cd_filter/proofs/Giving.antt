@@ -8,11 +8,11 @@ use Rattle.cd_model.specs.AllOf.{AllOf, AnyOf}
 use Rattle.cd_model.specs.Formula.{asked}
 use Rattle.cd_model.specs.Thing.{Thing, Pair}
 use Rattle.cd_model.specs.Types.{Answers}
+use Rattle.cd_model.proofs.Ones.{one_on_a_side}
 use Rattle.cd_matching.specs.Captures.{Captures}
 use Rattle.cd_matching.specs.Kernel.{KernelNode, KernelField, Present, Optional, taken}
 use Rattle.cd_matching.specs.Sequences.{thing_of}
 use Rattle.cd_products.specs.QuestionBoxes.{IsInhabited}
-use Rattle.cd_products.proofs.Appending.{any_split}
 use Rattle.cd_filter.specs.Capturing.{Captured}
 use Rattle.cd_filter.specs.Rows.{IsPicked, Picks}
 use Rattle.cd_filter.specs.Table.{Place, Step, Takes, Puts, Leads, Gathers, at, pair_steps}
@@ -134,7 +134,7 @@ module _ (answers : Thing → Answers NodeId) (Sort : Thing → Type 0)
       → AnyOf (Gives question what) (row_steps named rows) → OfField question named what
   row_gives question named [] what picks one = absurd one
   row_gives question named (row ∷ rows) what picks one =
-      elim (any_split (Gives question what) (cell_steps named row) (row_steps named rows) one) [
+      elim (one_on_a_side (Gives question what) (cell_steps named row) (row_steps named rows) one) [
         | inl here ↦ cell_gives question named row what picks.0 here
         | inr later ↦ row_gives question named rows what picks.1 later
       ]

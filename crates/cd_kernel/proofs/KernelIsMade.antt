@@ -1,12 +1,12 @@
 -- The kernel that the code makes of a pattern is made of it.
 use Rattle.std.proofs.Common.{◌<◌, ℕ, zero, suc, true, [], length, refl, ◌∙◌, arith}
 use Rattle.std.proofs.lemmas.Option.{none-some, slice_get_within}
+use Rattle.cd_model.proofs.Ones.{each_weaker}
 use Rattle.cd_sets.specs.declared.node_id.NodeId.{NodeId}
 use Rattle.cd_matching.specs.Kernel.{Ends, leads_to}
 use Rattle.cd_kernel.specs.Labelled.{HasLabels}
 use Rattle.cd_matching.specs.Naming.{IsNamed}
 use Rattle.cd_matching.specs.Pattern.{Pattern}
-use Rattle.cd_matching.proofs.AllOf.{all_weaker}
 use Rattle.cd_matching.proofs.Falling.{is_there, ends_by_falling}
 use Rattle.cd_kernel.specs.Making.{IsMade}
 use Rattle.cd_kernel.specs.Inner.Building.{Nodes, built, kernel_of}
@@ -24,7 +24,7 @@ nothing_falls (suc number) node h = absurd (none-some node h)
 falling_ends : (nodes : Nodes) → Falls nodes → (number : ℕ) → number < length nodes
     → Ends nodes (length nodes) number
 falling_ends nodes falls = ends_by_falling NodeId nodes (λ number. number)
-    (λ number node h. all_weaker (λ next. next < number)
+    (λ number node h. each_weaker (λ next. next < number)
     (λ next. (next < number) × (next < length nodes))
     (λ next lower. let within = slice_get_within nodes number node h in
     (lower, omega (arith, within, lower))) (leads_to node) (falls number node h))

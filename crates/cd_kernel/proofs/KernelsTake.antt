@@ -5,6 +5,7 @@ use Rattle.std.proofs.Common.{◌∙◌}
 use Rattle.cd_syntax.specs.Name.{Name}
 use Rattle.cd_model.specs.Thing as thing
 use Rattle.cd_model.specs.Thing.{Thing}
+use Rattle.cd_model.proofs.Ones.{each_weaker}
 use Rattle.cd_matching.specs.Captures as captures
 use Rattle.cd_matching.specs.Captures.{Captures, or_else, both, if_so}
 use Rattle.cd_matching.specs.Kernel as kernel
@@ -15,7 +16,6 @@ use Rattle.cd_matching.specs.Pattern.{Pattern, Patterns, NoPattern, APattern, Fi
 use Rattle.cd_matching.specs.Pattern.{Regular, Regulars, NoRegular, ARegular}
 use Rattle.cd_matching.specs.Sequences.{thing_of}
 use Rattle.cd_matching.specs.Take.{take, take_all, take_first}
-use Rattle.cd_matching.proofs.AllOf.{all_weaker}
 use Rattle.cd_kernel.specs.Automaton.{items_in}
 use Rattle.cd_kernel.specs.Copies.{Types, IsAt}
 use Rattle.cd_kernel.specs.Making.{inner, IsPut, IsKernelOf, IsBothOf}
@@ -140,7 +140,7 @@ module _ {T : Type 0} (test : T → Thing → Bool) (types : Types T) (variables
     kernels_take keeps (pattern.First all) number there = first_takes keeps all number there
     kernels_take keeps (pattern.Sequence r) number (copies, are, each) =
         sequence_alike test types variables nodes right keeps r copies number are
-        (all_weaker (λ copy. AreItemsOf types variables nodes (inner keeps r copy) copy.items r 0)
+        (each_weaker (λ copy. AreItemsOf types variables nodes (inner keeps r copy) copy.items r 0)
         (ItemsAlike test types variables nodes right keeps r)
         (λ copy. items_alike (inner keeps r copy) copy.items r 0) copies each)
 

@@ -9,6 +9,7 @@ use Rattle.std.proofs.lemmas.Option.{same_Some}
 use Rattle.cd_syntax.specs.Name.{Name}
 use Rattle.cd_syntax.specs.declared.constant.Constant.TheVariants as constant
 use Rattle.cd_model.specs.AllOf.{AllOf, AnyOf}
+use Rattle.cd_model.proofs.Ones.{each_weaker}
 use Rattle.cd_matching.specs.Kernel.{KernelNode, KernelField, Present, Optional, Bind, Put, Pair}
 use Rattle.cd_matching.specs.Kernel.{Xml, Record, Both, First, Gather, field_nodes, variables_of}
 use Rattle.cd_matching.specs.Kernel.{Binds, itself, further, number_of}
@@ -20,7 +21,6 @@ use Rattle.cd_matching.specs.Pattern.{Pattern, Patterns, NoPattern, APattern, Fi
 use Rattle.cd_matching.specs.Pattern.{Regular, Regulars, NoRegular, ARegular, Sequence}
 use Rattle.cd_matching.specs.Variables.{binds, all_bind, fields_bind, is_gathered, is_plain}
 use Rattle.cd_matching.specs.Variables.{regular_binds}
-use Rattle.cd_matching.proofs.AllOf.{all_weaker}
 use Rattle.cd_matching.proofs.BoundVariables.{gathered_or_plain}
 use Rattle.cd_kernel.specs.Automaton.{Move, End, To, ItemOf, items_in, items_of, heads, once}
 use Rattle.cd_kernel.specs.Automaton.{rows_of}
@@ -359,7 +359,7 @@ module _ {T : Type 0} (IsType : T → Type 0) (types : Types T) (variables : Lis
         joined_bind keeps r all number are.joined
         (each_copy_binds keeps r all
         (copies_of IsType types variables nodes are_types keeps r all number are named fits items)
-        (all_weaker
+        (each_weaker
         (λ copy. AreItemsOf types variables nodes (inner keeps r copy) copy.items r 0)
         (λ copy. ItemsHave (λ p. BindsAll (kept_of (inner keeps r copy) (binds p))) copy.items r 0)
         (λ copy are_items.

@@ -8,6 +8,7 @@ use Rattle.cd_syntax.specs.Name.{Name}
 use Rattle.cd_model.specs.AllOf.{AllOf}
 use Rattle.cd_model.specs.Thing as thing
 use Rattle.cd_model.specs.Thing.{Thing}
+use Rattle.cd_model.proofs.Ones.{each_weaker}
 use Rattle.cd_matching.specs.Captures.{Captures, both, if_so}
 use Rattle.cd_matching.specs.Kernel as kernel
 use Rattle.cd_matching.specs.Kernel.{KernelNode, KernelField, Present, Optional, Bind, Put, Pair}
@@ -19,7 +20,6 @@ use Rattle.cd_matching.specs.Pattern.{Regular, Regulars, NoRegular, ARegular}
 use Rattle.cd_matching.specs.Take.{at_label, take_present, take_optional}
 use Rattle.cd_matching.specs.Take.{take, take_fields, all_named}
 use Rattle.cd_matching.specs.Variables.{binds, fields_bind, names_label}
-use Rattle.cd_matching.proofs.AllOf.{all_weaker}
 use Rattle.cd_matching.proofs.UnboundVariables.{Lacks, lacks}
 use Rattle.cd_kernel.specs.Copies.{Types, IsAt}
 use Rattle.cd_kernel.specs.Making.{IsReordered}
@@ -214,7 +214,7 @@ module _ {T : Type 0} (test : T → Thing → Bool) (types : Types T) (variables
             subst (AllOf (FieldLacks (pattern.Present label p rest))) (sym same) (
               λ name none. present_lacks label p number alike name
                   (or_parts (binds p name) (fields_bind rest name) none).0,
-              all_weaker (FieldLacks rest) (FieldLacks (pattern.Present label p rest))
+              each_weaker (FieldLacks rest) (FieldLacks (pattern.Present label p rest))
                   (λ field lack name none. lack name
                   (or_parts (binds p name) (fields_bind rest name) none).1) others
                   (fields_lack rest others on),
@@ -222,7 +222,7 @@ module _ {T : Type 0} (test : T → Thing → Bool) (types : Types T) (variables
         fields_lack (pattern.Optional label type rest) written (others, same, on) =
             subst (AllOf (FieldLacks (pattern.Optional label type rest))) (sym same) (
               λ name none. optional_lacks label type name,
-              all_weaker (FieldLacks rest) (FieldLacks (pattern.Optional label type rest))
+              each_weaker (FieldLacks rest) (FieldLacks (pattern.Optional label type rest))
                   (λ field lack. lack) others (fields_lack rest others on),
             )
 
@@ -232,7 +232,7 @@ module _ {T : Type 0} (test : T → Thing → Bool) (types : Types T) (variables
         each_apart NoField written same apart = subst (EachTwo (HaveApart field_has)) (sym same) tt
         each_apart (pattern.Present label p rest) written (number, others, same, alike, on) apart =
             subst (EachTwo (HaveApart field_has)) (sym same) (
-              all_weaker (FieldLacks rest) (HaveApart field_has (label, Present number))
+              each_weaker (FieldLacks rest) (HaveApart field_has (label, Present number))
                   (λ field lack name. by_test field lack name (binds p name) refl) others
                   (fields_lack rest others on),
               each_apart rest others on apart.1,
@@ -245,7 +245,7 @@ module _ {T : Type 0} (test : T → Thing → Bool) (types : Types T) (variables
             by_test field lack name false none = inl (present_lacks label p number alike name none)
         each_apart (pattern.Optional label type rest) written (others, same, on) apart =
             subst (EachTwo (HaveApart field_has)) (sym same) (
-              all_weaker (FieldLacks rest) (HaveApart field_has (label, Optional type))
+              each_weaker (FieldLacks rest) (HaveApart field_has (label, Optional type))
                   (λ field lack name. inl (optional_lacks label type name)) others
                   (fields_lack rest others on),
               each_apart rest others on apart,

@@ -34,17 +34,8 @@ module _ {T : Type 0} (test : T → Thing → Bool) (types : Types T) (variables
   abbrev taken_named : Thing → ℕ → Option (Captures Name)
   taken_named = takes_named test types variables nodes
 
-  abbrev take_it : Pattern T → Thing → Option (Captures Name)
-  take_it = take T test
-
   abbrev IsAlike : (Name → Bool) → Pattern T → ℕ → Type 0
   IsAlike = TakesKept test types variables nodes
-
-  by_rule : (d : Thing) (number : ℕ) (node : KernelNode T) → IsAt nodes number node
-      → taken T test nodes d number
-      ≡ kernel.by_node T test nodes d (kernel.apart_of T test nodes d) (taken T test nodes d)
-      (Some node)
-  by_rule = unfolds_at test types variables nodes right
 
   module _ (keeps : Name → Bool) where
     abbrev held : Option (Captures Name) → Option (Captures Name)

@@ -5,8 +5,8 @@ use Rattle.std.proofs.Common.{subst}
 use Rattle.std.proofs.lemmas.Option.{slice_get_cases}
 use Rattle.std.specs.List.{slice_get}
 use Rattle.cd_model.specs.AllOf.{AllOf}
+use Rattle.cd_model.proofs.Ones.{each_weaker}
 use Rattle.cd_matching.specs.Kernel.{KernelNode, leads_to, Ends, EachEnds}
-use Rattle.cd_matching.proofs.AllOf.{all_weaker}
 
 -- a number below the length of a list names a thing of it
 pub is_there : {X : Type 0} (xs : List X) (number : ℕ) → number < length xs
@@ -26,7 +26,7 @@ module _ (T : Type 0) (nodes : List (KernelNode T)) (rank : ℕ → ℕ)
   ends_in zero number less within = absurd (omega (arith, less))
   ends_in (suc steps) number less within = let found = there number within in
       subst (EachEnds (Ends nodes steps)) (sym found.1)
-      (all_weaker (λ next. (rank next < rank number) × (next < length nodes)) (Ends nodes steps)
+      (each_weaker (λ next. (rank next < rank number) × (next < length nodes)) (Ends nodes steps)
       (λ next lower. let lower_rank = lower.0 in
       ends_in steps next (omega (arith, lower_rank, less)) lower.1)
       (leads_to found.0) (falls number found.0 found.1))

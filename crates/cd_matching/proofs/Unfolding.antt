@@ -5,11 +5,11 @@ use Rattle.std.proofs.Common.{ap₂}
 use Rattle.std.specs.List.{slice_get}
 use Rattle.cd_model.specs.Thing as thing
 use Rattle.cd_model.specs.Thing.{Thing}
+use Rattle.cd_model.proofs.Ones.{each_weaker}
 use Rattle.cd_matching.specs.Captures.{or_else, both}
 use Rattle.cd_matching.specs.Kernel.{KernelNode, Test, Bind, Put, Pair, Xml, Record, Both, First}
 use Rattle.cd_matching.specs.Kernel.{Gather, leads_to, EachEnds, Ends, Taken, Apart, by_node}
 use Rattle.cd_matching.specs.Kernel.{in_a_row, taken, apart_of}
-use Rattle.cd_matching.proofs.AllOf.{all_weaker}
 
 module _ (T : Type 0) (test : T → Thing → Bool) (nodes : List (KernelNode T)) where
   -- a node answers the same where the nodes do that it leads to
@@ -30,7 +30,7 @@ module _ (T : Type 0) (test : T → Thing → Bool) (nodes : List (KernelNode T)
   ends_weaker : (P Q : ℕ → Type 0) → ((number : ℕ) → P number → Q number)
       → (node : Option (KernelNode T)) → EachEnds P node → EachEnds Q node
   ends_weaker P Q weaker None ends = ends
-  ends_weaker P Q weaker (Some node) ends = all_weaker P Q weaker (leads_to node) ends
+  ends_weaker P Q weaker (Some node) ends = each_weaker P Q weaker (leads_to node) ends
 
   -- one step more changes nothing
   enough : (d : Thing) (apart : Apart T) (steps number : ℕ) → Ends nodes steps number

@@ -2,10 +2,9 @@
 --
 -- The one arrow among the formulas of these nodes is from nothing to anything, in which each closure is. So a value answers there as if its
 -- closures mapped each type into each.
-use Rattle.std.proofs.Common.{◌≡◌, ℕ, zero, suc, ◌<◌, Bool, true, false, List, [], ◌∷◌, ◌++◌, ◌⊎◌, inl, inr, refl, sym, subst, length, arith, rules, bytes_eq}
+use Rattle.std.proofs.Common.{◌≡◌, ℕ, zero, suc, ◌<◌, true, false, [], ◌∷◌, ◌++◌, ◌⊎◌, inl, refl, sym, subst, length, arith, rules, bytes_eq}
 use Rattle.std.proofs.lemmas.Bool.{false≢true}
 use Rattle.cd_sets.specs.declared.node_id.NodeId.{NodeId}
-use Rattle.cd_syntax.specs.Name.{Name}
 use Rattle.cd_model.specs.AllOf.{AllOf}
 use Rattle.cd_model.specs.BuiltIns.{built_ins, EMPTY, ANY}
 use Rattle.cd_model.specs.Formula as formula

@@ -12,6 +12,7 @@ use Rattle.cd_syntax.specs.TypeTree.{Nothing, Item, Seq, Alt, Repeat, Capture, R
 use Rattle.cd_syntax.specs.TypeTree.{ARegular}
 use Rattle.cd_syntax.specs.declared.tokens.Span.{Span}
 use Rattle.cd_model.specs.Scope.{Scope}
+use Rattle.cd_model.proofs.Ones.{one_on_left, one_on_right}
 use Rattle.cd_matching.specs.Pattern as pattern
 use Rattle.cd_matching.specs.Pattern.{Pattern}
 use Rattle.cd_matching.specs.Variables.{binds, all_bind, fields_bind, is_gathered}
@@ -29,7 +30,7 @@ use Rattle.cd_names.proofs.OccurrenceNames.{has_both, nothing_among}
 use Rattle.cd_names.proofs.NoVariables.{no_variable, kind_binds_none}
 use Rattle.cd_names.proofs.RegularVariables.{or_nothing, plain_or_gathered}
 use Rattle.cd_names.proofs.SoundParts.{IsSound, IsSoundRegular, AreSound, AreSoundRegulars, IsBare}
-use Rattle.cd_names.proofs.SoundParts.{AreBare, any_left, any_right, one_unless, rest_unless}
+use Rattle.cd_names.proofs.SoundParts.{AreBare, one_unless, rest_unless}
 use Rattle.cd_names.proofs.SoundParts.{one_if, rest_if, parts_are_sound, alternatives_are_sound}
 use Rattle.cd_names.proofs.SoundParts.{others_are_bare, sequence_is_sound, item_is_sound}
 use Rattle.cd_names.proofs.SoundParts.{regulars_are_sound}
@@ -63,21 +64,21 @@ sides_are_bare kept t rest bare other among =
 module _ (span : Span) (first : Tree) (signs : Signs) (sound : IsSound (tree span (Meet first
     signs))) where
   pub first_is_sound : takes_away signs ≡ false → IsSound first
-  first_is_sound h = parts_are_sound span (Meet first signs) sound first (any_left
+  first_is_sound h = parts_are_sound span (Meet first signs) sound first (one_on_left
       (λ other. other ≡ first) (if takes_away signs then [] else first ∷ []) (kept_trees signs)
       (one_unless (takes_away signs) first [] h))
 
   pub first_is_bare : takes_away signs ≡ true → IsBare first
-  first_is_bare h = others_are_bare span (Meet first signs) sound first (any_left
+  first_is_bare h = others_are_bare span (Meet first signs) sound first (one_on_left
       (λ other. other ≡ first) (if takes_away signs then first ∷ [] else []) (side_trees signs)
       (one_if (takes_away signs) first [] h))
 
   pub signs_are_sound : AreSound (kept_trees signs)
-  signs_are_sound t among = parts_are_sound span (Meet first signs) sound t (any_right
+  signs_are_sound t among = parts_are_sound span (Meet first signs) sound t (one_on_right
       (λ other. other ≡ t) (if takes_away signs then [] else first ∷ []) (kept_trees signs) among)
 
   pub signs_are_bare : AreBare (side_trees signs)
-  signs_are_bare t among = others_are_bare span (Meet first signs) sound t (any_right
+  signs_are_bare t among = others_are_bare span (Meet first signs) sound t (one_on_right
       (λ other. other ≡ t) (if takes_away signs then first ∷ [] else []) (side_trees signs) among)
 
 module _ (scope : Scope) where

@@ -6,6 +6,7 @@ use Rattle.cd_syntax.specs.TypeTree.{Tree, tree, Kind, Item, Regular, regular, R
 use Rattle.cd_syntax.specs.TypeTree.{Sequence}
 use Rattle.cd_syntax.specs.declared.tokens.Span.{Span}
 use Rattle.cd_model.specs.AllOf.{AnyOf}
+use Rattle.cd_model.proofs.Ones.{one_on_left, one_on_right}
 use Rattle.cd_resolve.specs.Faults.{Fault}
 use Rattle.cd_variables.specs.Occurrences.{Occurrence, variables}
 use Rattle.cd_variables.specs.VariableFaults.{IsAmong, IsOneIn, binding_parts, alternatives}
@@ -32,16 +33,6 @@ IsBare t = (o : Occurrence) → IsAmong o (variables t) → ⊥
 abbrev pub AreBare : List Tree → Type 0
 AreBare trees = (t : Tree) → IsOneIn t trees → IsBare t
 
--- one of two lists
-pub any_left : {X : Type 0} (P : X → Type 0) (xs ys : List X) → AnyOf P xs → AnyOf P (xs ++ ys)
-any_left P [] ys h = absurd h
-any_left P (x ∷ xs) ys (inl here) = inl here
-any_left P (x ∷ xs) ys (inr later) = inr (any_left P xs ys later)
-
-pub any_right : {X : Type 0} (P : X → Type 0) (xs ys : List X) → AnyOf P ys → AnyOf P (xs ++ ys)
-any_right P [] ys h = h
-any_right P (x ∷ xs) ys h = inr (any_right P xs ys h)
-
 -- one of a list that begins with something, or does not
 pub one_unless : {X : Type 0} (b : Bool) (x : X) (xs : List X) → b ≡ false
     → IsOneIn x (if b then xs else x ∷ xs)
@@ -66,11 +57,11 @@ rest_if false x y xs h = h
 module _ (span : Span) (kind : Kind) (sound : IsSound (tree span kind)) where
   pub parts_are_sound : AreSound (binding_parts kind)
   parts_are_sound t among fault is = sound fault (in_part span kind t fault
-      (any_left (λ other. other ≡ t) (binding_parts kind) (alternatives kind) among) is)
+      (one_on_left (λ other. other ≡ t) (binding_parts kind) (alternatives kind) among) is)
 
   pub alternatives_are_sound : AreSound (alternatives kind)
   alternatives_are_sound t among fault is = sound fault (in_part span kind t fault
-      (any_right (λ other. other ≡ t) (binding_parts kind) (alternatives kind) among) is)
+      (one_on_right (λ other. other ≡ t) (binding_parts kind) (alternatives kind) among) is)
 
   pub others_are_bare : AreBare (parts_without kind)
   others_are_bare t among o is = sound (misplaced o) (out_of_place span kind t o among is)

@@ -7,6 +7,7 @@ use Rattle.cd_sets.specs.declared.question.Question.{Question}
 use Rattle.cd_model.specs.AllOf.{AllOf}
 use Rattle.cd_model.specs.BuiltIns.{built_ins}
 use Rattle.cd_model.specs.Formula.{Graph, IsGraph}
+use Rattle.cd_model.proofs.Ones.{each_of_lists}
 use Rattle.cd_rules.specs.Clauses.{Clause, Pair, Triple, Pairs, Xmls, IsClauseOfQuestion}
 use Rattle.cd_rules.specs.Family.{AsksNodes}
 use Rattle.cd_rules.specs.Within.{IsWithin, IsPairWithin, IsXmlWithin}
@@ -17,7 +18,6 @@ use Rattle.cd_products.specs.Inner.ClauseBoxes.{pair_row, pair_box_of, pair_boxe
 use Rattle.cd_products.specs.Inner.ClauseBoxes.{triple_row, triple_box_of, triple_boxes}
 use Rattle.cd_products.specs.Inner.Tests.{AreOfGraph, IsBoxOfGraph, less_row, keep_boxes}
 use Rattle.cd_products.specs.Inner.Tests.{refuse_row}
-use Rattle.cd_products.proofs.Appending.{all_append}
 use Rattle.cd_products.proofs.OneMore.{each_with}
 
 module _ (graph : Graph) where
@@ -59,7 +59,7 @@ module _ (graph : Graph) where
       → AreOfGraph graph (refuse_row test row boxes)
   refuse_of_graph test row [] below each = tt
   refuse_of_graph test row (box ∷ boxes) below each =
-      all_append (AllOf Asks) (keep_boxes test (less_row row box)) (refuse_row test row boxes)
+      each_of_lists (AllOf Asks) (keep_boxes test (less_row row box)) (refuse_row test row boxes)
       (keep_of_graph test (less_row row box) (less_of_graph row box below each.0))
       (refuse_of_graph test row boxes below each.1)
 
@@ -94,7 +94,7 @@ module _ (graph : Graph) where
         → AllOf (IsBoxOfGraph graph) (pair_boxes all)
     pair_boxes_of_graph [] each = tt
     pair_boxes_of_graph (clause ∷ all) each =
-        all_append (IsBoxOfGraph graph) (pair_box_of clause) (pair_boxes all)
+        each_of_lists (IsBoxOfGraph graph) (pair_box_of clause) (pair_boxes all)
         (pair_box_of_graph clause (clause_is_within graph sound question clause each.0))
         (pair_boxes_of_graph all each.1)
 
@@ -117,6 +117,6 @@ module _ (graph : Graph) where
         → AllOf (IsBoxOfGraph graph) (triple_boxes all)
     triple_boxes_of_graph [] each = tt
     triple_boxes_of_graph (clause ∷ all) each =
-        all_append (IsBoxOfGraph graph) (triple_box_of clause) (triple_boxes all)
+        each_of_lists (IsBoxOfGraph graph) (triple_box_of clause) (triple_boxes all)
         (triple_box_of_graph clause (clause_is_within graph sound question clause each.0))
         (triple_boxes_of_graph all each.1)

@@ -1,4 +1,3 @@
-pub mod Appending
 pub mod Decided
 pub mod Pieces
 pub mod OneMore
@@ -6,6 +5,7 @@ pub mod QuestionPieces
 pub mod Products
 pub mod Tests
 pub mod LongerGraphs
+pub mod AmongClauses
 pub mod ClausesOfPairs
 pub mod ClausesOfXmls
 pub mod MadeProducts

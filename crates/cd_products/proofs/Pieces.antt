@@ -3,10 +3,10 @@
 use Rattle.std.proofs.Common.{◌≡◌, ◌⊎◌, inl, inr, ◌↔◌, Bool, true, false, List, [], ◌∷◌, ◌++◌, map}
 use Rattle.std.proofs.Common.{refl}
 use Rattle.cd_model.specs.AllOf.{AllOf, AnyOf}
+use Rattle.cd_model.proofs.Ones.{one_on_left, one_on_right, one_on_a_side, each_of_lists}
 use Rattle.cd_products.specs.Boxes as refining
 use Rattle.cd_products.specs.Boxes.{Clause}
 use Rattle.cd_products.specs.InBoxes.{InBox, OutsideRow, InOneAtMost, InClause}
-use Rattle.cd_products.proofs.Appending.{any_left, any_right, any_split, all_append}
 
 module _ (X C R : Type 0) (Sort : X → Type 0) (inside : X → C → Type 0)
     (has : X → R → Bool → Type 0) (within without : R → C → C) (inhabited : List C → Bool)
@@ -127,7 +127,7 @@ module _ (X C R : Type 0) (Sort : X → Type 0) (inside : X → C → Type 0)
       → AnyOf (In xs) (refuse row boxes) → AnyOf (In xs) boxes × Out xs row
   refuse_only xs row [] one = absurd one
   refuse_only xs row (box ∷ boxes) one =
-      elim (any_split (In xs) (keep (less row box)) (refuse row boxes) one) [
+      elim (one_on_a_side (In xs) (keep (less row box)) (refuse row boxes) one) [
         | inl here ↦
             let found = less_only xs row box (keep_only xs (less row box) here) in
             (inl found.0, found.1)
@@ -137,7 +137,7 @@ module _ (X C R : Type 0) (Sort : X → Type 0) (inside : X → C → Type 0)
   refuse_inhabited : (row : List R) (boxes : List (List C)) → Inhabited (refuse row boxes)
   refuse_inhabited row [] = tt
   refuse_inhabited row (box ∷ boxes) =
-      all_append (λ box. inhabited box ≡ true) (keep (less row box)) (refuse row boxes)
+      each_of_lists (λ box. inhabited box ≡ true) (keep (less row box)) (refuse row boxes)
       (keep_inhabited (less row box)) (refuse_inhabited row boxes)
 
   refuse_all_only : (xs : List X) (refused : List (List R)) (boxes : List (List C))
@@ -159,7 +159,7 @@ module _ (X C R : Type 0) (Sort : X → Type 0) (inside : X → C → Type 0)
       → AnyOf (IsIn xs) clauses
   pieces_only xs [] one = one
   pieces_only xs (clause ∷ clauses) one =
-      elim (any_split (In xs) (pieces_of clause) (pieces clauses) one) [
+      elim (one_on_a_side (In xs) (pieces_of clause) (pieces clauses) one) [
         | inl here ↦
             let found = refuse_all_only xs clause.refused (keep (clause.box ∷ [])) here in
             elim (keep_only xs (clause.box ∷ []) found.0) [
@@ -172,7 +172,7 @@ module _ (X C R : Type 0) (Sort : X → Type 0) (inside : X → C → Type 0)
   pub pieces_inhabited : (clauses : List (Clause C R)) → Inhabited (pieces clauses)
   pieces_inhabited [] = tt
   pieces_inhabited (clause ∷ clauses) =
-      all_append (λ box. inhabited box ≡ true) (pieces_of clause) (pieces clauses)
+      each_of_lists (λ box. inhabited box ≡ true) (pieces_of clause) (pieces clauses)
       (refuse_all_inhabited clause.refused (keep (clause.box ∷ []))
       (keep_inhabited (clause.box ∷ [])))
       (pieces_inhabited clauses)
@@ -216,10 +216,10 @@ module _ (X C R : Type 0) (Sort : X → Type 0) (inside : X → C → Type 0)
         → AnyOf (In xs) boxes → Out xs row → AnyOf (In xs) (refuse row boxes)
     refuse_covers xs sorts row [] one out = one
     refuse_covers xs sorts row (box ∷ boxes) (inl here) out =
-        any_left (In xs) (keep (less row box)) (refuse row boxes)
+        one_on_left (In xs) (keep (less row box)) (refuse row boxes)
         (keep_covers xs sorts (less row box) (less_covers xs row box sorts here out))
     refuse_covers xs sorts row (box ∷ boxes) (inr later) out =
-        any_right (In xs) (keep (less row box)) (refuse row boxes)
+        one_on_right (In xs) (keep (less row box)) (refuse row boxes)
         (refuse_covers xs sorts row boxes later out)
 
     refuse_all_covers : (xs : List X) → AllOf Sort xs → (refused : List (List R))
@@ -234,11 +234,11 @@ module _ (X C R : Type 0) (Sort : X → Type 0) (inside : X → C → Type 0)
         → AnyOf (IsIn xs) clauses → AnyOf (In xs) (pieces clauses)
     pieces_cover xs sorts [] one = one
     pieces_cover xs sorts (clause ∷ clauses) (inl here) =
-        any_left (In xs) (pieces_of clause) (pieces clauses)
+        one_on_left (In xs) (pieces_of clause) (pieces clauses)
         (refuse_all_covers xs sorts clause.refused (keep (clause.box ∷ []))
         (keep_covers xs sorts (clause.box ∷ []) (inl here.0)) here.1)
     pieces_cover xs sorts (clause ∷ clauses) (inr later) =
-        any_right (In xs) (pieces_of clause) (pieces clauses)
+        one_on_right (In xs) (pieces_of clause) (pieces clauses)
         (pieces_cover xs sorts clauses later)
 
   -- The pieces of one clause are disjoint
@@ -262,7 +262,7 @@ module _ (X C R : Type 0) (Sort : X → Type 0) (inside : X → C → Type 0)
         → (AnyOf (In xs) a → AnyOf (In xs) b → ⊥) → AtMost xs (a ++ b)
     append_once xs [] b one other never = other
     append_once xs (box ∷ a) b one other never = (
-      λ here later. elim (any_split (In xs) a b later) [
+      λ here later. elim (one_on_a_side (In xs) a b later) [
         | inl among ↦ one.0 here among
         | inr among ↦ never (inl here) among
       ],

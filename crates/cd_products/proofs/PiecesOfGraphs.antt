@@ -5,6 +5,7 @@ use Rattle.cd_sets.specs.declared.question.Question.{Question}
 use Rattle.cd_model.specs.AllOf.{AllOf}
 use Rattle.cd_model.specs.BuiltIns.{built_ins}
 use Rattle.cd_model.specs.Formula.{Graph, IsGraph}
+use Rattle.cd_model.proofs.Ones.{each_of_lists}
 use Rattle.cd_rules.specs.Family.{AsksNodes}
 use Rattle.cd_products.specs.QuestionBoxes.{QuestionClause, question_pieces, question_pieces_of}
 use Rattle.cd_products.specs.QuestionBoxes.{pairs_of, triples_of}
@@ -12,7 +13,6 @@ use Rattle.cd_products.specs.Products.{ProductsAsk, TriplesAsk}
 use Rattle.cd_products.specs.Inner.Tests.{AreOfGraph, IsBoxOfGraph, IsTest, keep_boxes}
 use Rattle.cd_products.specs.Inner.Tests.{refuse_row, refuse_rows}
 use Rattle.cd_products.proofs.BoxesOfGraphs.{keep_of_graph, refuse_of_graph}
-use Rattle.cd_products.proofs.Appending.{all_append}
 use Rattle.cd_products.proofs.MadeOfGraphs.{made_of_graph}
 
 module _ (graph : Graph) where
@@ -34,7 +34,7 @@ module _ (graph : Graph) where
       → AllOf (IsBoxOfGraph graph) clauses → AreOfGraph graph (question_pieces test clauses)
   all_pieces_of_graph test [] each = tt
   all_pieces_of_graph test (clause ∷ clauses) each =
-      all_append (AllOf (AsksNodes (length graph))) (question_pieces_of test clause)
+      each_of_lists (AllOf (AsksNodes (length graph))) (question_pieces_of test clause)
       (question_pieces test clauses) (pieces_of_graph test clause each.0)
       (all_pieces_of_graph test clauses each.1)
 

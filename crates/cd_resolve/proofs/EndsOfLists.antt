@@ -1,8 +1,8 @@
 -- All ways from a number end where they end from each number that it leads to.
 use Rattle.std.proofs.Common.{ℕ, zero, suc, ◌+◌, ◌≤◌, List, [], ◌∷◌, arith}
 use Rattle.cd_model.specs.AllOf.{AllOf}
+use Rattle.cd_model.proofs.Ones.{each_weaker}
 use Rattle.cd_resolve.specs.Inner.Order.{row, IsShort, Ends}
-use Rattle.cd_resolve.proofs.MembersKept.{each_weaker}
 
 module _ (links : List (List ℕ)) where
   -- ways that are shorter than this are shorter than more

@@ -1,5 +1,5 @@
 -- What stands in a list that goes on, and in one that was set at one place.
-use Rattle.std.proofs.Common.{◌≡◌, ℕ, zero, suc, ◌+◌, ◌-◌, ◌<◌, ◌≤◌, List, [], ◌∷◌, ◌++◌, length, set, Some, refl, sym}
+use Rattle.std.proofs.Common.{◌≡◌, ℕ, zero, suc, ◌-◌, ◌<◌, ◌≤◌, List, [], ◌∷◌, ◌++◌, length, set, Some, refl}
 use Rattle.std.proofs.Common.{ap, subst, arith}
 use Rattle.std.specs.List.{slice_get}
 
@@ -14,13 +14,6 @@ get_before x (y ∷ xs) ys (suc n) is = get_before x xs ys n is
 pub get_next : {X : Type 0} (x : X) (xs ys : List X) → slice_get (xs ++ x ∷ ys) (length xs) ≡ Some x
 get_next x [] ys = refl
 get_next x (y ∷ xs) ys = get_next x xs ys
-
--- what stands at a place of the later list stands so many places later
-pub get_later : {X : Type 0} (xs ys : List X) (n : ℕ) → slice_get (xs ++ ys) (length xs + n) ≡ slice_get ys n
-get_later [] ys n = let same : 0 + n ≡ n = omega arith in ap (λ (n : ℕ). slice_get ys n) same
-get_later (x ∷ xs) ys n =
-    let same : length (x ∷ xs) + n ≡ suc (length xs + n) = omega arith in
-    subst (λ (place : ℕ). slice_get (x ∷ xs ++ ys) place ≡ slice_get ys n) (sym same) (get_later xs ys n)
 
 -- what was set stands there
 pub get_set : {X : Type 0} (x : X) (xs : List X) (n : ℕ) → n < length xs → slice_get (set xs n x) n ≡ Some x

@@ -4,13 +4,6 @@ use Rattle.cd_sets.specs.declared.node_id.NodeId.{NodeId}
 use Rattle.cd_model.specs.AllOf.{AllOf}
 use Rattle.cd_resolve.specs.Inner.Members.{adds_nothing, joined_to, union_of, Sign, takes_nothing, met_with, meet_of}
 
--- a weaker fact of each
-pub each_weaker : {X : Type 0} (first second : X → Type 0) → ((x : X) → first x → second x) → (xs : List X)
-    → AllOf first xs
-    → AllOf second xs
-each_weaker first second weaker [] each = tt
-each_weaker first second weaker (x ∷ xs) each = (weaker x each.0, each_weaker first second weaker xs each.1)
-
 -- of one more
 pub each_more : {X : Type 0} (fact : X → Type 0) (xs : List X) (x : X) → AllOf fact xs → fact x
     → AllOf fact (xs ++ x ∷ [])

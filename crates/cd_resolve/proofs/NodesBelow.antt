@@ -5,12 +5,12 @@ use Rattle.cd_syntax.specs.Name.{Name}
 use Rattle.cd_syntax.specs.TypeTree as type
 use Rattle.cd_syntax.specs.TypeTree.{Tree, Declarations}
 use Rattle.cd_model.specs.AllOf.{AllOf}
+use Rattle.cd_model.proofs.Ones.{each_weaker}
 use Rattle.cd_regex.specs.Regular.{AsksBelow}
 use Rattle.cd_resolve.specs.Inner.Names.{AreBelow}
 use Rattle.cd_resolve.specs.Inner.Equation.{Equations}
 use Rattle.cd_resolve.specs.Inner.Frames.{Frame, Frames, number_in}
 use Rattle.cd_resolve.specs.Inner.Walk.{frame_after, walked, walked_regular}
-use Rattle.cd_resolve.proofs.MembersKept.{each_weaker}
 use Rattle.cd_resolve.proofs.NodesOfWalks.{IsOfNodes, HasNodes, HaveNodes, tree_has, regular_asks}
 
 -- the nodes of the names of these lists are before that of the next equation

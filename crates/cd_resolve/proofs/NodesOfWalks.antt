@@ -13,6 +13,7 @@ use Rattle.cd_syntax.specs.declared.builtin.BuiltinName.TheVariants as name
 use Rattle.cd_model.specs.AllOf.{AllOf}
 use Rattle.cd_model.specs.BuiltIns.{EMPTY, ANY, NIL, node, node_named}
 use Rattle.cd_model.specs.Formula.{Formula, Field}
+use Rattle.cd_model.proofs.Ones.{each_weaker}
 use Rattle.cd_regex.specs.Regular.{Regular, AsksBelow}
 use Rattle.cd_regex.specs.Automaton.{sequence_formulas}
 use Rattle.cd_resolve.specs.Inner.Names.{node_of}
@@ -26,7 +27,7 @@ use Rattle.cd_resolve.specs.Inner.Walk.{frame_after, ReadRegular, walked, walked
 use Rattle.cd_resolve.specs.Inner.Walk.{walked_fields, walked_regular, walked_regular_kind, walked_regulars}
 use Rattle.cd_resolve.specs.Inner.Walk.{walked_list}
 use Rattle.cd_resolve.proofs.Growing.{appends_longer, walked_appends, regular_appends, list_longer}
-use Rattle.cd_resolve.proofs.MembersKept.{each_weaker, each_more, union_keeps, meet_keeps}
+use Rattle.cd_resolve.proofs.MembersKept.{each_more, union_keeps, meet_keeps}
 use Rattle.cd_resolve.proofs.AsksMore.{asks_more, asks_repeated, ask_all}
 
 -- a built-in name has one of the first nodes

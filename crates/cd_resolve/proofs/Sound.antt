@@ -3,12 +3,13 @@ use Rattle.std.proofs.Common.{◌≡◌, ℕ, ◌+◌, ◌<◌, ◌⊎◌, inl, 
 use Rattle.std.proofs.Common.{None, sym, subst, ◌∙◌, take, get_or, set, add-one, arith}
 use Rattle.std.proofs.lemmas.List.{length-set}
 use Rattle.std.specs.List.{slice_get}
+use Rattle.cd_model.proofs.Ones.{each_weaker}
 use Rattle.cd_resolve.specs.declared.search.Frame.{Frame}
 use Rattle.cd_resolve.specs.Inner.Order.{IsOneOf, row, AreRows, Ends, IsOrder}
 use Rattle.cd_resolve.specs.Inner.Search.{IsSeen, IsOpen, AreKept, AllSeen, Leads, AllLead, AreOpen, IsSound}
 use Rattle.cd_resolve.proofs.EachOne.{one_of_first}
 use Rattle.cd_resolve.proofs.Lists.{each_at, each_taken, each_to_end, one_at, one_at_last, one_of_more, come_after_more}
-use Rattle.cd_resolve.proofs.MembersKept.{each_weaker, each_more}
+use Rattle.cd_resolve.proofs.MembersKept.{each_more}
 use Rattle.cd_resolve.proofs.Ways.{leads_to, no_way_back, all_lead_on, open_leads}
 use Rattle.cd_resolve.proofs.Seen.{kept_with, is_seen_now, seen_before}
 

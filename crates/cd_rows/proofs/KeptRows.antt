@@ -6,10 +6,10 @@ use Rattle.cd_sets.specs.declared.question.Question.{Question}
 use Rattle.cd_model.specs.AllOf.{AllOf}
 use Rattle.cd_model.specs.BuiltIns.{built_ins}
 use Rattle.cd_model.specs.Formula.{Graph, IsGraph}
+use Rattle.cd_model.proofs.Ones.{one_on_left, one_on_right, each_of_lists}
 use Rattle.cd_rules.specs.Members.{HasElement}
 use Rattle.cd_rules.specs.Rows.{Row}
 use Rattle.cd_products.specs.Inner.Tests.{IsTested, IsTest}
-use Rattle.cd_products.proofs.Appending.{any_left, any_right, all_append}
 use Rattle.cd_products.proofs.Tests.{right_test, tests_agree}
 use Rattle.cd_rows.specs.RecordRows.{RowAsksNodes}
 use Rattle.cd_rows.specs.Inner.Refining.{keep_if, keep, needed}
@@ -22,14 +22,14 @@ kept_if = keep_if (λ box. true)
 pub both_tested : (graph : Graph) (some others : List Question) (b : Bool)
     → IsTested graph some true → IsTested graph others b → IsTested graph (some ++ others) b
 both_tested graph some others true each those =
-    all_append (HasElement graph) some others each those
+    each_of_lists (HasElement graph) some others each those
 both_tested graph some others false each one =
-    any_right (λ question. HasElement graph question → ⊥) some others one
+    one_on_right (λ question. HasElement graph question → ⊥) some others one
 
 pub first_tested : (graph : Graph) (some others : List Question)
     → IsTested graph some false → IsTested graph (some ++ others) false
 first_tested graph some others one =
-    any_left (λ question. HasElement graph question → ⊥) some others one
+    one_on_left (λ question. HasElement graph question → ⊥) some others one
 
 -- a row that was tested is kept or dropped so by each right test
 pub kept_by_answer : (graph : Graph) (row : Row) (answer b : Bool)

@@ -16,11 +16,10 @@ use Rattle.cd_rules.specs.InRow.{thing_at, IsInCell, HasElsewhere, IsInRow}
 use Rattle.cd_rules.specs.Rows.{Cell, Row}
 use Rattle.cd_rules.specs.Tasks.{present}
 use Rattle.cd_rules.proofs.InCells.{Says}
-use Rattle.cd_model.proofs.Ones.{each_of_all}
+use Rattle.cd_model.proofs.Ones.{each_of_all, each_of_lists}
 use Rattle.cd_rules.proofs.Asking.{each_of_map}
 use Rattle.cd_products.specs.QuestionBoxes.{InQuestion, InQuestions, AreDecided, IsInhabited}
 use Rattle.cd_products.specs.QuestionBoxes.{DropsEmpty}
-use Rattle.cd_products.proofs.Appending.{all_append}
 use Rattle.cd_rows.specs.Inner.Refining.{needed, less_row, less_cells, with_cells, outside_rest}
 use Rattle.cd_rows.proofs.Narrowing.{in_without}
 
@@ -80,7 +79,7 @@ module _ (answers : Thing → Answers) (Sort : Thing → Type 0) where
 
   pub less_some_in_every : (type : RecordType) (row : Row) → SomeInEvery row
       → AllOf SomeInEvery (less_row type row)
-  less_some_in_every type row each = all_append SomeInEvery
+  less_some_in_every type row each = each_of_lists SomeInEvery
       (map (with_cells row) (less_cells type row.cells)) (outside_rest type row ∷ [])
       (each_of_map (with_cells row) SomeInEvery (less_cells type row.cells)
       (each_of_all (λ cells. SomeInEvery (with_cells row cells)) (λ cells. each)
@@ -139,7 +138,7 @@ module _ (answers : Thing → Answers) (Sort : Thing → Type 0) where
     pub none_dropped : (test : List Question → Bool) → DropsEmpty answers Sort test
         → (row : Row) → test (needed row) ≡ false → IsInRow answers at row → ⊥
     none_dropped test drops row dropped inside =
-        let each = all_append Has (present row.cells) row.some
+        let each = each_of_lists Has (present row.cells) row.some
         (cells_have row.cells inside.0) (some_have row row.some inside.2) in
         let found = things_for (needed row) each in
         drops (needed row) found.0 dropped found.1 found.2

@@ -11,6 +11,7 @@ use Rattle.cd_model.specs.Membership.{Answers, closure_mapping}
 use Rattle.cd_model.specs.Thing.{Thing, IsElement, IsValue}
 use Rattle.cd_model.specs.Types.{no_closure}
 use Rattle.cd_model.proofs.Sorts as sort
+use Rattle.cd_model.proofs.Ones.{each_of_lists}
 use Rattle.cd_rules.specs.Clauses.{Clause, RecordType, Records, Ints, Chars, Atoms, Pairs, Xmls}
 use Rattle.cd_rules.specs.Clauses.{Arrows, IsClauseOfQuestion}
 use Rattle.cd_rules.specs.Family.{AsksNodes}
@@ -21,7 +22,6 @@ use Rattle.cd_rules.proofs.PartsAsk.{clause_names_labels}
 use Rattle.cd_products.specs.Inner.ClauseBoxes.{AreClauses}
 use Rattle.cd_products.specs.Inner.Tests.{IsTest}
 use Rattle.cd_products.specs.QuestionBoxes.{KeepsInhabited}
-use Rattle.cd_products.proofs.Appending.{all_append}
 use Rattle.cd_products.proofs.Decided.{elements_decided}
 use Rattle.cd_products.proofs.LongerGraphs.{clauses_kept, test_of_longer}
 use Rattle.cd_products.proofs.MadeProducts.{drops, keeps, drops_values, values_decided}
@@ -106,7 +106,7 @@ module _ (answers : Thing → Answers) (Sort : Thing → Type 0) (test : List Qu
     rows_live [] each = tt
     rows_live (Records wanted refused ∷ all) each =
         let names = clause_names_labels graph sound question (Records wanted refused) each.0 in
-        all_append (IsLivingRow answers Sort) (rows_of_clause test (row_clause wanted refused))
+        each_of_lists (IsLivingRow answers Sort) (rows_of_clause test (row_clause wanted refused))
         (rows_of_clauses test (row_clauses all)) (clause_lives wanted refused names.0 names.1)
         (rows_live all each.1)
     rows_live (Ints _ _ ∷ all) each = rows_live all each.1

@@ -11,8 +11,7 @@ use Rattle.cd_rules.specs.Rows.{Cell, Row, with_label, labels_after, labels_of}
 use Rattle.cd_rules.specs.Members.{HaveLabels}
 use Rattle.cd_rules.proofs.Answered.{map_of_each}
 use Rattle.cd_rules.proofs.MembersOfRecords.{labels_are}
-use Rattle.cd_model.proofs.Ones.{one_of_map}
-use Rattle.cd_products.proofs.Appending.{all_append}
+use Rattle.cd_model.proofs.Ones.{one_of_map, each_of_lists}
 use Rattle.cd_rows.specs.RecordRows.{HaveOwnLabels}
 use Rattle.cd_rows.proofs.LessRows.{labels_in}
 use Rattle.cd_rows.proofs.RefinedRows.{HasThese}
@@ -71,5 +70,5 @@ module _ (wanted refused : List RecordType) (row : Row)
       → AllOf (λ cell. IsLabel cell.0) row.cells
   have_labels these those = map_of_each (λ cell. cell.0) IsLabel row.cells
       (subst (AllOf IsLabel) (sym same) (labels_are (wanted ++ refused)
-      (all_append (λ type. AllOf (λ field. IsLabel field.0) type.named) wanted refused these
+      (each_of_lists (λ type. AllOf (λ field. IsLabel field.0) type.named) wanted refused these
       those)))

@@ -13,9 +13,8 @@ use Rattle.cd_rules.specs.InRow.{IsInRow, IsOfNoCell}
 use Rattle.cd_rules.specs.Rows.{Row, field_at}
 use Rattle.cd_rules.proofs.InCells.{Says}
 use Rattle.cd_rules.proofs.LabelsNamed.{free_field}
-use Rattle.cd_model.proofs.Ones.{each_weaker}
+use Rattle.cd_model.proofs.Ones.{each_weaker, one_on_left, one_on_right, one_on_a_side, each_of_lists}
 use Rattle.cd_rules.proofs.Asking.{each_of_map}
-use Rattle.cd_products.proofs.Appending.{any_left, any_right, any_split, all_append}
 use Rattle.cd_rows.specs.Inner.Refining as refining
 use Rattle.cd_rows.specs.Inner.Refining.{RowClause, needed, less_row, less_cells, with_cells}
 use Rattle.cd_rows.specs.Inner.Refining.{outside_rest}
@@ -34,7 +33,7 @@ NamesNoMore labels type = (label : Name) → (AnyOf (λ name. name ≡ label) la
 -- the rows of a row less a type have its labels
 pub less_these : (labels : List Name) (type : RecordType) (row : Row) → HasThese labels row
     → AllOf (HasThese labels) (less_row type row)
-less_these labels type row same = all_append (HasThese labels)
+less_these labels type row same = each_of_lists (HasThese labels)
     (map (with_cells row) (less_cells type row.cells)) (outside_rest type row ∷ [])
     (each_of_map (with_cells row) (HasThese labels) (less_cells type row.cells)
     (each_weaker (λ cells. labels_in cells ≡ labels_in row.cells)
@@ -73,7 +72,7 @@ module _ (test : List Question → Bool) where
 
   refuse_passes : (type : RecordType) (rows : List Row) → AllOf Passes (refuse type rows)
   refuse_passes type [] = tt
-  refuse_passes type (row ∷ rows) = all_append Passes (keep (less_row type row))
+  refuse_passes type (row ∷ rows) = each_of_lists Passes (keep (less_row type row))
       (refuse type rows) (keep_passes (less_row type row)) (refuse_passes type rows)
 
   all_pass : (refused : List RecordType) (rows : List Row) → AllOf Passes rows
@@ -102,7 +101,7 @@ module _ (test : List Question → Bool) where
           → AllOf Fact (refuse type rows)
       refuse_has type is [] each = tt
       refuse_has type is (row ∷ rows) each =
-          all_append Fact (keep (less_row type row)) (refuse type rows)
+          each_of_lists Fact (keep (less_row type row)) (refuse type rows)
           (keep_has (less_row type row) (less_has type is row each.0))
           (refuse_has type is rows each.1)
 
@@ -155,7 +154,7 @@ module _ (test : List Question → Bool) where
           → AnyOf InRow rows × Out type
       refuse_only type free [] each one = absurd one
       refuse_only type free (row ∷ rows) each one =
-          elim (any_split InRow (keep (less_row type row)) (refuse type rows) one) [
+          elim (one_on_a_side InRow (keep (less_row type row)) (refuse type rows) one) [
             | inl here ↦
                 let found = less_only answers at type row (free_at type free row each.0)
                 (keep_only (less_row type row) here) in
@@ -212,12 +211,12 @@ module _ (test : List Question → Bool) where
             → AnyOf InRow (refuse type rows)
         refuse_covers type free [] each one out = absurd one
         refuse_covers type free (row ∷ rows) each (inl here) out =
-            any_left InRow (keep (less_row type row)) (refuse type rows)
+            one_on_left InRow (keep (less_row type row)) (refuse type rows)
             (keep_covers (less_row type row)
             (less_cover answers at type row (free_at type free row each.0)
             (λ label. decided label (field_at type label)) here out))
         refuse_covers type free (row ∷ rows) each (inr later) out =
-            any_right InRow (keep (less_row type row)) (refuse type rows)
+            one_on_right InRow (keep (less_row type row)) (refuse type rows)
             (refuse_covers type free rows each.1 later out)
 
         all_cover : (refused : List RecordType) → AllOf (NamesNoMore labels) refused

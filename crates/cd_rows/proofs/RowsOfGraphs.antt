@@ -13,9 +13,8 @@ use Rattle.cd_rules.specs.Rows.{Cell, Row, field_at, labels_of}
 use Rattle.cd_rules.specs.Tasks.{present}
 use Rattle.cd_rules.specs.Within.{IsWithin, IsTypeWithin}
 use Rattle.cd_rules.proofs.Asking.{each_of_map, each_of_set}
-use Rattle.cd_model.proofs.Ones.{each_weaker}
+use Rattle.cd_model.proofs.Ones.{each_weaker, each_of_lists}
 use Rattle.cd_rules.proofs.PartsAsk.{clause_is_within, row_asks}
-use Rattle.cd_products.proofs.Appending.{all_append}
 use Rattle.cd_products.proofs.OneMore.{each_with}
 use Rattle.cd_rows.specs.RecordRows.{RowAsksNodes}
 use Rattle.cd_rows.specs.Inner.PlainClauses.{row_clause_of, row_clauses}
@@ -83,7 +82,7 @@ module _ (nodes : ℕ) where
     -- a row less a type
     pub less_asks : (row : Row) → RowAsksNodes nodes row
         → AllOf (RowAsksNodes nodes) (less_row type row)
-    less_asks row asks = all_append (RowAsksNodes nodes)
+    less_asks row asks = each_of_lists (RowAsksNodes nodes)
         (map (with_cells row) (less_cells type row.cells)) (outside_rest type row ∷ [])
         (each_of_map (with_cells row) (RowAsksNodes nodes) (less_cells type row.cells)
         (each_weaker (AllOf Asks) (λ cells. RowAsksNodes nodes (with_cells row cells))
@@ -115,7 +114,7 @@ module _ (nodes : ℕ) where
       by_test false later = (each.0, later)
 
   pub needed_ask : (row : Row) → RowAsksNodes nodes row → AllOf (AsksNodes nodes) (needed row)
-  needed_ask row asks = all_append (AsksNodes nodes) (present row.cells) row.some
+  needed_ask row asks = each_of_lists (AsksNodes nodes) (present row.cells) row.some
       (present_ask row.cells asks.cells) asks.some
 
   rests_below : (types : List RecordType) → AllOf (IsTypeWithin nodes) types
@@ -148,7 +147,7 @@ module _ (nodes : ℕ) where
         → AllOf (RowAsksNodes nodes) (rows_of_clauses test clauses)
     clauses_ask [] each = tt
     clauses_ask (clause ∷ clauses) each =
-        all_append (RowAsksNodes nodes) (rows_of_clause test clause)
+        each_of_lists (RowAsksNodes nodes) (rows_of_clause test clause)
         (rows_of_clauses test clauses)
         (clause_has test (RowAsksNodes nodes) (IsTypeWithin nodes) less_asks clause
         each.0.refused each.0.row)
@@ -171,6 +170,6 @@ module _ (graph : Graph) (sound : IsGraph graph) (question : Question) where
       → AllOf (ClauseAsks (length graph)) (row_clauses all)
   row_clauses_ask [] each = tt
   row_clauses_ask (clause ∷ all) each =
-      all_append (ClauseAsks (length graph)) (row_clause_of clause) (row_clauses all)
+      each_of_lists (ClauseAsks (length graph)) (row_clause_of clause) (row_clauses all)
       (clause_asks clause (clause_is_within graph sound question clause each.0))
       (row_clauses_ask all each.1)

@@ -7,9 +7,9 @@ use Rattle.std.proofs.lemmas.List.{at_drop_more, at_drop_all}
 use Rattle.std.specs.List.{slice_get}
 use Rattle.cd_sets.specs.declared.question.Question.{Question}
 use Rattle.cd_model.specs.AllOf.{AnyOf}
+use Rattle.cd_model.proofs.Ones.{one_on_left, one_on_right, one_on_a_side}
 use Rattle.cd_rules.specs.Family.{AreAmong, SameMembers}
 use Rattle.cd_rules.proofs.Among.{among_itself, among_on, each_of_its}
-use Rattle.cd_products.proofs.Appending.{any_left, any_right, any_split}
 use Rattle.cd_sequences.specs.declared.state.State.{State as CodeState}
 use Rattle.cd_sequences.specs.declared.step.Step.{Step}
 use Rattle.cd_sequences.specs.Inner.ItemQuestions.{is_marked, items_of_steps, items_of_states}
@@ -28,9 +28,9 @@ same_on xs ys zs one other = (among_on xs ys zs one.0 other.0, among_on zs ys xs
 among_with : {X : Type 0} (xs ys more : List X) → AreAmong xs ys
     → AreAmong (xs ++ more) (ys ++ more)
 among_with {X} xs ys more among = each_of_its (λ x. AnyOf (λ (other : X). other ≡ x) (ys ++ more))
-    (xs ++ more) (λ x there. elim (any_split (λ (other : X). other ≡ x) xs more there) [
-      | inl left ↦ any_left (λ (other : X). other ≡ x) ys more (its xs among x left)
-      | inr right ↦ any_right (λ (other : X). other ≡ x) ys more right
+    (xs ++ more) (λ x there. elim (one_on_a_side (λ (other : X). other ≡ x) xs more there) [
+      | inl left ↦ one_on_left (λ (other : X). other ≡ x) ys more (its xs among x left)
+      | inr right ↦ one_on_right (λ (other : X). other ≡ x) ys more right
     ])
   where
     its : (some : List X) → AreAmong some ys → (x : X) → AnyOf (λ other. other ≡ x) some
@@ -51,19 +51,19 @@ added : (old new : List Question) (number : ℕ) (question : Question) (rest : L
 added old new number question rest there (inl same) =
     subst (λ (new : List Question). SameMembers (new ++ rest) (old ++ question ∷ rest)) (sym same) (
       each_of_its (λ q. AnyOf (λ other. other ≡ q) (old ++ question ∷ rest)) (old ++ rest)
-          (λ q is. elim (any_split (λ other. other ≡ q) old rest is) [
-            | inl left ↦ any_left (λ other. other ≡ q) old (question ∷ rest) left
-            | inr right ↦ any_right (λ other. other ≡ q) old (question ∷ rest) (inr right)
+          (λ q is. elim (one_on_a_side (λ other. other ≡ q) old rest is) [
+            | inl left ↦ one_on_left (λ other. other ≡ q) old (question ∷ rest) left
+            | inr right ↦ one_on_right (λ other. other ≡ q) old (question ∷ rest) (inr right)
           ]),
       each_of_its (λ q. AnyOf (λ other. other ≡ q) (old ++ rest)) (old ++ question ∷ rest)
-          (λ q is. elim (any_split (λ other. other ≡ q) old (question ∷ rest) is) [
-            | inl left ↦ any_left (λ other. other ≡ q) old rest left
+          (λ q is. elim (one_on_a_side (λ other. other ≡ q) old (question ∷ rest) is) [
+            | inl left ↦ one_on_left (λ other. other ≡ q) old rest left
             | inr right ↦ elim right [
-              | inl equal ↦ any_left (λ other. other ≡ q) old rest
+              | inl equal ↦ one_on_left (λ other. other ≡ q) old rest
                   (subst (λ (q : Question). AnyOf (λ other. other ≡ q) old) equal
                   (got_among old number question (subst (λ (all : List Question).
                   slice_get all number ≡ Some question) same there)))
-              | inr later ↦ any_right (λ other. other ≡ q) old rest later
+              | inr later ↦ one_on_right (λ other. other ≡ q) old rest later
             ]
           ]),
     )

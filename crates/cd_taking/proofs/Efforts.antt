@@ -5,9 +5,9 @@ use Rattle.std.proofs.lemmas.Option.{slice_get_cases, none-some, same_Some}
 use Rattle.std.specs.List.{slice_get}
 use Rattle.cd_model.specs.Thing as thing
 use Rattle.cd_model.specs.Thing.{Thing}
+use Rattle.cd_model.proofs.Ones.{each_weaker}
 use Rattle.cd_matching.specs.Kernel as kernel
 use Rattle.cd_matching.specs.Kernel.{Ends, EachEnds, leads_to, Test, Bind, Put}
-use Rattle.cd_matching.proofs.AllOf.{all_weaker}
 use Rattle.cd_taking.specs.declared.node_parts.PairNode.{PairNode}
 use Rattle.cd_taking.specs.Inner.Machine.{as_pair, as_xml, as_record, Node, Named, pair_node, xml_node, record_node}
 use Rattle.cd_taking.specs.Inner.Work.{Effort, Apart, Labelled, by_node, in_a_row, effort, effort_at, apart_of, fields_work, pair_work, xml_work, record_work}
@@ -29,7 +29,7 @@ module _ (nodes : List Node) where
 
   ends_weaker : (P Q : ℕ → Type 0) → ((number : ℕ) → P number → Q number) → (node : Option Node) → EachEnds P node → EachEnds Q node
   ends_weaker P Q weaker None ends = ends
-  ends_weaker P Q weaker (Some node) ends = all_weaker P Q weaker (leads_to node) ends
+  ends_weaker P Q weaker (Some node) ends = each_weaker P Q weaker (leads_to node) ends
 
   -- one step more changes nothing
   enough : (apart : Apart) (steps number : ℕ) → Ends nodes steps number

@@ -8,7 +8,7 @@ use Rattle.cd_sets.specs.declared.node_id.NodeId.{NodeId}
 use Rattle.cd_model.specs.AllOf.{AllOf, AnyOf}
 use Rattle.cd_model.specs.Formula.{Graph}
 use Rattle.cd_model.specs.Thing.{Thing}
-use Rattle.cd_matching.proofs.AllOf.{all_weaker}
+use Rattle.cd_model.proofs.Ones.{each_weaker}
 use Rattle.cd_cells.specs.Cells.{thing_at}
 use Rattle.cd_cells.specs.Table.{table, names, Grows}
 use Rattle.cd_cells.specs.declared.cell.ValueId.{ValueId}
@@ -79,9 +79,9 @@ module _ (old new : Values) (grows : Grows old new) where
 
   pub wider_within : (taker : Taker) → IsWithin bound taker → IsWithin wider taker
   wider_within taker within = record {
-    frames = all_weaker (IsFrameWithin bound) (IsFrameWithin wider) frame_wider taker.frames within.frames;
-    captures = all_weaker (IsCaptureWithin bound) (IsCaptureWithin wider) (λ (one : Capture) is. within_grown old new grows one.value.0 is) taker.captures.items within.captures;
-    failures = all_weaker (IsFailureWithin bound) (IsFailureWithin wider) (λ (one : Failure) is. within_grown old new grows one.pair is) taker.failures within.failures;
+    frames = each_weaker (IsFrameWithin bound) (IsFrameWithin wider) frame_wider taker.frames within.frames;
+    captures = each_weaker (IsCaptureWithin bound) (IsCaptureWithin wider) (λ (one : Capture) is. within_grown old new grows one.value.0 is) taker.captures.items within.captures;
+    failures = each_weaker (IsFailureWithin bound) (IsFailureWithin wider) (λ (one : Failure) is. within_grown old new grows one.pair is) taker.failures within.failures;
   }
 
 module _ (graph : Graph) (maps : Mappings) (nodes : List Node) where

@@ -2,6 +2,7 @@ use Rattle.std.proofs.Common.{◌≡◌, ◌<◌, ℕ, List, Option, map, length
 use Rattle.std.proofs.lemmas.List.{length-map}
 use Rattle.std.specs.Option.{option_map}
 use Rattle.cd_model.specs.AllOf.{AllOf}
+use Rattle.cd_model.proofs.Ones.{each_weaker}
 use Rattle.cd_graph.specs.Nodes.{nodes}
 use Rattle.cd_graph.specs.PlainFormula.{plain}
 use Rattle.cd_resolve.specs.declared.equation.Equation.{Equation as CodeEquation}
@@ -11,7 +12,6 @@ use Rattle.cd_resolve.specs.Inner.Links.{links}
 use Rattle.cd_resolve.specs.Inner.Order.{AreRows, Ends, IsOrder}
 use Rattle.cd_resolve.specs.Inner.Filling.{at_once, left}
 use Rattle.cd_resolve.proofs.LinksRows.{are_rows, links_length}
-use Rattle.cd_resolve.proofs.MembersKept.{each_weaker}
 use Rattle.cd_resolve.proofs.Solved.{left_sound}
 use Rattle.cd_resolve.proofs.solve.formulas_of.Goals as goal
 

@@ -1,7 +1,7 @@
 use Rattle.std.proofs.Common.{◌≡◌, ◌∙◌, refl, ap, sym, ℕ, Option, Some, drop, length, List, ◌+◌}
 use Rattle.std.specs.List.{position}
 use Rattle.cd_model.specs.Thing.{Pair}
-use Rattle.cd_matching.proofs.AllOf.{all_weaker}
+use Rattle.cd_model.proofs.Ones.{each_weaker}
 use Rattle.cd_cells.specs.Cells.{thing_at}
 use Rattle.cd_cells.specs.Table.{table}
 use Rattle.cd_taking.specs.declared.capture.Capture.{Capture}
@@ -48,6 +48,6 @@ returns-clause-within c =
     let new = c.before_value.new.values in
     all_set (IsCaptureWithin (length (table new))) c.args.captures.now.items (c.args.mark + c.in-Some.place)
     (record { variable = c.args.variable; value = c.in_ok-value.value })
-    (all_weaker (IsCaptureWithin (length (table old))) (IsCaptureWithin (length (table new)))
+    (each_weaker (IsCaptureWithin (length (table old))) (IsCaptureWithin (length (table new)))
     (λ (one : Capture) within. within_grown old new c.in_ok-value.ensures.grows one.value.0 within) c.args.captures.now.items c.requires.within)
     c.in_ok-value.ensures.is.within
