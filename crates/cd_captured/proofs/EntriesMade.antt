@@ -25,7 +25,7 @@ use Rattle.cd_captured.specs.Inner.Givers.{gives}
 use Rattle.cd_captured.specs.Inner.Made.{IsNodeOfWant, IsPut, IsGiven, IsMember, AreMade, text_at}
 use Rattle.cd_captured.specs.Inner.Plan.{Plan, text_of}
 use Rattle.cd_captured.specs.Inner.PlainSteps.{IsStep}
-use Rattle.cd_captured.proofs.Leaves.{in_it, HoldsOf, pair_holds}
+use Rattle.cd_model.proofs.ReadHeads.{in_it, Holds as HoldsOf, pair_holds}
 use Rattle.cd_captured.proofs.QuestionsKept.{HoldsQuestions}
 use Rattle.cd_captured.proofs.WantedNodes.{StandFrom, coming_holds, coming_node, constant_holds}
 

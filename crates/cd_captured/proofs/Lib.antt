@@ -28,7 +28,6 @@ pub mod Found
 pub mod NodesFound
 pub mod WantsOnce
 pub mod QuestionsKept
-pub mod Leaves
 pub mod WantedNodes
 pub mod GiversFound
 pub mod EntriesMade

@@ -1,5 +1,5 @@
 -- What the nodes of wants hold, in a graph in which the formulas for the wants stand.
-use Rattle.std.proofs.Common.{◌≡◌, ◌↔◌, ◌<◌, ◌+◌, ℕ, zero, suc, true, List, [], ◌∷◌, Option, Some, length}
+use Rattle.std.proofs.Common.{◌≡◌, ◌↔◌, ◌<◌, ◌+◌, ℕ, zero, suc, true, List, [], ◌∷◌, Option, Some, length, codes}
 use Rattle.std.proofs.Common.{drop, refl, sym, ap, subst, ◌∙◌, arith}
 use Rattle.std.proofs.lemmas.Option.{none-some, slice_get_within}
 use Rattle.std.specs.List.{slice_get}
@@ -14,6 +14,7 @@ use Rattle.cd_model.specs.Thing as thing
 use Rattle.cd_model.specs.Thing.{Thing}
 use Rattle.cd_model.specs.Types.{Mapping}
 use Rattle.cd_model.proofs.BothWays.{through}
+use Rattle.cd_model.proofs.ByNumber.{got_some, all_got}
 use Rattle.cd_matching.specs.Sequences.{thing_of}
 use Rattle.cd_matching.specs.Sequences as sequences
 use Rattle.cd_rules.specs.Family.{AsksNodes}
@@ -21,11 +22,11 @@ use Rattle.cd_filter.specs.Table.{Place}
 use Rattle.cd_captured.specs.declared.want.Want.{Want}
 use Rattle.cd_captured.specs.declared.want.Want.TheVariants.{Comes, Text, Character}
 use Rattle.cd_captured.specs.Inner.Made.{IsNodeOfWant, IsComing, IsText, IsConstant, IsMade}
-use Rattle.cd_captured.specs.Inner.Made.{AreMade, text_at, character}
+use Rattle.cd_captured.specs.Inner.Made.{AreMade, text_at}
 use Rattle.cd_captured.specs.Inner.Plan.{Plan, text_of}
-use Rattle.cd_captured.proofs.Leaves.{in_it, HoldsOf, integer_holds, character_holds, atom_holds}
-use Rattle.cd_captured.proofs.Leaves.{nil_holds, pair_holds, IsPairIn}
-use Rattle.cd_captured.proofs.Listed.{all_got}
+use Rattle.cd_model.proofs.ReadHeads.{in_it, Holds as HoldsOf, integer_holds, character_holds, atom_holds}
+use Rattle.cd_model.proofs.ReadHeads.{pair_holds, IsPairIn}
+use Rattle.cd_model.specs.Leaves.{one_character}
 use Rattle.cd_captured.proofs.QuestionsKept.{HoldsQuestions}
 
 -- the formulas of a batch stand in a graph, from a number on
@@ -45,11 +46,6 @@ dropped_one [] zero x rest is = ap (drop 1) is
 dropped_one [] (suc k) x rest is = ap (drop 1) is
 dropped_one (y ∷ xs) zero x rest is = ap (drop 1) is
 dropped_one (y ∷ xs) (suc k) x rest is = dropped_one xs k x rest is
-
-pub got_some : {X : Type 0} (xs : List X) (k : ℕ) → k < length xs → (x : X) × (slice_get xs k ≡ Some x)
-got_some [] k below = absurd (omega (arith, below))
-got_some (x ∷ xs) zero below = (x, refl)
-got_some (x ∷ xs) (suc k) below = got_some xs k (omega (arith, below))
 
 module _ (plan : Plan) (wants : List Want) (batch : List Formula)
     (asks : AllOf (λ place. AsksNodes (length plan.graph) place.question) plan.places)
@@ -97,7 +93,7 @@ module _ (plan : Plan) (wants : List Want) (batch : List Formula)
       → IsIn d id ↔ (d ≡ thing.Character c)
   character_node id c is d =
       let found = formula_of_want id (Character c) is in
-      in_node_of id (character c) (λ d. d ≡ thing.Character c) (found.2 ∙ found.1) d
+      in_node_of id (one_character c) (λ d. d ≡ thing.Character c) (found.2 ∙ found.1) d
       (character_holds graph closed c d)
 
   -- a pair of a character and a text
@@ -117,7 +113,7 @@ module _ (plan : Plan) (wants : List Want) (batch : List Formula)
       → (f : Formula) → IsText plan wants number next (slice_get text zero) f → (d : Thing)
       → Holds d f ↔ (d ≡ sequences.text_of text)
   text_holds number next [] later f is d = subst
-      (λ (g : Formula). Holds d g ↔ (d ≡ sequences.nil)) (sym is) (nil_holds graph closed d)
+      (λ (g : Formula). Holds d g ↔ (d ≡ sequences.nil)) (sym is) (atom_holds graph closed (codes "nil") d)
   text_holds number next (c ∷ rest) later f (one, other, is_one, is_other, is) d = subst
       (λ (g : Formula). Holds d g ↔ (d ≡ sequences.text_of (c ∷ rest))) (sym is)
       (through (pair_holds graph closed one other d) (of_pair one other c rest
@@ -168,4 +164,4 @@ module _ (plan : Plan) (wants : List Want) (batch : List Formula)
       first_is [] = refl
       first_is (c ∷ text) = refl
   constant_holds number constant.Nil text f made d = subst
-      (λ (g : Formula). Holds d g ↔ (d ≡ sequences.nil)) (sym made) (nil_holds graph closed d)
+      (λ (g : Formula). Holds d g ↔ (d ≡ sequences.nil)) (sym made) (atom_holds graph closed (codes "nil") d)

@@ -16,7 +16,7 @@ use Rattle.cd_typing.specs.Interfaces.{AllArrows}
 use Rattle.cd_typing.specs.Typ as types
 use Rattle.cd_forms.specs.Arrows.{arrows_of}
 use Rattle.cd_forms.specs.Inner.ArrowFormulas.{arrow_formulas}
-use Rattle.cd_forms.proofs.ReadHeads.{of_arrow}
+use Rattle.cd_model.proofs.ReadHeads.{of_arrow}
 
 abbrev pub AreNodes : Graph → List (NodeId × NodeId) → Type 0
 AreNodes graph = AllOf (λ arrow. (arrow.0.0 < length graph) × (arrow.1.0 < length graph))

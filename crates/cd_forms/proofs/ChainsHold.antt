@@ -12,12 +12,14 @@ use Rattle.cd_model.specs.Membership.{holds, reader, answers}
 use Rattle.cd_model.specs.Thing.{Thing, Pair, IsElement}
 use Rattle.cd_model.proofs.Extending.{kept_elements}
 use Rattle.cd_model.proofs.Ones.{each_weaker}
+use Rattle.cd_model.proofs.FormulasAmongMore.{formula_after}
 use Rattle.cd_meaning.specs.Sets.{◌⊆◌, elements_of}
 use Rattle.cd_meaning.specs.Sequences.{followed_by}
 use Rattle.cd_typing.specs.Typ.{typ, AreIn}
 use Rattle.cd_forms.specs.Inner.Chains.{AreBefore, begin, chain_from}
-use Rattle.cd_forms.proofs.LongerGraphs.{formula_after, still_in, were_in}
-use Rattle.cd_forms.proofs.ReadHeads.{of_pair}
+use Rattle.cd_forms.proofs.LongerGraphs.{still_in, were_in}
+use Rattle.cd_model.proofs.ReadHeads.{of_pair}
+use Rattle.cd_model.specs.Types.{no_closure}
 
 -- the formulas of a batch stand in a graph, from a number on
 abbrev pub StandFrom : (first : ℕ) → List Formula → Graph → Type 0
@@ -76,16 +78,16 @@ module _ (graph : Graph) where
   chain_only [] end id is e element there =
       ([], e, tt, element, subst (λ (i : NodeId). answers graph e i true) is there, refl)
   chain_only (head ∷ heads) end id is e element there =
-      let found = of_pair graph head is.0 e
+      let found = of_pair graph no_closure head is.0 e
       (subst (λ (f : Formula). holds (reader graph e) f true) is.1 there) in
-      let elements = subst IsElement found.4 element in
-      let rest = chain_only heads end is.0 is.2 found.1 elements.1 found.3 in (
+      let elements = subst IsElement found.2 element in
+      let rest = chain_only heads end is.0 is.2 found.1 elements.1 found.4 in (
         found.0 ∷ rest.0,
         rest.1,
-        (elements.0, found.2, rest.2),
+        (elements.0, found.3, rest.2),
         rest.3,
         rest.4,
-        found.4 ∙ ap (Pair found.0) rest.5,
+        found.2 ∙ ap (Pair found.0) rest.5,
       )
 
   -- the formulas of pairs in a row are a row, wherever they stand

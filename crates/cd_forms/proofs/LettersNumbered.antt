@@ -10,7 +10,7 @@ use Rattle.cd_sets.specs.declared.node_id.NodeId.{NodeId}
 use Rattle.cd_model.specs.BuiltIns.{node}
 use Rattle.cd_graph.specs.PlainFormula.{plain}
 use Rattle.cd_graph.specs.declared.formula.Formula.{Formula as CodeFormula}
-use Rattle.cd_forms.specs.Inner.Leaves.{one_character}
+use Rattle.cd_model.specs.Leaves.{one_character}
 use Rattle.cd_forms.specs.Inner.Letters.{IsLetter, AreLetters}
 
 got_more : (letters : List ℕ) (more : List ℕ) (k c : ℕ) → slice_get letters k ≡ Some c

@@ -1,5 +1,4 @@
 pub mod LongerGraphs
-pub mod ReadHeads
 pub mod ChainsHold
 pub mod Followed
 pub mod UnionsHold

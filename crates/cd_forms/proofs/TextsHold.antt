@@ -15,13 +15,14 @@ use Rattle.cd_meaning.specs.Sets.{◌⊆◌, elements_of}
 use Rattle.cd_meaning.specs.Sequences.{followed_by}
 use Rattle.cd_typing.specs.Typ.{typ, AreIn}
 use Rattle.cd_forms.specs.Inner.Chains.{IsTextBefore, begin, chain_from}
-use Rattle.cd_forms.specs.Inner.Leaves.{one_character}
+use Rattle.cd_model.specs.Leaves.{one_character}
 use Rattle.cd_forms.specs.Inner.Letters.{IsLetter, AreLetters, IsTextBatch}
 use Rattle.cd_forms.proofs.ChainsHold.{StandFrom, stand_after, stand_left, stand_right, IsChain}
 use Rattle.cd_forms.proofs.ChainsHold.{chain_has, chain_only, chain_stands, chain_sound}
 use Rattle.cd_forms.proofs.ChainsHold.{chain_length}
 use Rattle.cd_forms.proofs.Followed.{parts_are_elements}
-use Rattle.cd_forms.proofs.ReadHeads.{character_holds}
+use Rattle.cd_model.proofs.ReadHeads.{character_holds}
+use Rattle.cd_model.specs.Types.{no_closure}
 
 -- the formulas of letters
 abbrev pub letter_formulas : List ℕ → List Formula
@@ -53,7 +54,7 @@ module _ (graph : Graph) (first : ℕ) (letters : List ℕ)
       let there = slice_get-map one_character letters is.0 ∙ ap (option_map one_character) is.1 in
       let formula = ap (formula_at graph) is.2 ∙ stand is.0 (one_character c) there in
       subst (λ (f : Formula). holds (reader graph d) f true ↔ (d ≡ Character c)) (sym formula)
-      (character_holds graph c d)
+      (character_holds graph no_closure c d)
 
   letters_in : (text : List ℕ) (heads : List NodeId) → AreLetters first letters text heads
       → AllOf IsElement (map Character text)

@@ -19,7 +19,7 @@ use Rattle.cd_typing.specs.Typ.{In, typ}
 use Rattle.cd_forms.specs.Inner.Members.{is_member}
 use Rattle.cd_forms.specs.Unions.{IsInOne}
 use Rattle.cd_forms.proofs.MembersOfUnions.{part_has_member, member_of_part}
-use Rattle.cd_forms.proofs.ReadHeads.{nothing_in_empty}
+use Rattle.cd_model.proofs.ReadHeads.{nothing_in_empty}
 
 -- the formulas of nodes
 abbrev pub formulas_at : Graph → List NodeId → List Formula

@@ -1,6 +1,5 @@
 -- What serves proofs and private functions. No public clause speaks of it.
 pub mod Chains
-pub mod Leaves
 pub mod Letters
 pub mod Sorting
 pub mod Members

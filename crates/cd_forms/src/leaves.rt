@@ -2,7 +2,7 @@
 ghost use Rattle.std.specs.Prelude.{◌≡◌, IfOk};
 ghost use Rattle.cd_syntax.specs.Name.{IsLabel};
 ghost use Rattle.cd_graph.specs.PlainFormula.{plain};
-ghost use Rattle.cd_forms.specs.Inner.Leaves.{one_integer, one_character, one_atom};
+ghost use Rattle.cd_model.specs.Leaves.{one_integer, one_character, one_atom};
 
 use cd_graph::Formula;
 use cd_sets::atom_set::AtomSet;

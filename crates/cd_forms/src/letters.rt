@@ -2,7 +2,7 @@
 ghost use Rattle.std.specs.Prelude.{◌≡◌, ◌∷◌, ◌++◌, ◌⊎◌, [], Some, map, length, slice_get};
 ghost use Rattle.std.specs.Prelude.{option_copied, IfOk};
 ghost use Rattle.cd_graph.specs.PlainFormula.{plain};
-ghost use Rattle.cd_forms.specs.Inner.Leaves.{one_character};
+ghost use Rattle.cd_model.specs.Leaves.{one_character};
 ghost use Rattle.cd_forms.specs.Inner.Letters.{AreLetters};
 
 use crate::leaves::character;

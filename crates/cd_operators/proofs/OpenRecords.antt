@@ -17,7 +17,8 @@ use Rattle.cd_rules.specs.InRow.{thing_at}
 use Rattle.cd_meaning.specs.Records.{HasFieldAt}
 use Rattle.cd_meaning.specs.Sets.{◌⊆◌, elements_of}
 use Rattle.cd_forms.proofs.LongerGraphs.{new_node_holds}
-use Rattle.cd_forms.proofs.ReadHeads.{record_holds}
+use Rattle.cd_model.proofs.ReadHeads.{record_holds}
+use Rattle.cd_model.specs.Types.{no_closure}
 use Rattle.cd_operators.proofs.BuiltInNodes.{all_are_any}
 
 abbrev something : Field
@@ -73,7 +74,7 @@ module _ (graph : Graph) (begins : (more : Graph) × (graph ≡ built_ins ++ mor
   module _ (label : Name) where
     in_open : (e : Thing) → HasFieldAt label e → holds (reader graph e) (open_at label) true
     in_open e (fields, what, same, there) =
-        (record_holds graph ((label, something) ∷ []) ANY e).1
+        (record_holds graph no_closure ((label, something) ∷ []) ANY e).1
         (fields, same, λ other. by_test other (bytes_eq label other) refl)
       where
         by_test : (other : Name) (is : Bool) → bytes_eq label other ≡ is
@@ -85,7 +86,7 @@ module _ (graph : Graph) (begins : (more : Graph) × (graph ≡ built_ins ++ mor
 
     of_open : (e : Thing) → holds (reader graph e) (open_at label) true → HasFieldAt label e
     of_open e inside =
-        let found = (record_holds graph ((label, something) ∷ []) ANY e).0 inside in
+        let found = (record_holds graph no_closure ((label, something) ∷ []) ANY e).0 inside in
         let has = is_there found.0 label
         (subst (λ (field : Field). labelled graph found.0 label field true) (at_itself label)
         (found.2 label)) in

@@ -13,13 +13,13 @@ use Rattle.cd_model.specs.Thing.{Thing}
 use Rattle.cd_model.proofs.BothWays.{through}
 use Rattle.cd_rules.specs.Family.{AsksNodes}
 use Rattle.cd_model.proofs.Ones.{each_of_lists}
+use Rattle.cd_model.proofs.ReadHeads.{nothing_in_empty}
 use Rattle.cd_records.specs.Inner.Alone.{IsOnly, AsksAlone, IsKnown, AreAlone}
 use Rattle.cd_records.specs.Inner.Entries.{InOneQuestion}
 use Rattle.cd_records.specs.Inner.Plain.{plain_questions}
 use Rattle.cd_records.specs.Inner.Standing.{HoldsUnion, IsUnionNode}
 use Rattle.cd_records.proofs.NodesStand.{holds_old}
 use Rattle.cd_records.proofs.QuestionsOnce.{each_one}
-use Rattle.cd_records.proofs.RowsOfNodes.{none_empty}
 
 module _ (graph more : Graph) (begins : graph ≡ built_ins ++ more) where
   all_in_any : (d : Thing) → in_node graph d ANY true
@@ -85,7 +85,7 @@ module _ (graph more : Graph) (begins : graph ≡ built_ins ++ more) where
   known_same questions id (inl (none, empty)) d = (
     λ one. absurd (subst (λ (questions : List Question).
         InOneQuestion (in_node graph) questions d) none one),
-    λ inside. absurd (none_empty graph more begins d
+    λ inside. absurd (nothing_in_empty graph more begins d
         (subst (λ (id : NodeId). in_node graph d id true) empty inside)),
   )
   known_same questions id (inr (question, one, alone)) d =

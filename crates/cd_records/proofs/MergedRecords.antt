@@ -21,6 +21,7 @@ use Rattle.cd_rules.specs.InRow.{thing_at}
 use Rattle.cd_rules.specs.Rows.{Cell, Row}
 use Rattle.cd_rules.proofs.FreshLabels.{row_of_a, row_is_label}
 use Rattle.cd_model.proofs.Ones.{each_weaker, one_of_map, one_with_each}
+use Rattle.cd_model.proofs.ReadHeads.{nothing_in_empty}
 use Rattle.cd_rows.specs.RecordRows.{InRecordRow, IsLivingRow, asked_at, may_lack, cell_in}
 use Rattle.cd_rows.proofs.LivingRows.{IsOfSort, at_labels}
 use Rattle.cd_meaning.specs.Records.{IsMergedAt, IsMergeOf}
@@ -36,7 +37,7 @@ use Rattle.cd_records.proofs.AloneNodes.{empty_below}
 use Rattle.cd_records.proofs.LabelsRise.{rows_rise, rows_still, rows_have}
 use Rattle.cd_records.proofs.Lookups.{name_itself, names_differ, same_name, not_same, of_no_cell}
 use Rattle.cd_records.proofs.MergedEntries.{any_passes, merged_in_entry, entry_is_merged}
-use Rattle.cd_records.proofs.RowsOfNodes.{none_empty, row_of_record, some_record}
+use Rattle.cd_records.proofs.RowsOfNodes.{row_of_record, some_record}
 
 -- a name is one of these or none of them
 pub one_or_none : (names : List Name) (name : Name)
@@ -270,7 +271,7 @@ merged_empty graph before begins first second none = record {
   node = empty_below graph before begins;
   has = λ a b are_a are_b d is merges. absurd (by_none a b are_a are_b merges.0 none
       (merges.2 (row_of_a 0) (row_is_label 0)));
-  only = λ a b are_a are_b d is inside. absurd (none_empty graph before begins d inside);
+  only = λ a b are_a are_b d is inside. absurd (nothing_in_empty graph before begins d inside);
 }
   where
     by_none : (a b : NodeId) → AreRowsOf graph a first → AreRowsOf graph b second

@@ -16,46 +16,11 @@ use Rattle.cd_model.specs.Thing.{Thing, IsElement}
 use Rattle.cd_model.proofs.BothWays.{itself, through, turned}
 use Rattle.cd_model.proofs.Extending.{kept_elements, kept_formulas}
 use Rattle.cd_model.proofs.Ones.{each_weaker, each_of_lists}
+use Rattle.cd_model.proofs.FormulasAmongMore.{formula_among_more}
+use Rattle.cd_model.proofs.ReadHeads.{nothing_in_empty}
 use Rattle.cd_records.specs.Inner.Entries.{Entry, InOneQuestion}
 use Rattle.cd_records.specs.Inner.Standing.{Adds, IsUnion, HoldsUnion, HoldsOutside, IsFieldOf}
 use Rattle.cd_records.specs.Inner.Standing.{AreFieldsOf, longer}
-use Rattle.cd_records.proofs.RowsOfNodes.{none_empty}
-
--- a formula of a graph is one of a larger graph
-mutual
-  pub still_formula : (nodes more : ℕ) → nodes ≤ more → (is : Formula) → IsFormula nodes is
-      → IsFormula more is
-  still_formula nodes more larger formula.Nothing sound = tt
-  still_formula nodes more larger formula.Everything sound = tt
-  still_formula nodes more larger (formula.Ints set) sound = tt
-  still_formula nodes more larger (formula.Chars set) sound = tt
-  still_formula nodes more larger (formula.Atoms set) sound = sound
-  still_formula nodes more larger (formula.Pair first second) sound = (omega arith, omega arith)
-  still_formula nodes more larger (formula.Xml tag attributes content) sound =
-      (omega arith, omega arith, omega arith)
-  still_formula nodes more larger (formula.Record named rest) sound = (
-    sound.0,
-    each_weaker (λ (field : Name × Field). field.1.type.0 < nodes)
-        (λ (field : Name × Field). field.1.type.0 < more) (λ field small. omega arith) named
-        sound.1,
-    omega arith,
-  )
-  still_formula nodes more larger (formula.Arrow argument result) sound =
-      (omega arith, omega arith)
-  still_formula nodes more larger (formula.And formulas) sound =
-      still_formulas nodes more larger formulas sound
-  still_formula nodes more larger (formula.Or formulas) sound =
-      still_formulas nodes more larger formulas sound
-  still_formula nodes more larger (formula.Not is) sound =
-      still_formula nodes more larger is sound
-
-  still_formulas : (nodes more : ℕ) → nodes ≤ more → (formulas : Formulas)
-      → AreFormulas nodes formulas → AreFormulas more formulas
-  still_formulas nodes more larger NoFormula sound = tt
-  still_formulas nodes more larger (AFormula is rest) sound = (
-    still_formula nodes more larger is sound.0,
-    still_formulas nodes more larger rest sound.1,
-  )
 
 -- the formula that stands after those of a graph and of a batch
 at_end : (all : Graph) (f : Formula) (more : Graph)
@@ -96,8 +61,8 @@ all_sound graph batch f each is all same =
     subst (AllOf (IsFormula (length graph + length all))) (sym same)
     (each_of_lists (IsFormula (length graph + length all)) batch (f ∷ [])
     (each_weaker (IsFormula (length graph)) (IsFormula (length graph + length all))
-    (still_formula (length graph) (length graph + length all) (omega arith)) batch each) (
-      still_formula (length graph + length batch) (length graph + length all)
+    (formula_among_more (length graph) (length graph + length all) (omega arith)) batch each) (
+      formula_among_more (length graph + length batch) (length graph + length all)
           (omega (arith, count)) f is,
       tt,
     ))

@@ -10,6 +10,7 @@ use Rattle.cd_model.specs.Thing as thing
 use Rattle.cd_model.specs.Thing.{Thing, Fields, IsElement, IsRecord}
 use Rattle.cd_rules.specs.Rows.{Row}
 use Rattle.cd_model.proofs.Ones.{one_of_map, map_of_one, one_on_left, one_on_right, one_on_a_side}
+use Rattle.cd_model.proofs.ReadHeads.{nothing_in_empty}
 use Rattle.cd_rows.specs.RecordRows.{InRecordRow, IsLivingRow}
 use Rattle.cd_meaning.specs.Records.{HasRecord, IsRestOf, IsWithout}
 use Rattle.cd_meaning.specs.Sets.{elements_of}
@@ -19,7 +20,7 @@ use Rattle.cd_records.specs.Inner.Rows.{AreRowsOf}
 use Rattle.cd_records.specs.Inner.Standing.{IsNodeFor}
 use Rattle.cd_records.proofs.AloneNodes.{empty_below}
 use Rattle.cd_records.proofs.RestsOfRows.{IsRestOfRow, rest_to_row, row_to_rest}
-use Rattle.cd_records.proofs.RowsOfNodes.{none_empty, record_of_rows, row_of_record}
+use Rattle.cd_records.proofs.RowsOfNodes.{record_of_rows, row_of_record}
 
 module _ (graph : Graph) (label : Name) where
   -- a record of one of the rows without the label is one of a rest
@@ -118,7 +119,7 @@ module _ (graph before : Graph) (begins : graph ≡ built_ins ++ before) (label 
   rest_empty none = record {
     node = empty_below graph before begins;
     has = λ a rows_are d is rest. absurd (no_record a rows_are rest.0 rest.3);
-    only = λ a rows_are d is inside. absurd (none_empty graph before begins d inside);
+    only = λ a rows_are d is inside. absurd (nothing_in_empty graph before begins d inside);
   }
     where
       no_record : (a : NodeId) → AreRowsOf graph a rows → (fields : Fields)

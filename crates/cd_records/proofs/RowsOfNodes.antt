@@ -11,6 +11,7 @@ use Rattle.cd_rules.specs.InRow.{thing_at, IsInCell}
 use Rattle.cd_rules.specs.Needs.{question}
 use Rattle.cd_rules.specs.Rows.{Row}
 use Rattle.cd_model.proofs.Ones.{one_weaker, one_with_each, picked}
+use Rattle.cd_model.proofs.ReadHeads.{nothing_in_empty}
 use Rattle.cd_products.specs.QuestionBoxes.{InQuestion}
 use Rattle.cd_rows.specs.RecordRows.{InRecordRow, IsLivingRow, cell_in}
 use Rattle.cd_rows.proofs.LivingRows.{IsOfSort}
@@ -19,12 +20,6 @@ use Rattle.cd_meaning.specs.Records.{HasRecord}
 use Rattle.cd_meaning.specs.Sets.{elements_of}
 use Rattle.cd_records.specs.Inner.Rows.{AreRowsOf}
 use Rattle.cd_records.proofs.HadInRows.{Has, row_has, has_in_row}
-
--- nothing is in the first built-in node
-pub none_empty : (graph more : Graph) → graph ≡ built_ins ++ more → (d : Thing)
-    → in_node graph d EMPTY true → ⊥
-none_empty graph more begins d inside =
-    true≢false (subst (λ (graph : Graph). in_node graph d EMPTY true) begins inside)
 
 -- one of them says so of a label
 abbrev pub IsSaid : Graph → List Row → Name → Option Thing → Type 0
@@ -66,7 +61,7 @@ module _ (graph more : Graph) (begins : graph ≡ built_ins ++ more) (a : NodeId
   IsHad label what = (fields : Fields) × HasIt fields × (thing_at fields label ≡ what)
 
   nothing : (d : Thing) → InQuestion (in_node graph) d (question (EMPTY ∷ []) []) → ⊥
-  nothing d inside = none_empty graph more begins d inside.0.0
+  nothing d inside = nothing_in_empty graph more begins d inside.0.0
 
   module _ (label : Name) (is_label : IsLabel label) (what : Option Thing) where
     abbrev HasThere : Row → Type 0

@@ -11,6 +11,7 @@ use Rattle.cd_syntax.specs.declared.constant.Constant.TheVariants as constant
 use Rattle.cd_model.specs.BuiltIns.{node, atoms_of}
 use Rattle.cd_model.specs.Formula.{Formula, Nothing, Ints, Chars, Atoms, Pair, Or}
 use Rattle.cd_model.specs.Formula.{formulas_of}
+use Rattle.cd_model.specs.Leaves.{one_integer, one_character, one_atom}
 use Rattle.cd_compact.specs.Keeping.{IsFormulaOfQuestion}
 use Rattle.cd_filter.specs.Table.{Place}
 use Rattle.cd_captured.specs.declared.givers.Giver.{Giver}
@@ -22,9 +23,6 @@ use Rattle.cd_captured.specs.Inner.Givers.{givers_of}
 use Rattle.cd_captured.specs.Inner.Plan.{Plan}
 use Rattle.cd_captured.specs.Inner.Reached.{ReachesBy}
 use Rattle.cd_captured.specs.Inner.Wanted.{AreOnce, AreFirst, AreGathered}
-
-abbrev pub character : ℕ → Formula
-character c = Chars (record { low = c; high = c } ∷ [])
 
 module _ (plan : Plan) where
   -- what comes to a place
@@ -53,9 +51,9 @@ module _ (plan : Plan) where
     IsText number next (Some c) f = IsPairOf (Character c) (Text number next) f
 
     abbrev pub IsConstant : (number : ℕ) → Constant → Formula → Type 0
-    IsConstant number (constant.Int n) f = f ≡ Ints (record { low = n; high = n } ∷ [])
-    IsConstant number (constant.Char c) f = f ≡ character c
-    IsConstant number (constant.Atom name) f = f ≡ Atoms (listing (name ∷ []))
+    IsConstant number (constant.Int n) f = f ≡ one_integer n
+    IsConstant number (constant.Char c) f = f ≡ one_character c
+    IsConstant number (constant.Atom name) f = f ≡ one_atom name
     IsConstant number (constant.Text text) f = IsText number 1 (first text) f
     IsConstant number constant.Nil f = f ≡ atoms_of (codes "nil" ∷ [])
 
@@ -92,7 +90,7 @@ module _ (plan : Plan) where
     IsMade (Comes number) f = IsComing (slice_get plan.places number) f
     IsMade (Captures variable number) f = IsCapture variable number f
     IsMade (Text number from) f = IsText number (from + 1) (slice_get (text_at number) from) f
-    IsMade (Character c) f = f ≡ character c
+    IsMade (Character c) f = f ≡ one_character c
 
     -- each formula is made for the want with its number
     abbrev pub AreMade : List Formula → Type 0

@@ -5,7 +5,7 @@ use Rattle.cd_sets.specs.declared.node_id.NodeId.{NodeId}
 use Rattle.cd_model.specs.BuiltIns.{node}
 use Rattle.cd_model.specs.Formula.{Formula}
 use Rattle.cd_forms.specs.Inner.Chains.{begin, chain_from}
-use Rattle.cd_forms.specs.Inner.Leaves.{one_character}
+use Rattle.cd_model.specs.Leaves.{one_character}
 
 -- the node of a character, where those of all letters stand from a number on
 abbrev pub IsLetter : (first : ℕ) → (letters : List ℕ) → ℕ → NodeId → Type 0

@@ -1,5 +1,5 @@
 use Rattle.cd_empty.specs.Seen.{graph_of}
-use Rattle.cd_forms.proofs.ReadHeads.{functions_in_arrow}
+use Rattle.cd_model.proofs.ReadHeads.{functions_in_arrow}
 use Rattle.cd_forms.proofs.built_in.arrow.Goals as goal
 
 pub returns-clause-holds : goal.returns-clause-holds

@@ -5,10 +5,11 @@ use Rattle.cd_matching.specs.Sequences.{thing_of}
 use Rattle.cd_meaning.specs.Sets.{elements_of}
 use Rattle.cd_empty.specs.Seen.{graph_of}
 use Rattle.cd_forms.specs.Inner.Chains.{IsTextBefore}
-use Rattle.cd_forms.specs.Inner.Leaves.{one_integer, one_character, one_atom}
+use Rattle.cd_model.specs.Leaves.{one_integer, one_character, one_atom}
 use Rattle.cd_forms.proofs.ConstantsHold.{text_is_before, before_is_text, integer_is}
 use Rattle.cd_forms.proofs.PutHolds.{put_has, put_only, narrower, wider}
-use Rattle.cd_forms.proofs.ReadHeads.{integer_holds, character_holds, atom_holds}
+use Rattle.cd_model.proofs.ReadHeads.{integer_holds, character_holds, atom_holds}
+use Rattle.cd_model.specs.Types.{no_closure}
 use Rattle.cd_forms.proofs.constants.constant.Goals as goal
 
 pub returns-in_ok-integer-in-Int-clause-has : goal.returns-in_ok-integer-in-Int-clause-has
@@ -19,7 +20,7 @@ returns-in_ok-integer-in-Int-clause-has c = let graph = graph_of c.args.world.no
     ∙ ap one_integer (integer_is c.args.constant.now c.in-Int.n c.requires c.in-Int.is))
     c.put.result c.put.ensures.holds
     (λ (d : Thing). d ≡ thing_of c.args.constant.now)
-    (λ e element is. (integer_holds graph c.in-Int.n e).1 (is ∙ ap thing_of c.in-Int.is))
+    (λ e element is. (integer_holds graph no_closure c.in-Int.n e).1 (is ∙ ap thing_of c.in-Int.is))
 
 pub returns-in_ok-integer-in-Int-clause-only : goal.returns-in_ok-integer-in-Int-clause-only
 returns-in_ok-integer-in-Int-clause-only c = let graph = graph_of c.args.world.now in
@@ -29,35 +30,35 @@ returns-in_ok-integer-in-Int-clause-only c = let graph = graph_of c.args.world.n
     ∙ ap one_integer (integer_is c.args.constant.now c.in-Int.n c.requires c.in-Int.is))
     c.put.result c.put.ensures.holds
     (λ (d : Thing). d ≡ thing_of c.args.constant.now)
-    (λ e element is. (integer_holds graph c.in-Int.n e).0 is ∙ sym (ap thing_of c.in-Int.is))
+    (λ e element is. (integer_holds graph no_closure c.in-Int.n e).0 is ∙ sym (ap thing_of c.in-Int.is))
 
 pub returns-in_ok-character-in-Char-clause-has : goal.returns-in_ok-character-in-Char-clause-has
 returns-in_ok-character-in-Char-clause-has c = let graph = graph_of c.args.world.now in
     put_has graph (graph_of c.put-in-Char.new.world) (plain c.in_ok-character-in-Char.field-0)
     (one_character c.in-Char.c) c.in_ok-character-in-Char.ensures c.put-in-Char.result
     c.put-in-Char.ensures.holds (λ (d : Thing). d ≡ thing_of c.args.constant.now)
-    (λ e element is. (character_holds graph c.in-Char.c e).1 (is ∙ ap thing_of c.in-Char.is))
+    (λ e element is. (character_holds graph no_closure c.in-Char.c e).1 (is ∙ ap thing_of c.in-Char.is))
 
 pub returns-in_ok-character-in-Char-clause-only : goal.returns-in_ok-character-in-Char-clause-only
 returns-in_ok-character-in-Char-clause-only c = let graph = graph_of c.args.world.now in
     put_only graph (graph_of c.put-in-Char.new.world) (plain c.in_ok-character-in-Char.field-0)
     (one_character c.in-Char.c) c.in_ok-character-in-Char.ensures c.put-in-Char.result
     c.put-in-Char.ensures.holds (λ (d : Thing). d ≡ thing_of c.args.constant.now)
-    (λ e element is. (character_holds graph c.in-Char.c e).0 is ∙ sym (ap thing_of c.in-Char.is))
+    (λ e element is. (character_holds graph no_closure c.in-Char.c e).0 is ∙ sym (ap thing_of c.in-Char.is))
 
 pub returns-in_ok-atom-in-Atom-clause-has : goal.returns-in_ok-atom-in-Atom-clause-has
 returns-in_ok-atom-in-Atom-clause-has c = let graph = graph_of c.args.world.now in
     put_has graph (graph_of c.put-in-Atom.new.world) (plain c.in_ok-atom-in-Atom.field-0)
     (one_atom c.in-Atom.name) c.in_ok-atom-in-Atom.ensures c.put-in-Atom.result
     c.put-in-Atom.ensures.holds (λ (d : Thing). d ≡ thing_of c.args.constant.now)
-    (λ e element is. (atom_holds graph c.in-Atom.name e).1 (is ∙ ap thing_of c.in-Atom.is))
+    (λ e element is. (atom_holds graph no_closure c.in-Atom.name e).1 (is ∙ ap thing_of c.in-Atom.is))
 
 pub returns-in_ok-atom-in-Atom-clause-only : goal.returns-in_ok-atom-in-Atom-clause-only
 returns-in_ok-atom-in-Atom-clause-only c = let graph = graph_of c.args.world.now in
     put_only graph (graph_of c.put-in-Atom.new.world) (plain c.in_ok-atom-in-Atom.field-0)
     (one_atom c.in-Atom.name) c.in_ok-atom-in-Atom.ensures c.put-in-Atom.result
     c.put-in-Atom.ensures.holds (λ (d : Thing). d ≡ thing_of c.args.constant.now)
-    (λ e element is. (atom_holds graph c.in-Atom.name e).0 is ∙ sym (ap thing_of c.in-Atom.is))
+    (λ e element is. (atom_holds graph no_closure c.in-Atom.name e).0 is ∙ sym (ap thing_of c.in-Atom.is))
 
 pub returns-in-Text-clause-has : goal.returns-in-Text-clause-has
 returns-in-Text-clause-has c = let graph = graph_of c.args.world.now in

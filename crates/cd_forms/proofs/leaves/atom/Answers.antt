@@ -1,6 +1,6 @@
 use Rattle.std.proofs.Common.{◌∙◌, sym, ap, subst}
 use Rattle.cd_syntax.specs.Name.{IsLabel}
-use Rattle.cd_forms.specs.Inner.Leaves.{one_atom}
+use Rattle.cd_model.specs.Leaves.{one_atom}
 use Rattle.cd_graph.proofs.Labels.{same_texts}
 use Rattle.cd_forms.proofs.leaves.atom.Goals as goal
 

@@ -4,7 +4,8 @@ use Rattle.cd_meaning.specs.Sets.{elements_of}
 use Rattle.cd_typing.specs.Results.{IsXmlOf}
 use Rattle.cd_empty.specs.Seen.{graph_of}
 use Rattle.cd_forms.proofs.PutHolds.{put_has, put_only}
-use Rattle.cd_forms.proofs.ReadHeads.{xml_holds}
+use Rattle.cd_model.proofs.ReadHeads.{xml_holds}
+use Rattle.cd_model.specs.Types.{no_closure}
 use Rattle.cd_forms.proofs.xmls.xml.Goals as goal
 
 pub returns-clause-has : goal.returns-clause-has
@@ -15,7 +16,7 @@ returns-clause-has c =
     c.put.ensures.holds
     (IsXmlOf (elements_of graph c.args.tag) (elements_of graph c.args.attributes)
     (elements_of graph c.args.content))
-    (λ e element is. (xml_holds graph c.args.tag c.args.attributes c.args.content e).1 is)
+    (λ e element is. (xml_holds graph no_closure c.args.tag c.args.attributes c.args.content e).1 is)
 
 pub returns-clause-only : goal.returns-clause-only
 returns-clause-only c =
@@ -25,4 +26,4 @@ returns-clause-only c =
     c.put.ensures.holds
     (IsXmlOf (elements_of graph c.args.tag) (elements_of graph c.args.attributes)
     (elements_of graph c.args.content))
-    (λ e element is. (xml_holds graph c.args.tag c.args.attributes c.args.content e).0 is)
+    (λ e element is. (xml_holds graph no_closure c.args.tag c.args.attributes c.args.content e).0 is)

@@ -1,6 +1,6 @@
 use Rattle.std.proofs.Common.{◌≡◌, ◌++◌, ◌-◌, map, drop, length}
 use Rattle.cd_graph.specs.PlainFormula.{plain}
-use Rattle.cd_forms.specs.Inner.Leaves.{one_character}
+use Rattle.cd_model.specs.Leaves.{one_character}
 use Rattle.cd_forms.proofs.letters.Letters.formulas.Given as goal
 
 -- the formulas so far, and those of the characters that are left, are all

@@ -1,7 +1,7 @@
 -- What is in a formula of one form: an integer, a character, an atom, pairs, XML elements, records,
--- functions, and the built-in nodes that these need.
-use Rattle.std.proofs.Common.{◌≡◌, ◌↔◌, ◌||◌, ◌++◌, ℕ, ℤ, Bool, true, false, List, [], ◌∷◌, refl}
-use Rattle.std.proofs.Common.{sym, ap, subst, true≢false, bytes_eq, arith, codes}
+-- functions; and in the built-in nodes of nothing and of all functions.
+use Rattle.std.proofs.Common.{◌≡◌, ◌↔◌, ◌||◌, ◌++◌, ℕ, ℤ, Bool, true, false, List, refl}
+use Rattle.std.proofs.Common.{sym, ap, subst, true≢false, bytes_eq, arith}
 use Rattle.std.specs.Prelude.{int_le, nat_le}
 use Rattle.std.specs.Cmp.{first_so, second_so}
 use Rattle.std.specs.Cmp.Lexicographic.{bytes_decides}
@@ -11,17 +11,15 @@ use Rattle.cd_sets.specs.Characters.{is_among}
 use Rattle.cd_sets.specs.Interval.{is_between}
 use Rattle.cd_sets.specs.declared.node_id.NodeId.{NodeId}
 use Rattle.cd_syntax.specs.Name.{Name}
-use Rattle.cd_model.specs.BuiltIns.{atoms_of, built_ins, EMPTY, ARROW}
+use Rattle.cd_model.specs.BuiltIns.{built_ins, EMPTY, ARROW}
 use Rattle.cd_model.specs.Formula as formula
-use Rattle.cd_model.specs.Formula.{Graph, Formula, Field}
-use Rattle.cd_model.specs.Membership.{holds, reader, answers, labelled, mapping}
+use Rattle.cd_model.specs.Formula.{Graph, Formula, Field, at_formula, holds, in_node, nodes}
 use Rattle.cd_model.specs.Thing as thing
-use Rattle.cd_model.specs.Thing.{Thing, Fields, Pairs, IsElement}
+use Rattle.cd_model.specs.Thing.{Thing, Fields, Pairs}
+use Rattle.cd_model.specs.Types.{Mapping, Answers, reader, answers, labelled, mapping, field_of}
 use Rattle.cd_model.specs.Types.{no_closure}
 use Rattle.cd_model.proofs.BuiltIns.{all_map}
-use Rattle.cd_model.specs.Types.{field_of}
-use Rattle.cd_matching.specs.Sequences.{nil}
-use Rattle.cd_forms.specs.Inner.Leaves.{one_integer, one_character, one_atom}
+use Rattle.cd_model.specs.Leaves.{one_integer, one_character, one_atom}
 
 or_false : (b : Bool) → (b || false) ≡ true → b ≡ true
 or_false true is = refl
@@ -46,9 +44,12 @@ alone_among c d is =
 among_itself : (c : ℕ) → is_among c c c ≡ true
 among_itself c = grind (arith, nat_tests)
 
-module _ (graph : Graph) where
-  abbrev Holds : Thing → Formula → Type 0
-  Holds d f = holds (reader graph d) f true
+module _ (graph : Graph) (closed : ℕ → Mapping NodeId) where
+  abbrev pub in_it : Thing → Answers NodeId
+  in_it = answers (nodes graph) closed
+
+  abbrev pub Holds : Thing → Formula → Type 0
+  Holds d f = holds (at_formula (reader (nodes graph) closed d)) f true
 
   of_integer : (n : ℤ) (d : Thing) → Holds d (one_integer n) → d ≡ thing.Integer n
   of_integer n (thing.Integer m) h = ap thing.Integer (alone_between n m (or_false _ h))
@@ -103,17 +104,14 @@ module _ (graph : Graph) where
         (with_false (bytes_eq name name) ((bytes_decides name name).1 refl)),
   )
 
-  pub nil_holds : (d : Thing) → Holds d (atoms_of (codes "nil" ∷ [])) ↔ (d ≡ nil)
-  nil_holds d = atom_holds (codes "nil") d
-
   -- the pairs of what is in two nodes
   abbrev pub IsPairIn : (first second : NodeId) → Thing → Type 0
-  IsPairIn first second d = (one : Thing) × (other : Thing) × answers graph one first true
-      × answers graph other second true × (d ≡ thing.Pair one other)
+  IsPairIn first second d = (one other : Thing) × (d ≡ thing.Pair one other)
+      × in_it one first true × in_it other second true
 
   pub of_pair : (first second : NodeId) (d : Thing) → Holds d (formula.Pair first second)
       → IsPairIn first second d
-  of_pair first second (thing.Pair one other) h = (one, other, h.0, h.1, refl)
+  of_pair first second (thing.Pair one other) h = (one, other, refl, h.0, h.1)
   of_pair first second (thing.Integer n) h = absurd (true≢false h)
   of_pair first second (thing.Character c) h = absurd (true≢false h)
   of_pair first second (thing.Atom name) h = absurd (true≢false h)
@@ -122,10 +120,18 @@ module _ (graph : Graph) where
   of_pair first second (thing.Function pairs) h = absurd (true≢false h)
   of_pair first second (thing.Closure function environment) h = absurd (true≢false h)
 
+  pub pair_holds : (first second : NodeId) (d : Thing)
+      → Holds d (formula.Pair first second) ↔ IsPairIn first second d
+  pair_holds first second d = (
+    of_pair first second d,
+    λ (one, other, same, here, there). subst
+        (λ (e : Thing). Holds e (formula.Pair first second)) (sym same) (here, there),
+  )
+
   abbrev pub IsXmlIn : (tag attributes content : NodeId) → Thing → Type 0
   IsXmlIn tag attributes content d = (one : Thing) × (other : Thing) × (last : Thing)
-      × answers graph one tag true × answers graph other attributes true
-      × answers graph last content true × (d ≡ thing.Xml one other last)
+      × in_it one tag true × in_it other attributes true
+      × in_it last content true × (d ≡ thing.Xml one other last)
 
   of_xml : (tag attributes content : NodeId) (d : Thing)
       → Holds d (formula.Xml tag attributes content) → IsXmlIn tag attributes content d
@@ -151,7 +157,7 @@ module _ (graph : Graph) where
   -- the records that are at each label as a record type says
   abbrev pub IsRecordIn : List (Name × Field) → NodeId → Thing → Type 0
   IsRecordIn named rest d = (fields : Fields) × (d ≡ thing.Record fields)
-      × ((label : Name) → labelled graph fields label (field_of named rest label) true)
+      × ((label : Name) → labelled (nodes graph) closed fields label (field_of named rest label) true)
 
   of_record : (named : List (Name × Field)) (rest : NodeId) (d : Thing)
       → Holds d (formula.Record named rest) → IsRecordIn named rest d
@@ -172,13 +178,14 @@ module _ (graph : Graph) where
         each,
   )
 
-  -- the functions that map
+-- the functions that map, among elements
+module _ (graph : Graph) where
   abbrev pub IsMapping : (argument result : NodeId) → Thing → Type 0
   IsMapping argument result d = (pairs : Pairs) × (d ≡ thing.Function pairs)
-      × mapping graph pairs argument result true
+      × mapping (nodes graph) no_closure pairs argument result true
 
   pub of_arrow : (argument result : NodeId) (d : Thing)
-      → Holds d (formula.Arrow argument result) → IsMapping argument result d
+      → Holds graph no_closure d (formula.Arrow argument result) → IsMapping argument result d
   of_arrow argument result (thing.Function pairs) h = (pairs, refl, h)
   of_arrow argument result (thing.Record fields) h = absurd (true≢false h)
   of_arrow argument result (thing.Pair one other) h = absurd (true≢false h)
@@ -190,10 +197,10 @@ module _ (graph : Graph) where
 
 -- the built-in nodes
 module _ (graph more : Graph) (begins : graph ≡ built_ins ++ more) where
-  pub nothing_in_empty : (e : Thing) → answers graph e EMPTY true → ⊥
-  nothing_in_empty e is = true≢false (subst (λ (g : Graph). answers g e EMPTY true) begins is)
+  pub nothing_in_empty : (e : Thing) → in_node graph e EMPTY true → ⊥
+  nothing_in_empty e is = true≢false (subst (λ (g : Graph). in_node g e EMPTY true) begins is)
 
-  pub functions_in_arrow : (pairs : Pairs) → answers graph (thing.Function pairs) ARROW true
+  pub functions_in_arrow : (pairs : Pairs) → in_node graph (thing.Function pairs) ARROW true
   functions_in_arrow pairs = subst
-      (λ (g : Graph). answers g (thing.Function pairs) ARROW true) (sym begins)
+      (λ (g : Graph). in_node g (thing.Function pairs) ARROW true) (sym begins)
       (all_map more no_closure pairs)
