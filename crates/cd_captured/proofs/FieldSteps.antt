@@ -5,14 +5,14 @@ use Rattle.cd_sets.specs.declared.node_id.NodeId.{NodeId}
 use Rattle.cd_sets.specs.declared.question.Question.{Question}
 use Rattle.cd_syntax.specs.Name.{Name}
 use Rattle.cd_model.specs.AllOf.{AllOf}
-use Rattle.cd_model.specs.Formula.{Graph, in_node}
+use Rattle.cd_model.specs.Formula.{Graph, in_node, AreRisingLabels}
 use Rattle.cd_model.specs.Interfaces.{value_in_node}
 use Rattle.cd_model.specs.Thing.{IsElement, IsValue}
+use Rattle.cd_model.proofs.Ones.{each_of_lists}
 use Rattle.cd_matching.specs.Kernel.{KernelNode, KernelField, Present, Optional, Record}
-use Rattle.cd_matching.specs.Kernel.{AreRisingLabels, field_nodes}
+use Rattle.cd_matching.specs.Kernel.{field_nodes}
 use Rattle.cd_rules.specs.Family.{AsksNodes}
 use Rattle.cd_rules.specs.Rows.{Cell, Row}
-use Rattle.cd_products.proofs.Appending.{all_append}
 use Rattle.cd_rows.specs.RecordRows.{cell_in, AreRecordRows, CoverRecordValues}
 use Rattle.cd_rows.specs.RecordRows.{RowAsksNodes}
 use Rattle.cd_rows.proofs.RecordsOfRows.{has_picked}
@@ -60,7 +60,7 @@ module _ (graph : Graph) (nodes : List (KernelNode NodeId)) where
       → AllOf IsNumber (field_nodes named) → AllOf (RowAsksNodes (length graph)) rows
       → AllOf InRange (row_steps named (map (asked_fields named) rows))
   rows_in_range named [] numbers asks = tt
-  rows_in_range named (row ∷ rows) numbers asks = all_append InRange
+  rows_in_range named (row ∷ rows) numbers asks = each_of_lists InRange
       (cell_steps named (asked_fields named row)) (row_steps named (map (asked_fields named) rows))
       (cells_in_range named row numbers asks.0) (rows_in_range named rows numbers asks.1)
 

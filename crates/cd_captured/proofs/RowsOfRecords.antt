@@ -6,10 +6,10 @@ use Rattle.cd_sets.specs.declared.node_id.NodeId.{NodeId}
 use Rattle.cd_sets.specs.declared.question.Question.{Question}
 use Rattle.cd_syntax.specs.Name.{Name, IsLabel}
 use Rattle.cd_model.specs.AllOf.{AllOf, AnyOf}
-use Rattle.cd_model.specs.Formula.{asked}
+use Rattle.cd_model.specs.Formula.{asked, AreRisingLabels}
 use Rattle.cd_model.specs.Thing.{Thing, Fields, NoField, Field, Record}
 use Rattle.cd_model.specs.Types.{Answers}
-use Rattle.cd_matching.specs.Kernel.{KernelField, Present, Optional, AreRisingLabels}
+use Rattle.cd_matching.specs.Kernel.{KernelField, Present, Optional}
 use Rattle.cd_matching.specs.Take.{at_label}
 use Rattle.cd_rules.specs.InRow.{thing_at, IsInCell}
 use Rattle.cd_rules.specs.Rows.{Cell, Row}

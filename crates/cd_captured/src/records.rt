@@ -1,6 +1,7 @@
 //! The steps of nodes that take records.
 ghost use Rattle.std.specs.Prelude.{◌≡◌, ◌++◌, ◌<◌, None, map, length, IfOk, OnOk};
-ghost use Rattle.cd_matching.specs.Kernel.{Record, AreRisingLabels, field_nodes};
+ghost use Rattle.cd_matching.specs.Kernel.{Record, field_nodes};
+ghost use Rattle.cd_model.specs.Formula.{AreRisingLabels};
 ghost use Rattle.cd_matching.specs.PlainKernel.{plain_kernel, plain_kernel_field};
 ghost use Rattle.cd_model.specs.AllOf.{AllOf};
 ghost use Rattle.cd_needs.specs.RecordTypes.{plain_row};

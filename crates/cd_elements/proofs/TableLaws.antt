@@ -8,10 +8,10 @@ use Rattle.cd_model.specs.AllOf.{AllOf}
 use Rattle.cd_syntax.specs.Name.{Name}
 use Rattle.cd_model.specs.Thing as thing
 use Rattle.cd_model.specs.Thing.{Thing, Fields, Pairs, NoField, IsAtom, IsRecord, IsElement, AreFields, ArePairs}
+use Rattle.cd_model.specs.Formula.{AreRisingLabels}
 use Rattle.cd_elements.specs.declared.shape.ElementId.{ElementId}
 use Rattle.cd_elements.specs.declared.shape.Shape.{Shape}
 use Rattle.cd_elements.specs.declared.shape.Shape.TheVariants.{Int, Char, Atom, Pair, Xml, Record, Fun}
-use Rattle.cd_elements.specs.Parts.{AreRisingLabels}
 use Rattle.cd_elements.specs.Table.{element_at, fields_of, pair_before, result_at, pairs_of, element_by, Names, IsResult}
 use Rattle.cd_elements.specs.Table.{IsShape, ArePartsBelow, IsResultBelow, elements_from}
 use Rattle.cd_elements.specs.Sound.{IsRanged, AreShapes}

@@ -6,11 +6,11 @@ use Rattle.cd_model.specs.AllOf.{AllOf}
 use Rattle.cd_syntax.specs.Name.{Name, IsAbove}
 use Rattle.cd_model.specs.Thing as thing
 use Rattle.cd_model.specs.Thing.{Thing, IsAtom, IsRecord}
+use Rattle.cd_model.specs.Formula.{AreRisingLabels}
 use Rattle.cd_elements.specs.declared.shape.ElementId.{ElementId}
 use Rattle.cd_elements.specs.declared.shape.Shape.{Shape}
 use Rattle.cd_elements.specs.declared.shape.Shape.TheVariants.{Int, Char, Atom, Pair, Xml, Record}
 use Rattle.cd_elements.specs.declared.shape.Shape.TheVariants.{Fun}
-use Rattle.cd_elements.specs.Parts.{AreRisingLabels}
 use Rattle.cd_elements.specs.Table.{Names, IsResult, IsShape, element_by, element_at}
 use Rattle.cd_elements.specs.Sound.{IsRanged, AreShapes}
 

@@ -10,7 +10,7 @@ use Rattle.cd_syntax.specs.Name.{Name}
 use Rattle.cd_model.specs.AllOf.{AllOf, AnyOf}
 use Rattle.cd_model.specs.BuiltIns.{ANY, EMPTY}
 use Rattle.cd_model.specs.Formula as formula
-use Rattle.cd_model.specs.Formula.{Graph, Formula, Field, formula_at, at_formula, holds}
+use Rattle.cd_model.specs.Formula.{Graph, Formula, Field, formula_at, at_formula, holds, AreRisingLabels}
 use Rattle.cd_model.specs.Formula.{nodes as at_node}
 use Rattle.cd_model.specs.Thing as thing
 use Rattle.cd_model.specs.Thing.{Thing}
@@ -19,7 +19,7 @@ use Rattle.cd_model.specs.Types.{field_of as type_field}
 use Rattle.cd_model.proofs.Sorts.{Sort}
 use Rattle.cd_matching.specs.Captures.{Captures}
 use Rattle.cd_matching.specs.Kernel.{KernelNode, KernelField, Present, Optional, Record, Taken}
-use Rattle.cd_matching.specs.Kernel.{AreRisingLabels, field_nodes, optional_types, is_named}
+use Rattle.cd_matching.specs.Kernel.{field_nodes, optional_types, is_named}
 use Rattle.cd_matching.specs.Kernel.{all_named, on_field, on_fields, apart_of, taken, taken_at}
 use Rattle.cd_filter.specs.Accepting.{AreRight, place, field_of, fields_of, rest_of}
 use Rattle.cd_filter.proofs.Combined.{is_some_so, both_answer}

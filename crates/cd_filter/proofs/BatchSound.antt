@@ -10,90 +10,25 @@ use Rattle.cd_syntax.specs.Name.{Name}
 use Rattle.cd_model.specs.AllOf.{AllOf}
 use Rattle.cd_model.specs.BuiltIns.{built_ins}
 use Rattle.cd_model.specs.Formula as formula
-use Rattle.cd_model.specs.Formula.{Graph, Formula, Formulas, Field, NoFormula, AFormula, Nothing}
+use Rattle.cd_model.specs.Formula.{Graph, Formula, Formulas, Field, NoFormula, AFormula, Nothing, AreRisingLabels}
 use Rattle.cd_model.specs.Formula.{Everything, Ints, Chars, Atoms, Arrow, And, Or, Not, formulas_of}
 use Rattle.cd_model.specs.Formula.{formula_at, IsFormula, AreFormulas, IsGraph}
 use Rattle.cd_matching.specs.Kernel.{Kernel, KernelNode, KernelField, Present, Optional, Test, Bind}
-use Rattle.cd_matching.specs.Kernel.{Put, Pair, Xml, Record, Both, First, Gather, AreRisingLabels}
+use Rattle.cd_matching.specs.Kernel.{Put, Pair, Xml, Record, Both, First, Gather}
 use Rattle.cd_matching.specs.Kernel.{leads_to, parts_of, field_nodes, optional_types, IsSoundNode}
 use Rattle.cd_matching.specs.Kernel.{IsSound}
-use Rattle.cd_matching.proofs.AllOf.{all_at, all_weaker}
 use Rattle.cd_filter.specs.Accepting.{place, fields_of, rest_of, own_formula, Accepts}
 use Rattle.cd_filter.specs.Accepting.{by_itself, by_both, by_members, AllAccept, no_more, one_more}
 use Rattle.cd_filter.specs.Accepting.{IsAcceptedFrom}
 use Rattle.cd_filter.specs.Inner.Forming.{HasTypes, IsBatch}
 use Rattle.cd_filter.proofs.Forming.{has_types}
-
--- a formula of a graph is one of a larger graph
-mutual
-  still_formula : (nodes more : ℕ) → nodes ≤ more → (is : Formula) → IsFormula nodes is
-      → IsFormula more is
-  still_formula nodes more larger Nothing sound = tt
-  still_formula nodes more larger Everything sound = tt
-  still_formula nodes more larger (Ints set) sound = tt
-  still_formula nodes more larger (Chars set) sound = tt
-  still_formula nodes more larger (Atoms set) sound = sound
-  still_formula nodes more larger (formula.Pair first second) sound = (omega arith, omega arith)
-  still_formula nodes more larger (formula.Xml tag attributes content) sound =
-      (omega arith, omega arith, omega arith)
-  still_formula nodes more larger (formula.Record named rest) sound = (
-    sound.0,
-    all_weaker (λ (field : Name × Field). field.1.type.0 < nodes)
-        (λ (field : Name × Field). field.1.type.0 < more) (λ field small. omega arith) named
-        sound.1,
-    omega arith,
-  )
-  still_formula nodes more larger (Arrow argument result) sound = (omega arith, omega arith)
-  still_formula nodes more larger (And formulas) sound =
-      still_formulas nodes more larger formulas sound
-  still_formula nodes more larger (Or formulas) sound =
-      still_formulas nodes more larger formulas sound
-  still_formula nodes more larger (Not is) sound = still_formula nodes more larger is sound
-
-  still_formulas : (nodes more : ℕ) → nodes ≤ more → (formulas : Formulas)
-      → AreFormulas nodes formulas → AreFormulas more formulas
-  still_formulas nodes more larger NoFormula sound = tt
-  still_formulas nodes more larger (AFormula is rest) sound = (
-    still_formula nodes more larger is sound.0,
-    still_formulas nodes more larger rest sound.1,
-  )
-
--- the formula of an old node, and of a new one
-formula_sound : (count : ℕ) (graph : Graph) (id : ℕ) → AllOf (IsFormula count) graph
-    → id < length graph → IsFormula count (formula_at graph (record { 0 = id }))
-formula_sound count [] id all below = absurd (omega arith)
-formula_sound count (is ∷ graph) zero all below = all.0
-formula_sound count (is ∷ graph) (suc id) all below =
-    formula_sound count graph id all.1 (omega arith)
-
-old_formula : (graph more : Graph) (id : ℕ) → id < length graph
-    → formula_at graph (record { 0 = id }) ≡ formula_at (graph ++ more) (record { 0 = id })
-old_formula [] more id below = absurd (omega arith)
-old_formula (is ∷ graph) more zero below = refl
-old_formula (is ∷ graph) more (suc id) below = old_formula graph more id (omega arith)
-
-new_formula : (graph batch : Graph) (number at : ℕ) → at ≡ length graph + number
-    → slice_get (graph ++ batch) at ≡ slice_get batch number
-new_formula [] batch number at same = ap (slice_get batch) (omega (arith, same))
-new_formula (is ∷ graph) batch number zero same = absurd (omega (arith, same))
-new_formula (is ∷ graph) batch number (suc at) same =
-    new_formula graph batch number at (omega (arith, same))
-
-there_is : (batch : List Formula) (number : ℕ) → number < length batch
-    → (f : Formula) × (slice_get batch number ≡ Some f)
-there_is [] number below = absurd (omega arith)
-there_is (f ∷ batch) zero below = (f, refl)
-there_is (f ∷ batch) (suc number) below = there_is batch number (omega arith)
-
-all_of_each : (P : Formula → Type 0) (batch : List Formula)
-    → ((number : ℕ) (f : Formula) → slice_get batch number ≡ Some f → P f) → AllOf P batch
-all_of_each P [] each = tt
-all_of_each P (f ∷ batch) each =
-    (each zero f refl, all_of_each P batch (λ number g there. each (suc number) g there))
+use Rattle.cd_model.proofs.ByNumber.{each_got, got_some, all_got}
+use Rattle.cd_model.proofs.FormulasAmongMore.{formula_among_more, formula_after, formula_kept, sound_at}
+use Rattle.cd_model.proofs.Ones.{each_weaker}
 
 -- labels that rise
 pub fields_rise : (first : ℕ) (before : Option Name) (named : List (Name × KernelField NodeId))
-    → AreRisingLabels before named → formula.AreRisingLabels before (fields_of first named)
+    → AreRisingLabels before named → AreRisingLabels before (fields_of first named)
 fields_rise first before [] rise = tt
 fields_rise first before (field ∷ named) rise =
     (rise.0, rise.1, fields_rise first (Some field.0) named rise.2)
@@ -127,8 +62,8 @@ module _ (graph : Graph) (kernel : Kernel NodeId)
   module _ (sound : IsGraph graph) (least : 14 ≤ length graph) where
     own_sound : (node : KernelNode NodeId) → IsInRange node → IsFit node
         → IsFormula all_nodes (own_formula graph (length graph) node)
-    own_sound (Test id) within fits = still_formula (length graph) all_nodes (omega arith)
-        (formula_at graph id) (formula_sound (length graph) graph id.0 sound fits)
+    own_sound (Test id) within fits = formula_among_more (length graph) all_nodes (omega arith)
+        (formula_at graph id) (sound_at (length graph) graph id.0 sound fits)
     own_sound (Bind variable) within fits = tt
     own_sound (Put variable constant) within fits = tt
     own_sound (Pair p q) within fits = (omega (arith, within.0), omega (arith, within.1.0))
@@ -148,8 +83,8 @@ module _ (graph : Graph) (kernel : Kernel NodeId)
       accepts_sound : (number : ℕ) (f : Formula)
           → Accepts graph kernel.nodes (length graph) number f → IsFormula all_nodes f
       accepts_sound _ _ (by_itself number node there own) =
-          own_sound node (all_at IsInRange kernel.nodes number node is.parts there)
-          (all_at IsFit kernel.nodes number node is.nodes there)
+          own_sound node (all_got IsInRange kernel.nodes number node is.parts there)
+          (all_got IsFit kernel.nodes number node is.nodes there)
       accepts_sound _ _ (by_both number p q f g there accepts_p accepts_q) =
           (accepts_sound p f accepts_p, (accepts_sound q g accepts_q, tt))
       accepts_sound _ _ (by_members number members formulas are all) =
@@ -166,7 +101,7 @@ module _ (graph : Graph) (kernel : Kernel NodeId)
         → AllOf (IsFormula (length graph + length batch)) batch
     batch_sound batch right = subst
         (λ (count : ℕ). AllOf (IsFormula (length graph + count)) batch) (sym right.count)
-        (all_of_each (IsFormula all_nodes) batch
+        (each_got (IsFormula all_nodes) batch
         (λ number f there. accepts_sound number f (right.accepts number f there)))
 
   -- in the longer graph
@@ -174,7 +109,7 @@ module _ (graph : Graph) (kernel : Kernel NodeId)
     same_own : (node : KernelNode NodeId) → HasTypes (length graph) node
         → own_formula graph (length graph) node
         ≡ own_formula (graph ++ batch) (length graph) node
-    same_own (Test id) fits = old_formula graph batch id.0 fits
+    same_own (Test id) fits = formula_kept graph batch id.0 fits
     same_own (Bind variable) fits = refl
     same_own (Put variable constant) fits = refl
     same_own (Pair p q) fits = refl
@@ -214,7 +149,7 @@ module _ (graph : Graph) (kernel : Kernel NodeId)
       everything = rw begins refl;
       nothing = rw begins refl;
       formulas = λ number within. at_number number
-          (there_is batch number (subst (λ (count : ℕ). number < count) (sym right.count) within));
+          (got_some batch number (subst (λ (count : ℕ). number < count) (sym right.count) within));
     }
       where
         at_number : (number : ℕ) → (f : Formula) × (slice_get batch number ≡ Some f)
@@ -222,6 +157,5 @@ module _ (graph : Graph) (kernel : Kernel NodeId)
             (formula_at (graph ++ batch) (place (length graph) number))
         at_number number (f, there) = subst
             (Accepts (graph ++ batch) kernel.nodes (length graph) number)
-            (sym (ap (λ (o : Option Formula). unwrap_or o Nothing)
-            (new_formula graph batch number (length graph + number) refl ∙ there)))
+            (sym (formula_after graph batch number f there))
             (accepts_later number f (right.accepts number f there))

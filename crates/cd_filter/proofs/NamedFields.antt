@@ -13,9 +13,10 @@ use Rattle.cd_sets.specs.declared.node_id.NodeId.{NodeId}
 use Rattle.cd_syntax.specs.Name.{Name}
 use Rattle.cd_model.specs.AllOf.{AllOf, AnyOf}
 use Rattle.cd_model.specs.Types.{field_of as type_field}
-use Rattle.cd_matching.specs.Kernel.{KernelField, Present, Optional, AreRisingLabels, field_nodes}
+use Rattle.cd_model.specs.Formula.{AreRisingLabels}
+use Rattle.cd_model.proofs.Ones.{each_weaker}
+use Rattle.cd_matching.specs.Kernel.{KernelField, Present, Optional, field_nodes}
 use Rattle.cd_matching.specs.Kernel.{optional_types, is_named}
-use Rattle.cd_matching.proofs.AllOf.{all_weaker}
 use Rattle.cd_filter.specs.Accepting.{field_of, fields_of}
 
 pub same_names : (a b : Name) → bytes_eq a b ≡ true → a ≡ b
@@ -62,7 +63,7 @@ less_all : (before : Name) (named : Named) → AreRisingLabels (Some before) nam
 less_all before [] rises = tt
 less_all before (field ∷ named) rises = (
   rises.1,
-  all_weaker (λ other. slice_cmp nat_cmp field.0 other.0 ≡ Less)
+  each_weaker (λ other. slice_cmp nat_cmp field.0 other.0 ≡ Less)
       (λ other. slice_cmp nat_cmp before other.0 ≡ Less)
       (λ other less. nat_list_cmp_total.trans before field.0 other.0 rises.1 less) named
       (less_all field.0 named rises.2),
@@ -70,7 +71,7 @@ less_all before (field ∷ named) rises = (
 
 above_all : (before : Name) (named : Named) → AreRisingLabels (Some before) named
     → AllOf (λ field. bytes_eq before field.0 ≡ false) named
-above_all before named rises = all_weaker (λ field. slice_cmp nat_cmp before field.0 ≡ Less)
+above_all before named rises = each_weaker (λ field. slice_cmp nat_cmp before field.0 ≡ Less)
     (λ field. bytes_eq before field.0 ≡ false)
     (λ field less. sym (is_eq-slice_cmp before field.0) ∙ ap is_eq less) named
     (less_all before named rises)

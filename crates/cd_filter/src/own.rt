@@ -2,7 +2,7 @@
 ghost use Rattle.std.specs.Prelude.{◌≡◌, IfOk, None, map};
 ghost use Rattle.cd_model.specs.Formula as formula;
 ghost use Rattle.cd_graph.specs.PlainFormula.{plain, plain_field, plain_named};
-ghost use Rattle.cd_matching.specs.Kernel.{AreRisingLabels};
+ghost use Rattle.cd_model.specs.Formula.{AreRisingLabels};
 ghost use Rattle.cd_matching.specs.PlainKernel.{plain_kind, plain_kernel_field};
 ghost use Rattle.cd_filter.specs.Accepting.{place as place_in, field_of, fields_of, rest_of};
 

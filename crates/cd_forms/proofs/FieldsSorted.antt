@@ -15,23 +15,15 @@ use Rattle.cd_model.specs.AllOf.{AllOf}
 use Rattle.cd_model.specs.Formula.{AreRisingLabels}
 use Rattle.cd_model.specs.Types.{FieldOf, field_of}
 use Rattle.cd_model.proofs.Ones.{each_of_two}
-use Rattle.cd_forms.specs.Inner.Sorting.{by_order, inserted, sorted_over}
+use Rattle.cd_model.specs.SortedFields.{by_order, inserted}
+use Rattle.cd_model.proofs.InsertedFields.{Differs, inserted_rises, inserted_keeps}
+use Rattle.cd_forms.specs.Inner.Sorting.{sorted_over}
 
 module _ {X : Type 0} where
-  abbrev pub Differs : Name × X → Name × X → Type 0
-  Differs field other = bytes_eq field.0 other.0 ≡ false
-
   -- labels that differ
   abbrev pub Differ : List (Name × X) → Type 0
   Differ [] = Unit {0}
   Differ (field ∷ fields) = AllOf (Differs field) fields × Differ fields
-
-  -- a field stands before a field whose label is above its own
-  pub stands_before : (field other : Name × X) (rest : List (Name × X))
-      → slice_cmp nat_cmp field.0 other.0 ≡ Less
-      → inserted field (other ∷ rest) ≡ field ∷ other ∷ rest
-  stands_before field other rest less =
-      ap (λ order. by_order order field other rest (inserted field rest)) less
 
   turned : (field other : Name × X) → Differs field other → Differs other field
   turned field other differs = by_test (bytes_eq other.0 field.0) refl
@@ -41,45 +33,7 @@ module _ {X : Type 0} where
           (sym ((bytes_eq-Decides other.0 field.0).0 is))) ∙ differs))
       by_test false is = refl
 
-  -- labels still rise where a field with another label is put among them
-  by_order_rises : (before : Option Name) (order : Ordering) (field other : Name × X)
-      (rest later : List (Name × X))
-      → slice_cmp nat_cmp field.0 other.0 ≡ order → Differs field other → IsLabel field.0
-      → IsAbove before field.0 → AreRisingLabels before (other ∷ rest)
-      → (IsAbove (Some other.0) field.0 → AreRisingLabels (Some other.0) later)
-      → AreRisingLabels before (by_order order field other rest later)
-  by_order_rises before Less field other rest later same differs label above rising on =
-      (label, above, (rising.0, same, rising.2))
-  by_order_rises before Equal field other rest later same differs label above rising on =
-      absurd (true≢false (sym (ap is_eq same) ∙ is_eq-slice_cmp field.0 other.0 ∙ differs))
-  by_order_rises before Greater field other rest later same differs label above rising on = (
-    rising.0,
-    rising.1,
-    on (nat_list_cmp_total.antisymm other.0 field.0 ∙ ap ordering_reverse same),
-  )
-
-  inserted_rises : (before : Option Name) (field : Name × X) (fields : List (Name × X))
-      → AllOf (Differs field) fields → IsLabel field.0 → IsAbove before field.0
-      → AreRisingLabels before fields → AreRisingLabels before (inserted field fields)
-  inserted_rises before field [] differs label above rising = (label, above, tt)
-  inserted_rises before field (other ∷ rest) differs label above rising =
-      by_order_rises before (slice_cmp nat_cmp field.0 other.0) field other rest
-      (inserted field rest) refl differs.0 label above rising
-      (λ higher. inserted_rises (Some other.0) field rest differs.1 label higher rising.2)
-
-  -- what holds of each field holds of each where one more is among them
-  pub inserted_keeps : (fact : Name × X → Type 0) (field : Name × X) (fields : List (Name × X))
-      → fact field → AllOf fact fields → AllOf fact (inserted field fields)
-  inserted_keeps fact field [] one all = (one, tt)
-  inserted_keeps fact field (other ∷ rest) one all =
-      by_test (slice_cmp nat_cmp field.0 other.0) (inserted_keeps fact field rest one all.1)
-    where
-      by_test : (order : Ordering) → AllOf fact (inserted field rest)
-          → AllOf fact (by_order order field other rest (inserted field rest))
-      by_test Less on = (one, all)
-      by_test Equal on = (all.0, on)
-      by_test Greater on = (all.0, on)
-
+  -- what holds of each field holds of each where they are in order
   pub sorted_keeps : (fact : Name × X → Type 0) (sorted fields : List (Name × X))
       → AllOf fact sorted → AllOf fact fields → AllOf fact (sorted_over sorted fields)
   sorted_keeps fact sorted [] all others = all

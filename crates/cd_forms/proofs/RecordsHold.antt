@@ -16,6 +16,7 @@ use Rattle.cd_model.specs.Membership.{holds, reader, answers, labelled}
 use Rattle.cd_model.specs.Thing as thing
 use Rattle.cd_model.specs.Thing.{Thing, IsElement, AreFields}
 use Rattle.cd_model.specs.Types.{field_of, chosen}
+use Rattle.cd_model.proofs.InsertedFields.{Differs}
 use Rattle.cd_rules.specs.InRow.{thing_at}
 use Rattle.cd_program.specs.Expr.{Fields, NoField, AField, fields_of}
 use Rattle.cd_program.specs.PlainExpr.{plain_field}
@@ -24,8 +25,9 @@ use Rattle.cd_typing.specs.Typ.{typ, AreIn}
 use Rattle.cd_typing.specs.Results.{IsRecordOf, written_at}
 use Rattle.cd_forms.specs.Labels.{labels_of, AreLabels, AreOnce}
 use Rattle.cd_forms.specs.Inner.Sorting.{typed_fields, sorted_over}
-use Rattle.cd_forms.proofs.FieldsSorted.{Differs, Differ, sorted_rise, sorted_says, sorted_keeps}
-use Rattle.cd_forms.proofs.ReadHeads.{record_holds, nothing_in_empty}
+use Rattle.cd_forms.proofs.FieldsSorted.{Differ, sorted_rise, sorted_says, sorted_keeps}
+use Rattle.cd_model.proofs.ReadHeads.{record_holds, nothing_in_empty}
+use Rattle.cd_model.specs.Types.{no_closure}
 
 -- a label is its own
 pub name_itself : (name : Name) → bytes_eq name name ≡ true
@@ -240,7 +242,7 @@ module _ (graph more : Graph) (begins : graph ≡ built_ins ++ more) where
     pub record_has : (e : Thing) → IsRecordOf fields (map (typ graph) ids) e
         → holds (reader graph e) Type_of true
     record_has e (ds, made, are, written, same) =
-        (record_holds graph (in_order fields ids) EMPTY e).1 (
+        (record_holds graph no_closure (in_order fields ids) EMPTY e).1 (
           made,
           same,
           λ label. (as_labelled made label (field_of (in_order fields ids) EMPTY label)).1
@@ -284,7 +286,7 @@ module _ (graph more : Graph) (begins : graph ≡ built_ins ++ more) where
       pub record_only : (e : Thing) → IsElement e → holds (reader graph e) Type_of true
           → IsRecordOf fields (map (typ graph) ids) e
       record_only e element inside =
-          let found = (record_holds graph (in_order fields ids) EMPTY e).0 inside in
+          let found = (record_holds graph no_closure (in_order fields ids) EMPTY e).0 inside in
           let is = is_as found.0 found.2 in
           let has = things found.0 (subst IsElement found.1 element).1 fields ids count
           (each_is_as found.0 is (typed_fields fields ids)

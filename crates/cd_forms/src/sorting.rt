@@ -5,7 +5,8 @@ ghost use Rattle.std.specs.Cmp.Lexicographic.{slice_cmp};
 ghost use Rattle.cd_graph.specs.PlainFormula.{plain_field as plain_graph_field, plain_named};
 ghost use Rattle.cd_program.specs.Expr.{fields_of};
 ghost use Rattle.cd_program.specs.PlainExpr.{plain_field};
-ghost use Rattle.cd_forms.specs.Inner.Sorting.{inserted, sorted_over, typed_fields};
+ghost use Rattle.cd_model.specs.SortedFields.{inserted};
+ghost use Rattle.cd_forms.specs.Inner.Sorting.{sorted_over, typed_fields};
 
 use cd_graph::fields::Field;
 use cd_program::expr::FieldExpr;

@@ -8,9 +8,9 @@ use Rattle.cd_syntax.specs.Name.{Name}
 use Rattle.cd_model.specs.Thing.{IsElement}
 use Rattle.cd_syntax.specs.declared.constant.Constant.TheVariants as constant
 use Rattle.cd_model.specs.AllOf.{AllOf}
+use Rattle.cd_model.specs.Formula.{AreRisingLabels}
 use Rattle.cd_matching.specs.Kernel.{KernelNode, KernelField, Present, Optional, Test, Bind, Put}
 use Rattle.cd_matching.specs.Kernel.{Pair, Xml, Record, Both, First, Gather, variables_of}
-use Rattle.cd_matching.specs.Kernel.{AreRisingLabels}
 use Rattle.cd_matching.specs.Naming.{AreApart, AreSame, IsNamed, AreNamedApart}
 use Rattle.cd_matching.specs.Naming.{AreNamedSame}
 use Rattle.cd_matching.specs.Pattern.{Pattern, Patterns}

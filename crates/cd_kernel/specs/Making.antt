@@ -7,8 +7,9 @@ use Rattle.cd_syntax.specs.Name.{Name}
 use Rattle.cd_model.specs.AllOf.{AllOf}
 use Rattle.cd_model.specs.BuiltIns.{NIL, ANY, EMPTY}
 use Rattle.cd_model.specs.Thing.{Thing}
+use Rattle.cd_model.specs.Formula.{AreRisingLabels}
 use Rattle.cd_matching.specs.Kernel.{Kernel, KernelNode, KernelField, Present, Optional, Test, Bind}
-use Rattle.cd_matching.specs.Kernel.{Put, Pair, Xml, Record, Both, First, AreRisingLabels, Ends}
+use Rattle.cd_matching.specs.Kernel.{Put, Pair, Xml, Record, Both, First, Ends}
 use Rattle.cd_matching.specs.Kernel.{kernel_takes}
 use Rattle.cd_matching.specs.Naming.{GathersApart, FieldsApart}
 use Rattle.cd_matching.specs.Pattern as pattern

@@ -1,7 +1,8 @@
 //! Fields in the order of their labels.
 ghost use Rattle.std.specs.Prelude.{◌≡◌, ◌≤◌, ◌++◌, ◌∷◌, [], length, take, drop, IfOk, OnOk};
 ghost use Rattle.cd_matching.specs.PlainKernel.{plain_kernel_field};
-ghost use Rattle.cd_kernel.specs.Inner.Building.{inserted, sorted_over};
+ghost use Rattle.cd_model.specs.SortedFields.{inserted};
+ghost use Rattle.cd_kernel.specs.Inner.Building.{sorted_over};
 ghost use Rattle.cd_kernel.specs.Inner.PlainSteps.{plain_kernel_fields};
 
 use cd_matching::kernel::KernelField;

@@ -4,11 +4,12 @@ use Rattle.std.specs.Prelude.{◌≡◌, ◌<◌, ◌↔◌, ℕ, zero, suc, Boo
 use Rattle.std.specs.Prelude.{◌∷◌, ◌++◌, length, Option, Some, None, option_map, bytes_eq, eqb}
 use Rattle.std.specs.Prelude.{if◌then◌else◌}
 use Rattle.std.specs.List.{slice_get}
-use Rattle.cd_syntax.specs.Name.{Name, IsLabel, IsAbove}
+use Rattle.cd_syntax.specs.Name.{Name}
 use Rattle.cd_syntax.specs.declared.constant.Constant.{Constant}
 use Rattle.cd_model.specs.AllOf.{AllOf, AnyOf}
 use Rattle.cd_model.specs.Thing as thing
 use Rattle.cd_model.specs.Thing.{Thing, IsElement}
+use Rattle.cd_model.specs.Formula.{AreRisingLabels}
 use Rattle.cd_matching.specs.Captures.{Captures, nothing, or_else, joined, both, if_so}
 use Rattle.cd_matching.specs.Sequences.{thing_of}
 
@@ -86,11 +87,6 @@ BindApart nodes [] = Unit {0}
 BindApart nodes (number ∷ rest) =
     ((variable : ℕ) → Binds nodes variable number
     → AllOf (λ other. Binds nodes variable other → ⊥) rest) × BindApart nodes rest
-
-abbrev pub AreRisingLabels : {T : Type 0} → Option Name → List (Name × KernelField T) → Type 0
-AreRisingLabels before [] = Unit {0}
-AreRisingLabels before (field ∷ fields) = IsLabel field.0 × IsAbove before field.0
-    × AreRisingLabels (Some field.0) fields
 
 -- what is asked of a node of a kernel with so many variables, whose types are such
 abbrev pub IsSoundNode : {T : Type 0} → List (KernelNode T) → (variables : ℕ) → (T → Type 0)

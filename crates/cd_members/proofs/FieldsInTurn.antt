@@ -11,7 +11,6 @@ use Rattle.cd_model.specs.Formula.{Field, field_of, AreRisingLabels}
 use Rattle.cd_graph.specs.PlainFormula.{plain_field, plain_named}
 use Rattle.cd_graph.specs.declared.fields.Field.{Field as CodeField}
 use Rattle.cd_elements.specs.declared.shape.ElementId.{ElementId}
-use Rattle.cd_elements.specs.Parts as code
 use Rattle.cd_members.specs.declared.finding.Finding.{Finding}
 use Rattle.cd_members.specs.declared.finding.Finding.TheVariants.{Known, Unknown}
 use Rattle.cd_members.specs.Inner.Rising.{item_at, from, first_at}
@@ -19,12 +18,7 @@ use Rattle.cd_members.specs.Inner.Finding.{both, labels, finding_at_field, findi
 use Rattle.cd_members.proofs.LabelsOfRecords.{labels_in_turn}
 use Rattle.cd_members.proofs.RisingLabels.{Below, first_is, from_keeps, each_stands, rest_above}
 
--- the labels of parts and of the code's fields rise
-pub parts_rise : (before : Option Name) (parts : List (Name × ElementId)) → code.AreRisingLabels before parts
-    → AreRisingLabels before parts
-parts_rise before [] rise = tt
-parts_rise before (part ∷ parts) rise = (rise.0, rise.1, parts_rise (Some part.0) parts rise.2)
-
+-- the labels of the code's fields rise
 pub fields_rise : (before : Option Name) (fields : List (Name × CodeField)) → AreRisingLabels before (plain_named fields)
     → AreRisingLabels before fields
 fields_rise before [] rise = tt

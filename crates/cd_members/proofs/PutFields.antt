@@ -11,8 +11,9 @@ use Rattle.std.proofs.lemmas.Slice.Eq.{bytes_eq-Decides}
 use Rattle.cd_syntax.specs.Name.{Name, IsLabel, IsAbove}
 use Rattle.cd_model.specs.Thing.{Thing, Fields, NoField, Field}
 use Rattle.cd_model.specs.AllOf.{AllOf, AnyOf}
+use Rattle.cd_model.specs.Formula.{AreRisingLabels}
 use Rattle.cd_elements.specs.declared.shape.ElementId.{ElementId}
-use Rattle.cd_elements.specs.Parts.{AreRisingLabels, HasLabels}
+use Rattle.cd_elements.specs.Parts.{HasLabels}
 use Rattle.cd_elements.specs.Table as table
 use Rattle.cd_elements.specs.Table.{fields_of}
 use Rattle.cd_rules.specs.InRow.{thing_at}

@@ -5,9 +5,9 @@ use Rattle.std.specs.List.{slice_get, list_any, list_all}
 use Rattle.std.specs.Option.{unwrap_or}
 use Rattle.cd_sets.specs.declared.node_id.NodeId.{NodeId}
 use Rattle.cd_model.specs.Formula as formula
-use Rattle.cd_model.specs.Formula.{Graph, Formula, formulas_of}
+use Rattle.cd_model.specs.Formula.{Graph, Formula, formulas_of, AreRisingLabels}
 use Rattle.cd_graph.specs.PlainFormula.{plain}
-use Rattle.cd_matching.specs.Kernel.{KernelNode, AreRisingLabels, Test, Record, Both, First}
+use Rattle.cd_matching.specs.Kernel.{KernelNode, Test, Record, Both, First}
 use Rattle.cd_filter.specs.Accepting.{AreMembers, own_formula, Accepts}
 use Rattle.cd_filter.specs.declared.formed.Formed.{Formed}
 

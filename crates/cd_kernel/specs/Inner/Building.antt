@@ -12,6 +12,7 @@ use Rattle.cd_sets.specs.declared.node_id.NodeId.{NodeId}
 use Rattle.cd_syntax.specs.Name.{Name}
 use Rattle.cd_syntax.specs.declared.constant.Constant.TheVariants as constant
 use Rattle.cd_model.specs.BuiltIns.{NIL, ANY, EMPTY}
+use Rattle.cd_model.specs.SortedFields.{inserted}
 use Rattle.cd_matching.specs.Kernel.{Kernel, KernelNode, KernelField, Present, Optional, Test, Bind}
 use Rattle.cd_matching.specs.Kernel.{Put}
 use Rattle.cd_matching.specs.Kernel.{Pair, Xml, Record, Both, First, Gather}
@@ -88,17 +89,6 @@ joined node none made = chained node none made.0 made.1
 -- fields in the order of their labels
 abbrev pub KernelFields : Type 0
 KernelFields = List (Name × KernelField NodeId)
-
-abbrev pub by_order : Ordering → Name × KernelField NodeId → Name × KernelField NodeId
-    → KernelFields → KernelFields → KernelFields
-by_order Less field other rest later = field ∷ other ∷ rest
-by_order Equal field other rest later = other ∷ later
-by_order Greater field other rest later = other ∷ later
-
-abbrev pub inserted : Name × KernelField NodeId → KernelFields → KernelFields
-inserted field [] = field ∷ []
-inserted field (other ∷ rest) =
-    by_order (slice_cmp nat_cmp field.0 other.0) field other rest (inserted field rest)
 
 abbrev pub sorted_over : KernelFields → KernelFields → KernelFields
 sorted_over [] sorted = sorted

@@ -1,6 +1,6 @@
 use Rattle.std.proofs.Common.{◌∙◌, ◌++◌, ◌∷◌, ap, sym, take, drop}
+use Rattle.cd_model.specs.SortedFields.{inserted}
 use Rattle.cd_graph.specs.PlainFormula.{plain_field, plain_named}
-use Rattle.cd_forms.specs.Inner.Sorting.{inserted}
 use Rattle.cd_forms.proofs.SortedCode.{map_inserted}
 use Rattle.cd_forms.proofs.sorting.insert.Goals as goal
 

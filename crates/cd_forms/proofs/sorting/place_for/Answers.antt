@@ -2,9 +2,9 @@ use Rattle.std.proofs.Common.{◌∙◌, ◌++◌, ap, ap₂, sym, drop, ◌∷�
 use Rattle.std.proofs.lemmas.List.{take-map, drop-map, at_drop_more}
 use Rattle.cd_syntax.specs.Name.{Name}
 use Rattle.cd_model.specs.Formula.{Field}
+use Rattle.cd_model.specs.SortedFields.{inserted}
+use Rattle.cd_model.proofs.InsertedFields.{stands_before}
 use Rattle.cd_graph.specs.PlainFormula.{plain_field, plain_named}
-use Rattle.cd_forms.specs.Inner.Sorting.{inserted}
-use Rattle.cd_forms.proofs.FieldsSorted.{stands_before}
 use Rattle.cd_forms.proofs.SortedCode.{plain_one}
 use Rattle.cd_forms.proofs.sorting.place_for.Goals as goal
 

@@ -1,9 +1,10 @@
 use Rattle.std.proofs.Common.{◌∙◌, ◌++◌, ap, ap₂, sym, drop, ◌∷◌, ◌+◌, get_or}
 use Rattle.std.proofs.lemmas.List.{take-map, drop-map, at_drop_more}
+use Rattle.cd_model.specs.SortedFields.{inserted}
+use Rattle.cd_model.proofs.InsertedFields.{stands_before}
 use Rattle.cd_matching.specs.PlainKernel.{plain_kernel_field}
-use Rattle.cd_kernel.specs.Inner.Building.{KernelFields, inserted}
+use Rattle.cd_kernel.specs.Inner.Building.{KernelFields}
 use Rattle.cd_kernel.specs.Inner.PlainSteps.{plain_kernel_fields}
-use Rattle.cd_kernel.proofs.FieldsSorted.{stands_before}
 use Rattle.cd_kernel.proofs.sort.place_for.Goals as goal
 
 -- the field stands before the first whose label is above its own

@@ -1,6 +1,6 @@
 use Rattle.std.proofs.Common.{◌≡◌, ◌++◌, take, drop}
+use Rattle.cd_model.specs.SortedFields.{inserted}
 use Rattle.cd_matching.specs.PlainKernel.{plain_kernel_field}
-use Rattle.cd_kernel.specs.Inner.Building.{inserted}
 use Rattle.cd_kernel.specs.Inner.PlainSteps.{plain_kernel_fields}
 use Rattle.cd_kernel.proofs.sort.place_for.Given as goal
 

@@ -4,7 +4,7 @@ use Rattle.cd_members.specs.declared.finding.Finding.{Finding}
 use Rattle.cd_members.specs.declared.finding.Finding.TheVariants.{Known, Unknown}
 use Rattle.cd_members.specs.Inner.Known.{known}
 use Rattle.cd_members.specs.Inner.Finding.{both, labels, finding_at_labels, finding_at_others}
-use Rattle.cd_members.proofs.FieldsInTurn.{both_in_turn, parts_rise, others_plain}
+use Rattle.cd_members.proofs.FieldsInTurn.{both_in_turn, others_plain}
 use Rattle.cd_members.proofs.facts_of_parts.at_fields.Goals as goal
 use Rattle.cd_members.proofs.facts_of_parts.at_fields.Goals.{After-at_named}
 
@@ -16,7 +16,7 @@ found_first : (c : After-at_named) (finding : Finding) → c.at_named.result ≡
 found_first c finding is =
     both_in_turn (known c.args.facts.now) c.args.parts.now (plain_named c.args.fields.now.named) c.args.fields.now.rest finding
     (finding_at_others (known c.args.facts.now) c.args.fields.now.named c.args.fields.now.rest c.args.parts.now)
-    (parts_rise None c.args.parts.now c.requires) (sym is ∙ c.at_named.ensures)
+    c.requires (sym is ∙ c.at_named.ensures)
     (others_plain (known c.args.facts.now) c.args.fields.now.named c.args.fields.now.rest c.args.parts.now)
 
 pub returns-in-Known-true : goal.returns-in-Known-true

@@ -5,7 +5,7 @@ use Rattle.cd_members.specs.declared.finding.Finding.TheVariants.{Known, Unknown
 use Rattle.cd_members.specs.Inner.Known.{known}
 use Rattle.cd_members.specs.Inner.Finding.{both, finding_at_others}
 use Rattle.cd_members.proofs.RisingLabels.{from_rises}
-use Rattle.cd_members.proofs.FieldsInTurn.{next_other, parts_rise, fields_rise}
+use Rattle.cd_members.proofs.FieldsInTurn.{next_other, fields_rise}
 use Rattle.cd_members.proofs.facts_of_parts.at_others.Goals as goal
 use Rattle.cd_members.proofs.facts_of_parts.at_others.Goals.{After-at_other}
 
@@ -27,7 +27,7 @@ found_next c finding is =
     next_other (known c.args.facts.now) c.loop-label.left.now c.from_label-left.result.now c.args.fields.now.rest
     c.args.parts.now c.loop-label.label-index c.loop-label-item.result _ finding
     (finding_at_others (known c.args.facts.now) c.args.fields.now.named c.args.fields.now.rest c.args.parts.now)
-    c.loop-label.invariant.0 (parts_rise None c.args.parts.now c.requires) c.loop-label-item.is c.loop-label-test.true
+    c.loop-label.invariant.0 c.requires c.loop-label-item.is c.loop-label-test.true
     c.from_label-left.ensures c.first_at.ensures (sym is ∙ c.at_other.ensures) c.loop-label.invariant.1
 
 pub returns-in-Known-false : goal.returns-in-Known-false
