@@ -1,6 +1,7 @@
 -- Closures of things, and things that hold none.
-use Rattle.std.proofs.Common.{ℕ}
+use Rattle.std.proofs.Common.{ℕ, ◌↔◌}
 use Rattle.cd_model.specs.Thing.{Thing, Integer, Character, Atom, Pair, Xml, Record, Function, Closure, Fields, NoField, Field, Pairs, NoPair, Maps, Fails, IsElement, AreFields, ArePairs, IsValue, AreValues, IsData, AreData, EachClosure, EachOfFields, EachOfPairs}
+use Rattle.cd_model.proofs.BothWays.{itself, both_agree, three_agree}
 
 -- what holds of each function holds of those in a thing
 module _ (fact : ℕ → Type 0) (each : (function : ℕ) → fact function) where
@@ -59,26 +60,31 @@ module _ (fact : ℕ → Type 0) where
     none_in_data_fields NoField data_is = tt
     none_in_data_fields (Field label value rest) data_is = (none_in_data value data_is.0, none_in_data_fields rest data_is.1)
 
--- a value that is data is an element
+-- data is an element where it is a value, and back
 mutual
-  pub data_are_elements : (is : Thing) → IsValue is → IsData is → IsElement is
-  data_are_elements (Integer n) sound data_is = sound
-  data_are_elements (Character c) sound data_is = sound
-  data_are_elements (Atom name) sound data_is = sound
-  data_are_elements (Pair first second) sound data_is =
-      (data_are_elements first sound.0 data_is.0, data_are_elements second sound.1 data_is.1)
-  data_are_elements (Xml tag attributes content) sound data_is = (
-    sound.0,
-    sound.1,
-    data_are_elements tag sound.2 data_is.0,
-    data_are_elements attributes sound.3 data_is.1,
-    data_are_elements content sound.4 data_is.2,
-  )
-  data_are_elements (Record fields) sound data_is = (sound.0, data_are_fields fields sound.1 data_is)
-  data_are_elements (Function pairs) sound data_is = absurd data_is
-  data_are_elements (Closure function environment) sound data_is = absurd data_is
+  data_alike : (is : Thing) → IsData is → IsElement is ↔ IsValue is
+  data_alike (Integer n) data_is = itself
+  data_alike (Character c) data_is = itself
+  data_alike (Atom name) data_is = itself
+  data_alike (Pair first second) data_is =
+      both_agree (data_alike first data_is.0) (data_alike second data_is.1)
+  data_alike (Xml tag attributes content) data_is =
+      let parts = three_agree (data_alike tag data_is.0) (data_alike attributes data_is.1)
+      (data_alike content data_is.2) in (
+        λ is. let both = parts.0 (is.2, is.3, is.4) in (is.0, is.1, both.0, both.1, both.2),
+        λ is. let both = parts.1 (is.2, is.3, is.4) in (is.0, is.1, both.0, both.1, both.2),
+      )
+  data_alike (Record fields) data_is = both_agree itself (fields_alike fields data_is)
+  data_alike (Function pairs) data_is = absurd data_is
+  data_alike (Closure function environment) data_is = absurd data_is
 
-  data_are_fields : (fields : Fields) → AreValues fields → AreData fields → AreFields fields
-  data_are_fields NoField sound data_is = tt
-  data_are_fields (Field label value rest) sound data_is =
-      (sound.0, data_are_elements value sound.1 data_is.0, data_are_fields rest sound.2 data_is.1)
+  fields_alike : (fields : Fields) → AreData fields → AreFields fields ↔ AreValues fields
+  fields_alike NoField data_is = itself
+  fields_alike (Field label value rest) data_is =
+      three_agree itself (data_alike value data_is.0) (fields_alike rest data_is.1)
+
+pub data_are_elements : (is : Thing) → IsValue is → IsData is → IsElement is
+data_are_elements is sound data_is = (data_alike is data_is).1 sound
+
+pub data_are_values : (is : Thing) → IsElement is → IsData is → IsValue is
+data_are_values is sound data_is = (data_alike is data_is).0 sound

@@ -7,34 +7,12 @@ use Rattle.cd_model.specs.Thing.{Thing, Integer, Character, Atom, Pair, Xml, Rec
 use Rattle.cd_model.specs.Thing.{IsElement, AreFields, IsValue, AreValues, IsData, AreData}
 use Rattle.cd_model.specs.Types.{closure_maps}
 use Rattle.cd_model.proofs.BuiltIns.{values_are_sound, data_are}
-use Rattle.cd_model.proofs.Closures.{none_in_data}
+use Rattle.cd_model.proofs.Closures.{none_in_data, data_are_values}
 use Rattle.cd_safety.specs.OfInterface.{HasArrows}
 use Rattle.cd_safety.specs.Sound.{data_type, IsSound, AreSound, IsGood}
 use Rattle.cd_safety.specs.StandsIn as stand
 use Rattle.cd_safety.specs.StandsIn.{StandsIn, FieldsStandIn}
 use Rattle.cd_safety.specs.ValueIn.{ValueIn}
-
-mutual
-  pub data_is_value : (v : Thing) → IsElement v → IsData v → IsValue v
-  data_is_value (Integer n) element is = element
-  data_is_value (Character c) element is = element
-  data_is_value (Atom name) element is = element
-  data_is_value (Pair first second) element is = (data_is_value first element.0 is.0, data_is_value second element.1 is.1)
-  data_is_value (Xml tag attributes content) element is = (
-    element.0,
-    element.1,
-    data_is_value tag element.2 is.0,
-    data_is_value attributes element.3 is.1,
-    data_is_value content element.4 is.2,
-  )
-  data_is_value (Record fields) element is = (element.0, fields_are_values fields element.1 is)
-  data_is_value (Function pairs) element is = absurd is
-  data_is_value (Closure function env) element is = absurd is
-
-  fields_are_values : (fields : Fields) → AreFields fields → AreData fields → AreValues fields
-  fields_are_values NoField elements are = tt
-  fields_are_values (Field label v rest) elements are =
-      (elements.0, data_is_value v elements.1 are.0, fields_are_values rest elements.2 are.1)
 
 module _ (fact : ℕ → Fields → Type 0) where
   mutual
@@ -56,7 +34,7 @@ module _ (fact : ℕ → Fields → Type 0) where
   pub data_is_good : (interfaces : Interfaces) (v : Thing) → IsElement v → IsData v → IsGood fact interfaces v
   data_is_good interfaces v element is = record {
     typed = record {
-      is_value = data_is_value v element is;
+      is_value = data_are_values v element is;
       have_arrows = none_in_data (HasArrows interfaces) v is;
     };
     sound = data_is_sound v is;
