@@ -11,6 +11,7 @@ use Rattle.cd_model.specs.Kinds.{Kind, APair}
 use Rattle.cd_model.specs.Membership.{Answers, Mapping, Reader}
 use Rattle.cd_model.specs.Thing as thing
 use Rattle.cd_model.specs.Thing.{Thing}
+use Rattle.cd_model.proofs.Ones.{one_on_left, one_on_right, one_on_a_side}
 use Rattle.cd_rules.specs.Clauses.{Clause, Pair, Ints, Chars, Atoms, Pairs, Xmls, Records, Arrows}
 use Rattle.cd_rules.specs.Clauses.{IsClauseOfQuestion, IsInClause}
 use Rattle.cd_rules.proofs.ClausesExact.{thing_exact}
@@ -20,7 +21,7 @@ use Rattle.cd_products.specs.InBoxes.{InClause, OutsideRow}
 use Rattle.cd_products.specs.QuestionBoxes.{QuestionClause, InQuestion, InClauses, ArePairClauses}
 use Rattle.cd_products.specs.Inner.ClauseBoxes.{AreClauses, pair_row, pair_box, pair_box_of}
 use Rattle.cd_products.specs.Inner.ClauseBoxes.{pair_boxes}
-use Rattle.cd_products.proofs.Appending.{any_left, any_right, any_split}
+use Rattle.cd_products.proofs.AmongClauses.{among_clauses}
 
 abbrev is_pair : Kind → Bool
 is_pair APair = true
@@ -100,17 +101,17 @@ module _ (graph : Graph) (closed : ℕ → Mapping) (first second : Thing) where
       → IsInClause APair at_pair clause → AnyOf IsIn (pair_boxes all)
   box_among clause [] among within = absurd among
   box_among clause (other ∷ all) (inl same) within =
-      any_left IsIn (pair_box_of other) (pair_boxes all)
+      one_on_left IsIn (pair_box_of other) (pair_boxes all)
       (box_of_clause other (subst (IsInClause APair at_pair) (sym same) within))
   box_among clause (other ∷ all) (inr later) within =
-      any_right IsIn (pair_box_of other) (pair_boxes all) (box_among clause all later within)
+      one_on_right IsIn (pair_box_of other) (pair_boxes all) (box_among clause all later within)
 
   clause_among : (all : List Clause) (fact : Clause → Type 0) → AllOf fact all
       → AnyOf IsIn (pair_boxes all)
       → (clause : Clause) × fact clause × IsInClause APair at_pair clause
   clause_among [] fact each one = absurd one
   clause_among (clause ∷ all) fact each one =
-      elim (any_split IsIn (pair_box_of clause) (pair_boxes all) one) [
+      elim (one_on_a_side IsIn (pair_box_of clause) (pair_boxes all) one) [
         | inl here ↦ (clause, each.0, clause_of_box clause here)
         | inr later ↦ clause_among all fact each.1 later
       ]
@@ -125,25 +126,12 @@ module _ (graph : Graph) (closed : ℕ → Mapping) (question : Question) (all :
   inside first second asking =
       by_clause ((thing_exact graph closed question (thing.Pair first second)).0 asking)
     where
-      among : (clause : Clause) → IsClauseOfQuestion graph question clause
-          → IsInClause APair (reader_of graph closed (thing.Pair first second)) clause
-          → AnyOf (λ other. other ≡ clause) all
-      among (Pairs wanted refused) of within = elim (are.1 (Pairs wanted refused) of) [
-        | inl basic ↦ absurd basic
-        | inr there ↦ there
-      ]
-      among (Ints _ _) of within = absurd (true≢false (ap is_pair within.0))
-      among (Chars _ _) of within = absurd (true≢false (ap is_pair within.0))
-      among (Atoms _ _) of within = absurd (true≢false (ap is_pair within.0))
-      among (Xmls _ _) of within = absurd (true≢false (ap is_pair within.0))
-      among (Records _ _) of within = absurd (true≢false (ap is_pair within.0))
-      among (Arrows _ _) of within = absurd (true≢false (ap is_pair within.0))
-
       by_clause : ((clause : Clause) × IsClauseOfQuestion graph question clause
           × IsInClause APair (reader_of graph closed (thing.Pair first second)) clause)
           → InClauses of_graph (pair_boxes all) (first ∷ second ∷ [])
       by_clause (clause, of, within) = box_among graph closed first second clause all
-          (among clause of within) within
+          (among_clauses APair refl (reader_of graph closed (thing.Pair first second)) graph question
+          all are clause of within) within
 
   back : (first second : Thing) → InClauses of_graph (pair_boxes all) (first ∷ second ∷ [])
       → InQuestion of_graph (thing.Pair first second) question

@@ -14,6 +14,7 @@ use Rattle.cd_model.specs.Membership.{Answers, Mapping, Reader}
 use Rattle.cd_model.specs.Thing as thing
 use Rattle.cd_model.specs.Thing.{Thing, IsElement, IsAtom, IsRecord}
 use Rattle.cd_model.specs.Types.{no_closure}
+use Rattle.cd_model.proofs.Ones.{one_on_left, one_on_right, one_on_a_side}
 use Rattle.cd_rules.specs.Clauses.{Clause, Triple, Ints, Chars, Atoms, Pairs, Xmls, Records, Arrows}
 use Rattle.cd_rules.specs.Clauses.{IsClauseOfQuestion, IsInClause}
 use Rattle.cd_rules.proofs.ClausesExact.{thing_exact}
@@ -26,7 +27,7 @@ use Rattle.cd_products.specs.InBoxes.{InClause, OutsideRow}
 use Rattle.cd_products.specs.QuestionBoxes.{QuestionClause, InQuestion, CoverXml, MakeXml}
 use Rattle.cd_products.specs.Inner.ClauseBoxes.{AreClauses, triple_row, triple_box, triple_box_of}
 use Rattle.cd_products.specs.Inner.ClauseBoxes.{triple_boxes}
-use Rattle.cd_products.proofs.Appending.{any_left, any_right, any_split}
+use Rattle.cd_products.proofs.AmongClauses.{among_clauses}
 
 abbrev is_xml : Kind → Bool
 is_xml AnXml = true
@@ -100,10 +101,10 @@ module _ (graph : Graph) (begins : (more : Graph) × (graph ≡ built_ins ++ mor
         → IsInClause AnXml at_xml clause → AnyOf IsIn (triple_boxes all)
     box_among clause [] among within = absurd among
     box_among clause (other ∷ all) (inl same) within =
-        any_left IsIn (triple_box_of other) (triple_boxes all)
+        one_on_left IsIn (triple_box_of other) (triple_boxes all)
         (box_of_clause other (subst (IsInClause AnXml at_xml) (sym same) within))
     box_among clause (other ∷ all) (inr later) within =
-        any_right IsIn (triple_box_of other) (triple_boxes all)
+        one_on_right IsIn (triple_box_of other) (triple_boxes all)
         (box_among clause all later within)
 
   -- and what is in a box is in the clause, and its parts are in the nodes of atoms and of records
@@ -126,7 +127,7 @@ module _ (graph : Graph) (begins : (more : Graph) × (graph ≡ built_ins ++ mor
       × answers attributes RECORD true × IsInClause AnXml at_xml clause
   clause_among [] fact each one = absurd one
   clause_among (clause ∷ all) fact each one =
-      elim (any_split IsIn (triple_box_of clause) (triple_boxes all) one) [
+      elim (one_on_a_side IsIn (triple_box_of clause) (triple_boxes all) one) [
         | inl here ↦ let is = clause_of_box clause here in (clause, each.0, is.0, is.1, is.2)
         | inr later ↦ clause_among all fact each.1 later
       ]
@@ -141,21 +142,6 @@ module _ (graph : Graph) (begins : (more : Graph) × (graph ≡ built_ins ++ mor
     InIt tag attributes content =
         IsInClause AnXml (reader_of graph closed (thing.Xml tag attributes content))
 
-    among : (tag attributes content : Thing) (clause : Clause)
-        → IsClauseOfQuestion graph question clause → InIt tag attributes content clause
-        → AnyOf (λ other. other ≡ clause) all
-    among tag attributes content (Xmls wanted refused) of within =
-        elim (are.1 (Xmls wanted refused) of) [
-          | inl basic ↦ absurd basic
-          | inr there ↦ there
-        ]
-    among tag attributes content (Ints _ _) of within = absurd (true≢false (ap is_xml within.0))
-    among tag attributes content (Chars _ _) of within = absurd (true≢false (ap is_xml within.0))
-    among tag attributes content (Atoms _ _) of within = absurd (true≢false (ap is_xml within.0))
-    among tag attributes content (Pairs _ _) of within = absurd (true≢false (ap is_xml within.0))
-    among tag attributes content (Records _ _) of within = absurd (true≢false (ap is_xml within.0))
-    among tag attributes content (Arrows _ _) of within = absurd (true≢false (ap is_xml within.0))
-
     -- where XML things of a sort have atoms as tags and records as attributes
     pub cover_xml : (Sort : Thing → Type 0)
         → ((tag attributes content : Thing) → Sort (thing.Xml tag attributes content)
@@ -164,7 +150,8 @@ module _ (graph : Graph) (begins : (more : Graph) × (graph ≡ built_ins ++ mor
         let sound = are_sound tag attributes content sort in
         let is = (thing_exact graph closed question (thing.Xml tag attributes content)).0 asking in
         box_among graph begins closed tag attributes content sound.0 sound.1 is.0 all
-        (among tag attributes content is.0 is.1 is.2) is.2
+        (among_clauses AnXml refl (reader_of graph closed (thing.Xml tag attributes content))
+        graph question all are is.0 is.1 is.2) is.2
 
   pub make_xml : MakeXml (in_node graph) IsElement question (triple_boxes all)
   make_xml tag attributes content of_tag of_attributes of_content one =

@@ -18,17 +18,17 @@ use Rattle.cd_rules.specs.InRow.{thing_at, IsInRow}
 use Rattle.cd_rules.specs.Rows.{Row, field_at}
 use Rattle.cd_rules.proofs.ClausesExact.{thing_exact}
 use Rattle.cd_rules.proofs.InCells.{Says}
-use Rattle.cd_model.proofs.Ones.{each_weaker, each_for_all}
+use Rattle.cd_model.proofs.Ones.{each_weaker, each_for_all, one_on_left, one_on_right, one_on_a_side}
 use Rattle.cd_rules.proofs.RowsOfThings.{thing_says}
 use Rattle.cd_rules.proofs.Things.{answers_of, reader_of}
 use Rattle.cd_products.specs.QuestionBoxes.{InQuestion}
 use Rattle.cd_products.specs.Inner.ClauseBoxes.{AreClauses}
-use Rattle.cd_products.proofs.Appending.{any_left, any_right, any_split}
 use Rattle.cd_rows.specs.Inner.PlainClauses.{row_clause, row_clause_of, row_clauses}
 use Rattle.cd_rows.specs.Inner.Refining.{needed, first_row, rows_of_clause, rows_of_clauses}
 use Rattle.cd_rows.proofs.FirstRows.{first_labels, name_no_more, into_first, out_of_first, labels}
 use Rattle.cd_rows.proofs.LessRows.{IsOutside}
 use Rattle.cd_rows.proofs.RefinedRows.{clause_only, clause_cover}
+use Rattle.cd_products.proofs.AmongClauses.{among_clauses}
 
 abbrev is_record : Kind → Bool
 is_record ARecord = true
@@ -118,7 +118,7 @@ module _ (graph : Graph) (closed : ℕ → Mapping) (fields : thing.Fields) wher
         → (clause : Clause) × fact clause × IsInClause ARecord at_record clause
     clause_among [] fact each one = absurd one
     clause_among (Records wanted refused ∷ all) fact each one =
-        by_side (any_split InRow (rows_of_clause test (row_clause wanted refused)) (rows_of all)
+        by_side (one_on_a_side InRow (rows_of_clause test (row_clause wanted refused)) (rows_of all)
         one) (clause_among all fact each.1)
       where
         by_side : AnyOf InRow (rows_of_clause test (row_clause wanted refused))
@@ -149,12 +149,12 @@ module _ (graph : Graph) (closed : ℕ → Mapping) (fields : thing.Fields) wher
       rows_cover clause (Records wanted refused ∷ all) (inl same) within =
           let inside = in_row wanted refused
           (subst (IsInClause ARecord at_record) (sym same) within) in
-          any_left InRow (rows_of_clause test (row_clause wanted refused)) (rows_of all)
+          one_on_left InRow (rows_of_clause test (row_clause wanted refused)) (rows_of all)
           (clause_cover test answers at (labels wanted refused) decided drops
           (row_clause wanted refused) (first_labels wanted refused)
           (name_no_more wanted refused) inside.0 inside.1)
       rows_cover clause (Records wanted refused ∷ all) (inr later) within =
-          any_right InRow (rows_of_clause test (row_clause wanted refused)) (rows_of all)
+          one_on_right InRow (rows_of_clause test (row_clause wanted refused)) (rows_of all)
           (rows_cover clause all later within)
       rows_cover clause (Ints a b ∷ all) (inl same) within =
           absurd (of_other (Ints a b) refl (subst IsIn (sym same) within))
@@ -202,21 +202,8 @@ module _ (graph : Graph) (closed : ℕ → Mapping) (question : Question) (all :
     rows_hold decided drops asking =
         by_clause ((thing_exact graph closed question (thing.Record fields)).0 asking)
       where
-        among : (clause : Clause) → IsClauseOfQuestion graph question clause
-            → IsInClause ARecord (reader_of graph closed (thing.Record fields)) clause
-            → AnyOf (λ other. other ≡ clause) all
-        among (Records wanted refused) of within = elim (are.1 (Records wanted refused) of) [
-          | inl basic ↦ absurd basic
-          | inr there ↦ there
-        ]
-        among (Ints _ _) of within = absurd (true≢false (ap is_record within.0))
-        among (Chars _ _) of within = absurd (true≢false (ap is_record within.0))
-        among (Atoms _ _) of within = absurd (true≢false (ap is_record within.0))
-        among (Pairs _ _) of within = absurd (true≢false (ap is_record within.0))
-        among (Xmls _ _) of within = absurd (true≢false (ap is_record within.0))
-        among (Arrows _ _) of within = absurd (true≢false (ap is_record within.0))
-
         by_clause : ((clause : Clause) × IsClauseOfQuestion graph question clause
             × IsInClause ARecord (reader_of graph closed (thing.Record fields)) clause) → InRows
         by_clause (clause, of, within) = rows_cover graph closed fields test decided drops clause
-            all (among clause of within) within
+            all (among_clauses ARecord refl (reader_of graph closed (thing.Record fields)) graph
+            question all are clause of within) within
