@@ -1,24 +1,21 @@
 -- Formulas are made for wants, one by one, and are those of a graph.
-use Rattle.std.proofs.Common.{◌≡◌, ◌<◌, ◌≤◌, ◌+◌, ℕ, zero, suc, List, [], ◌∷◌, ◌++◌, map, length, Option, Some, None}
-use Rattle.std.proofs.Common.{refl, sym, ap, subst, ◌∙◌, arith, length-append, codes, true≢false}
+use Rattle.std.proofs.Common.{◌≡◌, ◌<◌, ◌≤◌, ◌+◌, ℕ, List, [], ◌∷◌, ◌++◌, map, length, Option, Some, None}
+use Rattle.std.proofs.Common.{sym, ap, subst, ◌∙◌, arith, length-append, codes}
 use Rattle.std.proofs.lemmas.List.{length-map, length_push, map-append}
-use Rattle.std.proofs.lemmas.Option.{none-some, slice_get_within}
+use Rattle.std.proofs.lemmas.Option.{slice_get_within}
 use Rattle.std.specs.List.{slice_get, AllZip}
-use Rattle.std.proofs.lemmas.Slice.Eq.{bytes_eq-Decides}
-use Rattle.cd_syntax.specs.Name.{Name, IsLabel}
 use Rattle.cd_syntax.specs.Name.{first}
 use Rattle.cd_syntax.specs.declared.constant.Constant.{Constant}
 use Rattle.cd_syntax.specs.declared.constant.Constant.TheVariants as constant
 use Rattle.cd_model.specs.AllOf.{AllOf}
 use Rattle.cd_model.specs.BuiltIns.{atoms_of}
-use Rattle.cd_model.specs.Formula.{Formula, Formulas, Nothing, Everything, Ints, Chars, Atoms, Pair, Xml}
-use Rattle.cd_model.specs.Formula.{Record, Arrow, And, Or, Not, NoFormula, AFormula, Field, IsFormula, AreFormulas}
+use Rattle.cd_model.specs.Formula.{Formula}
+use Rattle.cd_model.specs.Formula.{IsFormula, AreFormulas}
 use Rattle.cd_model.specs.Formula.{formulas_of}
 use Rattle.cd_model.specs.Thing.{IsElement}
 use Rattle.cd_graph.specs.PlainFormula.{plain}
 use Rattle.cd_graph.specs.declared.formula.Formula.{Formula as CodeFormula}
 use Rattle.cd_matching.specs.Sequences.{thing_of}
-use Rattle.cd_model.proofs.Ones.{each_weaker}
 use Rattle.cd_model.proofs.ByNumber.{each_got, got_some, past_end}
 use Rattle.cd_model.proofs.FormulasAmongMore.{formula_among_more}
 use Rattle.cd_model.proofs.SoundBuiltIns.{nil_is_label}

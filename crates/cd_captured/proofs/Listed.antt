@@ -5,8 +5,8 @@ use Rattle.std.proofs.lemmas.Option.{none-some, same_Some, slice_get_within, sli
 use Rattle.std.proofs.lemmas.Option.{get_or_from_slice_get}
 use Rattle.std.proofs.lemmas.List.{take_more, take_all}
 use Rattle.std.proofs.lemmas.List.Elements.{Contains-push_cases}
-use Rattle.std.specs.List.{slice_get, AllZip, Contains}
-use Rattle.cd_model.specs.AllOf.{AllOf, AnyOf}
+use Rattle.std.specs.List.{slice_get, Contains}
+use Rattle.cd_model.specs.AllOf.{AnyOf}
 
 module _ {X : Type 0} where
   -- what is in a list under a number of a shorter one is there

@@ -1,8 +1,5 @@
 -- Tests of truth values have types that hold what their sides give.
-use Rattle.std.proofs.Common.{◌≡◌, ◌∙◌, refl, sym, subst, Bool, true, false, not, IsTrue, Option, Some, None, codes, bytes_eq}
-use Rattle.std.proofs.lemmas.Bool.{true≢false}
-use Rattle.std.proofs.lemmas.Slice.Eq.{bytes_eq-Decides}
-use Rattle.cd_syntax.specs.Name.{Name, IsLabel, is_word}
+use Rattle.std.proofs.Common.{◌≡◌, refl, sym, subst, Bool, true, false, not, Option, Some, None, codes}
 use Rattle.cd_sets.specs.declared.node_id.NodeId.{NodeId}
 use Rattle.cd_model.specs.BuiltIns.{BOOL}
 use Rattle.cd_model.specs.Formula.{Graph, IsGraph}

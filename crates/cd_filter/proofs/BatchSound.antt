@@ -1,17 +1,15 @@
 -- The formulas of a batch are formulas of the graph that they are put into, and there they are for
 -- the nodes of the kernel.
-use Rattle.std.proofs.Common.{◌≡◌, ◌<◌, ◌≤◌, ◌+◌, ◌++◌, ℕ, zero, suc, List, [], ◌∷◌, length, Option}
-use Rattle.std.proofs.Common.{Some, None, refl, sym, ap, subst, ◌∙◌, arith, true, false, Bool}
+use Rattle.std.proofs.Common.{◌≡◌, ◌<◌, ◌≤◌, ◌+◌, ◌++◌, ℕ, List, [], ◌∷◌, length, Option}
+use Rattle.std.proofs.Common.{Some, None, refl, sym, subst, arith, true, false, Bool}
 use Rattle.std.proofs.Common.{length-append}
 use Rattle.std.specs.List.{slice_get}
-use Rattle.std.specs.Option.{unwrap_or}
 use Rattle.cd_sets.specs.declared.node_id.NodeId.{NodeId}
 use Rattle.cd_syntax.specs.Name.{Name}
 use Rattle.cd_model.specs.AllOf.{AllOf}
 use Rattle.cd_model.specs.BuiltIns.{built_ins}
-use Rattle.cd_model.specs.Formula as formula
-use Rattle.cd_model.specs.Formula.{Graph, Formula, Formulas, Field, NoFormula, AFormula, Nothing, AreRisingLabels}
-use Rattle.cd_model.specs.Formula.{Everything, Ints, Chars, Atoms, Arrow, And, Or, Not, formulas_of}
+use Rattle.cd_model.specs.Formula.{Graph, Formula, AreRisingLabels}
+use Rattle.cd_model.specs.Formula.{formulas_of}
 use Rattle.cd_model.specs.Formula.{formula_at, IsFormula, AreFormulas, IsGraph}
 use Rattle.cd_matching.specs.Kernel.{Kernel, KernelNode, KernelField, Present, Optional, Test, Bind}
 use Rattle.cd_matching.specs.Kernel.{Put, Pair, Xml, Record, Both, First, Gather}
@@ -24,7 +22,6 @@ use Rattle.cd_filter.specs.Inner.Forming.{HasTypes, IsBatch}
 use Rattle.cd_filter.proofs.Forming.{has_types}
 use Rattle.cd_model.proofs.ByNumber.{each_got, got_some, all_got}
 use Rattle.cd_model.proofs.FormulasAmongMore.{formula_among_more, formula_after, formula_kept, sound_at}
-use Rattle.cd_model.proofs.Ones.{each_weaker}
 
 -- labels that rise
 pub fields_rise : (first : ℕ) (before : Option Name) (named : List (Name × KernelField NodeId))

@@ -1,16 +1,14 @@
 -- Fields whose labels differ, put in the order of their labels: the labels rise, and at each label
 -- the fields say what they said.
-use Rattle.std.proofs.Common.{◌≡◌, true, false, Bool, List, [], ◌∷◌, Option, Some, None, ap, refl}
+use Rattle.std.proofs.Common.{◌≡◌, true, false, Bool, List, [], ◌∷◌, None, ap, refl}
 use Rattle.std.proofs.Common.{sym, ◌∙◌, bytes_eq, if◌then◌else◌}
 use Rattle.std.proofs.lemmas.Bool.{true≢false}
-use Rattle.std.proofs.lemmas.Cmp.{nat_list_cmp_total}
-use Rattle.std.proofs.lemmas.Map.Text.{is_eq-slice_cmp}
 use Rattle.std.proofs.lemmas.Slice.Eq.{bytes_eq-Decides}
-use Rattle.std.specs.Ordering.{nat_cmp, ordering_reverse, is_eq}
+use Rattle.std.specs.Ordering.{nat_cmp}
 use Rattle.std.specs.Cmp.Lexicographic.{slice_cmp}
 use Rattle.std.specs.declared.cmp.Ordering.{Ordering}
 use Rattle.std.specs.declared.cmp.Ordering.TheVariants.{Less, Equal, Greater}
-use Rattle.cd_syntax.specs.Name.{Name, IsLabel, IsAbove}
+use Rattle.cd_syntax.specs.Name.{Name, IsLabel}
 use Rattle.cd_model.specs.AllOf.{AllOf}
 use Rattle.cd_model.specs.Formula.{AreRisingLabels}
 use Rattle.cd_model.specs.Types.{FieldOf, field_of}

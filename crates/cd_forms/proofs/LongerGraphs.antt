@@ -1,12 +1,10 @@
 -- What nodes hold in a longer graph: old ones what they held, and new ones what their formulas say.
-use Rattle.std.proofs.Common.{◌≡◌, ◌<◌, ◌+◌, ◌++◌, ◌↔◌, ℕ, suc, true, List, [], ◌∷◌}
-use Rattle.std.proofs.Common.{length, map, Some, refl, ap, sym, subst, ◌∙◌, arith}
-use Rattle.std.specs.List.{slice_get}
-use Rattle.std.specs.Option.{unwrap_or}
+use Rattle.std.proofs.Common.{◌≡◌, ◌<◌, ◌++◌, ◌↔◌, true, List, [], ◌∷◌}
+use Rattle.std.proofs.Common.{length, map, refl, ap, sym, subst, ◌∙◌, arith}
 use Rattle.cd_sets.specs.declared.node_id.NodeId.{NodeId}
 use Rattle.cd_model.specs.AllOf.{AllOf}
 use Rattle.cd_model.specs.BuiltIns.{node}
-use Rattle.cd_model.specs.Formula.{Graph, Formula, Nothing, IsFormula, IsGraph, formula_at}
+use Rattle.cd_model.specs.Formula.{Graph, Formula, IsFormula, IsGraph, formula_at}
 use Rattle.cd_model.specs.Membership.{holds, reader, answers}
 use Rattle.cd_model.specs.Thing.{Thing}
 use Rattle.cd_model.proofs.Extending.{kept_elements, kept_formulas}

@@ -1,19 +1,16 @@
 -- A graph with one formula more, which is over its nodes.
-use Rattle.std.proofs.Common.{◌≡◌, ◌≤◌, ◌<◌, ◌+◌, ◌++◌, ◌↔◌, ℕ, true, List, [], ◌∷◌, length, ap}
+use Rattle.std.proofs.Common.{◌≡◌, ◌+◌, ◌++◌, ◌↔◌, true, List, [], ◌∷◌, length, ap}
 use Rattle.std.proofs.Common.{sym}
 use Rattle.std.proofs.Common.{subst, ◌∙◌, arith, Result, Ok, Err, OnOk}
 use Rattle.std.specs.Result.{IfOk}
 use Rattle.std.specs.declared.alloc.AllocError.{AllocError}
 use Rattle.cd_sets.specs.declared.node_id.NodeId.{NodeId}
-use Rattle.cd_syntax.specs.Name.{Name}
 use Rattle.cd_model.specs.AllOf.{AllOf}
 use Rattle.cd_model.specs.BuiltIns.{node}
-use Rattle.cd_model.specs.Formula as formula
-use Rattle.cd_model.specs.Formula.{Graph, Formula, Formulas, Field, NoFormula, AFormula, IsFormula}
-use Rattle.cd_model.specs.Formula.{AreFormulas, IsGraph}
+use Rattle.cd_model.specs.Formula.{Graph, Formula, IsFormula}
+use Rattle.cd_model.specs.Formula.{IsGraph}
 use Rattle.cd_model.specs.Membership.{holds, reader, answers}
 use Rattle.cd_model.specs.Thing.{Thing}
-use Rattle.cd_model.proofs.Ones.{each_weaker}
 use Rattle.cd_model.proofs.FormulasAmongMore.{formula_among_more}
 use Rattle.cd_forms.proofs.LongerGraphs.{new_node_holds}
 

@@ -2,17 +2,14 @@
 -- they differ.
 use Rattle.std.proofs.Common.{ℕ, take, drop, ap₂}
 use Rattle.std.proofs.lemmas.List.{map-append, take-map, drop-map}
-use Rattle.std.proofs.Common.{◌≡◌, false, List, [], ◌∷◌, ◌++◌, Option, Some, None, ap, refl}
-use Rattle.std.proofs.Common.{sym, subst, ◌∙◌, bytes_eq}
-use Rattle.std.proofs.lemmas.Bool.{true≢false}
-use Rattle.std.proofs.lemmas.Cmp.{nat_list_cmp_total}
-use Rattle.std.proofs.lemmas.Map.Text.{is_eq-slice_cmp}
-use Rattle.std.specs.Ordering.{nat_cmp, ordering_reverse, is_eq}
+use Rattle.std.proofs.Common.{◌≡◌, List, [], ◌∷◌, ◌++◌, None, ap, refl}
+use Rattle.std.proofs.Common.{sym, subst, ◌∙◌}
+use Rattle.std.specs.Ordering.{nat_cmp}
 use Rattle.std.specs.Cmp.Lexicographic.{slice_cmp}
 use Rattle.std.specs.declared.cmp.Ordering.{Ordering}
 use Rattle.std.specs.declared.cmp.Ordering.TheVariants.{Less, Equal, Greater}
 use Rattle.cd_sets.specs.declared.node_id.NodeId.{NodeId}
-use Rattle.cd_syntax.specs.Name.{Name, IsLabel, IsAbove}
+use Rattle.cd_syntax.specs.Name.{Name, IsLabel}
 use Rattle.cd_model.specs.AllOf.{AllOf}
 use Rattle.cd_model.specs.SortedFields.{by_order, inserted}
 use Rattle.cd_model.proofs.InsertedFields.{Differs, inserted_rises, inserted_keeps}

@@ -1,9 +1,8 @@
 -- The items and the rows of each part of an expression stand among those of the whole, from the
 -- number of the items before the part on.
-use Rattle.std.proofs.Common.{◌≡◌, ℕ, zero, suc, ◌+◌, List, [], ◌∷◌, ◌++◌, length, Some, refl, ap₂}
+use Rattle.std.proofs.Common.{◌≡◌, ℕ, ◌+◌, List, ◌∷◌, ◌++◌, length, Some, refl, ap₂}
 use Rattle.std.proofs.Common.{subst, ◌∙◌, arith, length-append}
 use Rattle.std.specs.List.{slice_get}
-use Rattle.std.proofs.lemmas.Option.{none-some}
 use Rattle.cd_model.proofs.ByNumber.{got_more, got_after}
 use Rattle.cd_syntax.specs.Name.{Name}
 use Rattle.cd_matching.specs.Pattern as pattern

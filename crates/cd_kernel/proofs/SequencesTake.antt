@@ -7,19 +7,17 @@ use Rattle.cd_syntax.specs.Name.{Name}
 use Rattle.cd_model.specs.AllOf.{AllOf}
 use Rattle.cd_model.specs.Thing.{Thing}
 use Rattle.cd_matching.specs.Captures.{Captures, or_else, both}
-use Rattle.cd_matching.specs.Kernel as kernel
-use Rattle.cd_matching.specs.Kernel.{KernelNode, KernelField, Present, Optional, Bind, Put, Pair}
-use Rattle.cd_matching.specs.Kernel.{Xml, Record, on_field, on_fields, is_named, taken, taken_at}
+use Rattle.cd_matching.specs.Kernel.{KernelNode}
 use Rattle.cd_matching.specs.Pattern as pattern
 use Rattle.cd_matching.specs.Pattern.{Pattern, Patterns, NoPattern, APattern, Fields, NoField}
 use Rattle.cd_matching.specs.Pattern.{Regular, Regulars, NoRegular, ARegular}
 use Rattle.cd_matching.specs.Sequences.{sequence_of, items}
 use Rattle.cd_matching.specs.Take.{captures_of, take_items}
-use Rattle.cd_matching.specs.Take.{take, ways}
+use Rattle.cd_matching.specs.Take.{ways}
 use Rattle.cd_matching.specs.Variables.{is_gathered}
 use Rattle.cd_matching.specs.Ways.{Way}
 use Rattle.cd_kernel.specs.Automaton.{heads, once, run_whole}
-use Rattle.cd_kernel.specs.Copies.{Types, IsAt, is_among, Copy, in_a_group, one_is_plain, IsCopy}
+use Rattle.cd_kernel.specs.Copies.{Types, is_among, Copy, in_a_group, one_is_plain, IsCopy}
 use Rattle.cd_kernel.specs.Copies.{AreJoined}
 use Rattle.cd_kernel.specs.Making.{inner, AreCopies}
 use Rattle.cd_kernel.proofs.ItemsByNumber.{ItemsHave, item_has}
@@ -27,7 +25,7 @@ use Rattle.cd_kernel.proofs.KeptCaptures.{kept}
 use Rattle.cd_kernel.proofs.OrElse.{or_else_none}
 use Rattle.cd_kernel.proofs.RunsWhole.{runs_first}
 use Rattle.cd_kernel.proofs.StatesTake.{AreRight, of_copy, of_run, takes_named, TakesKept}
-use Rattle.cd_kernel.proofs.StatesTake.{unfolds_at, takes_both, states_take}
+use Rattle.cd_kernel.proofs.StatesTake.{takes_both, states_take}
 
 module _ {T : Type 0} (test : T → Thing → Bool) (types : Types T) (variables : List Name)
     (nodes : List (KernelNode T)) (right : AreRight test types nodes) where

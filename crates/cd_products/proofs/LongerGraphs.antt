@@ -1,16 +1,13 @@
 -- A longer graph has the same clauses of old questions, and the same right tests of their boxes.
-use Rattle.std.proofs.Common.{◌≡◌, ℕ, zero, suc, ◌<◌, Bool, true, false, List, [], ◌∷◌, ◌++◌, inl}
+use Rattle.std.proofs.Common.{◌<◌, Bool, true, false, List, [], ◌∷◌, ◌++◌, inl}
 use Rattle.std.proofs.Common.{inr}
-use Rattle.std.proofs.Common.{length, refl, sym, ap, subst, arith}
-use Rattle.std.proofs.Math.Path.{ap₂}
-use Rattle.cd_sets.specs.declared.node_id.NodeId.{NodeId}
+use Rattle.std.proofs.Common.{length, sym, subst}
 use Rattle.cd_sets.specs.declared.question.Question.{Question}
 use Rattle.cd_model.specs.AllOf.{AllOf, AnyOf}
-use Rattle.cd_model.specs.BuiltIns.{node}
-use Rattle.cd_model.specs.Formula.{Graph, IsGraph, formula_at}
+use Rattle.cd_model.specs.Formula.{Graph, IsGraph}
 use Rattle.cd_model.specs.Membership.{answers}
 use Rattle.cd_model.proofs.Extending.{kept_elements}
-use Rattle.cd_rules.specs.Choices.{Choice, choices, joined, choices_at, choices_of}
+use Rattle.cd_rules.specs.Choices.{Choice, choices}
 use Rattle.cd_rules.specs.Clauses.{Clause, IsClauseOf}
 use Rattle.cd_rules.specs.Family.{AsksNodes}
 use Rattle.cd_rules.specs.Members.{HasElement}

@@ -2,7 +2,7 @@
 use Rattle.std.specs.Borrow.{Bor}
 use Rattle.std.proofs.Common.{ℕ, zero, suc, get_or, ◌≡◌, ◌<◌, ◌≤◌, ◌↔◌, ◌⊎◌, inl, inr, true, false, List, []}
 use Rattle.std.proofs.Common.{◌∷◌, ◌++◌, length, refl}
-use Rattle.std.proofs.Common.{sym, subst, ◌∙◌, arith}
+use Rattle.std.proofs.Common.{sym, subst, arith}
 use Rattle.std.proofs.lemmas.List.{length-append}
 use Rattle.cd_sets.specs.declared.node_id.NodeId.{NodeId}
 use Rattle.cd_sets.specs.declared.question.Question.{Question}
@@ -10,7 +10,6 @@ use Rattle.cd_model.specs.AllOf.{AllOf, AnyOf}
 use Rattle.cd_model.specs.BuiltIns.{built_ins, ANY, EMPTY}
 use Rattle.cd_model.specs.Formula.{Graph, IsGraph, asked, in_node}
 use Rattle.cd_model.specs.Thing.{Thing}
-use Rattle.cd_model.proofs.BothWays.{through}
 use Rattle.cd_rules.specs.Family.{AsksNodes}
 use Rattle.cd_model.proofs.Ones.{each_of_lists}
 use Rattle.cd_model.proofs.ReadHeads.{nothing_in_empty}
@@ -19,7 +18,6 @@ use Rattle.cd_records.specs.Inner.Entries.{InOneQuestion}
 use Rattle.cd_records.specs.Inner.Plain.{plain_questions}
 use Rattle.cd_records.specs.Inner.Standing.{HoldsUnion, IsUnionNode}
 use Rattle.cd_records.proofs.NodesStand.{holds_old}
-use Rattle.cd_records.proofs.QuestionsOnce.{each_one}
 
 module _ (graph more : Graph) (begins : graph ≡ built_ins ++ more) where
   all_in_any : (d : Thing) → in_node graph d ANY true

@@ -1,6 +1,6 @@
 -- What rows of a graph ask are questions of its nodes, and so is what is made of these.
 use Rattle.std.proofs.Common.{ℕ, ◌<◌, Bool, true, false, List, [], ◌∷◌, ◌++◌, map, length, bytes_eq}
-use Rattle.std.proofs.Common.{if◌then◌else◌, ◌≡◌, inl, inr, sym, subst}
+use Rattle.std.proofs.Common.{if◌then◌else◌, inl, inr, sym, subst}
 use Rattle.cd_sets.specs.declared.question.Question.{Question}
 use Rattle.cd_syntax.specs.Name.{Name, IsLabel}
 use Rattle.cd_model.specs.AllOf.{AllOf}
@@ -15,8 +15,8 @@ use Rattle.cd_rows.specs.RecordRows.{may_lack}
 use Rattle.cd_records.specs.Inner.Entries.{Entry}
 use Rattle.cd_records.specs.Inner.Labels.{labels_in}
 use Rattle.cd_records.specs.Inner.Leaving.{AreChoices, AreLefts, AreSteps, Choice, ChoiceAsks}
-use Rattle.cd_records.specs.Inner.Leaving.{IsStep, both_questions, entries_at, first_choice, leave}
-use Rattle.cd_records.specs.Inner.Leaving.{rest_entries, rest_entry, rest_labels, some_of, take}
+use Rattle.cd_records.specs.Inner.Leaving.{IsStep, both_questions, entries_at, first_choice}
+use Rattle.cd_records.specs.Inner.Leaving.{rest_entries, rest_entry, rest_labels, some_of}
 use Rattle.cd_records.specs.Inner.Rests.{AreRests, Rest, RestIsIn}
 use Rattle.cd_records.specs.Inner.Rows.{AreRowsIn}
 use Rattle.cd_records.specs.Inner.Saying.{asked_by, every_of, merged_entries, merged_entry}

@@ -1,16 +1,15 @@
 -- The choices of what stands at a label of no cell are right, and they are all there are.
 use Rattle.std.proofs.Common.{◌≡◌, Bool, true, false, List, [], ◌∷◌, ◌++◌, Option, Some, None, ◌⊎◌}
-use Rattle.std.proofs.Common.{inl, inr, refl, sym, ap, subst, ◌∙◌, bytes_eq, append_assoc, append-nil}
+use Rattle.std.proofs.Common.{inl, inr, refl, sym, subst, bytes_eq, append_assoc, append-nil}
 use Rattle.std.proofs.lemmas.Bool.{true≢false}
-use Rattle.cd_sets.specs.declared.node_id.NodeId.{NodeId}
 use Rattle.cd_sets.specs.declared.question.Question.{Question}
 use Rattle.cd_syntax.specs.Name.{Name}
 use Rattle.cd_model.specs.AllOf.{AllOf, AnyOf}
 use Rattle.cd_model.specs.Formula.{Graph, in_node, asked}
 use Rattle.cd_model.specs.Thing.{Thing, IsElement}
-use Rattle.cd_rules.specs.InRow.{IsInCell, IsOfNoCell, HasElsewhere, IsInRow}
+use Rattle.cd_rules.specs.InRow.{IsInCell, IsOfNoCell, HasElsewhere}
 use Rattle.cd_rules.specs.Members.{HasElement}
-use Rattle.cd_rules.specs.Rows.{Cell, Row}
+use Rattle.cd_rules.specs.Rows.{Row}
 use Rattle.cd_rules.proofs.Answered.{each_of_asked}
 use Rattle.cd_rules.proofs.Asking.{asked_of_each}
 use Rattle.cd_model.proofs.Ones.{each_weaker, each_of_lists, one_on_left, one_on_right}

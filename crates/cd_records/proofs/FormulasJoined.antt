@@ -1,5 +1,5 @@
 -- What unions and meets of formulas hold.
-use Rattle.std.proofs.Common.{◌≡◌, ◌≤◌, ◌+◌, ◌<◌, ◌↔◌, Bool, true, false, List, [], ◌∷◌, ◌++◌, map}
+use Rattle.std.proofs.Common.{◌≡◌, ◌≤◌, ◌+◌, ◌<◌, ◌↔◌, Bool, true, false, List, [], ◌∷◌, ◌++◌}
 use Rattle.std.proofs.Common.{Option, Some, None, ◌⊎◌, inl, inr, length, bytes_eq, if◌then◌else◌, refl, sym, ap, subst, ◌∙◌}
 use Rattle.std.proofs.Common.{append_assoc, arith}
 use Rattle.std.proofs.lemmas.Bool.{true≢false}
@@ -17,7 +17,7 @@ use Rattle.cd_model.specs.Formula.{each_holds, one_holds, in_node}
 use Rattle.cd_model.specs.Membership.{reader}
 use Rattle.cd_model.specs.Thing as thing
 use Rattle.cd_model.specs.Thing.{Thing, Fields, IsElement, IsRecord}
-use Rattle.cd_model.proofs.BothWays.{both_agree, itself, one_agrees, through, turned}
+use Rattle.cd_model.proofs.BothWays.{both_agree, itself, one_agrees, through}
 use Rattle.cd_model.proofs.Sorts as sort
 use Rattle.cd_model.proofs.FormulasAmongMore.{formula_among_more}
 use Rattle.cd_rules.specs.InRow.{thing_at, IsInCell}
@@ -29,7 +29,7 @@ use Rattle.cd_records.specs.Inner.Rests.{HoldsRest, IsOfRests, Rest}
 use Rattle.cd_records.specs.Inner.Standing.{Adds, HasOther, HoldsOther, HoldsOutside, HoldsRecords}
 use Rattle.cd_records.specs.Inner.Standing.{IsAsSaid, IsRest, IsUnion, longer, open_fields}
 use Rattle.cd_records.proofs.AloneNodes.{at_least}
-use Rattle.cd_records.proofs.Lookups.{names_differ, not_same, same_name}
+use Rattle.cd_records.proofs.Lookups.{not_same, same_name}
 use Rattle.cd_records.proofs.RecordsStand.{as_had, had}
 
 -- what holds for some formulas still holds where more come after them

@@ -12,7 +12,6 @@ use Rattle.cd_model.specs.AllOf.{AllOf, AnyOf}
 use Rattle.cd_model.specs.Formula.{AreRisingLabels}
 use Rattle.cd_model.proofs.Labels.{IsOneOf}
 use Rattle.cd_rules.specs.Rows.{Row}
-use Rattle.cd_model.proofs.Ones.{one_leads}
 use Rattle.cd_records.specs.Inner.Labels.{AreRising, by_order, inserted, all_inserted, labels_in}
 use Rattle.cd_records.specs.Inner.Labels.{row_labels}
 use Rattle.cd_records.proofs.Lookups.{same_name}

@@ -1,18 +1,15 @@
 -- A formula for the merged entries of two nodes holds the records that merge theirs.
-use Rattle.std.proofs.Common.{◌≡◌, ◌<◌, Bool, true, false, ◌&&◌, List, [], ◌∷◌, ◌++◌, map, Option}
+use Rattle.std.proofs.Common.{◌≡◌, Bool, true, false, ◌&&◌, List, [], ◌∷◌, ◌++◌, map, Option}
 use Rattle.std.proofs.Common.{Some, None, ◌⊎◌, inl, inr, refl, sym, ap, subst, ◌∙◌, bytes_eq}
 use Rattle.std.proofs.Common.{if◌then◌else◌}
-use Rattle.std.proofs.lemmas.Bool.{true≢false}
 use Rattle.std.proofs.lemmas.Option.{none-some}
 use Rattle.std.proofs.Math.Path.{ap₂}
-use Rattle.std.specs.List.{list_any}
 use Rattle.cd_sets.specs.declared.node_id.NodeId.{NodeId}
 use Rattle.cd_sets.specs.declared.question.Question.{Question}
 use Rattle.cd_syntax.specs.Name.{Name, IsLabel}
 use Rattle.cd_model.specs.AllOf.{AllOf, AnyOf}
 use Rattle.cd_model.specs.BuiltIns.{built_ins, EMPTY}
-use Rattle.cd_model.specs.Formula.{Graph, Formula, holds, in_node}
-use Rattle.cd_model.specs.Membership.{reader}
+use Rattle.cd_model.specs.Formula.{Graph, in_node}
 use Rattle.cd_model.specs.Thing as thing
 use Rattle.cd_model.specs.Thing.{Thing, IsElement, IsRecord}
 use Rattle.cd_model.proofs.Labels.{IsOneOf}
@@ -20,10 +17,10 @@ use Rattle.cd_model.proofs.Sorts as sort
 use Rattle.cd_rules.specs.InRow.{thing_at}
 use Rattle.cd_rules.specs.Rows.{Cell, Row}
 use Rattle.cd_rules.proofs.FreshLabels.{row_of_a, row_is_label}
-use Rattle.cd_model.proofs.Ones.{each_weaker, one_of_map, one_with_each}
+use Rattle.cd_model.proofs.Ones.{each_weaker, one_of_map}
 use Rattle.cd_model.proofs.ReadHeads.{nothing_in_empty}
-use Rattle.cd_rows.specs.RecordRows.{InRecordRow, IsLivingRow, asked_at, may_lack, cell_in}
-use Rattle.cd_rows.proofs.LivingRows.{IsOfSort, at_labels}
+use Rattle.cd_rows.specs.RecordRows.{InRecordRow, IsLivingRow, may_lack}
+use Rattle.cd_rows.proofs.LivingRows.{at_labels}
 use Rattle.cd_meaning.specs.Records.{IsMergedAt, IsMergeOf}
 use Rattle.cd_meaning.specs.Sets.{elements_of}
 use Rattle.cd_records.specs.Inner.Entries.{Entry, IsInEntry, entry_in}
@@ -35,7 +32,7 @@ use Rattle.cd_records.specs.Inner.Rests.{IsMergedNode, IsMergedSaid, merged_labe
 use Rattle.cd_records.specs.Inner.Standing.{IsNodeFor}
 use Rattle.cd_records.proofs.AloneNodes.{empty_below}
 use Rattle.cd_records.proofs.LabelsRise.{rows_rise, rows_still, rows_have}
-use Rattle.cd_records.proofs.Lookups.{name_itself, names_differ, same_name, not_same, of_no_cell}
+use Rattle.cd_records.proofs.Lookups.{names_differ, same_name, not_same, of_no_cell}
 use Rattle.cd_records.proofs.MergedEntries.{any_passes, merged_in_entry, entry_is_merged}
 use Rattle.cd_records.proofs.RowsOfNodes.{row_of_record, some_record}
 

@@ -6,7 +6,6 @@ use Rattle.cd_sets.specs.declared.node_id.NodeId.{NodeId}
 use Rattle.cd_sets.specs.declared.question.Question.{Question}
 use Rattle.cd_model.specs.AllOf.{AllOf}
 use Rattle.cd_model.specs.Formula.{Graph, Formula, IsFormula, IsGraph, in_node}
-use Rattle.cd_model.specs.Thing.{Thing, IsElement}
 use Rattle.cd_model.proofs.BothWays.{through}
 use Rattle.cd_model.proofs.FormulasAmongMore.{formula_among_more}
 use Rattle.cd_compact.specs.Keeping.{HoldSame}

@@ -1,25 +1,21 @@
 -- Nodes hold what they held where more formulas come after those of a graph.
-use Rattle.std.proofs.Common.{◌≡◌, ◌<◌, ◌≤◌, ◌+◌, ◌↔◌, ℕ, zero, suc, true, false, List, [], ◌∷◌, ◌++◌}
+use Rattle.std.proofs.Common.{◌≡◌, ◌<◌, ◌≤◌, ◌+◌, ◌↔◌, ℕ, true, false, List, [], ◌∷◌, ◌++◌}
 use Rattle.std.proofs.Common.{length, refl, sym, ap, subst, ◌∙◌, append_assoc, append-nil, arith}
 use Rattle.std.proofs.lemmas.List.{length-append}
-use Rattle.std.specs.List.{AllZip}
 use Rattle.cd_sets.specs.declared.node_id.NodeId.{NodeId}
 use Rattle.cd_sets.specs.declared.question.Question.{Question}
 use Rattle.cd_syntax.specs.Name.{Name}
 use Rattle.cd_model.specs.AllOf.{AllOf}
-use Rattle.cd_model.specs.BuiltIns.{built_ins, EMPTY}
-use Rattle.cd_model.specs.Formula as formula
-use Rattle.cd_model.specs.Formula.{Graph, Formula, Formulas, Field, NoFormula, AFormula, IsFormula}
-use Rattle.cd_model.specs.Formula.{AreFormulas, IsGraph, formula_at, asked, holds, in_node}
+use Rattle.cd_model.specs.Formula.{Graph, Formula, Field, IsFormula}
+use Rattle.cd_model.specs.Formula.{IsGraph, formula_at, asked, holds, in_node}
 use Rattle.cd_model.specs.Membership.{reader}
 use Rattle.cd_model.specs.Thing.{Thing, IsElement}
-use Rattle.cd_model.proofs.BothWays.{itself, through, turned}
+use Rattle.cd_model.proofs.BothWays.{itself, through}
 use Rattle.cd_model.proofs.Extending.{kept_elements, kept_formulas}
 use Rattle.cd_model.proofs.Ones.{each_weaker, each_of_lists}
 use Rattle.cd_model.proofs.FormulasAmongMore.{formula_among_more}
-use Rattle.cd_model.proofs.ReadHeads.{nothing_in_empty}
 use Rattle.cd_records.specs.Inner.Entries.{Entry, InOneQuestion}
-use Rattle.cd_records.specs.Inner.Standing.{Adds, IsUnion, HoldsUnion, HoldsOutside, IsFieldOf}
+use Rattle.cd_records.specs.Inner.Standing.{Adds, IsUnion, HoldsUnion, HoldsOutside}
 use Rattle.cd_records.specs.Inner.Standing.{AreFieldsOf, longer}
 
 -- the formula that stands after those of a graph and of a batch

@@ -1,7 +1,6 @@
 -- A node for what is left of rows where a label goes holds the records without the label.
 use Rattle.std.proofs.Common.{◌≡◌, true, List, [], ◌∷◌, ◌++◌, map, ◌⊎◌, inl, inr, refl, sym, subst}
 use Rattle.cd_sets.specs.declared.node_id.NodeId.{NodeId}
-use Rattle.cd_sets.specs.declared.question.Question.{Question}
 use Rattle.cd_syntax.specs.Name.{Name, IsLabel}
 use Rattle.cd_model.specs.AllOf.{AllOf, AnyOf}
 use Rattle.cd_model.specs.BuiltIns.{built_ins, EMPTY}
@@ -14,12 +13,11 @@ use Rattle.cd_model.proofs.ReadHeads.{nothing_in_empty}
 use Rattle.cd_rows.specs.RecordRows.{InRecordRow, IsLivingRow}
 use Rattle.cd_meaning.specs.Records.{HasRecord, IsRestOf, IsWithout}
 use Rattle.cd_meaning.specs.Sets.{elements_of}
-use Rattle.cd_records.specs.Inner.Leaving.{AreLefts}
 use Rattle.cd_records.specs.Inner.Rests.{AreRests, IsOfRest, IsOfRests, IsRestNode, Rest}
 use Rattle.cd_records.specs.Inner.Rows.{AreRowsOf}
 use Rattle.cd_records.specs.Inner.Standing.{IsNodeFor}
 use Rattle.cd_records.proofs.AloneNodes.{empty_below}
-use Rattle.cd_records.proofs.RestsOfRows.{IsRestOfRow, rest_to_row, row_to_rest}
+use Rattle.cd_records.proofs.RestsOfRows.{rest_to_row, row_to_rest}
 use Rattle.cd_records.proofs.RowsOfNodes.{record_of_rows, row_of_record}
 
 module _ (graph : Graph) (label : Name) where

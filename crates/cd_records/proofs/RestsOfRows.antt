@@ -1,8 +1,7 @@
 -- The records of a row without their fields at a label are those that are as its entries say, and
 -- have values of the questions of one of the lists that may be left.
-use Rattle.std.proofs.Common.{◌≡◌, Bool, true, false, List, [], ◌∷◌, ◌++◌, map, Option, Some, None}
+use Rattle.std.proofs.Common.{◌≡◌, Bool, true, false, List, [], ◌∷◌, Option, Some, None}
 use Rattle.std.proofs.Common.{◌⊎◌, inl, inr, refl, sym, ap, subst, ◌∙◌, bytes_eq, if◌then◌else◌}
-use Rattle.std.proofs.lemmas.Bool.{true≢false}
 use Rattle.cd_sets.specs.declared.question.Question.{Question}
 use Rattle.cd_syntax.specs.Name.{Name, IsLabel}
 use Rattle.cd_model.specs.AllOf.{AllOf, AnyOf}
@@ -21,10 +20,9 @@ use Rattle.cd_rows.specs.RecordRows.{InRecordRow, IsLivingRow, asked_at, may_lac
 use Rattle.cd_rows.proofs.LivingRows.{IsOfSort, at_labels}
 use Rattle.cd_meaning.specs.Records.{IsWithout}
 use Rattle.cd_records.specs.Inner.Entries.{Entry, IsInEntry, entry_in}
-use Rattle.cd_records.specs.Inner.Labels.{inserted, labels_in, row_labels}
+use Rattle.cd_records.specs.Inner.Labels.{labels_in, row_labels}
 use Rattle.cd_records.specs.Inner.Leaving.{Choice, AreChoices, AreLefts, first_choice, rest_entries}
 use Rattle.cd_records.specs.Inner.Leaving.{rest_entry, rest_labels, some_of}
-use Rattle.cd_records.specs.Inner.Saying.{with_questions}
 use Rattle.cd_records.specs.Inner.Standing.{HasOther, IsRest}
 use Rattle.cd_records.proofs.ChoicesMade.{Fits, IsElsewhere, IsRight, choice_fits, choices_right}
 use Rattle.cd_records.proofs.LabelsRise.{has_inserted, still_has, rows_have, no_others}

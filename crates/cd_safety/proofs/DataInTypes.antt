@@ -4,7 +4,7 @@ use Rattle.cd_model.specs.BuiltIns.{built_ins}
 use Rattle.cd_model.specs.Formula.{Graph, nodes}
 use Rattle.cd_model.specs.Interfaces.{Interfaces, admits}
 use Rattle.cd_model.specs.Thing.{Thing, Integer, Character, Atom, Pair, Xml, Record, Function, Closure, Fields, NoField, Field}
-use Rattle.cd_model.specs.Thing.{IsElement, AreFields, IsValue, AreValues, IsData, AreData}
+use Rattle.cd_model.specs.Thing.{IsElement, IsValue, IsData, AreData}
 use Rattle.cd_model.specs.Types.{closure_maps}
 use Rattle.cd_model.proofs.BuiltIns.{values_are_sound, data_are}
 use Rattle.cd_model.proofs.Closures.{none_in_data, data_are_values}

@@ -1,5 +1,5 @@
 -- Two graphs in one: behind the formulas of the first stand those of the second, with node numbers raised by the length of the first.
-use Rattle.std.proofs.Common.{◌≡◌, ◌+◌, ◌<◌, ◌≤◌, ℕ, zero, suc, List, [], ◌∷◌, ◌++◌, map, length, length-append, Option, inl, inr, ◌↔◌, refl, sym, ◌∙◌, ap, subst, arith, bytes_eq}
+use Rattle.std.proofs.Common.{◌≡◌, ◌+◌, ◌<◌, ℕ, zero, suc, List, [], ◌∷◌, ◌++◌, map, length, length-append, Option, inl, inr, ◌↔◌, refl, sym, ◌∙◌, ap, subst, arith, bytes_eq}
 use Rattle.std.proofs.lemmas.Bool.{cases_Bool}
 use Rattle.cd_sets.specs.declared.node_id.NodeId.{NodeId}
 use Rattle.cd_syntax.specs.Name.{Name}
@@ -16,7 +16,6 @@ use Rattle.cd_model.proofs.Extending.{kept_elements, kept_values}
 use Rattle.cd_model.proofs.FormulasAlike as stand
 use Rattle.cd_model.proofs.FormulasAlike.{FormulasStand, AllStand, formulas_alike}
 use Rattle.cd_model.proofs.ValuesAlike.{AlwaysAlike, elements_alike, values_alike}
-use Rattle.cd_model.proofs.Ones.{each_weaker, each_of_lists}
 use Rattle.cd_model.proofs.FormulasAmongMore.{graph_with_more}
 use Rattle.cd_typing.specs.Later.{IsLater}
 use Rattle.cd_typing.specs.Typ.{Typ, typ}

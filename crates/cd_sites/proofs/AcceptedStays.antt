@@ -1,5 +1,5 @@
 -- Nodes that accept a kernel in a graph do so in each longer graph.
-use Rattle.std.proofs.Common.{◌≡◌, ◌<◌, ◌+◌, ◌++◌, ℕ, zero, suc, List, [], ◌∷◌, length}
+use Rattle.std.proofs.Common.{◌≡◌, ◌<◌, ◌+◌, ◌++◌, ℕ, List, length}
 use Rattle.std.proofs.Common.{length-append, refl, sym, subst, arith}
 use Rattle.cd_sets.specs.declared.node_id.NodeId.{NodeId}
 use Rattle.cd_model.specs.BuiltIns.{built_ins, node}

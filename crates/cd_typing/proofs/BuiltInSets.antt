@@ -1,11 +1,9 @@
 -- The built-in nodes of a graph hold what the built-in types do.
-use Rattle.std.proofs.Common.{◌≡◌, ◌<◌, ◌++◌, ◌∙◌, IsTrue, false, codes, bytes_eq, refl, sym, subst, length, lit<, true≢false}
-use Rattle.std.proofs.lemmas.Slice.Eq.{bytes_eq-Decides}
+use Rattle.std.proofs.Common.{◌≡◌, ◌<◌, ◌++◌, sym, subst, length}
 use Rattle.cd_sets.specs.declared.node_id.NodeId.{NodeId}
 use Rattle.cd_model.specs.BuiltIns.{built_ins}
-use Rattle.cd_model.specs.Formula.{Graph, IsGraph}
+use Rattle.cd_model.specs.Formula.{Graph}
 use Rattle.cd_model.proofs.SoundBuiltIns.{built_ins_are_sound}
-use Rattle.cd_syntax.specs.Name.{Name, IsLabel, is_word}
 use Rattle.cd_meaning.specs.Sets.{Set, ◌⊆◌, elements_of}
 use Rattle.cd_typing.specs.Typ.{BuiltIn}
 use Rattle.cd_typing.proofs.Later.{in_later, in_earlier}

@@ -3,13 +3,12 @@ use Rattle.std.specs.Prelude.{◌≡◌, ◌+◌, ℕ, List, [], ◌∷◌, leng
 use Rattle.std.specs.Prelude.{None, codes}
 use Rattle.std.specs.List.{slice_get, All, AllZip, Contains}
 use Rattle.std.specs.Option.{unwrap_or}
-use Rattle.cd_sets.specs.Atoms.{listing}
 use Rattle.cd_sets.specs.declared.node_id.NodeId.{NodeId}
 use Rattle.cd_syntax.specs.Name.{first}
 use Rattle.cd_syntax.specs.declared.constant.Constant.{Constant}
 use Rattle.cd_syntax.specs.declared.constant.Constant.TheVariants as constant
 use Rattle.cd_model.specs.BuiltIns.{node, atoms_of}
-use Rattle.cd_model.specs.Formula.{Formula, Nothing, Ints, Chars, Atoms, Pair, Or}
+use Rattle.cd_model.specs.Formula.{Formula, Nothing, Pair, Or}
 use Rattle.cd_model.specs.Formula.{formulas_of}
 use Rattle.cd_model.specs.Leaves.{one_integer, one_character, one_atom}
 use Rattle.cd_compact.specs.Keeping.{IsFormulaOfQuestion}
