@@ -4,3 +4,4 @@ mod Texts
 pub mod InGrown
 pub mod TableGrows
 pub mod SharedCells
+pub mod GrownTables

@@ -14,7 +14,6 @@ mod CopiesMade
 mod ProgramPatterns
 pub mod SoundParts
 mod ProgramCoded
-mod ValuesGrow
 mod NamesBound
 mod TreeStarts
 pub mod ReadyStays

@@ -12,18 +12,19 @@ use Rattle.cd_machine.specs.Inner.Nodes.{Longer}
 use Rattle.cd_machine.specs.Inner.InOrder.{IsInOrder, IsAfter}
 use Rattle.cd_machine.proofs.CodeReady.{still_ready}
 use Rattle.cd_machine.proofs.NodesAdded.{longer_same, longer_then}
-use Rattle.cd_machine.proofs.Staying.{grows_same, grows_then, still_each}
+use Rattle.cd_cells.proofs.GrownTables.{itself, further}
+use Rattle.cd_machine.proofs.Staying.{still_each}
 
 pub after_same : (code : Code) (values : Values) (environments : List (List Part)) → IsInOrder code values environments
     → IsAfter code values environments code values environments
 after_same code values environments order =
-    record { grows = grows_same values; longer = longer_same environments; program = refl; in_order = order }
+    record { grows = itself values; longer = longer_same environments; program = refl; in_order = order }
 
 pub after_then : (code : Code) (values : Values) (environments : List (List Part)) (code' : Code) (values' : Values) (environments' : List (List Part))
     (code'' : Code) (values'' : Values) (environments'' : List (List Part)) → IsAfter code values environments code' values' environments'
     → IsAfter code' values' environments' code'' values'' environments'' → IsAfter code values environments code'' values'' environments''
 after_then code values environments code' values' environments' code'' values'' environments'' one other = record {
-  grows = grows_then values values' values'' one.grows other.grows;
+  grows = further values values' values'' one.grows other.grows;
   longer = longer_then environments environments' environments'' one.longer other.longer;
   program = other.program ∙ one.program;
   in_order = other.in_order;
@@ -53,7 +54,7 @@ after_code code code' old new environments order grows same ready = record {
 pub after_environments : (code : Code) (values : Values) (environments longer : List (List Part)) → IsInOrder code values environments
     → Longer environments longer → AllOf (ArePartsOf values) longer → IsAfter code values environments code values longer
 after_environments code values environments longer order more each = record {
-  grows = grows_same values;
+  grows = itself values;
   longer = more;
   program = refl;
   in_order = record { ready = order.ready; parts = each };

@@ -13,15 +13,15 @@ use Rattle.cd_operations.specs.Along.{items_along}
 use Rattle.cd_operations.specs.Pairs.{IsPairAt}
 use Rattle.cd_machine.specs.Inner.Resuming.{Maps, MapsOn, Sifts, SiftsOn}
 use Rattle.cd_machine.specs.Inner.Turn as turn
-use Rattle.cd_machine.proofs.Staying.{thing_stays, grows_then}
+use Rattle.cd_cells.proofs.GrownTables.{thing_grown, further}
 
 -- the first of them, in a table that has grown
 pub first_item : (old new : Values) → Grows old new → (left : ℕ) (parts : ValueId × ValueId) → left < length (table old) → IsPairAt (table old) left parts
     → items_along (thing_at (table new) left) ≡ thing_at (table new) parts.0.0 ∷ items_along (thing_at (table new) parts.1.0)
 first_item old new grows left parts within is =
-    let here = thing_stays old new grows left within in
-    let first = thing_stays old new grows parts.0.0 (omega (arith, is.first)) in
-    let rest = thing_stays old new grows parts.1.0 (omega (arith, is.rest)) in
+    let here = thing_grown old new grows left within in
+    let first = thing_grown old new grows parts.0.0 (omega (arith, is.first)) in
+    let rest = thing_grown old new grows parts.1.0 (omega (arith, is.rest)) in
     ap items_along (here ∙ is.is) ∙ ap (λ v. v ∷ items_along (thing_at (table old) parts.1.0)) (sym first)
     ∙ ap (λ w. thing_at (table new) parts.0.0 ∷ items_along w) (sym rest)
 
@@ -30,10 +30,10 @@ pub item_before : (old middle new : Values) → Grows old middle → Grows middl
     → IsAt (table middle) pair (Pair (thing_at (table old) one) (thing_at (table old) rest))
     → items_along (thing_at (table new) pair) ≡ thing_at (table new) one ∷ items_along (thing_at (table new) rest)
 item_before old middle new first second one rest pair is_one is_rest at =
-    let grows = grows_then old middle new first second in
-    ap items_along (thing_stays middle new second pair at.within ∙ at.is)
-    ∙ ap (λ (v : Thing). v ∷ items_along (thing_at (table old) rest)) (sym (thing_stays old new grows one is_one))
-    ∙ ap (λ (w : Thing). thing_at (table new) one ∷ items_along w) (sym (thing_stays old new grows rest is_rest))
+    let grows = further old middle new first second in
+    ap items_along (thing_grown middle new second pair at.within ∙ at.is)
+    ∙ ap (λ (v : Thing). v ∷ items_along (thing_at (table old) rest)) (sym (thing_grown old new grows one is_one))
+    ∙ ap (λ (w : Thing). thing_at (table new) one ∷ items_along w) (sym (thing_grown old new grows rest is_rest))
 
 -- whether a thing is a sequence
 pub is_list : (v : Thing) (found : Bool) → items v ≡ (if found then Some (items_along v) else None) → found ≡ true → items v ≡ Some (items_along v)

@@ -1,5 +1,5 @@
 -- Where values and environments are only added, what the code has stays what it is.
-use Rattle.std.proofs.Common.{◌≡◌, ◌<◌, ℕ, zero, suc, List, [], ◌∷◌, ◌++◌, length, refl, sym, ap, subst, ◌∙◌, append-nil, append_assoc, length-append, arith}
+use Rattle.std.proofs.Common.{◌≡◌, ◌<◌, ℕ, zero, suc, List, [], ◌∷◌, ◌++◌, length, refl, sym, ap, subst, ◌∙◌, arith}
 use Rattle.cd_syntax.specs.Name.{IsLabel}
 use Rattle.cd_model.specs.AllOf.{AllOf}
 use Rattle.cd_model.specs.Thing.{IsRecord}
@@ -8,7 +8,8 @@ use Rattle.cd_cells.specs.Table.{table, names, Grows}
 use Rattle.cd_cells.specs.declared.cell.Part.{Part}
 use Rattle.cd_cells.specs.declared.cell.ValueId.{ValueId}
 use Rattle.cd_cells.specs.declared.values.Values.{Values}
-use Rattle.cd_cells.proofs.InGrown.{thing_in_grown, name_in_grown, fields_in_grown}
+use Rattle.cd_cells.proofs.GrownTables.{within_grown, thing_grown}
+use Rattle.cd_cells.proofs.InGrown.{name_in_grown, fields_in_grown}
 use Rattle.cd_evaluation.specs.Machine as machine
 use Rattle.cd_evaluation.specs.Runs as runs
 use Rattle.cd_operations.specs.Along.{items_along}
@@ -26,16 +27,6 @@ use Rattle.cd_machine.specs.declared.turn.Control.{Control}
 use Rattle.cd_machine.specs.declared.turn.Control.TheVariants.{Evaluating, Returning}
 use Rattle.cd_machine.proofs.NodesAdded.{stays, within}
 
--- tables
-pub grows_then : (first second third : Values) → Grows first second → Grows second third → Grows first third
-grows_then first second third one other = record {
-  things = (one.things.0 ++ other.things.0, other.things.1 ∙ ap (λ all. all ++ other.things.0) one.things.1 ∙ append_assoc (table first) one.things.0 other.things.0);
-  labels = (one.labels.0 ++ other.labels.0, other.labels.1 ∙ ap (λ all. all ++ other.labels.0) one.labels.1 ∙ append_assoc (names first) one.labels.0 other.labels.0);
-}
-
-pub grows_same : (values : Values) → Grows values values
-grows_same values = record { things = ([], sym (append-nil (table values))); labels = ([], sym (append-nil (names values))) }
-
 -- a fact of each environment is one of that of a number
 pub each_at : (Fact : List Part → Type 0) (all : List (List Part)) (number : ℕ) → AllOf Fact all → Fact [] → Fact (parts_at all number)
 each_at Fact [] number each none = none
@@ -47,14 +38,6 @@ pub parts_of_env : (values : Values) (environments : List (List Part)) (number :
 parts_of_env values environments number each = each_at (ArePartsOf values) environments number each tt
 
 module _ (old new : Values) (grows : Grows old new) where
-  pub thing_stays : (number : ℕ) → number < length (table old) → thing_at (table new) number ≡ thing_at (table old) number
-  thing_stays number is = ap (λ all. thing_at all number) grows.things.1 ∙ thing_in_grown (table old) grows.things.0 number is
-
-  pub still_within : (number : ℕ) → number < length (table old) → number < length (table new)
-  still_within number is =
-      let same : length (table new) ≡ length (table old ++ grows.things.0) = ap length grows.things.1 in
-      omega (arith, length-append (table old) grows.things.0)
-
   pub parts_stay : (parts : List Part) → ArePartsOf old parts → env_of new parts ≡ env_of old parts
   parts_stay parts are = ap (λ labels. fields_of labels (table new) parts) grows.labels.1
       ∙ ap (λ all. fields_of (names old ++ grows.labels.0) all parts) grows.things.1
@@ -64,7 +47,7 @@ module _ (old new : Values) (grows : Grows old new) where
       → IsPart (names new) (length (table new)) part
   still_part bound part less is = (
     subst IsLabel (sym (ap (λ labels. name_at labels part.label) grows.labels.1 ∙ name_in_grown (names old) grows.labels.0 part.label is.0)) is.0,
-    still_within part.value (omega (arith, is.1)),
+    within_grown old new grows part.value (omega (arith, is.1)),
   )
 
   -- parts below a number of the table are parts of it
@@ -80,15 +63,15 @@ module _ (old new : Values) (grows : Grows old new) where
   still_each (parts ∷ environments) each = (still_parts parts each.0, still_each environments each.1)
 
   pub outcome_stays : (outcome : Outcome) → IsOutcome (length (table old)) outcome → plain_outcome (table new) outcome ≡ plain_outcome (table old) outcome
-  outcome_stays (Done id) is = ap runs.Done (thing_stays id.0 is)
-  outcome_stays (Raised id) is = ap runs.Raised (thing_stays id.0 is)
+  outcome_stays (Done id) is = ap runs.Done (thing_grown old new grows id.0 is)
+  outcome_stays (Raised id) is = ap runs.Raised (thing_grown old new grows id.0 is)
   outcome_stays Overflow is = refl
   outcome_stays Spent is = refl
   outcome_stays Stuck is = refl
 
   pub still_outcome : (outcome : Outcome) → IsOutcome (length (table old)) outcome → IsOutcome (length (table new)) outcome
-  still_outcome (Done id) is = still_within id.0 is
-  still_outcome (Raised id) is = still_within id.0 is
+  still_outcome (Done id) is = within_grown old new grows id.0 is
+  still_outcome (Raised id) is = within_grown old new grows id.0 is
   still_outcome Overflow is = tt
   still_outcome Spent is = tt
   still_outcome Stuck is = tt
@@ -102,26 +85,26 @@ module _ (old new : Values) (grows : Grows old new) where
     still_env env is = within environments longer more env.0 is
 
     items_stay : (id : ValueId) → id.0 < length (table old) → items_at new longer id ≡ items_at old environments id
-    items_stay id is = ap items_along (thing_stays id.0 is)
+    items_stay id is = ap items_along (thing_grown old new grows id.0 is)
 
     pub frame_stays : (one : Frame) → IsFrame old environments one → plain_frame new longer one ≡ plain_frame old environments one
     frame_stays (frame.First next rest env) is = cc (env_stays env is)
-    frame_stays (frame.Second first) is = cc (thing_stays first.0 is)
+    frame_stays (frame.Second first) is = cc (thing_grown old new grows first.0 is)
     frame_stays (frame.Iteming done rest env) is = cc (items_stay done is.0, env_stays env is.1)
     frame_stays (frame.Splicing done rest env) is = cc (items_stay done is.0, env_stays env is.1)
-    frame_stays (frame.Fielding done label rest env) is = cc (ap record_fields.fields_of (thing_stays done.0 is.0), env_stays env is.2)
+    frame_stays (frame.Fielding done label rest env) is = cc (ap record_fields.fields_of (thing_grown old new grows done.0 is.0), env_stays env is.2)
     frame_stays (frame.Tagging attributes content env) is = cc (env_stays env is)
-    frame_stays (frame.Attributing tag content env) is = cc (thing_stays tag.0 is.0, env_stays env is.1)
-    frame_stays (frame.Filling tag attributes) is = cc (thing_stays tag.0 is.0, thing_stays attributes.0 is.1)
+    frame_stays (frame.Attributing tag content env) is = cc (thing_grown old new grows tag.0 is.0, env_stays env is.1)
+    frame_stays (frame.Filling tag attributes) is = cc (thing_grown old new grows tag.0 is.0, thing_grown old new grows attributes.0 is.1)
     frame_stays (frame.Called arguments env) is = cc (env_stays env is)
-    frame_stays (frame.Argument self arguments env) is = cc (thing_stays self.0 is.0, env_stays env is.1)
+    frame_stays (frame.Argument self arguments env) is = cc (thing_grown old new grows self.0 is.0, env_stays env is.1)
     frame_stays (frame.Matching branches env) is = cc (env_stays env is)
     frame_stays (frame.Trying branches env) is = cc (env_stays env is)
     frame_stays (frame.Letting pattern rest env) is = cc (env_stays env is)
     frame_stays (frame.Asking then_one else_one env) is = cc (env_stays env is)
     frame_stays (frame.Wording word) is = refl
     frame_stays (frame.Tailing tails env) is = cc (env_stays env is)
-    frame_stays (frame.Operating op left rest env) is = cc (thing_stays left.0 is.0, env_stays env is.1)
+    frame_stays (frame.Operating op left rest env) is = cc (thing_grown old new grows left.0 is.0, env_stays env is.1)
     frame_stays (frame.Listing branches env) is = cc (env_stays env is)
     frame_stays (frame.Mapping branches env done left) is = cc (env_stays env is.0, items_stay done is.1, items_stay left is.2)
     frame_stays (frame.Sifting branches env) is = cc (env_stays env is)
@@ -133,27 +116,27 @@ module _ (old new : Values) (grows : Grows old new) where
 
     pub still_frame : (one : Frame) → IsFrame old environments one → IsFrame new longer one
     still_frame (frame.First next rest env) is = still_env env is
-    still_frame (frame.Second first) is = still_within first.0 is
-    still_frame (frame.Iteming done rest env) is = (still_within done.0 is.0, still_env env is.1)
-    still_frame (frame.Splicing done rest env) is = (still_within done.0 is.0, still_env env is.1)
+    still_frame (frame.Second first) is = within_grown old new grows first.0 is
+    still_frame (frame.Iteming done rest env) is = (within_grown old new grows done.0 is.0, still_env env is.1)
+    still_frame (frame.Splicing done rest env) is = (within_grown old new grows done.0 is.0, still_env env is.1)
     still_frame (frame.Fielding done label rest env) is =
-        (still_within done.0 is.0, subst IsRecord (sym (thing_stays done.0 is.0)) is.1, still_env env is.2)
+        (within_grown old new grows done.0 is.0, subst IsRecord (sym (thing_grown old new grows done.0 is.0)) is.1, still_env env is.2)
     still_frame (frame.Tagging attributes content env) is = still_env env is
-    still_frame (frame.Attributing tag content env) is = (still_within tag.0 is.0, still_env env is.1)
-    still_frame (frame.Filling tag attributes) is = (still_within tag.0 is.0, still_within attributes.0 is.1)
+    still_frame (frame.Attributing tag content env) is = (within_grown old new grows tag.0 is.0, still_env env is.1)
+    still_frame (frame.Filling tag attributes) is = (within_grown old new grows tag.0 is.0, within_grown old new grows attributes.0 is.1)
     still_frame (frame.Called arguments env) is = still_env env is
-    still_frame (frame.Argument self arguments env) is = (still_within self.0 is.0, still_env env is.1)
+    still_frame (frame.Argument self arguments env) is = (within_grown old new grows self.0 is.0, still_env env is.1)
     still_frame (frame.Matching branches env) is = still_env env is
     still_frame (frame.Trying branches env) is = still_env env is
     still_frame (frame.Letting pattern rest env) is = still_env env is
     still_frame (frame.Asking then_one else_one env) is = still_env env is
     still_frame (frame.Wording word) is = tt
     still_frame (frame.Tailing tails env) is = still_env env is
-    still_frame (frame.Operating op left rest env) is = (still_within left.0 is.0, still_env env is.1)
+    still_frame (frame.Operating op left rest env) is = (within_grown old new grows left.0 is.0, still_env env is.1)
     still_frame (frame.Listing branches env) is = still_env env is
-    still_frame (frame.Mapping branches env done left) is = (still_env env is.0, still_within done.0 is.1, still_within left.0 is.2)
+    still_frame (frame.Mapping branches env done left) is = (still_env env is.0, within_grown old new grows done.0 is.1, within_grown old new grows left.0 is.2)
     still_frame (frame.Sifting branches env) is = still_env env is
-    still_frame (frame.Joining branches env done left) is = (still_env env is.0, still_within done.0 is.1, still_within left.0 is.2)
+    still_frame (frame.Joining branches env done left) is = (still_env env is.0, within_grown old new grows done.0 is.1, within_grown old new grows left.0 is.2)
 
     pub still_frames : (frames : List Frame) → AllOf (IsFrame old environments) frames → AllOf (IsFrame new longer) frames
     still_frames [] are = tt

@@ -10,7 +10,8 @@ use Rattle.cd_cells.proofs.TableGrows.{last_at}
 use Rattle.cd_notation.specs.Inner.Open as the
 use Rattle.cd_notation.specs.Inner.Open.{AreAt, IsTop, HasItems}
 use Rattle.cd_notation.specs.Inner.Leading.{IsGathered}
-use Rattle.cd_notation.proofs.Growth.{items_grown, further, itself}
+use Rattle.cd_cells.proofs.GrownTables.{further, itself}
+use Rattle.cd_notation.proofs.Growth.{items_grown}
 
 -- the item on the top of a form
 pub record HasFirst (table : List Thing) (from : ℕ) (first : ValueId) (items below : List ValueId) (values : List Thing) : Type 0 where

@@ -1,41 +1,22 @@
 -- What is open stays open in a table that has grown.
-use Rattle.std.proofs.Common.{◌≡◌, ◌∙◌, ap, subst, sym, append-nil, append_assoc, length-append, arith, ℕ, List, [], ◌++◌, length}
+use Rattle.std.proofs.Common.{◌∙◌, ap, subst, sym, ℕ, List}
 use Rattle.cd_syntax.specs.Name.{Name, IsLabel}
 use Rattle.cd_model.specs.Thing.{Thing, Atom, Record}
 use Rattle.cd_documents.specs.Machine.{Frame}
 use Rattle.cd_cells.specs.declared.values.Values.{Values}
 use Rattle.cd_cells.specs.declared.cell.ValueId.{ValueId}
-use Rattle.cd_cells.specs.Cells.{thing_at, name_at}
+use Rattle.cd_cells.specs.Cells.{name_at}
 use Rattle.cd_cells.specs.Table.{table, names, IsAt, Grows}
-use Rattle.cd_cells.proofs.InGrown.{thing_in_grown, name_in_grown}
+use Rattle.cd_cells.proofs.GrownTables.{at_grown}
+use Rattle.cd_cells.proofs.InGrown.{name_in_grown}
 use Rattle.cd_notation.specs.declared.form.OpenForm.{OpenForm}
 use Rattle.cd_notation.specs.Inner.Open as the
 use Rattle.cd_notation.specs.Inner.Open.{AreAt, IsLabelAt, AreLabelsAt, HasItems, HasLabels, IsOpen}
 
-pub itself : (values : Values) → Grows values values
-itself values = record {
-  things = ([], sym (append-nil (table values)));
-  labels = ([], sym (append-nil (names values)));
-}
-
-pub further : (one two three : Values) → Grows one two → Grows two three → Grows one three
-further one two three first then = record {
-  things = (first.things.0 ++ then.things.0, then.things.1 ∙ ap (λ all. all ++ then.things.0) first.things.1 ∙ append_assoc (table one) first.things.0 then.things.0);
-  labels = (first.labels.0 ++ then.labels.0, then.labels.1 ∙ ap (λ all. all ++ then.labels.0) first.labels.1 ∙ append_assoc (names one) first.labels.0 then.labels.0);
-}
-
 module _ (old new : Values) (grows : Grows old new) where
-  pub at_grown : (number : ℕ) (value : Thing) → IsAt (table old) number value → IsAt (table new) number value
-  at_grown number value at =
-      let longer : length (table new) ≡ length (table old ++ grows.things.0) = ap length grows.things.1 in
-      record {
-        within = omega (arith, at.within, longer, length-append (table old) grows.things.0);
-        is = ap (λ all. thing_at all number) grows.things.1 ∙ thing_in_grown (table old) grows.things.0 number at.within ∙ at.is;
-      }
-
   pub are_grown : (ids : List ValueId) (values : List Thing) → AreAt (table old) ids values → AreAt (table new) ids values
   are_grown _ _ the.AreAt.none = the.AreAt.none
-  are_grown _ _ (the.AreAt.one id value ids values at are) = the.AreAt.one id value ids values (at_grown id.0 value at) (are_grown ids values are)
+  are_grown _ _ (the.AreAt.one id value ids values at are) = the.AreAt.one id value ids values (at_grown old new grows id.0 value at) (are_grown ids values are)
 
   label_grown : (number : ℕ) (label : Name) → IsLabelAt (names old) number label → IsLabelAt (names new) number label
   label_grown number label at = record {
@@ -65,8 +46,8 @@ module _ (old new : Values) (grows : Grows old new) where
       the.fields first from forms items below numbers below_numbers labels values frames
       (all_labels_grown first numbers below_numbers labels named) (items_grown from items below values has) (open_grown forms below below_numbers frames rest)
   open_grown _ _ _ _ (the.tag tag name first from forms items below numbers below_numbers labels values frames at named has rest) =
-      the.tag tag name first from forms items below numbers below_numbers labels values frames (at_grown tag.0 (Atom name) at)
+      the.tag tag name first from forms items below numbers below_numbers labels values frames (at_grown old new grows tag.0 (Atom name) at)
       (all_labels_grown first numbers below_numbers labels named) (items_grown from items below values has) (open_grown forms below below_numbers frames rest)
   open_grown _ _ _ _ (the.content tag attributes name all forms items numbers frames at at_attributes rest) =
-      the.content tag attributes name all forms items numbers frames (at_grown tag.0 (Atom name) at) (at_grown attributes.0 (Record all) at_attributes)
+      the.content tag attributes name all forms items numbers frames (at_grown old new grows tag.0 (Atom name) at) (at_grown old new grows attributes.0 (Record all) at_attributes)
       (open_grown forms items numbers frames rest)

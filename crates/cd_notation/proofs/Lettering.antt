@@ -10,7 +10,8 @@ use Rattle.cd_cells.specs.Table.{table, IsAt, Grows}
 use Rattle.cd_notation.specs.Inner.Open as the
 use Rattle.cd_notation.specs.Inner.Open.{AreAt, IsTop, HasItems}
 use Rattle.cd_notation.specs.Inner.Leading.{HasLetters}
-use Rattle.cd_notation.proofs.Growth.{are_grown, itself, further}
+use Rattle.cd_cells.proofs.GrownTables.{itself, further}
+use Rattle.cd_notation.proofs.Growth.{are_grown}
 
 -- the characters up to the rest of the text
 pub record HaveLetters (old_values : Values) (old : List ValueId) (text : List ℕ) (values : Values) (items : List ValueId) (rest : List ℕ) : Type 0 where

@@ -16,7 +16,8 @@ use Rattle.cd_notation.specs.declared.reader.Reader.{Reader}
 use Rattle.cd_notation.specs.Inner.Open as the
 use Rattle.cd_notation.specs.Inner.Open.{AreAt, IsTop, HasItems, IsOpen}
 use Rattle.cd_notation.specs.Inner.Leading.{IsOpenIn, HasForms, Stands, after_value_in, plain_place, frames_at, IsWithin}
-use Rattle.cd_notation.proofs.Growth.{open_grown, further, itself}
+use Rattle.cd_cells.proofs.GrownTables.{further, itself}
+use Rattle.cd_notation.proofs.Growth.{open_grown}
 
 pub record StillPuts (values : Values) (forms : List OpenForm) (items : List ValueId) (labels : List ℕ) (value : ℕ) (made : State) : Type 0 where
   pub is : Thing

@@ -22,7 +22,8 @@ use Rattle.cd_notation.specs.declared.reader.Reader.{Reader}
 use Rattle.cd_notation.specs.Inner.Open as the
 use Rattle.cd_notation.specs.Inner.Open.{AreAt, IsLabelAt, AreLabelsAt, AreApart, IsTop, HasItems, HasLabels, IsOpen}
 use Rattle.cd_notation.specs.Inner.Leading.{Stands, Leads, HasLetters, labels_from, frames_at}
-use Rattle.cd_notation.proofs.Growth.{at_grown, items_grown, all_labels_grown, open_grown}
+use Rattle.cd_cells.proofs.GrownTables.{at_grown}
+use Rattle.cd_notation.proofs.Growth.{items_grown, all_labels_grown, open_grown}
 use Rattle.cd_notation.proofs.Putting.{Stood, stands_by}
 use Rattle.cd_notation.proofs.Parts.{same_test}
 use Rattle.cd_notation.proofs.Lettering.{more_letters}

@@ -10,7 +10,7 @@ use Rattle.cd_cells.specs.declared.values.Values.{Values}
 use Rattle.cd_cells.specs.Cells.{thing_at}
 use Rattle.cd_cells.specs.Table.{table, IsAt, Grows}
 use Rattle.cd_cells.proofs.TableGrows.{last_at}
-use Rattle.cd_notation.proofs.Growth.{at_grown, itself, further}
+use Rattle.cd_cells.proofs.GrownTables.{at_grown, itself, further}
 
 -- these bytes are left, and the characters after them are pairs
 pub record IsPaired (old : Values) (end : ℕ) (text : List ℕ) (now : Values) (made : ℕ)

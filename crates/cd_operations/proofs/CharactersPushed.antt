@@ -7,7 +7,7 @@ use Rattle.cd_cells.specs.declared.values.Values.{Values}
 use Rattle.cd_cells.specs.Cells.{thing_at}
 use Rattle.cd_cells.specs.Table.{table, IsAt, Grows}
 use Rattle.cd_operations.specs.Along.{turned}
-use Rattle.cd_operations.proofs.Growing.{at_grown, further}
+use Rattle.cd_cells.proofs.GrownTables.{at_grown, further}
 
 abbrev lettered : List ℕ → Thing → Thing
 lettered text onto = turned (map Character text) onto

@@ -14,7 +14,7 @@ use Rattle.cd_evaluation.specs.Operations.{flattened}
 use Rattle.cd_operations.specs.Along.{items_along}
 use Rattle.cd_operations.specs.Pairs.{IsPairAt}
 use Rattle.cd_operations.specs.Inner.Joins.{IsAnswer, Prepends}
-use Rattle.cd_operations.proofs.Growing.{further, within_grown, thing_grown}
+use Rattle.cd_cells.proofs.GrownTables.{further, within_grown, thing_grown}
 use Rattle.cd_operations.proofs.ItemsAlong.{sequence_of_items, followed_sequence, before_twice}
 
 -- the items of one more sequence before others

@@ -1,6 +1,5 @@
 mod Literals
 mod Labels
-pub mod Growing
 mod TruthNames
 pub mod ItemsAlong
 mod FieldsSelected

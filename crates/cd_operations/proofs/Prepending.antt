@@ -10,7 +10,7 @@ use Rattle.cd_cells.specs.Table.{table, IsAt, Grows}
 use Rattle.cd_operations.specs.Along.{items_along}
 use Rattle.cd_operations.specs.Pairs.{is_empty}
 use Rattle.cd_operations.specs.Inner.Joins.{IsAnswer, things_of, AreWithin, Collects}
-use Rattle.cd_operations.proofs.Growing.{further, within_grown, thing_grown}
+use Rattle.cd_cells.proofs.GrownTables.{further, within_grown, thing_grown}
 use Rattle.cd_operations.proofs.ItemsAlong.{at_end}
 
 within_before : (bound : ℕ) (ids : List ValueId) (last : ValueId) → AreWithin bound (ids ++ last ∷ [])

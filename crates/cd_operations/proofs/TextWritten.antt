@@ -8,7 +8,7 @@ use Rattle.cd_matching.specs.Sequences.{text_of}
 use Rattle.cd_cells.specs.declared.values.Values.{Values}
 use Rattle.cd_cells.specs.Cells.{thing_at}
 use Rattle.cd_cells.specs.Table.{table, IsAt, Grows}
-use Rattle.cd_operations.proofs.Growing.{at_grown, further}
+use Rattle.cd_cells.proofs.GrownTables.{at_grown, further}
 
 -- these bytes are left, and the characters after them are pairs
 pub record IsWritten (old : Values) (text : List ℕ) (now : Values) (made : ℕ) (rest : List ℕ) : Type 0 where

@@ -36,7 +36,7 @@ use Rattle.cd_taking.specs.Inner.Coded.{plain_frame, plain_capture, plain_failur
 use Rattle.cd_taking.specs.Inner.Stepping.{Asked, Steps, TestsStay, IsKernelOf}
 use Rattle.cd_taking.specs.Inner.Running.{IsClear, HasEnded, IsDoing, IsRunning}
 use Rattle.cd_taking.proofs.Falling.{falls}
-use Rattle.cd_taking.proofs.Growth.{itself, further}
+use Rattle.cd_cells.proofs.GrownTables.{itself, further}
 use Rattle.cd_taking.proofs.Joining.{joined_nothing, map_nothing}
 use Rattle.cd_taking.proofs.Keeping.{keeps}
 

@@ -8,7 +8,6 @@ mod Falling
 mod Closures
 mod Keeping
 mod FieldsFound
-mod Growth
 mod TextFromEnd
 mod Gathering
 mod Stepping

@@ -31,7 +31,7 @@ use Rattle.cd_taking.specs.Inner.Adds.{Adds}
 use Rattle.cd_taking.specs.Inner.Coded.{plain_frame, plain_capture, plain_failure, plain_next, state, IsFrameWithin, IsCaptureWithin, IsFailureWithin, IsNextWithin}
 use Rattle.cd_taking.specs.Inner.Coded.{IsWithin, Pushes, Catches, Cuts, on_top, is_known, IsGathered}
 use Rattle.cd_taking.specs.Inner.Stepping.{Asked, Steps}
-use Rattle.cd_taking.proofs.Growth.{within_grown, thing_grown}
+use Rattle.cd_cells.proofs.GrownTables.{within_grown, thing_grown}
 use Rattle.cd_taking.proofs.Lists.{all_with, all_take}
 
 same_parts : (f g : List plain.Frame) (t u : List Caught) (x y : List plain.Failure) (p : plain.Part) → f ≡ g → t ≡ u → x ≡ y → at f t x p ≡ at g u y p

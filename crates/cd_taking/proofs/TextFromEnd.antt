@@ -10,7 +10,7 @@ use Rattle.cd_cells.specs.declared.values.Values.{Values}
 use Rattle.cd_cells.specs.Cells.{thing_at}
 use Rattle.cd_cells.specs.Table.{table, IsAt, Grows}
 use Rattle.cd_cells.proofs.TableGrows.{last_at}
-use Rattle.cd_taking.proofs.Growth.{further, at_grown}
+use Rattle.cd_cells.proofs.GrownTables.{further, at_grown}
 
 -- these bytes are left, and the characters after them are pairs
 pub record IsPaired (old : Values) (text : List ℕ) (now : Values) (made : ℕ) (rest : List ℕ) : Type 0 where

@@ -8,7 +8,7 @@ use Rattle.cd_empty.specs.Seen.{graph_of}
 use Rattle.cd_empty.proofs.GrowingWorlds.{and_further}
 use Rattle.cd_code.specs.Inner.SoundPatterns.{IsSoundPattern}
 use Rattle.cd_code.proofs.CodesMade.{patterns_go_on, codes_with, names_grown}
-use Rattle.cd_code.proofs.ValuesGrow.{values_further}
+use Rattle.cd_cells.proofs.GrownTables.{further}
 use Rattle.cd_code.proofs.patterns.codes_of.Goals as goal
 
 pub loop-pattern-preserved : goal.loop-pattern-preserved
@@ -28,6 +28,6 @@ loop-pattern-preserved c =
       made.sound,
       names_grown (graph_of c.loop-pattern.world) (graph_of c.code_of.new.world) (plain_names c.args.names.now) before.3 made.grows.graph
           before.4,
-      values_further _ _ _ before.5 made.values,
+      further _ _ _ before.5 made.values,
       and_further _ _ _ before.6 made.grows,
     )

@@ -10,7 +10,7 @@ use Rattle.cd_machine.specs.Inner.Known.{BranchesAreKnown}
 use Rattle.cd_machine.specs.Inner.PlainFrame.{env_at}
 use Rattle.cd_machine.proofs.Afterwards.{after_then, same_code, same_patterns}
 use Rattle.cd_machine.proofs.BranchesTried.{chosen, passed, next_branch}
-use Rattle.cd_machine.proofs.Staying.{thing_stays, grows_then}
+use Rattle.cd_cells.proofs.GrownTables.{thing_grown, further}
 use Rattle.cd_machine.proofs.branches.choose.Goals as goal
 use Rattle.cd_machine.proofs.branches.choose.Goals.{After-branch-item}
 
@@ -48,7 +48,7 @@ loop-branch-preserved c =
       picks = passed (code_in c.args.code.now) (code_in c.loop-branch.code) (plain_branches c.args.branches.now) (left at) (later at) one.pattern one.body
           (thing_at (table old) c.args.id.0) (thing_at (table c.loop-branch.values) c.args.id.0) (env_at new c.try_branch.new.environments c.args.env)
           (plain_choice new c.try_branch.new.environments c.in_ok-entry.field-0) (same_code c.args.code.now c.loop-branch.code before.program)
-          (thing_stays old c.loop-branch.values before.grows c.args.id.0 c.requires.value)
+          (thing_grown old c.loop-branch.values before.grows c.args.id.0 c.requires.value)
           (ap (plain_choice new c.try_branch.new.environments) c.in_default.is) (begins at) c.loop-branch.invariant.picks tried.lets;
     }
 
@@ -64,7 +64,7 @@ returns-in-Some-clause-chooses c =
     one.pattern one.body (thing_at (table old) c.args.id.0) (thing_at (table c.loop-branch.values) c.args.id.0) (thing_at (table new) c.args.id.0)
     (env_at new c.try_branch.new.environments c.args.env) (plain_entry new c.try_branch.new.environments c.in-Some.entry)
     (plain_choice new c.try_branch.new.environments c.in_ok-entry.field-0) (same_code c.args.code.now c.loop-branch.code before.program)
-    (thing_stays old c.loop-branch.values before.grows c.args.id.0 c.requires.value)
-    (thing_stays old new (grows_then old c.loop-branch.values new before.grows tried.after.grows) c.args.id.0 c.requires.value)
+    (thing_grown old c.loop-branch.values before.grows c.args.id.0 c.requires.value)
+    (thing_grown old new (further old c.loop-branch.values new before.grows tried.after.grows) c.args.id.0 c.requires.value)
     (ap (plain_choice new c.try_branch.new.environments) c.in-Some.is)
     (begins at) c.loop-branch.invariant.picks tried.lets

@@ -9,7 +9,8 @@ use Rattle.cd_machine.specs.Inner.InOrder.{IsInOrder}
 use Rattle.cd_machine.specs.Inner.PlainFrame.{env_at}
 use Rattle.cd_machine.proofs.Afterwards.{after_then, after_environments}
 use Rattle.cd_machine.proofs.Applying.{no_tree, by_tree}
-use Rattle.cd_machine.proofs.Staying.{thing_stays, env_stays, parts_below, grows_same}
+use Rattle.cd_cells.proofs.GrownTables.{thing_grown, itself}
+use Rattle.cd_machine.proofs.Staying.{env_stays, parts_below}
 use Rattle.cd_machine.proofs.call.apply.Goals as goal
 use Rattle.cd_machine.proofs.call.apply.Goals.{In_ok-inner}
 
@@ -25,7 +26,7 @@ enter_function-requires-clause-known c = c.requires.known c.in-Closure.at (plain
 order : (c : In_ok-inner) → IsInOrder c.args.code.now c.args.values.now c.of_parts.new.self
 order c = record {
   ready = c.requires.order.ready;
-  parts = (c.in_ok-inner.ensures {u = tt}).each c.args.values.now c.requires.order.parts (parts_below c.args.values.now c.args.values.now (grows_same c.args.values.now)
+  parts = (c.in_ok-inner.ensures {u = tt}).each c.args.values.now c.requires.order.parts (parts_below c.args.values.now c.args.values.now (itself c.args.values.now)
       c.args.function.0 c.in-Closure.parts.now (omega (arith, c.requires.function)) (c.in-Closure.ensures {u = tt}).below);
 }
 
@@ -40,7 +41,7 @@ returns-clause-enters c =
     let entered = c.in_ok-entry.ensures {u = tt} in
     let each = (order (goal.at.returns-clause-enters c).In_ok-inner).parts in
     by_tree (code_in c.args.code.now) c.in-Closure.at (env_of old c.in-Closure.parts.now) (thing_at (table new) c.args.function.0) (thing_at (table new) c.args.id.0)
-    ((c.in-Closure.ensures {u = tt}).thing ∙ sym (thing_stays old new entered.after.grows c.args.function.0 c.requires.function))
+    ((c.in-Closure.ensures {u = tt}).thing ∙ sym (thing_grown old new entered.after.grows c.args.function.0 c.requires.function))
     (plain_function c.in-Some.tree.now) (env_at new c.enter_function.new.environments c.in_ok-inner.inner)
     (plain_choice new c.enter_function.new.environments c.in_ok-entry.entry) (c.in-Some.ensures {u = tt})
     (env_stays old new entered.after.grows c.of_parts.new.self c.enter_function.new.environments entered.after.longer each c.in_ok-inner.inner inner.within

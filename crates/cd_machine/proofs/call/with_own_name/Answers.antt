@@ -10,7 +10,8 @@ use Rattle.cd_code.specs.Compiled.{ArePartsOf}
 use Rattle.cd_machine.specs.Inner.Nodes.{parts_at}
 use Rattle.cd_machine.proofs.Afterwards.{after_then, after_values, after_environments}
 use Rattle.cd_machine.proofs.NodesAdded.{longer_by_one}
-use Rattle.cd_machine.proofs.Staying.{still_within, parts_of_env}
+use Rattle.cd_cells.proofs.GrownTables.{within_grown}
+use Rattle.cd_machine.proofs.Staying.{parts_of_env}
 use Rattle.cd_machine.proofs.call.with_own_name.Goals as goal
 
 -- the name of a function is a label
@@ -25,7 +26,7 @@ returns-in_ok-of-in-Some-clause-after c =
     let around = parts_at environments c.args.inner.0 in
     let is : IsPart (names new) (length (table new)) c.in_ok-of-in-Some.field-0 = (
       subst IsLabel (sym (ap (name_at (names new)) part.label ∙ label.named ∙ c.as_str.ensures)) (subst IsWellMadeName c.in-Some.is c.requires.known),
-      omega (arith, part.value, still_within old new label.grows c.args.function.0 c.requires.function),
+      omega (arith, part.value, within_grown old new label.grows c.args.function.0 c.requires.function),
     ) in
     on_ok_weaker c.add.result (λ added. after_then c.args.code.now old environments c.args.code.now new environments c.args.code.now new c.add.new.self one
     (after_environments c.args.code.now new environments c.add.new.self one.in_order (longer_by_one environments c.add.new.self (c.in_ok-of-in-Some.field-0 ∷ around) added)

@@ -10,7 +10,7 @@ use Rattle.cd_machine.specs.Inner.InOrder.{IsAfter}
 use Rattle.cd_machine.specs.Inner.PlainFrame.{plain_turn, env_at, items_at}
 use Rattle.cd_machine.proofs.Afterwards.{after_then, after_values}
 use Rattle.cd_machine.proofs.ItemsMapped.{is_list, maps_all}
-use Rattle.cd_machine.proofs.Staying.{thing_stays, grows_then}
+use Rattle.cd_cells.proofs.GrownTables.{thing_grown, further}
 use Rattle.cd_machine.proofs.maps.map.Goals as goal
 use Rattle.cd_machine.proofs.maps.map.Goals.{In_ok-none}
 
@@ -29,12 +29,12 @@ returns-clause-maps c =
     let none = c.in_ok-none.ensures {u = tt} in
     let mapped = c.in_ok-map_on.ensures {u = tt} in
     let v = thing_at (table old) c.args.id.0 in
-    let stays = thing_stays old new (grows_then old middle new none.grows mapped.after.grows) c.args.id.0 c.requires.value in
+    let stays = thing_grown old new (further old middle new none.grows mapped.after.grows) c.args.id.0 c.requires.value in
     let list : items (thing_at (table new) c.args.id.0) ≡ Some (items_along (thing_at (table new) c.args.id.0)) =
     subst (λ (v : Thing). items v ≡ Some (items_along v)) (sym stays) (is_list v c.is_sequence.result c.is_sequence.ensures c.if-not-is_sequence.false) in
     maps_all (code_in c.args.code.now) (plain_branches c.args.branches.now) (env_at new c.map_on.new.environments c.args.env) (thing_at (table new) c.args.id.0)
     (items_at new c.map_on.new.environments c.in_ok-none.none) (plain_turn new c.map_on.new.environments c.in_ok-map_on.field-0) list
-    (ap items_along (thing_stays middle new mapped.after.grows c.in_ok-none.none.0 none.is.within ∙ none.is.is)) mapped.maps
+    (ap items_along (thing_grown middle new mapped.after.grows c.in_ok-none.none.0 none.is.within ∙ none.is.is)) mapped.maps
 
 pub returns-clause-after : goal.returns-clause-after
 returns-clause-after c = after_then c.args.code.now c.args.values.now c.args.environments.now c.args.code.now c.nil.new.self c.args.environments.now

@@ -10,7 +10,7 @@ use Rattle.cd_machine.specs.declared.outcome.Outcome.TheVariants.{Stuck}
 use Rattle.cd_machine.proofs.Afterwards.{after_values}
 use Rattle.cd_machine.proofs.EnteredTurns.{entered_is, entered_within}
 use Rattle.cd_machine.proofs.ItemsMapped.{first_item}
-use Rattle.cd_machine.proofs.Staying.{still_within}
+use Rattle.cd_cells.proofs.GrownTables.{within_grown}
 use Rattle.cd_machine.proofs.NodesAdded.{within}
 use Rattle.cd_machine.proofs.maps.map_on.Goals as goal
 
@@ -40,8 +40,8 @@ returns-in_ok-entry-in-Some-clause-within c =
     subst (IsTurn new c.choose.new.environments) (sym c.entered.ensures)
     (entered_within new c.choose.new.environments c.in_ok-entry-in-Some.entry (Mapping c.args.branches c.args.env c.args.done c.in-Some.rest) Stuck chosen.within (
       within c.args.environments.now c.choose.new.environments chosen.after.longer c.args.env.0 c.requires.env,
-      still_within old new chosen.after.grows c.args.done.0 c.requires.done,
-      still_within old new chosen.after.grows c.in-Some.rest.0 (omega (arith, pair.rest, c.requires.left)),
+      within_grown old new chosen.after.grows c.args.done.0 c.requires.done,
+      within_grown old new chosen.after.grows c.in-Some.rest.0 (omega (arith, pair.rest, c.requires.left)),
     ) tt)
 
 pub returns-in_ok-in_order-in-None-clause-after : goal.returns-in_ok-in_order-in-None-clause-after

@@ -15,7 +15,7 @@ use Rattle.cd_machine.proofs.CodeReady.{still_ready}
 use Rattle.cd_machine.proofs.KnownProgram.{code_known}
 use Rattle.cd_machine.proofs.Literals.{main_characters}
 use Rattle.cd_machine.proofs.MachineRuns.{means}
-use Rattle.cd_machine.proofs.Staying.{thing_stays, still_within}
+use Rattle.cd_cells.proofs.GrownTables.{thing_grown, within_grown}
 use Rattle.cd_machine.proofs.runs.run.Goals as goal
 use Rattle.cd_machine.proofs.runs.run.Goals.{In_ok-main}
 
@@ -45,7 +45,7 @@ go-requires c =
         frames = begun.within middle (main_at (goal.at.go-requires c).In_ok-main).within;
         known = subst (AllOf (FrameIsKnown (IsPatternIn code))) (sym (begun.stack middle)) (tt, tt);
       };
-      at_hand = still_within old middle grows c.args.document.0 c.requires.document;
+      at_hand = within_grown old middle grows c.args.document.0 c.requires.document;
       known = tt;
     }
 
@@ -61,4 +61,4 @@ returns-clause-means c = λ main declared.
     (thing_at (table middle) c.in_ok-main.main.0) (thing_at (table old) c.args.document.0) (thing_at (table middle) c.args.document.0)
     (plain_frames middle c.in_ok-machine.machine.environments c.in_ok-machine.machine.stack) (begun.stack middle)
     ((main_at (goal.at.returns-clause-means c).In_ok-main).is ∙ ap (λ at. Closure at NoField) place)
-    (thing_stays old middle (c.in_ok-main.ensures {u = tt}).grows c.args.document.0 c.requires.document) (c.in_ok-go.ensures {u = tt}).ran
+    (thing_grown old middle (c.in_ok-main.ensures {u = tt}).grows c.args.document.0 c.requires.document) (c.in_ok-go.ensures {u = tt}).ran

@@ -8,7 +8,7 @@ use Rattle.cd_machine.specs.Inner.PlainFrame.{plain_turn, env_at}
 use Rattle.cd_machine.specs.Inner.Resuming.{LetsIn}
 use Rattle.cd_machine.specs.declared.outcome.Outcome.TheVariants.{Stuck}
 use Rattle.cd_machine.proofs.EnteredTurns.{entered_alone}
-use Rattle.cd_machine.proofs.Staying.{thing_stays}
+use Rattle.cd_cells.proofs.GrownTables.{thing_grown}
 use Rattle.cd_machine.proofs.taking.take_let.Goals as goal
 
 -- the value stays what it was
@@ -20,6 +20,6 @@ returns-clause-enters c =
     let let_in = c.in_ok-entry.ensures {u = tt} in (
       plain_choice new environments c.in_ok-entry.entry,
       subst (λ (v : Thing). LetsIn (code_in c.args.code.now) (plain_tree c.args.pattern.now) (plain c.args.rest.now) (env_at new environments c.args.env) v
-          (plain_choice new environments c.in_ok-entry.entry)) (sym (thing_stays old new let_in.after.grows c.args.id.0 c.requires.value)) let_in.lets,
+          (plain_choice new environments c.in_ok-entry.entry)) (sym (thing_grown old new let_in.after.grows c.args.id.0 c.requires.value)) let_in.lets,
       ap (plain_turn new environments) c.entered.ensures ∙ entered_alone new environments c.in_ok-entry.entry Stuck,
     )

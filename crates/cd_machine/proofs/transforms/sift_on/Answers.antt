@@ -13,7 +13,7 @@ use Rattle.cd_machine.specs.declared.outcome.Outcome.TheVariants.{Done}
 use Rattle.cd_machine.proofs.Afterwards.{after_values, after_then}
 use Rattle.cd_machine.proofs.EnteredTurns.{entered_or_is, entered_or_within}
 use Rattle.cd_machine.proofs.ItemsMapped.{first_item}
-use Rattle.cd_machine.proofs.Staying.{thing_stays, still_within, grows_then}
+use Rattle.cd_cells.proofs.GrownTables.{thing_grown, within_grown, further}
 use Rattle.cd_machine.proofs.NodesAdded.{within}
 use Rattle.cd_machine.proofs.transforms.sift_on.Goals as goal
 use Rattle.cd_machine.proofs.transforms.sift_on.Goals.{In_ok-none-in-Some}
@@ -44,13 +44,13 @@ returns-in_ok-entry-in-Some-clause-sifts c =
     let pushed = plain_frame new environments frame ∷ [] in
     subst (λ (left : List Thing). SiftsOn (code_in c.args.code.now) (plain_branches c.args.branches.now) (env_at new environments c.args.env)
     (items_at new environments c.args.done) left turn)
-    (sym (first_item old new (grows_then old middle new none.grows chosen.after.grows) c.args.left.0 (c.in-Some.one, c.in-Some.rest) c.requires.left (c.in-Some.ensures {u = tt}))) (
+    (sym (first_item old new (further old middle new none.grows chosen.after.grows) c.args.left.0 (c.in-Some.one, c.in-Some.rest) c.requires.left (c.in-Some.ensures {u = tt}))) (
       choice,
       chosen.chooses,
       ap (plain_turn new environments) c.entered_or.ensures
           ∙ entered_or_is new environments c.in_ok-entry-in-Some.entry frame (Done c.in_ok-none-in-Some.none)
           ∙ ap (λ (v : Thing). paid (entry_turn choice pushed (give_to pushed (runs.Done v))))
-          (thing_stays middle new chosen.after.grows c.in_ok-none-in-Some.none.0 none.is.within ∙ none.is.is),
+          (thing_grown middle new chosen.after.grows c.in_ok-none-in-Some.none.0 none.is.within ∙ none.is.is),
     )
 
 pub returns-in_ok-entry-in-Some-clause-within : goal.returns-in_ok-entry-in-Some-clause-within
@@ -61,14 +61,14 @@ returns-in_ok-entry-in-Some-clause-within c =
     let none = c.in_ok-none-in-Some.ensures {u = tt} in
     let chosen = c.in_ok-entry-in-Some.ensures {u = tt} in
     let pair = c.in-Some.ensures {u = tt} in
-    let grows = grows_then old middle new none.grows chosen.after.grows in
+    let grows = further old middle new none.grows chosen.after.grows in
     subst (IsTurn new c.choose.new.environments) (sym c.entered_or.ensures)
     (entered_or_within new c.choose.new.environments c.in_ok-entry-in-Some.entry (Joining c.args.branches c.args.env c.args.done c.in-Some.rest)
     (Done c.in_ok-none-in-Some.none) chosen.within (
       within c.args.environments.now c.choose.new.environments chosen.after.longer c.args.env.0 c.requires.env,
-      still_within old new grows c.args.done.0 c.requires.done,
-      still_within old new grows c.in-Some.rest.0 (omega (arith, pair.rest, c.requires.left)),
-    ) (still_within middle new chosen.after.grows c.in_ok-none-in-Some.none.0 none.is.within))
+      within_grown old new grows c.args.done.0 c.requires.done,
+      within_grown old new grows c.in-Some.rest.0 (omega (arith, pair.rest, c.requires.left)),
+    ) (within_grown middle new chosen.after.grows c.in_ok-none-in-Some.none.0 none.is.within))
 
 pub returns-in_ok-entry-in-Some-clause-after : goal.returns-in_ok-entry-in-Some-clause-after
 returns-in_ok-entry-in-Some-clause-after c = after_then c.args.code.now c.args.values.now c.args.environments.now c.args.code.now c.nil.new.self c.args.environments.now

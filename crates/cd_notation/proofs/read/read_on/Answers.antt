@@ -6,7 +6,7 @@ use Rattle.cd_lex.specs.Lexing.{left, IsToken, token_with}
 use Rattle.cd_notation.specs.declared.reader.Step.{Step}
 use Rattle.cd_notation.specs.Inner.PlainTerminal.{plain_terminal}
 use Rattle.cd_notation.specs.Inner.Leading.{IsStep}
-use Rattle.cd_notation.proofs.Growth.{itself, further}
+use Rattle.cd_cells.proofs.GrownTables.{itself, further}
 use Rattle.cd_notation.proofs.GoingOn.{going_starts, goes_on, is_wrong, is_too_deep, at_end}
 use Rattle.cd_notation.proofs.read.read_on.Goals as goal
 

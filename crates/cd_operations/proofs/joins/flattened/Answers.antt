@@ -3,7 +3,7 @@ use Rattle.cd_cells.specs.Table.{table}
 use Rattle.cd_evaluation.specs.Lists.{before}
 use Rattle.cd_operations.specs.Along.{items_along}
 use Rattle.cd_operations.specs.Endings.{plain_ending}
-use Rattle.cd_operations.proofs.Growing.{thing_grown}
+use Rattle.cd_cells.proofs.GrownTables.{thing_grown}
 use Rattle.cd_operations.proofs.Joining.{flat}
 use Rattle.cd_operations.proofs.joins.flattened.Goals as goal
 

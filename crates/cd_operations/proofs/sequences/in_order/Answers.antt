@@ -2,7 +2,7 @@ use Rattle.std.proofs.Common.{◌∙◌, ap₂, [], subst}
 use Rattle.cd_cells.specs.Cells.{thing_at}
 use Rattle.cd_cells.specs.Table.{table, IsAt}
 use Rattle.cd_operations.specs.Along.{items_along, turned}
-use Rattle.cd_operations.proofs.Growing.{thing_grown}
+use Rattle.cd_cells.proofs.GrownTables.{thing_grown}
 use Rattle.cd_operations.proofs.ItemsAlong.{turned_sequence}
 use Rattle.cd_operations.proofs.sequences.in_order.Goals as goal
 

@@ -7,7 +7,7 @@ use Rattle.cd_cells.specs.Table.{table}
 use Rattle.cd_taking.specs.declared.capture.Capture.{Capture}
 use Rattle.cd_taking.specs.Inner.Coded.{is_variable, IsCaptureWithin}
 use Rattle.cd_taking.proofs.Gathering.{stays_gathered, nothing_gathered, gathered_before, place_within}
-use Rattle.cd_taking.proofs.Growth.{thing_grown, within_grown}
+use Rattle.cd_cells.proofs.GrownTables.{thing_grown, within_grown}
 use Rattle.cd_taking.proofs.Lists.{all_get, all_set}
 use Rattle.cd_taking.proofs.gather.put_before.Goals as goal
 

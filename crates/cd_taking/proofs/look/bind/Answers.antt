@@ -1,7 +1,7 @@
 use Rattle.cd_matching.specs.PlainKernel.{plain_nodes}
 use Rattle.cd_taking.specs.declared.frame.Next.TheVariants.{Look}
 use Rattle.cd_taking.specs.Inner.Machine.{binds}
-use Rattle.cd_taking.proofs.Growth.{itself}
+use Rattle.cd_cells.proofs.GrownTables.{itself}
 use Rattle.cd_taking.proofs.Stepping.{caught}
 use Rattle.cd_taking.proofs.look.bind.Goals as goal
 

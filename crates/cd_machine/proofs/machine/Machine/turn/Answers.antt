@@ -8,7 +8,8 @@ use Rattle.cd_machine.proofs.Afterwards.{after_values}
 use Rattle.cd_program.specs.PlainExpr.{plain}
 use Rattle.cd_machine.proofs.MachineRuns.{entered, resumed, reached}
 use Rattle.cd_machine.proofs.OperatorsAtHand.{reaches_of, takes_of, within_of, known_of}
-use Rattle.cd_machine.proofs.Staying.{still_each, grows_then}
+use Rattle.cd_cells.proofs.GrownTables.{further}
+use Rattle.cd_machine.proofs.Staying.{still_each}
 use Rattle.cd_machine.proofs.machine.Machine.turn.Goals as goal
 
 -- an expression
@@ -22,13 +23,13 @@ returns-in_ok-turn-in-Evaluating-2-clause-turns c =
     let turn = c.in_ok-turn-in-Evaluating-2.ensures {u = tt} in
     subst (λ (control : Control). Turns code new environments (plain_control old environments control) (plain_frames old environments stack) stack
     c.in_ok-turn-in-Evaluating-2.turn) (sym c.in-Evaluating.is)
-    (entered code old new environments c.in-Evaluating.expr c.in-Evaluating.env stack c.in_ok-turn-in-Evaluating-2.turn (grows_then old c.operator_at_hand.new.values new c.operator_at_hand.ensures.grows turn.grows)
+    (entered code old new environments c.in-Evaluating.expr c.in-Evaluating.env stack c.in_ok-turn-in-Evaluating-2.turn (further old c.operator_at_hand.new.values new c.operator_at_hand.ensures.grows turn.grows)
     (subst (λ (control : Control). IsRunning code old environments control stack) c.in-Evaluating.is c.requires) turn.next turn.within)
 
 pub returns-in_ok-turn-in-Evaluating-2-clause-after : goal.returns-in_ok-turn-in-Evaluating-2-clause-after
 returns-in_ok-turn-in-Evaluating-2-clause-after c = after_values c.args.code.now c.args.values.now c.enter.new.values c.args.self.now.environments
     c.requires.waits.order
-    (grows_then c.args.values.now c.operator_at_hand.new.values c.enter.new.values c.operator_at_hand.ensures.grows (c.in_ok-turn-in-Evaluating-2.ensures {u = tt}).grows)
+    (further c.args.values.now c.operator_at_hand.new.values c.enter.new.values c.operator_at_hand.ensures.grows (c.in_ok-turn-in-Evaluating-2.ensures {u = tt}).grows)
 
 -- an outcome, and the frame on the top
 pub returns-in_ok-turn-in-Some-pop-clause-turns : goal.returns-in_ok-turn-in-Some-pop-clause-turns

@@ -1,5 +1,6 @@
 use Rattle.std.proofs.Common.{◌∙◌, ap, ◌∷◌}
-use Rattle.cd_notation.proofs.Growth.{itself, open_grown}
+use Rattle.cd_cells.proofs.GrownTables.{itself}
+use Rattle.cd_notation.proofs.Growth.{open_grown}
 use Rattle.cd_notation.proofs.Stepping.{lead_none, no_record, no_head, head_is, over_top_record, open_by}
 use Rattle.cd_notation.proofs.Closing.{ends_record}
 use Rattle.cd_notation.proofs.reader.Reader.close_record.Goals as goal

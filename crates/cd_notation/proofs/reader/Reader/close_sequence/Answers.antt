@@ -1,6 +1,7 @@
 use Rattle.std.proofs.Common.{◌∙◌, ap, refl, ◌∷◌}
 use Rattle.cd_documents.specs.Terminal.{CloseSequence}
-use Rattle.cd_notation.proofs.Growth.{itself, items_grown, open_grown}
+use Rattle.cd_cells.proofs.GrownTables.{itself}
+use Rattle.cd_notation.proofs.Growth.{items_grown, open_grown}
 use Rattle.cd_notation.proofs.Stepping.{lead_none, no_sequence, no_head, head_is, over_top_sequence, ends_sequence, forms_at}
 use Rattle.cd_notation.proofs.Closing.{can_close}
 use Rattle.cd_notation.proofs.reader.Reader.close_sequence.Goals as goal

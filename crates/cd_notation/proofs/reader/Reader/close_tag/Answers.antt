@@ -1,6 +1,7 @@
 use Rattle.std.proofs.Common.{◌∙◌, ap, ◌∷◌}
 use Rattle.cd_notation.specs.declared.form.OpenForm.TheVariants.{Content}
-use Rattle.cd_notation.proofs.Growth.{itself, open_grown, at_grown}
+use Rattle.cd_cells.proofs.GrownTables.{itself, at_grown}
+use Rattle.cd_notation.proofs.Growth.{open_grown}
 use Rattle.cd_notation.proofs.Stepping.{lead_none, no_tag, no_head, head_is, over_top_tag, leads_by}
 use Rattle.cd_notation.proofs.Closing.{ends_tag}
 use Rattle.cd_notation.proofs.reader.Reader.close_tag.Goals as goal

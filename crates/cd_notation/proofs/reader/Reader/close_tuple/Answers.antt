@@ -1,5 +1,5 @@
 use Rattle.std.proofs.Common.{◌∙◌, ap, refl, ◌∷◌, arith}
-use Rattle.cd_notation.proofs.Growth.{itself}
+use Rattle.cd_cells.proofs.GrownTables.{itself}
 use Rattle.cd_notation.proofs.Gathering.{first_at, none_of}
 use Rattle.cd_notation.proofs.Stepping.{lead_none, no_tuple, no_head, head_is, over_top_tuple, ends_tuple, no_last, forms_at}
 use Rattle.cd_notation.proofs.Closing.{can_close}

@@ -1,5 +1,6 @@
 use Rattle.cd_documents.specs.Document.{the_nil}
-use Rattle.cd_notation.proofs.Growth.{open_grown, further}
+use Rattle.cd_cells.proofs.GrownTables.{further}
+use Rattle.cd_notation.proofs.Growth.{open_grown}
 use Rattle.cd_notation.proofs.reader.Reader.text.Goals as goal
 
 pub text_before-requires : goal.text_before-requires

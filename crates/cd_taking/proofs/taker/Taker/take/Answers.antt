@@ -6,7 +6,7 @@ use Rattle.cd_graph.specs.Nodes.{nodes}
 use Rattle.cd_graph.specs.declared.graph.Graph.{Graph}
 use Rattle.cd_cells.specs.Cells.{thing_at}
 use Rattle.cd_cells.specs.Table.{table}
-use Rattle.cd_taking.proofs.Growth.{further}
+use Rattle.cd_cells.proofs.GrownTables.{further}
 use Rattle.cd_taking.proofs.InTurn.{begins, runs, runs_down, ends_as, ends_within, goes, ends}
 use Rattle.cd_taking.proofs.taker.Taker.take.Goals as goal
 
