@@ -5,3 +5,4 @@ pub mod InGrown
 pub mod TableGrows
 pub mod SharedCells
 pub mod GrownTables
+pub mod FieldsFound

@@ -4,5 +4,6 @@ pub mod SharedCells
 pub mod OneProof
 pub mod Looked
 pub mod Table
+pub mod FieldOf
 pub mod Examples
 pub mod Inner

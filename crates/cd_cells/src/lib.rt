@@ -4,6 +4,7 @@
 pub mod cell;
 pub mod laws;
 mod lists;
+pub mod names;
 mod shared;
 pub mod slots;
 mod text_table;

@@ -1,8 +1,8 @@
 //! Environments, which share what they have in common.
 ghost use Rattle.std.specs.Prelude.{◌≡◌, IfOk};
 
+use cd_cells::names::is_named;
 use cd_cells::{Part, ValueId, Values};
-use cd_operations::names::is_named;
 use std::alloc::{AllocError, Global};
 use std::marker::Model;
 

@@ -10,13 +10,13 @@ use Rattle.cd_model.specs.AllOf.{AllOf}
 use Rattle.cd_model.specs.Thing.{Thing, Fields, NoField, Field, Record, LabelsRise}
 use Rattle.cd_cells.specs.declared.cell.Part.{Part}
 use Rattle.cd_cells.specs.declared.values.Values.{Values}
+use Rattle.cd_cells.specs.FieldOf.{is_of}
 use Rattle.cd_cells.specs.Cells.{thing_at, name_at, IsPart}
 use Rattle.cd_cells.specs.Table.{table, names}
 use Rattle.cd_evaluation.specs.Runs.{Done}
 use Rattle.cd_evaluation.specs.Operations.{dropped}
 use Rattle.cd_evaluation.specs.RecordFields.{without}
 use Rattle.cd_operations.specs.FieldsOf.{fields_of}
-use Rattle.cd_operations.specs.Inner.FieldsFound.{is_of}
 use Rattle.cd_operations.specs.Inner.Merging.{fields_by, AreOfRecord}
 use Rattle.cd_operations.proofs.FieldsMerged.{order, rise_before}
 

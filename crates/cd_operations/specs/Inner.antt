@@ -1,5 +1,4 @@
 -- What serves private functions. No public clause speaks of it.
-pub mod FieldsFound
 pub mod Joins
 pub mod Computing
 pub mod Merging

@@ -9,7 +9,6 @@ mod equality;
 mod integers;
 pub mod joins;
 mod merging;
-pub mod names;
 pub mod operators;
 pub mod pairs;
 mod prepended;

@@ -5,7 +5,7 @@ ghost use Rattle.cd_cells.specs.Table.{table};
 ghost use Rattle.cd_operations.specs.Along.{items_along};
 ghost use Rattle.cd_operations.specs.Pairs.{IsPairAt, is_empty};
 
-use crate::names::is_named;
+use cd_cells::names::is_named;
 use cd_cells::{Look, ValueId, Values};
 
 /// The parts of a pair.

@@ -1,22 +1,21 @@
 //! Fields of records.
 ghost use Rattle.std.specs.Prelude.{◌≡◌, ◌<◌, length, filter, not, IfOk};
-ghost use Rattle.std.specs.List.{find};
 ghost use Rattle.std.specs.Str.{chars};
 ghost use Rattle.cd_syntax.specs.Name.{IsLabel};
 ghost use Rattle.cd_model.specs.Thing.{Record};
 ghost use Rattle.cd_cells.specs.Cells.{thing_at};
+ghost use Rattle.cd_cells.specs.FieldOf.{is_of};
 ghost use Rattle.cd_cells.specs.Table.{table, names, IsAt, Grows};
 ghost use Rattle.cd_evaluation.specs.Operations.{dropped};
 ghost use Rattle.cd_evaluation.specs.Operations as operations;
 ghost use Rattle.cd_evaluation.specs.RecordFields as fields;
 ghost use Rattle.cd_operations.specs.Endings.{plain_ending, IsEnding};
 ghost use Rattle.cd_operations.specs.FieldsOf.{fields_of};
-ghost use Rattle.cd_operations.specs.Inner.FieldsFound.{is_of};
 ghost use Rattle.cd_operations.specs.Inner.Merging.{fields_by, AreOfRecord};
 
 use crate::ending::Ending;
 use crate::merging::merge;
-use crate::names::is_named;
+use cd_cells::names::{field_of, is_named};
 use cd_cells::{Look, Part, ValueId, Values};
 use std::alloc::{AllocError, Global};
 
@@ -134,18 +133,8 @@ pub fn select(values: &Values, value: ValueId, label: &str) -> Ending
     let Look::Record(parts) = values.look(value) else {
         return Ending::Stuck;
     };
-    match field_at(values, parts, label) {
+    match field_of(values, parts, label) {
         Some(part) => Ending::Done(part.id()),
         None => Ending::Stuck,
     }
-}
-
-// The field of a label, if there is one.
-fn field_at(values: &Values, parts: &[Part], label: &str) -> Option<Part>
-    ensures { result ≡ find (is_of (names values.now) (chars label.now)) parts.now }
-{
-    parts
-        .iter()
-        .copied()
-        .find(|part| is_named(values, part.label, label))
 }

@@ -5,7 +5,7 @@ ghost use Rattle.cd_cells.specs.Table.{table, IsAt, Grows};
 ghost use Rattle.cd_typing.specs.Operators as operators;
 ghost use Rattle.cd_evaluation.specs.Operations as operations;
 
-use crate::names::is_named;
+use cd_cells::names::is_named;
 use cd_cells::{Look, ValueId, Values};
 use std::alloc::AllocError;
 

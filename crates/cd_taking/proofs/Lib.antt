@@ -7,7 +7,7 @@ mod Efforts
 mod Falling
 mod Closures
 mod Keeping
-mod FieldsFound
+mod LabelsNamed
 mod TextFromEnd
 mod Gathering
 mod Stepping

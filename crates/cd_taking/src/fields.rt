@@ -1,20 +1,21 @@
 //! The fields of records.
 ghost use Rattle.std.specs.Prelude.{◌≡◌, ◌<◌, ◌+◌, ◌^◌, ◌||◌, List, length, map, option_map, slice_get, bytes_eq};
 ghost use Rattle.std.specs.Prelude.{IfSome, ℕ};
-ghost use Rattle.std.specs.List.{find, list_all};
+ghost use Rattle.std.specs.List.{list_all};
 ghost use Rattle.std.specs.Str.{chars};
 ghost use Rattle.cd_model.specs.AllOf.{AllOf};
 ghost use Rattle.cd_model.specs.Thing.{Thing};
 ghost use Rattle.cd_matching.specs.Kernel.{all_named};
 ghost use Rattle.cd_matching.specs.PlainKernel.{plain_kind, plain_kernel_field, plain_nodes};
 ghost use Rattle.cd_matching.specs.Take.{at_label};
-ghost use Rattle.cd_cells.specs.Cells.{thing_at, name_at, fields_of as fields_at, IsPart};
+ghost use Rattle.cd_cells.specs.Cells.{thing_at, fields_of as fields_at, IsPart};
 ghost use Rattle.cd_cells.specs.Table.{table, names};
 ghost use Rattle.cd_taking.specs.Inner.Machine.{as_record, record_node, work_at, next_field, field_work};
-ghost use Rattle.cd_taking.specs.Inner.Coded.{plain_task, IsTaskWithin, IfTask, value_in, is_of, names_part};
+ghost use Rattle.cd_taking.specs.Inner.Coded.{plain_task, IsTaskWithin, IfTask, value_in, names_part};
 
 use crate::node_parts::record_node;
 use crate::views::fields_of;
+use cd_cells::names::field_of;
 use cd_cells::{Part, ValueId, Values};
 use cd_matching::kernel::{FieldKind, Kernel, KernelField};
 use cd_sets::node_id::NodeId;
@@ -92,27 +93,10 @@ fn value_at(values: &Values, parts: &[Part], label: &str) -> Option<ValueId>
         value_in (table values.now) result ≡ at_label all (chars label.now) }
     ensures within { IfSome result (λ id. id.0 < length (table values.now)) }
 {
-    match part_at(values, parts, label) {
+    match field_of(values, parts, label) {
         Some(part) => Some(part.id()),
         None => None,
     }
-}
-
-// The field of a label.
-fn part_at(values: &Values, parts: &[Part], label: &str) -> Option<Part>
-    ensures { result ≡ find (is_of (names values.now) (chars label.now)) parts.now }
-{
-    parts
-        .iter()
-        .copied()
-        .find(|part| is_named(values, part.label, label))
-}
-
-// Whether the name with this number is this text.
-fn is_named(values: &Values, name: u32, text: &str) -> bool
-    ensures { result ≡ bytes_eq (name_at (names values.now) name) (chars text.now) }
-{
-    is_text(values.name_of(name), text)
 }
 
 /// Whether a record may have these fields: others may stand beside those of the node, or each has a

@@ -50,10 +50,6 @@ plain_at node = plain_node node.now
 abbrev pub plain_record : Bor (List KernelField) × Bool → Named × Bool
 plain_record node = (map plain_kernel_field node.0.now, node.1)
 
--- the field is that of the label
-abbrev pub is_of : List Name → (label : Name) → Part → Bool
-is_of names label part = bytes_eq (name_at names part.label) label
-
 -- a value, if there is one
 abbrev pub value_in : List Thing → Option ValueId → Option Thing
 value_in table value = option_map (λ id. thing_at table id.0) value

@@ -3,7 +3,7 @@ use Rattle.cd_matching.specs.Kernel.{all_named}
 use Rattle.cd_matching.specs.PlainKernel.{plain_kernel_field}
 use Rattle.cd_cells.specs.Cells.{fields_of}
 use Rattle.cd_cells.specs.Table.{table, names}
-use Rattle.cd_taking.proofs.FieldsFound.{all_named_is}
+use Rattle.cd_taking.proofs.LabelsNamed.{all_named_is}
 use Rattle.cd_taking.proofs.fields.may_have.Goals as goal
 
 pub returns-else-more : goal.returns-else-more

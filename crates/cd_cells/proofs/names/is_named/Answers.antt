@@ -1,7 +1,7 @@
 use Rattle.std.proofs.Common.{ap, ◌∙◌, bytes_eq}
 use Rattle.std.specs.Str.{chars}
 use Rattle.cd_syntax.proofs.SameNames.{same_names}
-use Rattle.cd_operations.proofs.names.is_named.Goals as goal
+use Rattle.cd_cells.proofs.names.is_named.Goals as goal
 
 pub returns : goal.returns
 returns c =
