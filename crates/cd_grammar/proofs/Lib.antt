@@ -3,6 +3,7 @@ pub mod ListedFits
 pub mod Terminals
 pub mod Exact
 pub mod OneReading
+pub mod Rules
 mod Sorts
 mod SortsOfMakes
 mod SortedParts

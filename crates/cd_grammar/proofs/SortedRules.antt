@@ -1,16 +1,15 @@
 -- Each rule of the grammar gives a part of the sort that its left side stands for: a test of all rules.
-use Rattle.std.proofs.Common.{◌≡◌, sym, subst, refl, ℕ, Bool, true, false, List, [], ◌∷◌, map}
+use Rattle.std.proofs.Common.{◌≡◌, sym, subst, refl, ℕ, Bool, true, false, List, map}
 use Rattle.std.proofs.Common.{Option, Some, None, slice_get, inl, inr}
 use Rattle.std.specs.Prelude.{◌⊎◌}
 use Rattle.cd_lr.specs.Grammar.{Nonterminal}
 use Rattle.cd_lr.specs.Tables.{Rule, rule, every, rule_at, left, right, left_of, right_of}
-use Rattle.cd_lr.proofs.Bools.{every_find, given_find}
 use Rattle.cd_grammar.specs.declared.make.Make.{Make}
 use Rattle.cd_grammar.specs.Bnf.{Line}
-use Rattle.cd_grammar.specs.Parts.{Part}
 use Rattle.cd_grammar.specs.Rules.{lines}
 use Rattle.cd_grammar.specs.Language.{Placed, place_of, made_by, build}
 use Rattle.cd_grammar.specs.Tables.{tables}
+use Rattle.cd_grammar.proofs.Rules.{parts_of, of_rule}
 use Rattle.cd_grammar.proofs.Sorts.{Sort, OfTree, OfTrees, OfSigns, OfFields, OfNames, OfRegular, OfRegulars, sort_of}
 use Rattle.cd_grammar.proofs.SortsOfMakes.{sorts_of}
 use Rattle.cd_grammar.proofs.SortsInSorts.{IsIn, is_in, AreIn, are_in, both_found, in_fits, in_fit}
@@ -54,19 +53,8 @@ abbrev rule_is_sorted : ℕ → Rule → Bool
 rule_is_sorted n r =
     line_is_sorted (slice_get lines n) (map sort_of (right_of r)) (sort_of (Nonterminal (left_of r)))
 
--- a test of all rules holds of the rule of a number, or that is the rule of the whole
-pub of_rule : (test : ℕ → Rule → Bool) → every test tables.rules ≡ true → (p : ℕ)
-    → (test p (rule_at tables p) ≡ true) ⊎ (left tables p ≡ tables.whole)
-of_rule test holds p =
-    given_find (λ r. (test p r ≡ true) ⊎ (left_of r ≡ tables.whole)) tables.rules p
-    (rule tables.whole (Nonterminal tables.start ∷ [])) (inr refl)
-    (λ r is. inl (every_find test tables.rules p r holds is))
-
 are_sorted : every rule_is_sorted tables.rules ≡ true
 are_sorted = refl
-
-abbrev pub parts_of : List Placed → List Part
-parts_of values = map (λ part. part.1) values
 
 module _ (facts : Facts) (kept : AreKept facts) where
   pub rule_fits : (p : ℕ) (values : List Placed) → AreFit facts (map sort_of (right tables p)) (parts_of values)

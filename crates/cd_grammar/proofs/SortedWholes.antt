@@ -1,9 +1,9 @@
 -- A whole is of the sort that its goal says.
-use Rattle.std.proofs.Common.{◌≡◌, ◌∙◌, sym, ap, subst, refl, ℕ, zero, suc, true, false, List, ◌∷◌, map}
-use Rattle.std.proofs.Common.{arith, eq-eqb, ltb-true, inl, inr}
-use Rattle.std.specs.Prelude.{◌⊎◌, ◌<◌, nat_eq, nat_lt}
+use Rattle.std.proofs.Common.{◌≡◌, ◌∙◌, sym, ap, subst, refl, ℕ, true, false, List, ◌∷◌, map}
+use Rattle.std.proofs.Common.{eq-eqb}
+use Rattle.std.specs.Prelude.{nat_eq}
 use Rattle.cd_lr.specs.Grammar.{Symbol, Terminal, one, made, Row, nothing, next, Whole}
-use Rattle.cd_lr.specs.Tables.{either, not, left, right, left_of}
+use Rattle.cd_lr.specs.Tables.{right}
 use Rattle.cd_lr.proofs.GoalsFirst.{whole_by_text}
 use Rattle.cd_grammar.specs.declared.goal.Goal.{Goal}
 use Rattle.cd_grammar.specs.declared.goal.Goal.TheVariants as goal
@@ -16,33 +16,9 @@ use Rattle.cd_grammar.specs.Tables.{tables}
 use Rattle.cd_grammar.proofs.Sorts.{Sort, OfTree, OfFile, OfProgram, sort_of}
 use Rattle.cd_grammar.proofs.SortedParts.{Facts, AreKept, Fits, AreFit, Each}
 use Rattle.cd_grammar.proofs.SortedMakes.{made_fits}
-use Rattle.cd_grammar.proofs.SortedRules.{of_rule, parts_of}
+use Rattle.cd_grammar.proofs.Rules.{parts_of, IsStart, a_type, empty_file, a_file, empty_program, a_program, is_start}
 use Rattle.cd_grammar.proofs.SortedTokens.{IsProper}
 use Rattle.cd_grammar.proofs.SortedSymbols.{row_fits}
-
--- the rules of a start
-data IsStart : ℕ → Type 0 where
-  a_type : IsStart 1
-  empty_file : IsStart 2
-  a_file : IsStart 3
-  empty_program : IsStart 4
-  a_program : IsStart 5
-
-is_start : (p : ℕ) → left tables p ≡ tables.start → IsStart p
-is_start p same = by p same (below (of_rule (λ n r. either (not (nat_eq (left_of r) 1)) (nat_lt n 6)) refl p))
-  where
-    below : (either (not (nat_eq (left tables p) 1)) (nat_lt p 6) ≡ true) ⊎ (left tables p ≡ 0) → p < 6
-    below (inl so) = ltb-true p 6 (subst (λ n. either (not (nat_eq n 1)) (nat_lt p 6) ≡ true) same so)
-    below (inr whole) = let never : suc zero ≡ zero = sym same ∙ whole in absurd cc
-
-    by : (n : ℕ) → left tables n ≡ tables.start → n < 6 → IsStart n
-    by zero same below = let never : zero ≡ suc zero = same in absurd cc
-    by (suc zero) same below = a_type
-    by (suc (suc zero)) same below = empty_file
-    by (suc (suc (suc zero))) same below = a_file
-    by (suc (suc (suc (suc zero)))) same below = empty_program
-    by (suc (suc (suc (suc (suc zero))))) same below = a_program
-    by (suc (suc (suc (suc (suc (suc n)))))) same below = absurd (omega (arith, below))
 
 -- a row that begins with a terminal begins with a token of it
 first_token : (depth : ℕ) (xs : List Symbol) (entries : List Entry) (values : List Placed)

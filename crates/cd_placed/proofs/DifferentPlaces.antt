@@ -8,7 +8,7 @@ use Rattle.cd_evaluation.specs.Code.{place_of}
 use Rattle.cd_evaluation.specs.ProgramFunctions.{functions_within, within_all, PlacesDiffer}
 use Rattle.cd_placed.specs.Patterns.{start_of, patterns_of_function, patterns_of_functions, StartsDiffer}
 use Rattle.cd_placed.proofs.Rising.{Rises, parted, ordered, Follows, itself}
-use Rattle.cd_placed.proofs.Rules.{joined, both_parts}
+use Rattle.cd_model.proofs.Covered.{each_parts, each_both}
 use Rattle.cd_placed.proofs.FunctionPlaces.{of_both, places_of_function}
 use Rattle.cd_placed.proofs.PatternStarts.{starts_of_function}
 
@@ -74,7 +74,7 @@ apart : (middle : ℕ) (first second : List FunctionTree) → PlacesDiffer first
     → AreBelow middle first → AreFrom middle second → PlacesDiffer (first ++ second)
 apart middle [] second differ others below from = others
 apart middle (f ∷ rest) second differ others below from = (
-  joined (λ other. place_of f ≢ place_of other) rest second differ.0
+  each_both (λ other. place_of f ≢ place_of other) rest second differ.0
       (each (λ g. middle ≤ place_of g) (λ g. place_of f ≢ place_of g)
       (λ g more same. omega (arith, more, same, below.0)) second from),
   apart middle rest second differ.1 others below.1 from,
@@ -86,9 +86,9 @@ between : (middle : ℕ) (first inner second : List FunctionTree) → PlacesDiff
 between middle [] inner second differ others below before after = apart middle inner second others differ below after
 between middle (f ∷ rest) inner second differ others below before after =
     let Other = λ (other : FunctionTree). place_of f ≢ place_of other in
-    let parts = both_parts Other rest second differ.0 in
+    let parts = each_parts Other rest second differ.0 in
     let apart_from = each (λ g. place_of g < middle) Other (λ g less same. omega (arith, less, same, before.0)) inner below in (
-      joined Other rest (inner ++ second) parts.0 (joined Other inner second apart_from parts.1),
+      each_both Other rest (inner ++ second) parts.0 (each_both Other inner second apart_from parts.1),
       between middle rest inner second differ.1 others below before.1 after,
     )
 
@@ -107,7 +107,7 @@ all_from from to (f ∷ rest) rises =
     let all_later = each (λ g. middle ≤ place_of g) (λ g. from ≤ place_of g)
     (λ g more. omega (arith, more, higher, rises.0)) in (
       (rises.0, all_later rest later.0),
-      joined (λ g. from ≤ place_of g) (functions_within f) (within_all rest) within
+      each_both (λ g. from ≤ place_of g) (functions_within f) (within_all rest) within
           (all_later (within_all rest) later.1),
     )
 
@@ -121,8 +121,8 @@ functions_differ from to (f ∷ rest) rises =
     let higher = ordered (suc (place_of f)) middle (map place_of (functions_within f)) inner in
     let Other = λ (other : FunctionTree). place_of f ≢ place_of other in
     let others_differ = each (λ g. middle ≤ place_of g) Other (λ g more same. omega (arith, more, higher, same)) in (
-      joined Other rest (functions_within f ++ within_all rest) (others_differ rest later.0)
-          (joined Other (functions_within f) (within_all rest)
+      each_both Other rest (functions_within f ++ within_all rest) (others_differ rest later.0)
+          (each_both Other (functions_within f) (within_all rest)
           (none_of place_of f middle (functions_within f) inner) (others_differ (within_all rest) later.1)),
       between middle rest (functions_within f) (within_all rest) (functions_differ middle to rest others)
           (places_differ (suc (place_of f)) middle (functions_within f) inner)

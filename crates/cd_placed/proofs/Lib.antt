@@ -1,4 +1,3 @@
-mod Rules
 mod Rising
 mod HeldPlaces
 mod KeptPlaces

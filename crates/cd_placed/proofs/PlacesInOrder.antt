@@ -15,7 +15,7 @@ use Rattle.cd_placed.proofs.Rising.{Rises, ordered, risen}
 use Rattle.cd_placed.proofs.HeldPlaces.{IsWalk, held, all_held}
 use Rattle.cd_placed.proofs.KeptPlaces.{Keeps, plain, no_place}
 use Rattle.cd_placed.proofs.KeptByMakes.{made_keeps}
-use Rattle.cd_placed.proofs.Rules.{parts_of}
+use Rattle.cd_grammar.proofs.Rules.{parts_of}
 
 -- tokens of a text stand one after the other between two places, and each has a character
 abbrev pub StandInOrder : (from : ℕ) → List Entry → (to : ℕ) → Type 0

@@ -18,8 +18,8 @@ use Rattle.cd_grammar.specs.Language.{IsProgram}
 use Rattle.cd_grammar.specs.Tables.{tables}
 use Rattle.cd_placed.proofs.Rising.{Rises, longer}
 use Rattle.cd_placed.proofs.HeldPlaces.{IsWalk, held, all_held}
-use Rattle.cd_placed.proofs.Rules.{parts_of}
-use Rattle.cd_placed.proofs.Rules.{IsStart, a_type, empty_file, a_file, empty_program, a_program, is_start}
+use Rattle.cd_grammar.proofs.Rules.{parts_of}
+use Rattle.cd_grammar.proofs.Rules.{IsStart, a_type, empty_file, a_file, empty_program, a_program, is_start}
 use Rattle.cd_placed.proofs.PlacesInOrder.{StandInOrder, all_rise, rule_keeps, row_within}
 use Rattle.cd_placed.proofs.TokensInOrder.{tokens_in_order}
 use Rattle.cd_placed.proofs.FunctionPlaces.{function_places, places_of_function, functions_walk}

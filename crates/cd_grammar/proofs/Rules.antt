@@ -1,7 +1,6 @@
 -- The rules of the grammar: what their parts are, and which rules begin a text.
-use Rattle.std.proofs.Common.{◌≡◌, ◌∙◌, sym, subst, refl, ℕ, zero, suc, Bool, true, List, [], ◌∷◌, ◌++◌, map, arith, ltb-true, inl, inr}
+use Rattle.std.proofs.Common.{◌≡◌, ◌∙◌, sym, subst, refl, ℕ, zero, suc, Bool, true, List, [], ◌∷◌, map, arith, ltb-true, inl, inr}
 use Rattle.std.specs.Prelude.{◌⊎◌, ◌<◌, nat_eq, nat_lt}
-use Rattle.cd_model.specs.AllOf.{AllOf}
 use Rattle.cd_lr.specs.Grammar.{Nonterminal}
 use Rattle.cd_lr.specs.Tables.{Rule, rule, every, rule_at, either, not, left, left_of}
 use Rattle.cd_lr.proofs.Bools.{every_find, given_find}
@@ -9,21 +8,11 @@ use Rattle.cd_grammar.specs.Parts.{Part}
 use Rattle.cd_grammar.specs.Language.{Placed}
 use Rattle.cd_grammar.specs.Tables.{tables}
 
--- a fact of each in two lists
-pub joined : {A : Type 0} (fact : A → Type 0) (all more : List A) → AllOf fact all → AllOf fact more → AllOf fact (all ++ more)
-joined fact [] more are so = so
-joined fact (first ∷ rest) more are so = (are.0, joined fact rest more are.1 so)
-
-pub both_parts : {A : Type 0} (fact : A → Type 0) (first second : List A) → AllOf fact (first ++ second)
-    → AllOf fact first × AllOf fact second
-both_parts fact [] second all = (tt, all)
-both_parts fact (one ∷ first) second all = let rest = both_parts fact first second all.1 in ((all.0, rest.0), rest.1)
-
 abbrev pub parts_of : List Placed → List Part
 parts_of values = map (λ part. part.1) values
 
 -- a test of all rules holds of the rule of a number, or that is the rule of the whole
-of_rule : (test : ℕ → Rule → Bool) → every test tables.rules ≡ true → (p : ℕ)
+pub of_rule : (test : ℕ → Rule → Bool) → every test tables.rules ≡ true → (p : ℕ)
     → (test p (rule_at tables p) ≡ true) ⊎ (left tables p ≡ tables.whole)
 of_rule test holds p =
     given_find (λ r. (test p r ≡ true) ⊎ (left_of r ≡ tables.whole)) tables.rules p
