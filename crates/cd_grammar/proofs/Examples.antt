@@ -15,19 +15,19 @@ use Rattle.cd_grammar.specs.Parts.{Part, ATree, AFile}
 use Rattle.cd_grammar.specs.Language.{Entry, Placed, IsTree, AreDeclared}
 use Rattle.cd_grammar.specs.Forms.{AType, SomeDeclarations}
 use Rattle.cd_grammar.specs.Examples.{Example, IsExample, AreExamples, group_tokens, group_tree, tuple_tokens, tuple_tree, arrows_tokens, arrows_tree, record_tokens, record_tree, where_tokens, where_tree, signs_tokens, signs_tree, characters_tokens, characters_tree, at_most_tokens, at_most_tree, at_least_tokens, at_least_tree, argument_tokens, argument_tree, sequence_tokens, sequence_tree, union_tokens, union_tree, group_sequence_tokens, group_sequence_tree, arrow_item_tokens, arrow_item_tree, xml_tokens, xml_tree, any_xml_tokens, any_xml_tree, alternative_tokens, alternative_tree, mixed_tokens, mixed_tree, nested_tokens, nested_tree, typed_xml_tokens, typed_xml_tree, keyword_tokens, keyword_tree, arrow_tokens, attributes_tokens, content_tokens, group_front, declared_tokens, declared_declarations, declared_alone_tokens, declared_alone_declarations, constant_texts, chain_texts, record_texts, xml_texts, keyword_texts, sequence_texts, item_texts, group_texts, longer_texts, comma_after_group, and_after_group, and_after_letters, two_postfixes, no_semicolon, no_label, union_of_attribute, two_letters, no_part, keyword_alone, label_alone, two_types, where_again, no_keyword, no_type_name, semicolons_again, begun_arrow, begun_declaration}
-use Rattle.cd_grammar.proofs.Runs.{ending, made, written, not_written, wrong_at, begun_only}
+use Rattle.cd_grammar.proofs.Runs.{steps, ending, made, written, not_written, wrong_at, begun_only}
 
-writes : (depth : ℕ) (tokens : List Token) (is : Tree) → made (ending goal.TypeText depth tokens) ≡ Some (ATree is)
+writes : (depth : ℕ) (tokens : List Token) (is : Tree) → made (ending goal.TypeText depth steps tokens) ≡ Some (ATree is)
     → IsTree depth tokens is
-writes depth tokens is is_made = written goal.TypeText depth tokens (ATree is) is_made
+writes depth tokens is is_made = written goal.TypeText depth steps tokens (ATree is) is_made
 
-writes_none : (depth : ℕ) (tokens : List Token) → ending goal.TypeText depth tokens ≡ TooDeep → (is : Tree)
+writes_none : (depth : ℕ) (tokens : List Token) → ending goal.TypeText depth steps tokens ≡ TooDeep → (is : Tree)
     → IsTree depth tokens is → ⊥
 writes_none depth tokens ends is = not_written goal.TypeText depth tokens ends depth (ATree is) (omega arith)
 
 declares : (depth : ℕ) (tokens : List Token) (declarations : Declarations)
-    → made (ending goal.TypeFile depth tokens) ≡ Some (AFile declarations) → AreDeclared depth tokens declarations
-declares depth tokens declarations is_made = written goal.TypeFile depth tokens (AFile declarations) is_made
+    → made (ending goal.TypeFile depth steps tokens) ≡ Some (AFile declarations) → AreDeclared depth tokens declarations
+declares depth tokens declarations is_made = written goal.TypeFile depth steps tokens (AFile declarations) is_made
 
 -- the trees of texts
 pub group_is : IsTree 1 group_tokens group_tree
@@ -182,10 +182,10 @@ keyword_is_deep = writes_none 0 keyword_tokens refl
 -- what the run of a text makes at its depth, and how one ends at a smaller depth
 abbrev below : (depth : ℕ) → List Token → Next Entry Placed
 below zero tokens = TooDeep
-below (suc depth) tokens = ending goal.TypeText depth tokens
+below (suc depth) tokens = ending goal.TypeText depth steps tokens
 
 abbrev result : Example → Option Part × Next Entry Placed
-result one = (made (ending goal.TypeText one.depth one.tokens), below one.depth one.tokens)
+result one = (made (ending goal.TypeText one.depth steps one.tokens), below one.depth one.tokens)
 
 abbrev expected : Example → Option Part × Next Entry Placed
 expected one = (Some (ATree one.is), TooDeep)

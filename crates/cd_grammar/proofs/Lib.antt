@@ -30,7 +30,7 @@ mod WellMadePatterns
 mod WellMadeExprs
 pub mod MadeWell
 mod WrittenDeeper
-mod Runs
+pub mod Runs
 mod Examples
 mod ProgramRuns
 mod PatternTexts

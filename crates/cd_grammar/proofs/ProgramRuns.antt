@@ -12,15 +12,15 @@ use Rattle.cd_grammar.specs.Forms as forms
 use Rattle.cd_grammar.specs.ProgramExamples.{ProgramExample, IsProgramExample, AreProgramExamples, WrongText, AreWrong, AreUnfinished}
 use Rattle.cd_grammar.proofs.SameForms.{same_wrong, same_unfinished}
 use Rattle.cd_grammar.proofs.ProgramForm.{declared_part, declared_form, declared_within, program_within}
-use Rattle.cd_grammar.proofs.Runs.{ending, made, stop, written, not_written, wrong_at, begun_only}
+use Rattle.cd_grammar.proofs.Runs.{steps, ending, made, stop, written, not_written, wrong_at, begun_only}
 
 -- what the run of a text makes at its depth, and how one ends at a smaller depth
 abbrev below : (depth : ℕ) → List Token → Next Entry Placed
 below zero tokens = TooDeep
-below (suc depth) tokens = ending goal.ProgramText depth tokens
+below (suc depth) tokens = ending goal.ProgramText depth steps tokens
 
 abbrev pub result : ProgramExample → Option Part × Next Entry Placed
-result one = (made (ending goal.ProgramText one.depth one.tokens), below one.depth one.tokens)
+result one = (made (ending goal.ProgramText one.depth steps one.tokens), below one.depth one.tokens)
 
 abbrev pub expected : ProgramExample → Option Part × Next Entry Placed
 expected one = (Some (AProgram one.types one.functions), TooDeep)
@@ -36,7 +36,7 @@ is_example one same = (
   λ end. (
     one.types,
     refl,
-    written goal.ProgramText one.depth one.tokens (AProgram one.types one.functions) (ap (λ both. both.0) same),
+    written goal.ProgramText one.depth steps one.tokens (AProgram one.types one.functions) (ap (λ both. both.0) same),
   ),
   is_least one.depth one.tokens (ap (λ both. both.1) same),
 )

@@ -30,13 +30,9 @@ entries goal tokens = To goal ∷ map Read tokens
 abbrev start : Goal → (most : ℕ) → List Token → Config Entry Placed
 start goal most tokens = begin cduce_grammar reader most (entries goal tokens)
 
--- more steps than any text takes here
-abbrev steps : ℕ
-steps = 1000
-
--- how the run ends
-abbrev pub ending : Goal → (most : ℕ) → List Token → Next Entry Placed
-ending goal most tokens = run cduce_grammar reader most steps (start goal most tokens)
+-- how a run of so many steps at most ends
+abbrev pub ending : Goal → (most steps : ℕ) → List Token → Next Entry Placed
+ending goal most steps tokens = run cduce_grammar reader most steps (start goal most tokens)
 
 -- the part that it makes
 abbrev pub made : Next Entry Placed → Option Part
@@ -65,7 +61,33 @@ comes_to most (suc n) c = by (step cduce_grammar reader most c) refl (λ d. come
     by Wrong is more = here c
     by NoRoom is more = here c
 
--- the entries that are left there, and the last step
+-- what is made is written
+pub written : (goal : Goal) (most steps : ℕ) (tokens : List Token) (part : Part)
+    → made (ending goal most steps tokens) ≡ Some part → Writes goal most tokens part
+written goal most steps tokens part is = by (ending goal most steps tokens) refl is
+  where
+    told : (found : Placed) → Stops cduce_grammar reader most (start goal most tokens) (Done found)
+        → Writes goal most tokens found.1
+    told found (c, comes, ends) = (
+      found.0,
+      sound cduce_grammar reader (Core tables) (ranks tables) safe most (entries goal tokens) c found comes ends,
+    )
+
+    by : (next : Next Entry Placed) → ending goal most steps tokens ≡ next → made next ≡ Some part
+        → Writes goal most tokens part
+    by (Done found) was so =
+        let same : found.1 ≡ part = cc in
+        subst (Writes goal most tokens) same
+        (told found (by_run cduce_grammar reader most steps (start goal most tokens) (Done found) tt was))
+    by (On c) was so = absurd cc
+    by Wrong was so = absurd cc
+    by NoRoom was so = absurd cc
+
+-- more steps than any text takes in examples
+abbrev pub steps : ℕ
+steps = 1000
+
+-- the entries that are left where the run stops, and the last step
 abbrev left_and_next : (most : ℕ) → Config Entry Placed → List Entry × Next Entry Placed
 left_and_next most c = (c.rest, step cduce_grammar reader most c)
 
@@ -76,35 +98,12 @@ apart : (index : ℕ) (part : Placed) → TooDeep index ≡ Made part → ⊥
 apart index part same = cc
 
 module _ (goal : Goal) (most : ℕ) (tokens : List Token) where
-  abbrev StopsBy : Next Entry Placed → Type 0
-  StopsBy = Stops cduce_grammar reader most (start goal most tokens)
-
-  -- what is made is written
-  pub written : (part : Part) → made (ending goal most tokens) ≡ Some part → Writes goal most tokens part
-  written part is = by (ending goal most tokens) refl is
-    where
-      told : (found : Placed) → StopsBy (Done found) → Writes goal most tokens found.1
-      told found (c, comes, ends) = (
-        found.0,
-        sound cduce_grammar reader (Core tables) (ranks tables) safe most (entries goal tokens) c found comes ends,
-      )
-
-      by : (next : Next Entry Placed) → ending goal most tokens ≡ next → made next ≡ Some part
-          → Writes goal most tokens part
-      by (Done found) was so =
-          let same : found.1 ≡ part = cc in
-          subst (Writes goal most tokens) same
-          (told found (by_run cduce_grammar reader most steps (start goal most tokens) (Done found) tt was))
-      by (On c) was so = absurd cc
-      by Wrong was so = absurd cc
-      by NoRoom was so = absurd cc
-
   -- where there is no room nothing is written, and at smaller depths too
-  too_deep : ending goal most tokens ≡ NoRoom → (part : Part) → Writes goal most tokens part → ⊥
+  too_deep : ending goal most steps tokens ≡ NoRoom → (part : Part) → Writes goal most tokens part → ⊥
   too_deep is part (place, writes) =
       by (by_run cduce_grammar reader most steps (start goal most tokens) NoRoom tt is)
     where
-      by : StopsBy NoRoom → ⊥
+      by : Stops cduce_grammar reader most (start goal most tokens) NoRoom → ⊥
       by (c, comes, ends) =
           let right = stood cduce_grammar reader (Core tables) (ranks tables) safe most (entries goal tokens) c comes in
           let index = length right.read in
@@ -116,7 +115,7 @@ module _ (goal : Goal) (most : ℕ) (tokens : List Token) where
           (exactly cduce_grammar reader (Sure tables) (First tables) full most (entries goal tokens) (place, part)
           (TooDeep index) writes answer)
 
-  pub not_written : ending goal most tokens ≡ NoRoom → (less : ℕ) (part : Part) → less ≤ most
+  pub not_written : ending goal most steps tokens ≡ NoRoom → (less : ℕ) (part : Part) → less ≤ most
       → Writes goal less tokens part → ⊥
   not_written is less part small writes = too_deep is part (written_deeper goal less most tokens part small writes)
 

@@ -1,6 +1,5 @@
 mod PiecesSpelled
 mod ProgramTokens
-mod RunWrites
 mod ProgramRun
 mod ProgramSpelled
 mod ProgramNamed

@@ -6,9 +6,9 @@ use Rattle.cd_grammar.specs.declared.goal.Goal.TheVariants as goal
 use Rattle.cd_grammar.specs.Parts.{AProgram}
 use Rattle.cd_grammar.specs.Language.{IsProgram}
 use Rattle.cd_grammar.specs.TreesAt.{declared_at}
+use Rattle.cd_grammar.proofs.Runs.{ending, made, written}
 use Rattle.cd_work.specs.Inner.WorkProgram.{log_type, entry_type, work_program}
 use Rattle.cd_work.proofs.ProgramTokens.{program_tokens}
-use Rattle.cd_work.proofs.RunWrites.{ending, made, written}
 
 -- the run makes the types and the function of the program
 abbrev types : List Declaration

@@ -9,8 +9,8 @@ use Rattle.cd_grammar.specs.declared.goal.Goal.TheVariants as goal
 use Rattle.cd_grammar.specs.Parts.{ATree}
 use Rattle.cd_grammar.specs.Language.{IsTree}
 use Rattle.cd_grammar.specs.TreesAt.{place}
+use Rattle.cd_grammar.proofs.Runs.{written}
 use Rattle.cd_work.specs.Inner.WorkQueries.{integers_up_to}
-use Rattle.cd_work.proofs.RunWrites.{written}
 
 -- the tokens of `[(0--number)*]`, where the number has so many digits
 abbrev pub query_tokens : (digits number : ℕ) → List Token
