@@ -2,7 +2,6 @@ pub mod Members
 pub mod Agreeing
 pub mod Steps
 pub mod InNode
-pub mod Texts
 pub mod Numbered
 pub mod Leading
 pub mod Naming

@@ -26,7 +26,7 @@ others_are_ascii (c ∷ cs) all =
     let both = and_parts (goes_on_word c) (list_all goes_on_word cs) all in
     IsAscii-cons c cs (other_is_ascii c both.0) (others_are_ascii cs both.1)
 
-word_is_ascii : (name : List ℕ) → is_word name ≡ true → IsAscii name
+pub word_is_ascii : (name : List ℕ) → is_word name ≡ true → IsAscii name
 word_is_ascii [] word = IsAscii-nil
 word_is_ascii (c ∷ cs) word =
     let both = and_parts (begins_word c) (list_all goes_on_word cs) word in

@@ -1,5 +1,5 @@
 use Rattle.std.proofs.Common.{◌∙◌}
-use Rattle.cd_asking.proofs.Texts.{same_names}
+use Rattle.cd_syntax.proofs.SameNames.{same_names}
 use Rattle.cd_asking.proofs.shape.is_same.Goals as goal
 
 -- equal texts have equal characters, and unequal ones unequal characters
