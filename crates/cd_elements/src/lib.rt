@@ -3,8 +3,8 @@
 
 pub mod elements;
 mod look;
-mod output;
-mod quote;
+pub mod output;
+pub mod quote;
 mod row;
 mod rows;
 mod sequence;

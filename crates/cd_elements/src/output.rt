@@ -1,5 +1,6 @@
 //! A text to which characters are added.
 ghost use Rattle.std.specs.Prelude.{◌≡◌, ◌<◌, [], ◌∷◌, ◌++◌, length, OnOk, IfOk};
+ghost use Rattle.std.specs.Prelude.{string_bytes, encode_utf8_all};
 ghost use Rattle.std.specs.Fmt.{signed_decimal};
 ghost use Rattle.std.specs.Str.{chars};
 
@@ -9,7 +10,7 @@ use std::marker::Model;
 
 /// A text to which characters are added at the end. A contract sees the list of its characters.
 #[derive(Drop)]
-pub(crate) struct Output {
+pub struct Output {
     text: String,
 }
 
@@ -24,7 +25,7 @@ impl Model for Output {
 
 impl Output {
     /// The text without characters.
-    pub(crate) fn new(alloc: Global) -> Output
+    pub fn new(alloc: Global) -> Output
         ensures { result ≡ [] }
     {
         Output {
@@ -33,25 +34,56 @@ impl Output {
     }
 
     /// Adds a character.
-    pub(crate) fn push(&mut self, c: char) -> Result<(), AllocError>
+    ///
+    /// # Errors
+    ///
+    /// Want of memory.
+    pub fn push(&mut self, c: char) -> Result<(), AllocError>
         ensures { OnOk result (self.new ≡ self.old ++ c ∷ []) }
     {
         self.text.push(c)
     }
 
+    /// Adds two characters.
+    ///
+    /// # Errors
+    ///
+    /// Want of memory.
+    pub fn push_two(&mut self, first: char, second: char) -> Result<(), AllocError>
+        ensures { OnOk result (self.new ≡ self.old ++ first ∷ second ∷ []) }
+    {
+        self.push(first)?;
+        self.push(second)
+    }
+
     /// Adds a text.
-    pub(crate) fn push_str(&mut self, text: &str) -> Result<(), AllocError>
+    ///
+    /// # Errors
+    ///
+    /// Want of memory.
+    pub fn push_str(&mut self, text: &str) -> Result<(), AllocError>
         ensures { OnOk result (self.new ≡ self.old ++ chars text.now) }
     {
         self.text.push_str(text)
     }
 
     /// Adds a number in decimal.
-    pub(crate) fn push_number(&mut self, number: i128) -> Result<(), AllocError>
+    ///
+    /// # Errors
+    ///
+    /// Want of memory.
+    pub fn push_number(&mut self, number: i128) -> Result<(), AllocError>
         ensures text { OnOk result (self.new ≡ self.old ++ signed_decimal number) }
         ensures longer { OnOk result (length self.old < length self.new) }
     {
         write!(self.text, "{number}")
+    }
+
+    /// The text.
+    pub fn into_text(self) -> String
+        ensures { string_bytes result ≡ encode_utf8_all self }
+    {
+        self.text
     }
 
     /// The text as a name.

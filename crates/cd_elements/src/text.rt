@@ -11,7 +11,7 @@ ghost use Rattle.cd_elements.specs.Inner.Writing.{Writes};
 use crate::elements::Elements;
 use crate::look::{fields_at, is_nil, tag_at};
 use crate::output::Output;
-use crate::quote::{push_escaped, push_quoted};
+use crate::quote::{push_character, push_escaped, push_quoted};
 use crate::row::{letters, row_of};
 use crate::rows::{push_fields, push_function, push_record, push_tuple};
 use crate::sequence::push_sequence;
@@ -69,7 +69,7 @@ fn write_element<'a>(
     match elements.at(id) {
         None => output.push('`'),
         Some(Shape::Int(n)) => output.push_number(*n),
-        Some(Shape::Char(c)) => push_quoted(output, '\'', &[*c]),
+        Some(Shape::Char(c)) => push_character(output, *c),
         Some(Shape::Atom(name)) => write_atom(name, output),
         Some(Shape::Pair(_, _)) => write_row(elements, id, tasks, output),
         Some(Shape::Xml(tag, attributes, content)) => {

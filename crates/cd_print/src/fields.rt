@@ -9,9 +9,9 @@ ghost use Rattle.cd_print.specs.Inner.Texts.{attributes_text};
 ghost use Rattle.cd_print.specs.Inner.Tasks.{task_text, Writes};
 
 use crate::look::{fields_at, tag_at};
-use crate::output::Output;
 use crate::task::{Task, Tasks};
 use cd_cells::{Part, ValueId, Values};
+use cd_elements::output::Output;
 use std::alloc::AllocError;
 
 /// Writes the beginning of a record, and then the rest is left.

@@ -4,9 +4,7 @@
 mod fields;
 pub mod laws;
 mod look;
-mod output;
 pub mod print;
-mod quote;
 mod row;
 mod task;
 mod value;

@@ -4,10 +4,10 @@ ghost use Rattle.cd_cells.specs.Cells.{thing_at};
 ghost use Rattle.cd_cells.specs.Table.{table};
 ghost use Rattle.cd_model.specs.Canonical.{canonical};
 
-use crate::output::Output;
 use crate::task::{Task, Tasks};
 use crate::value::write_task;
 use cd_cells::{ValueId, Values};
+use cd_elements::output::Output;
 use std::alloc::{AllocError, Global};
 
 /// The canonical text of a value.

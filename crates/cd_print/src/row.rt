@@ -7,10 +7,10 @@ ghost use Rattle.cd_print.specs.Inner.Looks.{form_of};
 ghost use Rattle.cd_print.specs.Inner.Tasks.{Writes};
 
 use crate::look::{Along, goes_on};
-use crate::output::Output;
-use crate::quote::{push_character, push_escaped};
 use crate::task::{Task, Tasks};
 use cd_cells::{ValueId, Values};
+use cd_elements::output::Output;
+use cd_elements::quote::{push_character, push_escaped};
 use std::alloc::AllocError;
 
 /// How pairs are written.

@@ -9,11 +9,11 @@ ghost use Rattle.cd_print.specs.Inner.Tasks.{Writes};
 
 use crate::fields::{write_after_field, write_attributes, write_record, write_xml};
 use crate::look::{is_nil, look_at};
-use crate::output::Output;
-use crate::quote::push_character;
 use crate::row::{write_after_item, write_after_part, write_row};
 use crate::task::{Task, Tasks};
 use cd_cells::{Look, ValueId, Values};
+use cd_elements::output::Output;
+use cd_elements::quote::push_character;
 use std::alloc::AllocError;
 
 /// Writes a piece, or its beginning, and then the rest is left.
