@@ -33,7 +33,7 @@ use Rattle.cd_check.proofs.PromisesKept.{has_promise_later}
 use Rattle.cd_check.proofs.ProgramTyped.{program_typed, whole_below, arrows_below}
 use Rattle.cd_check.proofs.SoundExprs.{signatures_sound, sound_branches}
 use Rattle.cd_check.proofs.TypesLater.{types_later}
-use Rattle.cd_check.proofs.WrittenArrows.{all_of_map}
+use Rattle.cd_names.proofs.ArrowsResolved.{all_of_map}
 
 abbrev pub arrows_of : Promised → List (NodeId × NodeId)
 arrows_of one = one.promise.arrows.items

@@ -1,6 +1,5 @@
--- Nodes of the types of an interface, two by two, as its arrows.
-use Rattle.std.proofs.Common.{◌≡◌, ◌∙◌, ◌<◌, ◌≤◌, ℕ, drop, append-nil, List, [], ◌∷◌, ◌++◌, inl, inr, refl, sym, ap, subst, map, length, arith}
-use Rattle.std.proofs.lemmas.List.{at_drop_all}
+-- The types of an interface are sound, and the meet of its arrows is its whole.
+use Rattle.std.proofs.Common.{◌≡◌, ◌<◌, ℕ, List, [], ◌∷◌, ◌++◌, inl, inr, refl, sym, subst, map, length, arith}
 use Rattle.cd_sets.specs.declared.node_id.NodeId.{NodeId}
 use Rattle.cd_syntax.specs.TypeTree.{Tree, Declarations}
 use Rattle.cd_syntax.specs.WellMadePattern.{IsWellMadePattern}
@@ -8,39 +7,20 @@ use Rattle.cd_model.specs.AllOf.{AllOf}
 use Rattle.cd_model.specs.BuiltIns.{built_ins}
 use Rattle.cd_model.specs.Formula.{Graph, IsGraph, IsFormula, AreFormulas, And, formulas_of}
 use Rattle.cd_model.specs.Scope.{Scope}
-use Rattle.cd_model.specs.StandsFor.{StandsFor}
-use Rattle.cd_model.specs.Written.{Written}
 use Rattle.cd_model.proofs.StandsKept.{stands_kept}
 use Rattle.cd_matching.specs.WrittenPattern.{in_scope}
 use Rattle.cd_program.specs.Expr.{Signature}
-use Rattle.cd_program.specs.PlainExpr.{plain_signature}
 use Rattle.cd_program.specs.WellMade.{AreWellMadeSignatures}
-use Rattle.cd_program.specs.declared.expr.Signature.{Signature as CodeSignature}
 use Rattle.cd_resolve.specs.Faults.{Fault, IsFaultOfType, IsFaultOfDeclarations}
-use Rattle.cd_resolve.specs.Wanted.{wanted_tree, wanted_type, Pairwise}
-use Rattle.cd_resolve.specs.declared.wanted.WantedType.{WantedType}
 use Rattle.cd_resolve.proofs.GuardedNames.{names_are_guarded}
 use Rattle.cd_resolve.proofs.TypesArePatterns.{type_is_pattern}
 use Rattle.cd_variables.specs.VariableFaults.{IsOneIn}
+use Rattle.cd_names.specs.Arrows.{AreArrows}
 use Rattle.cd_names.specs.ProgramFaults.{arrow_types}
 use Rattle.cd_empty.specs.Growth.{Grows}
 use Rattle.cd_empty.specs.Seen.{Seen, graph_of}
-use Rattle.cd_closures.specs.Inner.Wholes.{AreNodes, AreWritten, IsMeet, IsWhole, arrow_formula, arrow_formulas, two_by_two}
+use Rattle.cd_closures.specs.Inner.Wholes.{AreNodes, IsMeet, IsWhole, arrow_formula, arrow_formulas}
 use Rattle.cd_closures.proofs.WholesHold.{AreGuarded, meet_is_whole}
-
--- what was wanted, where no type is left
-pub all_wanted : (wanted slice : List WantedType) → slice ≡ wanted → (left : List CodeSignature) (index : ℕ) → length left ≤ index
-    → (interface : List Signature) → map wanted_tree wanted ++ arrow_types (map plain_signature (drop index left)) ≡ arrow_types interface
-    → map wanted_tree slice ≡ arrow_types interface
-all_wanted wanted slice same left index past interface so_far = ap (λ (all : List WantedType). map wanted_tree all) same
-    ∙ sym (append-nil (map wanted_tree wanted))
-    ∙ sym (at_drop_all (λ (rest : List CodeSignature). map wanted_tree wanted ++ arrow_types (map plain_signature rest)) left index past)
-    ∙ so_far
-
--- a fact of what a function gives for each thing of a list
-all_of_map : {X Y : Type 0} (f : X → Y) (fact : Y → Type 0) (all : List X) → AllOf fact (map f all) → AllOf (λ one. fact (f one)) all
-all_of_map f fact [] are = tt
-all_of_map f fact (one ∷ rest) are = (are.0, all_of_map f fact rest are.1)
 
 module _ (types : Declarations) where
   abbrev pub IsFaultless : Tree → Type 0
@@ -49,24 +29,14 @@ module _ (types : Declarations) where
   abbrev pub AreFaultless : List Tree → Type 0
   AreFaultless all = (t : Tree) (fault : Fault) → IsOneIn t all → IsFaultOfType types t fault → ⊥
 
-  each_faultless : (all : List Tree) → AreFaultless all → AllOf IsFaultless all
+  pub each_faultless : (all : List Tree) → AreFaultless all → AllOf IsFaultless all
   each_faultless [] none = tt
   each_faultless (t ∷ all) none =
       (λ fault is. none t fault (inl refl) is, each_faultless all (λ other fault one is. none other fault (inr one) is))
 
-  types_made : (interface : List Signature) → AreWellMadeSignatures interface → AllOf IsWellMadePattern (arrow_types interface)
+  pub types_made : (interface : List Signature) → AreWellMadeSignatures interface → AllOf IsWellMadePattern (arrow_types interface)
   types_made [] made = tt
   types_made (one ∷ rest) made = (type_is_pattern one.takes made.0, (type_is_pattern one.gives made.1, types_made rest made.2))
-
-  module _ (interface : List Signature) (wanted : List WantedType) (are : map wanted_tree wanted ≡ arrow_types interface) where
-    pub wanted_made : AreWellMadeSignatures interface → AllOf (λ one. IsWellMadePattern (wanted_tree one)) wanted
-    wanted_made made = all_of_map wanted_tree IsWellMadePattern wanted
-        (subst (λ (all : List Tree). AllOf IsWellMadePattern all) (sym are) (types_made interface made))
-
-    pub wanted_faultless : AreFaultless (arrow_types interface)
-        → AllOf (λ one. (fault : Fault) → IsFaultOfType types (wanted_tree one) fault → ⊥) wanted
-    wanted_faultless none = all_of_map wanted_tree IsFaultless wanted
-        (subst (λ (all : List Tree). AllOf IsFaultless all) (sym are) (each_faultless (arrow_types interface) none))
 
   -- the names of types without a fault are guarded
   guarded_by : (none : (fault : Fault) → IsFaultOfDeclarations types fault → ⊥) (interface : List Signature)
@@ -82,29 +52,8 @@ module _ (types : Declarations) where
   guarded none interface faultless = guarded_by none interface (each_faultless (arrow_types interface) faultless)
 
 module _ (scope : Scope) where
-  written_are : (wanted : List WantedType) → map (wanted_type scope) wanted ≡ map (in_scope scope) (map wanted_tree wanted)
-  written_are [] = refl
-  written_are (one ∷ rest) = ap (λ all. wanted_type scope one ∷ all) (written_are rest)
-
   module _ (graph : Graph) where
-    two_written : (interface : List Signature) (ids : List NodeId)
-        → Pairwise (StandsFor graph) ids (map (in_scope scope) (arrow_types interface))
-        → AreWritten scope graph interface (two_by_two ids)
-    two_written [] [] stand = tt
-    two_written [] (id ∷ ids) stand = absurd stand
-    two_written (one ∷ rest) [] stand = absurd stand
-    two_written (one ∷ rest) (id ∷ []) stand = absurd stand.1
-    two_written (one ∷ rest) (id ∷ other ∷ ids) stand = (stand.0, stand.1.0, two_written rest ids stand.1.1)
-
-    -- the arrows that are written, where nodes stand for all types that are wanted
-    pub arrows_written : (interface : List Signature) (wanted : List WantedType) → map wanted_tree wanted ≡ arrow_types interface
-        → (ids : List NodeId) → Pairwise (StandsFor graph) ids (map (wanted_type scope) wanted)
-        → AreWritten scope graph interface (two_by_two ids)
-    arrows_written interface wanted are ids stand = two_written interface ids
-        (subst (λ (all : List Written). Pairwise (StandsFor graph) ids all)
-        (written_are wanted ∙ ap (λ all. map (in_scope scope) all) are) stand)
-
-    pub written_are_nodes : (interface : List Signature) (arrows : List (NodeId × NodeId)) → AreWritten scope graph interface arrows
+    pub written_are_nodes : (interface : List Signature) (arrows : List (NodeId × NodeId)) → AreArrows scope graph interface arrows
         → AreNodes graph arrows
     written_are_nodes [] [] are = tt
     written_are_nodes [] (arrow ∷ arrows) are = absurd are
@@ -112,7 +61,7 @@ module _ (scope : Scope) where
     written_are_nodes (one ∷ rest) (arrow ∷ arrows) are = ((are.0.is_node, are.1.is_node), written_are_nodes rest arrows are.2)
 
     written_longer : (more : Graph) → IsGraph graph → (interface : List Signature) (arrows : List (NodeId × NodeId))
-        → AreWritten scope graph interface arrows → AreWritten scope (graph ++ more) interface arrows
+        → AreArrows scope graph interface arrows → AreArrows scope (graph ++ more) interface arrows
     written_longer more sound [] [] are = tt
     written_longer more sound [] (arrow ∷ arrows) are = absurd are
     written_longer more sound (one ∷ rest) [] are = absurd are
@@ -124,11 +73,11 @@ module _ (scope : Scope) where
 
   -- the meet of these arrows, in a world that grew
   pub meet_of_written : (old new : Seen) → Grows old new → IsGraph (graph_of old) → (more : Graph) → graph_of new ≡ built_ins ++ more
-      → (interface : List Signature) → AreGuarded scope interface → (arrows : List (NodeId × NodeId)) → AreWritten scope (graph_of old) interface arrows
+      → (interface : List Signature) → AreGuarded scope interface → (arrows : List (NodeId × NodeId)) → AreArrows scope (graph_of old) interface arrows
       → (id : NodeId) → IsMeet (graph_of new) arrows id → IsWhole scope (graph_of new) interface id
   meet_of_written old new grows sound more begins interface guarded arrows are id meet =
       meet_is_whole scope (graph_of new) more begins interface arrows guarded
-      (subst (λ (g : Graph). AreWritten scope g interface arrows) (sym grows.graph.1)
+      (subst (λ (g : Graph). AreArrows scope g interface arrows) (sym grows.graph.1)
       (written_longer (graph_of old) grows.graph.0 sound interface arrows are)) id meet
 
 -- the meet of arrows between nodes is over these

@@ -19,8 +19,9 @@ use Rattle.cd_model.proofs.BuiltIns.{all_map}
 use Rattle.cd_model.proofs.NamesAlike.{enough_for_elements}
 use Rattle.cd_matching.specs.WrittenPattern.{in_scope}
 use Rattle.cd_program.specs.Expr.{Signature}
+use Rattle.cd_names.specs.Arrows.{AreArrows}
 use Rattle.cd_evaluation.specs.ProgramInterfaces.{IsEnoughFor}
-use Rattle.cd_closures.specs.Inner.Wholes.{AreWritten, IsMeet, IsWhole, alone, arrow_formula, arrow_formulas}
+use Rattle.cd_closures.specs.Inner.Wholes.{IsMeet, IsWhole, alone, arrow_formula, arrow_formulas}
 
 -- what is in an arrow is a function
 only_functions : (graph : Graph) (argument result : NodeId) (e : Thing) → holds (reader graph e) (Arrow argument result) true
@@ -47,7 +48,7 @@ module _ (scope : Scope) where
 
     module _ (count : ℕ) (pairs : Pairs) (element : IsElement (Function pairs)) where
       there : (interface : List Signature) (arrows : List (NodeId × NodeId)) → AreGuarded interface → IsEnoughFor scope count interface
-          → AreWritten scope graph interface arrows → All count pairs interface → Each pairs arrows
+          → AreArrows scope graph interface arrows → All count pairs interface → Each pairs arrows
       there [] [] guarded enough are all = tt
       there [] (arrow ∷ arrows) guarded enough are all = absurd are
       there (one ∷ interface) [] guarded enough are all = absurd are
@@ -58,7 +59,7 @@ module _ (scope : Scope) where
       )
 
       back : (interface : List Signature) (arrows : List (NodeId × NodeId)) → AreGuarded interface → IsEnoughFor scope count interface
-          → AreWritten scope graph interface arrows → Each pairs arrows → All count pairs interface
+          → AreArrows scope graph interface arrows → Each pairs arrows → All count pairs interface
       back [] [] guarded enough are all = tt
       back [] (arrow ∷ arrows) guarded enough are all = absurd are
       back (one ∷ interface) [] guarded enough are all = absurd are
@@ -69,7 +70,7 @@ module _ (scope : Scope) where
       )
 
     module _ (more : Graph) (begins : graph ≡ built_ins ++ more) (interface : List Signature) (arrows : List (NodeId × NodeId)) (guarded : AreGuarded interface)
-        (are : AreWritten scope graph interface arrows) (id : NodeId) (meet : IsMeet graph arrows id) where
+        (are : AreArrows scope graph interface arrows) (id : NodeId) (meet : IsMeet graph arrows id) where
       abbrev Meet : Formula
       Meet = And (formulas_of (arrow_formulas arrows))
 

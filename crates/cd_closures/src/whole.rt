@@ -1,6 +1,5 @@
 //! Nodes of all functions in the arrows of an interface.
-ghost use Rattle.std.specs.Prelude.{◌≡◌, [], ◌∷◌, map, length, IfOk};
-ghost use Rattle.cd_syntax.specs.PlainTree.{plain as plain_tree};
+ghost use Rattle.std.specs.Prelude.{◌≡◌, [], ◌∷◌, IfOk};
 ghost use Rattle.cd_syntax.specs.TypeTree.{Tree as PlainTree};
 ghost use Rattle.cd_model.specs.Formula.{And, formulas_of, IsGraph};
 ghost use Rattle.cd_model.specs.Scope.{Scope};
@@ -9,22 +8,21 @@ ghost use Rattle.cd_program.specs.PlainExpr.{plain_interface};
 ghost use Rattle.cd_program.specs.WellMade.{AreWellMadeSignatures};
 ghost use Rattle.cd_resolve.specs.Faults.{Fault, IsFaultOfType, IsFaultOfDeclarations};
 ghost use Rattle.cd_resolve.specs.Named.{AreNamed, plain_names, declared_by};
-ghost use Rattle.cd_resolve.specs.Wanted.{wanted_tree};
 ghost use Rattle.cd_variables.specs.VariableFaults.{IsOneIn};
+ghost use Rattle.cd_names.specs.Arrows.{AreArrows};
 ghost use Rattle.cd_names.specs.ProgramFaults.{arrow_types};
 ghost use Rattle.cd_empty.specs.Growth.{Grows};
 ghost use Rattle.cd_empty.specs.Seen.{graph_of};
-ghost use Rattle.cd_closures.specs.Inner.Wholes.{AreNodes, AreWritten, IsMeet, IsWhole};
-ghost use Rattle.cd_closures.specs.Inner.Wholes.{arrow_formulas, two_by_two};
+ghost use Rattle.cd_closures.specs.Inner.Wholes.{AreNodes, IsMeet, IsWhole, arrow_formulas};
 
 use crate::put::put;
 use cd_empty::World;
 use cd_graph::built_in::{ANY, EMPTY};
 use cd_graph::{Formula, Formulas};
+use cd_names::{ArrowsBatch, resolve_arrows};
 use cd_program::expr::Interface;
-use cd_resolve::{Names, TypesBatch, WantedType, resolve_types};
+use cd_resolve::Names;
 use cd_sets::node_id::NodeId;
-use cd_syntax::type_tree::Tree;
 use std::alloc::{AllocError, Global};
 
 /// A node of all functions in the arrows of an interface.
@@ -90,43 +88,15 @@ fn resolve(
     requires sound { (t : PlainTree) (fault : Fault)
         → IsOneIn t (arrow_types (plain_interface interface.now))
         → IsFaultOfType (declared_by names.now) t fault → ⊥ }
-    ensures written { IfOk result (λ arrows. AreWritten (declared_by names.now ∷ [])
+    ensures written { IfOk result (λ arrows. AreArrows (declared_by names.now ∷ [])
         (graph_of world.new) (plain_interface interface.now) arrows.items) }
     ensures sound { IsGraph (graph_of world.new) }
     ensures grows { Grows world.old world.new }
 {
-    let mut wanted = Vec::new(alloc);
-    for signature in interface.items() {
-        wanted.push(in_itself(&signature.takes))?;
-        wanted.push(in_itself(&signature.gives))?;
-    }
     let graph = world.graph();
-    let TypesBatch { formulas, roots } = resolve_types(alloc, graph, names, wanted.as_slice())?;
+    let ArrowsBatch { formulas, arrows } = resolve_arrows(alloc, graph, names, interface)?;
     world.extend(formulas)?;
-    Ok(pairs(alloc, roots.as_slice())?)
-}
-
-// A type, and not what is outside it.
-fn in_itself(tree: &Tree) -> WantedType<'_>
-    ensures { wanted_tree result ≡ plain_tree tree.now }
-{
-    WantedType {
-        tree,
-        outside: false,
-    }
-}
-
-// Numbers two by two.
-fn pairs(alloc: Global, ids: &[NodeId]) -> Result<Vec<(NodeId, NodeId)>, AllocError>
-    ensures { IfOk result (λ pairs. pairs.items ≡ two_by_two ids.now) }
-{
-    let mut all = Vec::new(alloc);
-    let mut left = ids;
-    while let [first, second, rest @ ..] = left {
-        all.push((*first, *second))?;
-        left = rest;
-    }
-    Ok(all)
+    Ok(arrows)
 }
 
 // A node of what is in all of these arrows.

@@ -16,3 +16,4 @@ mod GatheredApart
 mod LabelsOnce
 mod NamedPatterns
 pub mod FreeOfFaults
+pub mod ArrowsResolved

@@ -3,3 +3,4 @@ pub mod FindingInPrograms
 pub mod PlainFound
 pub mod Least
 pub mod Faults
+pub mod TwoByTwo

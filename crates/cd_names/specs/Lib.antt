@@ -1,3 +1,4 @@
 pub mod Labels
 pub mod ProgramFaults
+pub mod Arrows
 pub mod Inner

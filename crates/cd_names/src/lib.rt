@@ -1,6 +1,7 @@
-//! The naming fault of a program.
+//! The naming fault of a program, and the nodes of arrows of interfaces.
 #![tactic(auto)]
 
+mod arrows;
 mod base;
 mod branches;
 mod expr;
@@ -14,4 +15,5 @@ mod program;
 mod record;
 mod trees;
 
+pub use arrows::{ArrowsBatch, resolve_arrows};
 pub use program::check_program;

@@ -1,5 +1,5 @@
 -- What functions promise by their interfaces, and when their branches keep it.
-use Rattle.std.specs.Prelude.{◌<◌, List, [], ◌∷◌, map, length, Option}
+use Rattle.std.specs.Prelude.{◌<◌, List, [], map, length, Option}
 use Rattle.cd_sets.specs.declared.node_id.NodeId.{NodeId}
 use Rattle.cd_syntax.specs.Name.{Name}
 use Rattle.cd_model.specs.AllOf.{AllOf}
@@ -23,11 +23,6 @@ arrows_in graph arrows = map (arrow_in graph) arrows
 -- the nodes are of the graph
 abbrev pub ArePairs : Graph → List (NodeId × NodeId) → Type 0
 ArePairs graph arrows = AllOf (λ arrow. (arrow.0.0 < length graph) × (arrow.1.0 < length graph)) arrows
-
--- numbers two by two
-abbrev pub two_by_two : List NodeId → List (NodeId × NodeId)
-two_by_two (first ∷ second ∷ rest) = (first, second) ∷ two_by_two rest
-two_by_two rest = []
 
 -- the arrows of an interface, and what is in all of them
 pub record IsPromise (scope : Scope) (graph : Graph) (interface : List Signature)

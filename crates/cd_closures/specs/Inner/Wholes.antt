@@ -1,22 +1,15 @@
 -- Nodes that hold just the functions in all arrows of an interface.
-use Rattle.std.specs.Prelude.{◌≡◌, ◌<◌, ℕ, Bool, List, [], ◌∷◌, map, length}
+use Rattle.std.specs.Prelude.{◌≡◌, ◌<◌, ℕ, Bool, List, ◌∷◌, map, length}
 use Rattle.cd_sets.specs.declared.node_id.NodeId.{NodeId}
 use Rattle.cd_model.specs.AllOf.{AllOf}
 use Rattle.cd_model.specs.BuiltIns.{EMPTY, ANY}
 use Rattle.cd_model.specs.Formula.{Graph, Formula, Arrow, And, formulas_of, formula_at, nodes, IsIn}
 use Rattle.cd_model.specs.Interfaces.{Interfaces, OfWritten, admits}
 use Rattle.cd_model.specs.Scope.{Scope}
-use Rattle.cd_model.specs.StandsFor.{StandsFor}
 use Rattle.cd_model.specs.Thing.{Thing, Function, Pairs, IsElement}
 use Rattle.cd_model.specs.Types.{closure_maps}
-use Rattle.cd_matching.specs.WrittenPattern.{in_scope}
 use Rattle.cd_program.specs.Expr.{Signature}
 use Rattle.cd_evaluation.specs.ProgramInterfaces.{IsEnoughFor, written_arrow}
-
--- numbers two by two
-abbrev pub two_by_two : List NodeId → List (NodeId × NodeId)
-two_by_two (first ∷ second ∷ rest) = (first, second) ∷ two_by_two rest
-two_by_two rest = []
 
 -- the meet of all functions and of arrows
 abbrev pub arrow_formula : NodeId × NodeId → Formula
@@ -34,15 +27,6 @@ pub record IsMeet (graph : Graph) (arrows : List (NodeId × NodeId)) (id : NodeI
   pub formula : formula_at graph id ≡ And (formulas_of (arrow_formulas arrows))
 
 module _ (scope : Scope) where
-  -- the nodes stand for the types of the arrows that are written
-  abbrev pub AreWritten : Graph → List Signature → List (NodeId × NodeId) → Type 0
-  AreWritten graph [] [] = Unit {0}
-  AreWritten graph (signature ∷ signatures) (arrow ∷ arrows) =
-      StandsFor graph arrow.0 (in_scope scope signature.takes)
-      × StandsFor graph arrow.1 (in_scope scope signature.gives)
-      × AreWritten graph signatures arrows
-  AreWritten graph signatures arrows = ⊥
-
   -- one function with this interface, and which function elements that admits
   abbrev pub alone : (count : ℕ) → List Signature → Interfaces
   alone count interface = OfWritten count (λ at. map (written_arrow scope) interface)
