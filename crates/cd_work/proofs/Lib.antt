@@ -34,7 +34,6 @@ mod RunFound
 mod RunCounted
 mod QueriesWritten
 mod QueriesSound
-mod TokensSpelled
 mod QueriesSpelled
 pub mod QueriesRead
 mod NodesKept

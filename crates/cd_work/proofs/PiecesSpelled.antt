@@ -4,14 +4,14 @@ use Rattle.std.proofs.Common.{◌≡◌, ℕ, ◌+◌, Bool, true, false, not, �
 use Rattle.std.specs.Prelude.{nat_le, pos, ◌≤◌, ◌≢◌}
 use Rattle.std.specs.Char.{is_ascii_digit}
 use Rattle.std.specs.List.{list_all}
-use Rattle.std.proofs.lemmas.Bool.{and_parts, leb-true}
+use Rattle.std.proofs.lemmas.Bool.{and_parts, leb-true, le-leb}
 use Rattle.std.proofs.lemmas.Int.{ints}
 use Rattle.std.proofs.lemmas.Slice.Eq.{bytes_eq-Decides}
 use Rattle.cd_syntax.specs.declared.sign.Sign.{Sign as ASign}
 use Rattle.cd_syntax.specs.declared.tokens.Token.{Token}
 use Rattle.cd_syntax.specs.declared.tokens.TokenKind.TheVariants.{Word, Int, Sign}
 use Rattle.cd_syntax.specs.Name.{goes_on_word, is_word}
-use Rattle.cd_syntax.specs.Digits.{decimal_value, BeginsWithNoDigit}
+use Rattle.cd_syntax.specs.Digits.{AreDigits, decimal_value, BeginsWithNoDigit}
 use Rattle.cd_syntax.specs.Integer.{IsInteger}
 use Rattle.cd_syntax.specs.Signs.{characters, IsLongest, closes}
 use Rattle.cd_syntax.specs.Comments.{begins_pair}
@@ -52,7 +52,7 @@ abbrev ends_word : List ℕ → Bool
 ends_word [] = true
 ends_word (c ∷ cs) = not (goes_on_word c)
 
-abbrev ends_digits : List ℕ → Bool
+abbrev pub ends_digits : List ℕ → Bool
 ends_digits [] = true
 ends_digits (c ∷ cs) = not (is_ascii_digit c)
 
@@ -60,12 +60,12 @@ abbrev are_some : List ℕ → Bool
 are_some [] = false
 are_some (c ∷ cs) = true
 
-abbrev is_same : Option ASign → ASign → Bool
+abbrev pub is_same : Option ASign → ASign → Bool
 is_same None is = false
 is_same (Some found) is = bytes_eq (characters found) (characters is)
 
 -- the piece stands before the text, joined to what stands before it or not
-abbrev stands : Bool → Piece → List ℕ → Bool
+abbrev pub stands : Bool → Piece → List ℕ → Bool
 stands joined (Blank c) text = is_blank c
 stands joined (AWord name) text = is_word name && ends_word text
 stands joined (AMark is) text =
@@ -147,6 +147,14 @@ digits_stand joined digits text is =
     let end = and_parts (ends_digits text)
     (nat_le (decimal_value digits) 170141183460469231731687303715884105727) both.1 in
     number digits text (are.0, not_none digits are.1) (digits_end text end.0) (fits (decimal_value digits) end.1)
+
+-- digits stand where no digit comes after them
+pub digits_right : (joined : Bool) (digits text : List ℕ) → AreDigits digits → ends_digits text ≡ true
+    → decimal_value digits ≤ 170141183460469231731687303715884105727 → stands joined (Digits digits) text ≡ true
+digits_right joined [] text are ends small = absurd (are.1 refl)
+digits_right joined (c ∷ cs) text are ends small =
+    let fits = le-leb (decimal_value (c ∷ cs)) 170141183460469231731687303715884105727 small in
+    rw (are.0, ends, fits) refl
 
 -- the text of pieces spells their tokens
 pub spelled : (joined : Bool) (at : ℕ) (pieces : List Piece) → are_right joined pieces ≡ true

@@ -1,5 +1,5 @@
 -- The text of a query spells its tokens.
-use Rattle.std.proofs.Common.{◌≡◌, ◌∙◌, refl, sym, ap, subst, ℕ, ◌+◌, ◌<◌, ◌^◌, true≢false, true, false, List, [], ◌∷◌, ◌++◌, length, append_assoc, Some, arith}
+use Rattle.std.proofs.Common.{◌≡◌, ◌∙◌, refl, sym, ap, ap₂, subst, ℕ, ◌+◌, ◌<◌, ◌^◌, true≢false, true, false, List, [], ◌∷◌, ◌++◌, length, append_assoc, Some, arith}
 use Rattle.std.specs.Prelude.{codes, ◌&&◌, if◌then◌else◌}
 use Rattle.std.specs.Char.{is_ascii_digit}
 use Rattle.std.specs.Fmt.{decimal, digits}
@@ -8,72 +8,56 @@ use Rattle.std.specs.Str.{chars, IsAscii}
 use Rattle.std.proofs.Math.Utf8.{encode}
 use Rattle.std.proofs.lemmas.Bool.{and_parts, ne_eqb}
 use Rattle.std.proofs.lemmas.Fmt.{IsAscii-decimal_wide}
-use Rattle.std.proofs.lemmas.Str.{chars-IsAscii, IsAscii-append}
+use Rattle.std.proofs.lemmas.Str.{chars-IsAscii, encodes-IsAscii, IsAscii-append}
 use Rattle.std.proofs.lemmas.Str.Ascii.{IsAscii-from_all}
 use Rattle.cd_syntax.specs.declared.sign.Sign.TheVariants as sign
-use Rattle.cd_syntax.specs.Digits.{AreDigits}
-use Rattle.cd_syntax.specs.Tokens.{Spells}
-use Rattle.cd_syntax.specs.Tokens as tokens
+use Rattle.cd_syntax.specs.Digits.{AreDigits, decimal_value}
+use Rattle.cd_syntax.specs.Tokens.{Spells, bytes}
 use Rattle.cd_lex.specs.Inner.SignTable.{first_sign}
-use Rattle.cd_print.proofs.Decimals.{are_digits}
+use Rattle.cd_print.proofs.Decimals.{decimal_is, are_digits}
 use Rattle.cd_replies.specs.Texts.{HasTokens}
 use Rattle.cd_work.specs.Workload.{query_text}
-use Rattle.cd_work.proofs.QueriesWritten.{query_tokens}
-use Rattle.cd_work.proofs.TokensSpelled.{Stands, sign_then, number_then}
+use Rattle.cd_work.proofs.QueriesWritten.{tokens_after, query_tokens}
+use Rattle.cd_work.proofs.PiecesSpelled.{Piece, AMark, Digits, text_of, tokens_of, stands, is_same, are_right, digits_right, spelled}
 
--- the signs stand where they do
-opens : (rest : List ℕ) → Stands sign.OpenBracket (40 ∷ rest)
-unfolding first_sign
-opens rest = record { first = refl; no_comment = refl; no_number = refl }
+-- `[(0--number)*]`
+abbrev pieces : List ℕ → List Piece
+pieces digits =
+    AMark sign.OpenBracket ∷ AMark sign.OpenParenthesis ∷ Digits (codes "0") ∷ AMark sign.To ∷ Digits digits
+    ∷ AMark sign.CloseParenthesis ∷ AMark sign.Star ∷ AMark sign.CloseBracket ∷ []
 
-holds : (rest : List ℕ) → Stands sign.OpenParenthesis (48 ∷ rest)
-unfolding first_sign
-holds rest = record { first = refl; no_comment = refl; no_number = refl }
-
-up_to : (digits rest : List ℕ) → AreDigits digits → Stands sign.To (digits ++ rest)
+-- `--` stands before digits
+up_to : (digits rest : List ℕ) → AreDigits digits → stands true (AMark sign.To) (digits ++ rest) ≡ true
 unfolding first_sign
 up_to [] rest are = absurd (are.1 refl)
 up_to (c ∷ digits) rest are =
     let is_digit = (and_parts (is_ascii_digit c) (list_all is_ascii_digit digits) are.0).0 in
-    record {
-      first = ap (λ b. if b && true then Some sign.ToStar else Some sign.To)
-          (ne_eqb 42 c (λ is. true≢false (sym is_digit ∙ ap is_ascii_digit (sym is))));
-      no_comment = refl;
-      no_number = refl;
-    }
+    ap (λ b. is_same (if b && true then Some sign.ToStar else Some sign.To) sign.To && true)
+    (ne_eqb 42 c (λ is. true≢false (sym is_digit ∙ ap is_ascii_digit (sym is))))
 
-closes_group : Stands sign.CloseParenthesis (42 ∷ 93 ∷ [])
-unfolding first_sign
-closes_group = record { first = refl; no_comment = refl; no_number = refl }
+module _ (n : ℕ) (small : n < 10 ^ 38) where
+  pieces_are_right : are_right false (pieces (decimal n)) ≡ true
+  unfolding first_sign
+  pieces_are_right =
+      let are = are_digits n (omega (arith, small)) in
+      let value = decimal_is n (omega (arith, small)) in
+      ap₂ (λ a b. a && (b && true)) (up_to (decimal n) (codes ")*]") are)
+      (digits_right false (decimal n) (codes ")*]") are refl (omega (arith, value, small)))
 
-repeats : Stands sign.Star (93 ∷ [])
-unfolding first_sign
-repeats = record { first = refl; no_comment = refl; no_number = refl }
-
-ends : Stands sign.CloseBracket []
-unfolding first_sign
-ends = record { first = refl; no_comment = refl; no_number = refl }
-
--- the characters
-abbrev written : List ℕ → List ℕ
-written digits = 91 ∷ 40 ∷ 48 ∷ 45 ∷ 45 ∷ (digits ++ (41 ∷ 42 ∷ 93 ∷ []))
-
-characters_spelled : (n : ℕ) → n < 10 ^ 38 → Spells false 0 (written (decimal n)) (query_tokens (length (decimal n)) n)
-unfolding encode digits
-characters_spelled n small =
-    let d = length (decimal n) in
-    let end = tokens.nothing true (8 + d) in
-    let close = sign_then false (7 + d) (8 + d) 1 sign.CloseBracket [] [] ends refl (omega arith) end in
-    let star = sign_then true (6 + d) (7 + d) 1 sign.Star (93 ∷ []) _ repeats refl (omega arith) close in
-    let group =
-    sign_then true (5 + d) (6 + d) 1 sign.CloseParenthesis (42 ∷ 93 ∷ []) _ closes_group refl (omega arith) star in
-    let most = number_then false 5 (5 + d) n (41 ∷ 42 ∷ 93 ∷ []) _ small refl refl group in
-    let rest = decimal n ++ (41 ∷ 42 ∷ 93 ∷ []) in
-    let stands = up_to (decimal n) (41 ∷ 42 ∷ 93 ∷ []) (are_digits n (omega (arith, small))) in
-    let to = sign_then true 3 5 2 sign.To rest _ stands refl refl most in
-    let least = number_then false 2 3 0 (45 ∷ 45 ∷ rest) _ (omega arith) refl refl to in
-    let opened = sign_then false 1 2 1 sign.OpenParenthesis (48 ∷ 45 ∷ 45 ∷ rest) _ (holds _) refl refl least in
-    sign_then false 0 1 1 sign.OpenBracket (40 ∷ 48 ∷ 45 ∷ 45 ∷ rest) _ (opens _) refl refl opened
+  -- the digits are as many bytes
+  tokens_are : tokens_of 0 (pieces (decimal n)) ≡ query_tokens (length (decimal n)) n
+  unfolding encode digits
+  tokens_are =
+      let size : bytes (decimal n) ≡ length (decimal n) =
+      ap length (encodes-IsAscii (decimal n) (IsAscii-decimal_wide n (omega (arith, small)))) in
+      let value : decimal_value (decimal n) ≡ n = decimal_is n (omega (arith, small)) in
+      let d = length (decimal n) in
+      let computed : tokens_of 0 (pieces (decimal n))
+      ≡ tokens_after (5 + bytes (decimal n)) (5 + bytes (decimal n) + 1) (5 + bytes (decimal n) + 1 + 1)
+      (5 + bytes (decimal n) + 1 + 1 + 1) (decimal_value (decimal n)) = refl in
+      computed ∙ ap₂ (λ b v. tokens_after (5 + b) (5 + b + 1) (5 + b + 1 + 1) (5 + b + 1 + 1 + 1) v) size value
+      ∙ ap (λ c. tokens_after (5 + d) c (c + 1) (c + 1 + 1) n) (omega arith)
+      ∙ ap₂ (λ c e. tokens_after (5 + d) (6 + d) c e n) (omega arith) (omega arith)
 
 -- the text is ASCII, so its characters are its bytes
 is_ascii : (n : ℕ) → n < 10 ^ 38 → IsAscii (query_text n)
@@ -83,11 +67,12 @@ is_ascii n small =
     (IsAscii-from_all (codes "[(0--") (grind arith)) (IsAscii-decimal_wide n (omega (arith, small))))
     (IsAscii-from_all (codes ")*]") (grind arith))
 
-characters_are : (n : ℕ) → n < 10 ^ 38 → chars (query_text n) ≡ written (decimal n)
-characters_are n small =
-    chars-IsAscii (query_text n) (is_ascii n small) ∙ append_assoc (codes "[(0--") (decimal n) (codes ")*]")
+characters_are : (n : ℕ) → n < 10 ^ 38 → text_of (pieces (decimal n)) ≡ chars (query_text n)
+characters_are n small = sym
+    (chars-IsAscii (query_text n) (is_ascii n small) ∙ append_assoc (codes "[(0--") (decimal n) (codes ")*]"))
 
 pub query_spelled : (n : ℕ) → n < 10 ^ 38 → HasTokens (query_text n) (query_tokens (length (decimal n)) n)
 query_spelled n small =
-    subst (λ text. Spells false 0 text (query_tokens (length (decimal n)) n)) (sym (characters_are n small))
-    (characters_spelled n small)
+    subst (λ text. Spells false 0 text (query_tokens (length (decimal n)) n)) (characters_are n small)
+    (subst (Spells false 0 (text_of (pieces (decimal n)))) (tokens_are n small)
+    (spelled false 0 (pieces (decimal n)) (pieces_are_right n small)))

@@ -12,18 +12,22 @@ use Rattle.cd_grammar.specs.TreesAt.{place}
 use Rattle.cd_grammar.proofs.Runs.{written}
 use Rattle.cd_work.specs.Inner.WorkQueries.{integers_up_to}
 
--- the tokens of `[(0--number)*]`, where the number has so many digits
-abbrev pub query_tokens : (digits number : ℕ) → List Token
-query_tokens digits number =
+-- the tokens of `[(0--number)*]`, where these begin after the number
+abbrev pub tokens_after : (first second third end number : ℕ) → List Token
+tokens_after first second third end number =
     at (token.Sign sign.OpenBracket) (place 0 1)
     ∷ at (token.Sign sign.OpenParenthesis) (place 1 2)
     ∷ at (token.Int (pos 0)) (place 2 3)
     ∷ at (token.Sign sign.To) (place 3 5)
-    ∷ at (token.Int (pos number)) (place 5 (5 + digits))
-    ∷ at (token.Sign sign.CloseParenthesis) (place (5 + digits) (6 + digits))
-    ∷ at (token.Sign sign.Star) (place (6 + digits) (7 + digits))
-    ∷ at (token.Sign sign.CloseBracket) (place (7 + digits) (8 + digits))
+    ∷ at (token.Int (pos number)) (place 5 first)
+    ∷ at (token.Sign sign.CloseParenthesis) (place first second)
+    ∷ at (token.Sign sign.Star) (place second third)
+    ∷ at (token.Sign sign.CloseBracket) (place third end)
     ∷ []
+
+-- and where the number has so many digits
+abbrev pub query_tokens : (digits number : ℕ) → List Token
+query_tokens digits number = tokens_after (5 + digits) (6 + digits) (7 + digits) (8 + digits) number
 
 pub query_written : (digits number : ℕ) → IsTree 1000 (query_tokens digits number) (integers_up_to digits number)
 unfolding row_of
