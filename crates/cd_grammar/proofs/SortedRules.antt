@@ -3,7 +3,7 @@ use Rattle.std.proofs.Common.{◌≡◌, sym, subst, refl, ℕ, Bool, true, fals
 use Rattle.std.proofs.Common.{Option, Some, None, slice_get, inl, inr}
 use Rattle.std.specs.Prelude.{◌⊎◌}
 use Rattle.cd_lr.specs.Grammar.{Nonterminal}
-use Rattle.cd_lr.specs.Tables.{Rule, rule, every, rule_at, left, right, left_of, right_of}
+use Rattle.cd_lr.specs.Tables.{Rule, every, rule_at, left, right, left_of, right_of}
 use Rattle.cd_grammar.specs.declared.make.Make.{Make}
 use Rattle.cd_grammar.specs.Bnf.{Line}
 use Rattle.cd_grammar.specs.Rules.{lines}

@@ -3,7 +3,7 @@ use Rattle.std.proofs.Common.{◌≡◌, ◌<◌, ℕ, zero, suc, List, [], ◌�
 use Rattle.cd_syntax.specs.Name.{IsLabel}
 use Rattle.cd_model.specs.AllOf.{AllOf}
 use Rattle.cd_model.specs.Thing.{IsRecord}
-use Rattle.cd_cells.specs.Cells.{thing_at, name_at, fields_of, IsPart}
+use Rattle.cd_cells.specs.Cells.{name_at, fields_of, IsPart}
 use Rattle.cd_cells.specs.Table.{table, names, Grows}
 use Rattle.cd_cells.specs.declared.cell.Part.{Part}
 use Rattle.cd_cells.specs.declared.cell.ValueId.{ValueId}

@@ -6,7 +6,7 @@ use Rattle.cd_documents.specs.Machine.{Frame}
 use Rattle.cd_cells.specs.declared.values.Values.{Values}
 use Rattle.cd_cells.specs.declared.cell.ValueId.{ValueId}
 use Rattle.cd_cells.specs.Cells.{name_at}
-use Rattle.cd_cells.specs.Table.{table, names, IsAt, Grows}
+use Rattle.cd_cells.specs.Table.{table, names, Grows}
 use Rattle.cd_cells.proofs.GrownTables.{at_grown}
 use Rattle.cd_cells.proofs.InGrown.{name_in_grown}
 use Rattle.cd_notation.specs.declared.form.OpenForm.{OpenForm}
