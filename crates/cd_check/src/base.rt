@@ -1,7 +1,6 @@
 //! What a check goes by.
-use cd_name_index::NameIndex;
 use cd_operators::tools::Tools;
-use cd_resolve::Names;
+use cd_resolve::{NameIndex, Names};
 use cd_sets::node_id::NodeId;
 use std::alloc::Global;
 

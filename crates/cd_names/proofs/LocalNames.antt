@@ -11,8 +11,8 @@ use Rattle.std.specs.List.{list_any}
 use Rattle.cd_syntax.specs.Name.{Name}
 use Rattle.cd_syntax.specs.TypeTree.{Tree}
 use Rattle.cd_variables.specs.Occurrences.{Occurrence, bound}
-use Rattle.cd_name_index.specs.FirstPlaces.{first_place}
-use Rattle.cd_name_index.proofs.Places.{has_place}
+use Rattle.cd_resolve.specs.FirstPlaces.{first_place}
+use Rattle.cd_resolve.proofs.Places.{has_place}
 use Rattle.cd_names.specs.ProgramFaults.{names_of, is_seen}
 use Rattle.cd_variables.specs.PlainTold.{plain_occurrence, occurring}
 use Rattle.cd_variables.specs.declared.told.Occurrence.{Occurrence as CodeOccurrence}

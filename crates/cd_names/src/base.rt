@@ -1,5 +1,5 @@
 //! What a walk goes by.
-use cd_name_index::NameIndex;
+use cd_resolve::NameIndex;
 use std::alloc::Global;
 
 /// What a walk goes by and never changes: the functions that are declared.

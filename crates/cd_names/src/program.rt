@@ -16,11 +16,10 @@ use crate::function::walk_function;
 use crate::least::{first_of, tell_least};
 use crate::locals::Locals;
 use crate::trees::check_trees;
-use cd_name_index::NameIndex;
 use cd_program::expr::FunctionTree;
 use cd_program::program::{FunctionTrees, Program};
 use cd_resolve::error::NameError;
-use cd_resolve::{check_declarations, names_of};
+use cd_resolve::{NameIndex, check_declarations, names_of};
 use cd_syntax::name::Name;
 use std::alloc::{AllocError, Global};
 

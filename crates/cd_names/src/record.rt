@@ -9,8 +9,8 @@ use crate::base::Base;
 use crate::expr::walk;
 use crate::found::Found;
 use crate::locals::Locals;
-use cd_name_index::NameIndex;
 use cd_program::expr::{FieldExpr, FieldExprs};
+use cd_resolve::NameIndex;
 use std::alloc::{AllocError, Global};
 
 /// Tells the labels that stand twice, and walks over the fields in turn.

@@ -3,7 +3,7 @@ use Rattle.std.proofs.Common.{◌≡◌, refl, ap, ◌+◌, length, List, [], �
 use Rattle.std.specs.Option.{option_map}
 use Rattle.cd_syntax.specs.Name.{Name}
 use Rattle.cd_syntax.specs.TypeTree.{Declarations, NoDeclaration, ADeclaration, Declaration, declarations_of}
-use Rattle.cd_name_index.specs.FirstPlaces.{first_place}
+use Rattle.cd_resolve.specs.FirstPlaces.{first_place}
 use Rattle.cd_resolve.specs.Inner.NamesDeclared.{names_in}
 use Rattle.cd_resolve.specs.Named.{index_in}
 use Rattle.cd_resolve.specs.Inner.Frames.{number_in}

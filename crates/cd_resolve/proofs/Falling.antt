@@ -5,7 +5,7 @@ use Rattle.std.specs.Prelude.{◌&&◌}
 use Rattle.std.specs.List.{list_all}
 use Rattle.std.specs.Option.{unwrap_or}
 use Rattle.std.proofs.lemmas.Bool.Decides.{Decides-ltb}
-use Rattle.cd_name_index.specs.FirstPlaces.{first_place}
+use Rattle.cd_resolve.specs.FirstPlaces.{first_place}
 use Rattle.cd_resolve.specs.Inner.Finding.{Id, Link}
 use Rattle.cd_resolve.specs.Inner.Cycles.{is_cyclic}
 use Rattle.cd_resolve.specs.Inner.Ranks.{rank_at, rank_of, falls, link_falls, all_fall}

@@ -1,3 +1,4 @@
+pub mod Places
 pub mod Origins
 pub mod GrowingLists
 pub mod Growing

@@ -10,7 +10,7 @@ use Rattle.cd_syntax.specs.TypeTree.{Declaration, Declarations, NoDeclaration, A
 use Rattle.cd_syntax.specs.PlainTree.{plain_declaration}
 use Rattle.cd_syntax.specs.declared.type_tree.Declaration.{Declaration as CodeDeclaration}
 use Rattle.cd_syntax.specs.declared.type_tree.RegKind.TheViews.{out-Declaration}
-use Rattle.cd_name_index.specs.FirstPlaces.{first_place}
+use Rattle.cd_resolve.specs.FirstPlaces.{first_place}
 use Rattle.cd_resolve.specs.Inner.NamesDeclared.{names_in}
 use Rattle.cd_resolve.specs.Inner.Finding.{place_in}
 use Rattle.cd_resolve.proofs.Views.{declaration_is}

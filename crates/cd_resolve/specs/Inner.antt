@@ -1,4 +1,5 @@
 -- What serves private functions. No public clause speaks of it.
+pub mod Keys
 pub mod NamesDeclared
 pub mod BuiltinNames
 pub mod Finding

@@ -1,3 +1,4 @@
+pub mod FirstPlaces
 pub mod Faults
 pub mod Errors
 pub mod Named

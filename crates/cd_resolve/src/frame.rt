@@ -4,7 +4,7 @@ ghost use Rattle.cd_syntax.specs.PlainTree.{plain_declarations};
 ghost use Rattle.cd_resolve.specs.Inner.NamesDeclared.{names_in};
 
 use crate::declarations::declared_names;
-use cd_name_index::NameIndex;
+use crate::name_index::NameIndex;
 use cd_syntax::name::Name;
 use cd_syntax::type_tree::Declarations;
 use std::alloc::{AllocError, Global};

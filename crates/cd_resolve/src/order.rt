@@ -1,7 +1,7 @@
 //! An order of names in which each comes after those that it leads to. Nothing is claimed of it
 //! here: the ranks that it gives are looked at link by link before they are used.
 use crate::found::Link;
-use cd_name_index::NameIndex;
+use crate::name_index::NameIndex;
 use std::alloc::{AllocError, Global};
 
 // Of each place of a name, how many links lead from it that are not taken away, and from which

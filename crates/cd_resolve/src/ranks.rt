@@ -4,8 +4,8 @@ ghost use Rattle.cd_resolve.specs.Inner.Ranks.{rank_of, link_falls, all_fall as 
 ghost use Rattle.cd_resolve.specs.Inner.PlainFound.{plain_link};
 
 use crate::found::Link;
+use crate::name_index::NameIndex;
 use crate::order::ranked;
-use cd_name_index::NameIndex;
 use cd_syntax::name::Name;
 use std::alloc::{AllocError, Global};
 

@@ -8,7 +8,7 @@ ghost use Rattle.cd_variables.specs.PlainTold.{plain_occurrence, plain_told};
 
 use crate::seen::has;
 use crate::told::{Occurrence, Told};
-use cd_name_index::NameIndex;
+use cd_resolve::NameIndex;
 use cd_resolve::fault::NameFault;
 use cd_syntax::name::Name;
 use std::alloc::{AllocError, Global};

@@ -12,7 +12,7 @@ use crate::misplaced::{tell_in_declarations, tell_in_trees, tell_misplaced};
 use crate::regular::check_regular;
 use crate::row::{check_meet, check_record, check_tuple, check_xml};
 use crate::told::{Occurrence, Told};
-use cd_name_index::NameIndex;
+use cd_resolve::NameIndex;
 use cd_syntax::name::Name;
 use cd_syntax::type_tree::{Declarations, RegTree, Tree, TreeKind};
 use std::alloc::{AllocError, Global};

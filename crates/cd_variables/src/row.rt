@@ -14,7 +14,7 @@ use crate::misplaced::tell_misplaced;
 use crate::pattern::check_variables;
 use crate::seen::{add_names, since, tell_again};
 use crate::told::{Occurrence, Told};
-use cd_name_index::NameIndex;
+use cd_resolve::NameIndex;
 use cd_syntax::type_tree::{FieldTrees, Signed, Tree, Trees};
 use std::alloc::{AllocError, Global};
 

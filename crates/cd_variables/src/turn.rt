@@ -10,7 +10,7 @@ ghost use Rattle.cd_variables.specs.PlainTold.{plain_occurrence, plain_told};
 use crate::regular::check_regular;
 use crate::seen::{add_names, since, tell_again};
 use crate::told::{Occurrence, Told};
-use cd_name_index::NameIndex;
+use cd_resolve::NameIndex;
 use cd_syntax::type_tree::{RegTree, RegTrees};
 use std::alloc::{AllocError, Global};
 

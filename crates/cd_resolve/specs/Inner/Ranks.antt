@@ -3,7 +3,7 @@ use Rattle.std.specs.Prelude.{ℕ, Bool, true, false, nat_lt, List, Option, Some
 use Rattle.std.specs.List.{list_all}
 use Rattle.std.specs.Option.{option_flatten}
 use Rattle.cd_syntax.specs.Name.{Name}
-use Rattle.cd_name_index.specs.FirstPlaces.{first_place}
+use Rattle.cd_resolve.specs.FirstPlaces.{first_place}
 use Rattle.cd_resolve.specs.Inner.Finding.{Link}
 use Rattle.cd_resolve.specs.declared.ranks.Ranks.{Ranks}
 

@@ -1,7 +1,7 @@
 use Rattle.std.proofs.Common.{◌≡◌, ◌∙◌, ap, sym, subst, is_some, List, ℕ, Bool, OnOk}
 use Rattle.std.specs.Prelude.{codes}
-use Rattle.cd_name_index.specs.FirstPlaces.{first_place}
-use Rattle.cd_name_index.proofs.Places.{has_place}
+use Rattle.cd_resolve.specs.FirstPlaces.{first_place}
+use Rattle.cd_resolve.proofs.Places.{has_place}
 use Rattle.cd_names.specs.ProgramFaults.{is_seen}
 use Rattle.cd_names.specs.Inner.FindingInPrograms.{main_found}
 use Rattle.cd_names.specs.Inner.PlainFound.{plain_found}

@@ -2,7 +2,7 @@ use Rattle.std.proofs.Common.{Some, ap, sym, ◌∙◌, arith}
 use Rattle.std.specs.Option.{option_map}
 use Rattle.std.proofs.lemmas.Option.{slice_get-get_or}
 use Rattle.cd_syntax.specs.PlainTree.{plain_declarations}
-use Rattle.cd_name_index.specs.FirstPlaces.{first_place}
+use Rattle.cd_resolve.specs.FirstPlaces.{first_place}
 use Rattle.cd_resolve.proofs.Counting.{index_is}
 use Rattle.cd_resolve.proofs.Placing.{placed_nowhere, placed, placed_within}
 use Rattle.cd_resolve.proofs.frame.Frame.find.Goals as goal

@@ -1,7 +1,7 @@
 use Rattle.std.proofs.Common.{◌∷◌, [], ap, sym, ◌∙◌}
 use Rattle.std.proofs.Math.Utf8.{encodes}
 use Rattle.std.proofs.lemmas.Str.{encodes-chars}
-use Rattle.cd_name_index.proofs.key.KeyHash.hash.Goals as goal
+use Rattle.cd_resolve.proofs.key.KeyHash.hash.Goals as goal
 
 -- the text is the one that spells the name
 pub returns : goal.returns

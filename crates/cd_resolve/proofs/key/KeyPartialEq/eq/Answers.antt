@@ -1,6 +1,6 @@
 use Rattle.std.proofs.Common.{◌∙◌}
 use Rattle.cd_syntax.proofs.SameNames.{same_names}
-use Rattle.cd_name_index.proofs.key.KeyPartialEq.eq.Goals as goal
+use Rattle.cd_resolve.proofs.key.KeyPartialEq.eq.Goals as goal
 
 -- equal texts spell equal names, and unequal ones unequal names
 pub returns : goal.returns

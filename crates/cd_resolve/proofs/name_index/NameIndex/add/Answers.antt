@@ -2,9 +2,9 @@ use Rattle.std.proofs.Common.{◌≡◌, length, map, is_some, sym, ap, subst, �
 use Rattle.std.proofs.lemmas.List.{map_push, length-map}
 use Rattle.std.specs.Prelude.{bytes_eq}
 use Rattle.std.specs.List.{list_any}
-use Rattle.cd_name_index.specs.FirstPlaces.{AreFirstPlaces, Enters}
-use Rattle.cd_name_index.proofs.Places.{extended, has_place}
-use Rattle.cd_name_index.proofs.name_index.NameIndex.add.Goals as goal
+use Rattle.cd_resolve.specs.FirstPlaces.{AreFirstPlaces, Enters}
+use Rattle.cd_resolve.proofs.Places.{extended, has_place}
+use Rattle.cd_resolve.proofs.name_index.NameIndex.add.Goals as goal
 
 -- the new name has its first place at the end, unless it is there
 pub invariant_of-self-in-Ok : goal.invariant_of-self-in-Ok

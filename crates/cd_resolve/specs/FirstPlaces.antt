@@ -4,7 +4,7 @@ use Rattle.std.specs.Prelude.{if◌then◌else◌}
 use Rattle.std.specs.Option.{option_map, option_or}
 use Rattle.indexmap.specs.IndexMap.{IndexMap, get_by}
 use Rattle.cd_syntax.specs.Name.{Name}
-use Rattle.cd_name_index.specs.declared.key.Key.{Key}
+use Rattle.cd_resolve.specs.declared.key.Key.{Key}
 
 -- the first place of a name in a list, counted from zero
 abbrev pub first_place : List Name → Name → Option ℕ

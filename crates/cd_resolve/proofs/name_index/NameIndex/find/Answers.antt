@@ -1,6 +1,6 @@
 use Rattle.std.proofs.Common.{ap, ◌∙◌}
-use Rattle.cd_name_index.specs.FirstPlaces.{first_place}
-use Rattle.cd_name_index.proofs.name_index.NameIndex.find.Goals as goal
+use Rattle.cd_resolve.specs.FirstPlaces.{first_place}
+use Rattle.cd_resolve.proofs.name_index.NameIndex.find.Goals as goal
 
 -- the map gives each name its first place
 pub returns : goal.returns

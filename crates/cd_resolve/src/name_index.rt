@@ -1,6 +1,6 @@
 ghost use Rattle.std.specs.Prelude.{◌≡◌, ◌∷◌, ◌++◌, [], bytes_eq, is_some, IfOk, OnOk, OnErr};
 ghost use Rattle.std.specs.List.{list_any};
-ghost use Rattle.cd_name_index.specs.FirstPlaces.{first_place, place_of, Enters};
+ghost use Rattle.cd_resolve.specs.FirstPlaces.{first_place, place_of, Enters};
 ghost use Rattle.indexmap.specs.IndexMap.{IsUnchanged};
 
 use crate::key::Key;
@@ -20,7 +20,7 @@ pub struct NameIndex<'t> {
 impl<'t> Model for NameIndex<'t> {
     ghost use Rattle.std.specs.Prelude.{List, map};
     ghost use Rattle.cd_syntax.specs.Name.{Name as AName};
-    ghost use Rattle.cd_name_index.specs.FirstPlaces.{AreFirstPlaces};
+    ghost use Rattle.cd_resolve.specs.FirstPlaces.{AreFirstPlaces};
 
     ghost Value = { List AName };
 

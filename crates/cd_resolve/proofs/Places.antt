@@ -9,8 +9,8 @@ use Rattle.std.specs.Option.{option_map, option_or}
 use Rattle.std.specs.Cmp.Lexicographic.{nat_list_eq_equiv, bytes_decides}
 use Rattle.indexmap.specs.IndexMap.{IndexMap}
 use Rattle.cd_syntax.specs.Name.{Name}
-use Rattle.cd_name_index.specs.declared.key.Key.{Key}
-use Rattle.cd_name_index.specs.FirstPlaces.{first_place, AreFirstPlaces, Enters}
+use Rattle.cd_resolve.specs.declared.key.Key.{Key}
+use Rattle.cd_resolve.specs.FirstPlaces.{first_place, AreFirstPlaces, Enters}
 
 -- a name that is added has its first place at the end, unless it is there
 at_end : (names : List Name) (name other : Name) → first_place (names ++ name ∷ []) other

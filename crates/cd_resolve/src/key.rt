@@ -1,6 +1,6 @@
 //! Names as keys.
 ghost use Rattle.std.specs.Cmp.{partial_equiv_from_equiv};
-ghost use Rattle.cd_name_index.specs.Keys.{same_key, key_input, keys_equiv, keys_alike};
+ghost use Rattle.cd_resolve.specs.Inner.Keys.{same_key, key_input, keys_equiv, keys_alike};
 
 use cd_syntax::name::Name;
 use std::hash::{Hash, Hasher};

@@ -6,7 +6,7 @@ use Rattle.std.specs.Hash as fed
 use Rattle.std.specs.Hash.{HashWrites, Alike, same_Alike, on_Alike}
 use Rattle.std.proofs.Math.Utf8.{encodes}
 use Rattle.cd_syntax.specs.Name.{Name}
-use Rattle.cd_name_index.specs.declared.key.Key.{Key}
+use Rattle.cd_resolve.specs.declared.key.Key.{Key}
 
 abbrev pub same_key : Key → Key → Bool
 same_key key other = bytes_eq key.name.now other.name.now
