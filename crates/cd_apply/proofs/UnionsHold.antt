@@ -18,7 +18,7 @@ use Rattle.cd_model.proofs.FormulasAmongMore.{formula_among_more}
 use Rattle.cd_graph.specs.PlainFormula.{plain}
 use Rattle.cd_graph.specs.declared.formula.Formula.{Formula as CodeFormula}
 use Rattle.cd_rules.specs.Family.{AsksNodes}
-use Rattle.cd_compact.specs.Keeping.{IsFormulaOfQuestion, HoldSame}
+use Rattle.cd_products.specs.Keeping.{IsFormulaOfQuestion, HoldSame}
 use Rattle.cd_apply.specs.Inner.Results.{IsInOne}
 use Rattle.cd_apply.specs.Inner.Unions.{IsUnion, HoldsUnion, IsNodeOfUnion}
 use Rattle.cd_apply.proofs.TakenThings.{taken_more}

@@ -9,10 +9,10 @@ ghost use Rattle.cd_empty.specs.Growth.{Grows};
 ghost use Rattle.cd_empty.specs.Seen.{graph_of};
 ghost use Rattle.cd_apply.specs.Inner.Unions.{HoldsUnion, IsUnion, IsOnlyNode, AsksAlone};
 
-use cd_compact::{known_node, question_formula};
 use cd_empty::World;
 use cd_graph::built_in::EMPTY;
 use cd_graph::{Formula, Formulas, Graph};
+use cd_products::{known_node, question_formula};
 use cd_sets::id_set::IdSet;
 use cd_sets::node_id::NodeId;
 use cd_sets::question::Question;

@@ -9,7 +9,7 @@ use Rattle.cd_model.specs.AllOf.{AllOf}
 use Rattle.cd_model.specs.Formula.{Graph}
 use Rattle.cd_model.proofs.BothWays.{itself, through, turned}
 use Rattle.cd_matching.specs.Kernel.{Kernel, IsSound}
-use Rattle.cd_compact.specs.Keeping.{HoldSame}
+use Rattle.cd_products.specs.Keeping.{HoldSame}
 use Rattle.cd_filter.proofs.CapturedSound.{values_captured}
 use Rattle.cd_captured.specs.Captures.{AreExactCaptures, AreWideCaptures}
 use Rattle.cd_captured.specs.Inner.Known.{AreSame, StandFor, ids_of, names_of}

@@ -11,7 +11,7 @@ use Rattle.cd_model.proofs.ByNumber.{all_got}
 use Rattle.cd_graph.specs.PlainFormula.{plain}
 use Rattle.cd_graph.specs.declared.formula.Formula.{Formula as CodeFormula}
 use Rattle.cd_rules.specs.Family.{AsksNodes}
-use Rattle.cd_compact.specs.Keeping.{IsFormulaOfQuestion}
+use Rattle.cd_products.specs.Keeping.{IsFormulaOfQuestion}
 use Rattle.cd_filter.specs.Table.{Place}
 use Rattle.cd_captured.specs.declared.place.Place.{Place as CodePlace}
 use Rattle.cd_captured.specs.Inner.Made.{IsComing}

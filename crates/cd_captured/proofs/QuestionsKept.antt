@@ -10,7 +10,7 @@ use Rattle.cd_model.specs.Types.{Answers, Mapping, reader, answers, no_closure, 
 use Rattle.cd_model.proofs.BothWays.{itself, through, turned, both_agree}
 use Rattle.cd_model.proofs.Extending.{kept_elements, kept_formulas, kept_values, kept_value_formulas}
 use Rattle.cd_rules.specs.Family.{AsksNodes}
-use Rattle.cd_compact.specs.Keeping.{IsFormulaOfQuestion}
+use Rattle.cd_products.specs.Keeping.{IsFormulaOfQuestion}
 
 -- in the longer graph, where closures map so, formulas of questions hold of things of a sort what is
 -- asked

@@ -19,7 +19,7 @@ use Rattle.cd_model.proofs.Sorts as sorts
 use Rattle.cd_model.proofs.Sorts.{Sort}
 use Rattle.cd_matching.specs.Sequences.{thing_of}
 use Rattle.cd_rules.specs.Family.{AsksNodes}
-use Rattle.cd_compact.specs.Keeping.{IsFormulaOfQuestion}
+use Rattle.cd_products.specs.Keeping.{IsFormulaOfQuestion}
 use Rattle.cd_filter.specs.Table.{Place, Takes, Puts, Gathers}
 use Rattle.cd_captured.specs.CaptureNodes.{IsFormulaOf}
 use Rattle.cd_captured.specs.StepFormulas.{HoldsAlone}

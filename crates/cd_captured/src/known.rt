@@ -2,7 +2,7 @@
 ghost use Rattle.std.specs.Prelude.{◌≡◌, ◌<◌, ℕ, length};
 ghost use Rattle.cd_model.specs.AllOf.{AllOf};
 ghost use Rattle.cd_rules.specs.Family.{AsksNodes};
-ghost use Rattle.cd_compact.specs.Keeping.{HoldSame};
+ghost use Rattle.cd_products.specs.Keeping.{HoldSame};
 ghost use Rattle.cd_empty.specs.Growth.{Grows};
 ghost use Rattle.cd_empty.specs.Seen.{graph_of};
 ghost use Rattle.cd_captured.specs.Inner.Known.{StandFor};
@@ -11,8 +11,8 @@ ghost use Rattle.cd_captured.specs.Inner.PlainSteps.{plain_places};
 use crate::explore::Explored;
 use crate::givers::gives;
 use crate::step::Step;
-use cd_compact::known_node;
 use cd_empty::World;
+use cd_products::known_node;
 use cd_sets::node_id::NodeId;
 use cd_syntax::name::Name;
 

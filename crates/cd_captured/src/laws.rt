@@ -27,7 +27,7 @@ ghost use Rattle.cd_captured.specs.Captures.{AreExactCaptures, AreWideCaptures};
 ghost use Rattle.cd_captured.specs.Explored.{IsAcceptedPlace, IsPlace, IsExplored};
 ghost use Rattle.cd_captured.specs.NextPlaces.{NextHas};
 ghost use Rattle.cd_captured.specs.StepFormulas.{HoldsAlone};
-ghost use Rattle.cd_compact.specs.Keeping.{IsFormulaOfQuestion};
+ghost use Rattle.cd_products.specs.Keeping.{IsFormulaOfQuestion};
 
 /// The first place is a place of the kernel, and all its elements are taken.
 pub fn the_first_place_is_accepted()

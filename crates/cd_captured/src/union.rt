@@ -17,8 +17,8 @@ use crate::step::Step;
 use crate::texts::text_of;
 use crate::want::Want;
 use crate::wants::Wants;
-use cd_compact::question_formula;
 use cd_graph::{Formula, Formulas};
+use cd_products::question_formula;
 use cd_syntax::constant::Constant;
 use std::alloc::AllocError;
 

@@ -16,10 +16,10 @@ ghost use Rattle.cd_forms.specs.Unions.{IsInOne};
 use crate::built_in::empty;
 use crate::members::{likely, members_of, union_formula};
 use crate::put::put;
-use cd_compact::{known_node, question_formula};
 use cd_empty::World;
 use cd_graph::{Formula, Graph};
 use cd_needs::asking::question;
+use cd_products::{known_node, question_formula};
 use cd_sets::node_id::NodeId;
 use std::alloc::{AllocError, Global};
 

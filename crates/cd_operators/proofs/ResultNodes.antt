@@ -17,7 +17,7 @@ use Rattle.cd_meaning.specs.Sets.{elements_of}
 use Rattle.cd_rules.specs.BasicSets.{question_passes, integer_test}
 use Rattle.cd_rules.specs.Needs.{question}
 use Rattle.cd_rules.proofs.BasicSetsExact.{integers_exact}
-use Rattle.cd_compact.specs.Keeping.{HoldSame}
+use Rattle.cd_products.specs.Keeping.{HoldSame}
 use Rattle.cd_operators.specs.declared.operation.Operation.{Operation}
 use Rattle.cd_operators.specs.Inner.Bounds.{compute}
 use Rattle.cd_operators.specs.Inner.Combined.{AreOfTwo}

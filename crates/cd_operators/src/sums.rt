@@ -10,12 +10,12 @@ ghost use Rattle.cd_operators.specs.Inner.Sums.{IsSumOf, IsDifferenceOf};
 
 use crate::combined::combined;
 use crate::operation::Operation;
-use cd_compact::known_node;
 use cd_empty::World;
 use cd_graph::built_in::INT;
 use cd_graph::{Formula, Formulas, Graph};
 use cd_needs::asking::question;
 use cd_normal::basics;
+use cd_products::known_node;
 use cd_sets::int_set::IntSet;
 use cd_sets::node_id::NodeId;
 use std::alloc::{AllocError, Global};

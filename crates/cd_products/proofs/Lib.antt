@@ -18,3 +18,8 @@ pub mod Gathering
 pub mod AtPlaces
 pub mod MadeOfGraphs
 pub mod PiecesOfGraphs
+pub mod Halves
+pub mod BasicForms
+pub mod SetsHold
+pub mod SetsMade
+pub mod SameNodes

@@ -3,3 +3,5 @@ pub mod Tests
 pub mod ClauseBoxes
 pub mod PlainBoxes
 pub mod After
+pub mod Basic
+pub mod Sets

@@ -2,4 +2,5 @@ pub mod Boxes
 pub mod InBoxes
 pub mod QuestionBoxes
 pub mod Products
+pub mod Keeping
 pub mod Inner

@@ -8,7 +8,7 @@ use Rattle.cd_model.specs.AllOf.{AllOf}
 use Rattle.cd_model.specs.Formula.{Graph, Formula, IsFormula, IsGraph, in_node}
 use Rattle.cd_model.proofs.BothWays.{through}
 use Rattle.cd_model.proofs.FormulasAmongMore.{formula_among_more}
-use Rattle.cd_compact.specs.Keeping.{HoldSame}
+use Rattle.cd_products.specs.Keeping.{HoldSame}
 use Rattle.cd_records.specs.Inner.Entries.{InOneQuestion}
 use Rattle.cd_records.specs.Inner.Standing.{HoldsUnion, IsUnion, IsUnionNode}
 use Rattle.cd_records.proofs.NodesStand.{holds_new}

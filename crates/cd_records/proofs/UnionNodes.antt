@@ -3,7 +3,7 @@ use Rattle.std.proofs.Common.{◌≡◌, ◌<◌, ◌+◌, ◌++◌, List, [], �
 use Rattle.cd_sets.specs.declared.node_id.NodeId.{NodeId}
 use Rattle.cd_sets.specs.declared.question.Question.{Question}
 use Rattle.cd_model.specs.Formula.{Graph, Formula, IsFormula, IsGraph, Not}
-use Rattle.cd_compact.specs.Keeping.{IsFormulaOfQuestion}
+use Rattle.cd_products.specs.Keeping.{IsFormulaOfQuestion}
 use Rattle.cd_records.specs.Inner.Standing.{Adds, HoldsOutside, HoldsUnion, IsUnion}
 use Rattle.cd_records.proofs.NodesStand.{adds_one, holds_new, outside_new}
 

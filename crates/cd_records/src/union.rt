@@ -10,9 +10,9 @@ ghost use Rattle.cd_records.specs.Inner.Standing.{Adds, IsUnion, HoldsUnion, Hol
 ghost use Rattle.cd_records.specs.Inner.Alone.{IsOnly, AsksAlone, IsKnown};
 
 use crate::batch::put;
-use cd_compact::question_formula;
 use cd_graph::built_in::{ANY, EMPTY};
 use cd_graph::{Formula, Formulas, Graph};
+use cd_products::question_formula;
 use cd_sets::node_id::NodeId;
 use cd_sets::question::Question;
 use std::alloc::{AllocError, Global};

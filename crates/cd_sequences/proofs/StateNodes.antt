@@ -21,7 +21,7 @@ use Rattle.cd_rules.specs.Family.{AsksNodes}
 use Rattle.cd_model.proofs.Ones.{each_of_lists}
 use Rattle.cd_model.proofs.FormulasAmongMore.{formula_among_more, are_formulas, formula_after, sound_at}
 use Rattle.cd_model.proofs.ByNumber.{got_more, got_after, each_got}
-use Rattle.cd_compact.specs.Keeping.{IsFormulaOfQuestion}
+use Rattle.cd_products.specs.Keeping.{IsFormulaOfQuestion}
 use Rattle.cd_sequences.specs.declared.step.Step.{Step}
 use Rattle.cd_sequences.specs.Inner.Asking.{asking}
 use Rattle.cd_sequences.specs.Inner.Joins.{IsJoin}

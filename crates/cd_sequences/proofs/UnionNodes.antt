@@ -20,7 +20,7 @@ use Rattle.cd_empty.specs.Verdicts.{HasNoElement}
 use Rattle.cd_products.specs.QuestionBoxes.{without_node}
 use Rattle.cd_products.proofs.Decided.{elements_decided}
 use Rattle.cd_products.proofs.OneMore.{each_with}
-use Rattle.cd_compact.specs.Keeping.{IsFormulaOfQuestion}
+use Rattle.cd_products.specs.Keeping.{IsFormulaOfQuestion}
 use Rattle.cd_sequences.specs.Inner.Asking.{asking}
 use Rattle.cd_sequences.specs.Inner.Numbered.{IsAmong}
 use Rattle.cd_sequences.specs.Inner.Unions.{IsUnion, IsWithinNode}

@@ -4,12 +4,12 @@ ghost use Rattle.std.specs.List.{AllZip};
 ghost use Rattle.cd_model.specs.AllOf.{AllOf};
 ghost use Rattle.cd_graph.specs.Nodes.{nodes};
 ghost use Rattle.cd_graph.specs.PlainFormula.{plain};
-ghost use Rattle.cd_compact.specs.Keeping.{IsFormulaOfQuestion};
+ghost use Rattle.cd_products.specs.Keeping.{IsFormulaOfQuestion};
 ghost use Rattle.cd_rules.specs.Family.{AsksNodes};
 
 use crate::numbered::Numbered;
-use cd_compact::question_formula;
 use cd_graph::{Formula, Graph};
+use cd_products::question_formula;
 use std::alloc::{AllocError, Global};
 
 /// A formula for each of some questions.

@@ -5,7 +5,7 @@ use Rattle.cd_sets.specs.declared.node_id.NodeId.{NodeId}
 use Rattle.cd_syntax.specs.Name.{Name}
 use Rattle.cd_model.specs.AllOf.{AllOf}
 use Rattle.cd_model.specs.Formula.{Graph}
-use Rattle.cd_compact.specs.Keeping.{HoldSame}
+use Rattle.cd_products.specs.Keeping.{HoldSame}
 
 abbrev pub names_of : List (Name × NodeId) → List Name
 names_of = map (λ one. one.0)

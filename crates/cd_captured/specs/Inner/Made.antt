@@ -11,7 +11,7 @@ use Rattle.cd_model.specs.BuiltIns.{node, atoms_of}
 use Rattle.cd_model.specs.Formula.{Formula, Nothing, Pair, Or}
 use Rattle.cd_model.specs.Formula.{formulas_of}
 use Rattle.cd_model.specs.Leaves.{one_integer, one_character, one_atom}
-use Rattle.cd_compact.specs.Keeping.{IsFormulaOfQuestion}
+use Rattle.cd_products.specs.Keeping.{IsFormulaOfQuestion}
 use Rattle.cd_filter.specs.Table.{Place}
 use Rattle.cd_captured.specs.declared.givers.Giver.{Giver}
 use Rattle.cd_captured.specs.declared.step.Step.{Step}

@@ -8,7 +8,7 @@ use Rattle.cd_model.specs.AllOf.{AllOf}
 use Rattle.cd_model.specs.BuiltIns.{node}
 use Rattle.cd_model.specs.Formula.{Graph, Formula, Pair, Or, formulas_of, formula_at}
 use Rattle.cd_rules.specs.Family.{AsksNodes}
-use Rattle.cd_compact.specs.Keeping.{IsFormulaOfQuestion}
+use Rattle.cd_products.specs.Keeping.{IsFormulaOfQuestion}
 use Rattle.cd_sequences.specs.declared.step.Step.{Step}
 use Rattle.cd_sequences.specs.Inner.Asking.{asking}
 use Rattle.cd_sequences.specs.Inner.States.{State}

@@ -2,7 +2,7 @@ use Rattle.std.proofs.Common.{map, take}
 use Rattle.std.specs.List.{AllZip}
 use Rattle.cd_graph.specs.Nodes.{nodes}
 use Rattle.cd_graph.specs.PlainFormula.{plain}
-use Rattle.cd_compact.specs.Keeping.{IsFormulaOfQuestion}
+use Rattle.cd_products.specs.Keeping.{IsFormulaOfQuestion}
 use Rattle.cd_apply.proofs.union.union_of.Given as goal
 
 -- the parts so far are the formulas of the first questions

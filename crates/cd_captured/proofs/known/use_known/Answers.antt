@@ -1,7 +1,7 @@
 use Rattle.std.proofs.Common.{◌<◌, length, refl, sym, subst, ◌∙◌}
 use Rattle.cd_model.specs.AllOf.{AllOf}
 use Rattle.cd_model.specs.Formula.{Graph}
-use Rattle.cd_compact.specs.Keeping.{HoldSame}
+use Rattle.cd_products.specs.Keeping.{HoldSame}
 use Rattle.cd_empty.specs.Seen.{graph_of}
 use Rattle.cd_empty.proofs.GrowingWorlds.{to_itself, and_further}
 use Rattle.cd_captured.proofs.KnownNodes.{stand_for_themselves, put_in, got_item}

@@ -4,7 +4,7 @@ use Rattle.cd_model.specs.AllOf.{AllOf}
 use Rattle.cd_model.specs.Formula as formula
 use Rattle.cd_model.specs.Formula.{Graph, Formula, IsFormula, formulas_of}
 use Rattle.cd_graph.specs.PlainFormula.{plain, plain_list}
-use Rattle.cd_compact.specs.Keeping.{IsFormulaOfQuestion}
+use Rattle.cd_products.specs.Keeping.{IsFormulaOfQuestion}
 use Rattle.cd_empty.specs.Seen.{graph_of}
 use Rattle.cd_sequences.specs.Inner.Unions.{IsUnion}
 use Rattle.cd_sequences.proofs.Outcomes.{both_ok}

@@ -2,9 +2,9 @@ use Rattle.std.proofs.Common.{sym, ap, ◌∙◌}
 use Rattle.std.proofs.lemmas.Result.{IfOk-weaker}
 use Rattle.cd_graph.specs.Nodes.{nodes}
 use Rattle.cd_graph.specs.PlainFormula.{plain}
-use Rattle.cd_compact.specs.Inner.Basic.{one_node_is_basic}
-use Rattle.cd_compact.proofs.SetsHold.{formula_of_question, copied}
-use Rattle.cd_compact.proofs.question.question_formula.Goals as goal
+use Rattle.cd_products.specs.Inner.Basic.{one_node_is_basic}
+use Rattle.cd_products.proofs.SetsHold.{formula_of_question, copied}
+use Rattle.cd_products.proofs.question.question_formula.Goals as goal
 
 pub returns-then-one_node_is_basic : goal.returns-then-one_node_is_basic
 returns-then-one_node_is_basic c =

@@ -6,9 +6,9 @@ use Rattle.cd_model.specs.Formula as formula
 use Rattle.cd_model.specs.Formula.{Formula, formulas_of}
 use Rattle.cd_graph.specs.PlainFormula.{plain}
 use Rattle.cd_graph.specs.declared.formula.Formula.{Formula as CodeFormula}
-use Rattle.cd_compact.specs.Inner.Sets.{IsOfSets, Adds}
-use Rattle.cd_compact.proofs.SetsMade.{is_of_sets}
-use Rattle.cd_compact.proofs.sets.of_sets.Goals as goal
+use Rattle.cd_products.specs.Inner.Sets.{IsOfSets, Adds}
+use Rattle.cd_products.proofs.SetsMade.{is_of_sets}
+use Rattle.cd_products.proofs.sets.of_sets.Goals as goal
 
 pub returns : goal.returns
 returns c =

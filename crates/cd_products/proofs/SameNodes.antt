@@ -11,7 +11,7 @@ use Rattle.cd_empty.specs.Verdicts.{HasNoElement, HasNoValue}
 use Rattle.cd_products.specs.Products.{AreInterfacesOf}
 use Rattle.cd_products.proofs.Decided.{elements_decided}
 use Rattle.cd_products.proofs.MadeProducts.{values_decided}
-use Rattle.cd_compact.specs.Keeping.{HoldSame}
+use Rattle.cd_products.specs.Keeping.{HoldSame}
 
 module _ (graph : Graph) (begins : (more : Graph) × (graph ≡ built_ins ++ more)) where
   module _ (one other : NodeId) where

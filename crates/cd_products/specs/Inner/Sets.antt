@@ -8,7 +8,7 @@ use Rattle.cd_syntax.specs.Name.{Name}
 use Rattle.cd_model.specs.Formula.{Formula, IsFormula}
 use Rattle.cd_rules.specs.BasicSets.{passes, integer_test, character_test, atom_test}
 use Rattle.cd_normal.specs.declared.basic_sets.Basics.{Basics}
-use Rattle.cd_compact.specs.Inner.Basic.{is_basic}
+use Rattle.cd_products.specs.Inner.Basic.{is_basic}
 
 -- the formula holds what is in the sets, and nothing else
 pub record IsOfSets (sets : Basics) (f : Formula) : Type 0 where

@@ -1,7 +1,7 @@
 use Rattle.std.proofs.Common.{◌≡◌}
 use Rattle.cd_empty.specs.Growth.{Grows}
 use Rattle.cd_empty.specs.Seen.{graph_of}
-use Rattle.cd_compact.proofs.known.known_node.Given as goal
+use Rattle.cd_products.proofs.known.known_node.Given as goal
 
 -- the graph stays
 abbrev pub invariant-loop-other : goal.invariant-loop-other

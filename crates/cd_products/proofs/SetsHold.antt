@@ -28,10 +28,10 @@ use Rattle.cd_rules.specs.BasicSets.{passes, question_passes}
 use Rattle.cd_rules.specs.BasicSets.{integer_test, character_test, atom_test}
 use Rattle.cd_rules.proofs.BasicSetsExact.{integers_exact, characters_exact, atoms_exact}
 use Rattle.cd_normal.specs.declared.basic_sets.Basics.{Basics}
-use Rattle.cd_compact.specs.Keeping.{IsFormulaOfQuestion}
-use Rattle.cd_compact.specs.Inner.Basic.{one_node_is_basic}
-use Rattle.cd_compact.specs.Inner.Sets.{IsOfSets}
-use Rattle.cd_compact.proofs.BasicForms.{IsInNoSet, not_held, not_in_all}
+use Rattle.cd_products.specs.Keeping.{IsFormulaOfQuestion}
+use Rattle.cd_products.specs.Inner.Basic.{one_node_is_basic}
+use Rattle.cd_products.specs.Inner.Sets.{IsOfSets}
+use Rattle.cd_products.proofs.BasicForms.{IsInNoSet, not_held, not_in_all}
 
 -- a formula as a graph of its own, and what asks for it
 abbrev alone : Formula → Graph

@@ -3,10 +3,10 @@ use Rattle.std.proofs.Common.{length, map, ap, sym, refl, ◌∙◌, arith, true
 use Rattle.cd_model.specs.Formula.{formulas_of}
 use Rattle.cd_graph.specs.PlainFormula.{plain}
 use Rattle.cd_graph.specs.declared.formula.Formula.{Formula as CodeFormula}
-use Rattle.cd_compact.specs.Inner.Basic.{one_is_basic, all_are_basic}
-use Rattle.cd_compact.proofs.Halves.{first_falls, second_falls, from_place, two_or_more}
-use Rattle.cd_compact.proofs.BasicForms.{one_of_halves, all_of_halves}
-use Rattle.cd_compact.proofs.basic.+is_basic.Goals as goal
+use Rattle.cd_products.specs.Inner.Basic.{one_is_basic, all_are_basic}
+use Rattle.cd_products.proofs.Halves.{first_falls, second_falls, from_place, two_or_more}
+use Rattle.cd_products.proofs.BasicForms.{one_of_halves, all_of_halves}
+use Rattle.cd_products.proofs.basic.+is_basic.Goals as goal
 
 -- each half is smaller than the list
 pub one_is_basic-one_is_basic-requires : goal.one_is_basic-one_is_basic-requires

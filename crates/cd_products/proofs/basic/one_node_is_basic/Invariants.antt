@@ -1,7 +1,7 @@
 use Rattle.std.proofs.Common.{◌≡◌, drop}
 use Rattle.cd_graph.specs.Nodes.{nodes}
-use Rattle.cd_compact.specs.Inner.Basic.{one_node_is_basic}
-use Rattle.cd_compact.proofs.basic.one_node_is_basic.Given as goal
+use Rattle.cd_products.specs.Inner.Basic.{one_node_is_basic}
+use Rattle.cd_products.proofs.basic.one_node_is_basic.Given as goal
 
 -- one of those that are left is where one of all is
 abbrev pub invariant-loop-id : goal.invariant-loop-id

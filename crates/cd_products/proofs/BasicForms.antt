@@ -13,7 +13,7 @@ use Rattle.cd_model.specs.Formula.{formulas_of}
 use Rattle.cd_model.specs.Membership.{Reader, at_nodes, holds, each_holds, one_holds}
 use Rattle.cd_graph.specs.PlainFormula.{plain}
 use Rattle.cd_graph.specs.declared.formula.Formula.{Formula as CodeFormula}
-use Rattle.cd_compact.specs.Inner.Basic.{is_basic, one_is_basic, all_are_basic, one_node_is_basic}
+use Rattle.cd_products.specs.Inner.Basic.{is_basic, one_is_basic, all_are_basic, one_node_is_basic}
 
 -- by halves
 and_assoc : (a b c : Bool) → ((a && b) && c) ≡ (a && (b && c))

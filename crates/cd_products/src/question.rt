@@ -3,7 +3,7 @@ ghost use Rattle.std.specs.Prelude.{◌<◌, length, IfOk};
 ghost use Rattle.cd_model.specs.AllOf.{AllOf};
 ghost use Rattle.cd_graph.specs.Nodes.{nodes};
 ghost use Rattle.cd_graph.specs.PlainFormula.{plain};
-ghost use Rattle.cd_compact.specs.Keeping.{IsFormulaOfQuestion};
+ghost use Rattle.cd_products.specs.Keeping.{IsFormulaOfQuestion};
 
 use crate::basic::one_node_is_basic;
 use crate::sets::of_sets;

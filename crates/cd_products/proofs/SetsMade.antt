@@ -13,8 +13,8 @@ use Rattle.cd_model.specs.Formula as formula
 use Rattle.cd_model.specs.Formula.{Formula, Formulas, formulas_of, IsFormula, AreFormulas}
 use Rattle.cd_rules.specs.BasicSets.{passes, one_passes, integer_test, character_test, atom_test}
 use Rattle.cd_normal.specs.declared.basic_sets.Basics.{Basics}
-use Rattle.cd_compact.specs.Inner.Basic.{is_basic, all_are_basic}
-use Rattle.cd_compact.specs.Inner.Sets.{IsOfSets, Adds}
+use Rattle.cd_products.specs.Inner.Basic.{is_basic, all_are_basic}
+use Rattle.cd_products.specs.Inner.Sets.{IsOfSets, Adds}
 
 or_false : (a : Bool) → (a || false) ≡ a
 or_false true = refl

@@ -5,7 +5,7 @@ ghost use Rattle.cd_sets.specs.Characters.{HoldsNoCharacter};
 ghost use Rattle.cd_sets.specs.Atoms.{HoldsNoAtom};
 ghost use Rattle.cd_model.specs.Formula.{Ints as AnInts, Chars as AChars, Atoms as AnAtoms};
 ghost use Rattle.cd_graph.specs.PlainFormula.{plain};
-ghost use Rattle.cd_compact.specs.Inner.Sets.{IsOfSets, Adds};
+ghost use Rattle.cd_products.specs.Inner.Sets.{IsOfSets, Adds};
 
 use cd_graph::{Formula, Formulas};
 use cd_normal::basic_sets::Basics;

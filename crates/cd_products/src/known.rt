@@ -6,7 +6,7 @@ ghost use Rattle.cd_rules.specs.Needs.{question};
 ghost use Rattle.cd_empty.specs.Growth.{Grows};
 ghost use Rattle.cd_empty.specs.Seen.{graph_of};
 ghost use Rattle.cd_empty.specs.Verdicts.{HasNoElement, HasNoValue};
-ghost use Rattle.cd_compact.specs.Keeping.{HoldSame};
+ghost use Rattle.cd_products.specs.Keeping.{HoldSame};
 
 use cd_empty::{Verdict, World};
 use cd_sets::node_id::NodeId;

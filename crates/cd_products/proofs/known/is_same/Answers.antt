@@ -3,8 +3,8 @@ use Rattle.cd_model.specs.Formula.{Graph}
 use Rattle.cd_rules.specs.Needs.{question}
 use Rattle.cd_empty.specs.Seen.{graph_of}
 use Rattle.cd_empty.specs.Verdicts.{HasNoElement, HasNoValue}
-use Rattle.cd_compact.proofs.SameNodes.{hold_same}
-use Rattle.cd_compact.proofs.known.is_same.Goals as goal
+use Rattle.cd_products.proofs.SameNodes.{hold_same}
+use Rattle.cd_products.proofs.known.is_same.Goals as goal
 
 pub returns-then-is_within-clause-same : goal.returns-then-is_within-clause-same
 returns-then-is_within-clause-same c found =

@@ -4,8 +4,8 @@ ghost use Rattle.cd_model.specs.AllOf.{AllOf};
 ghost use Rattle.cd_model.specs.Formula.{formulas_of};
 ghost use Rattle.cd_graph.specs.Nodes.{nodes};
 ghost use Rattle.cd_graph.specs.PlainFormula.{plain};
-ghost use Rattle.cd_compact.specs.Inner.Basic.{is_basic, one_is_basic, all_are_basic};
-ghost use Rattle.cd_compact.specs.Inner.Basic.{one_node_is_basic};
+ghost use Rattle.cd_products.specs.Inner.Basic.{is_basic, one_is_basic, all_are_basic};
+ghost use Rattle.cd_products.specs.Inner.Basic.{one_node_is_basic};
 
 use cd_graph::{Formula, Graph};
 use cd_sets::node_id::NodeId;

@@ -2,7 +2,7 @@ use Rattle.std.proofs.Common.{map}
 use Rattle.cd_model.specs.Formula.{formulas_of}
 use Rattle.cd_graph.specs.PlainFormula.{plain}
 use Rattle.cd_graph.proofs.Sizes.{size, size_list}
-use Rattle.cd_compact.proofs.basic.+is_basic.Given as goal
+use Rattle.cd_products.proofs.basic.+is_basic.Given as goal
 
 -- each formula is smaller than the one or the list that it stands in
 abbrev pub decreases-is_basic : goal.decreases-is_basic

@@ -1,3 +1,0 @@
--- What serves proofs and private functions. No public clause speaks of it.
-pub mod Basic
-pub mod Sets
