@@ -1,3 +1,5 @@
+mod PartsFound
+mod SlotsFilled
 mod VariableNumbers
 mod EnvironmentsJoined
 mod BindingsStay

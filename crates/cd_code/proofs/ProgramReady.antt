@@ -16,7 +16,7 @@ use Rattle.cd_asking.specs.Known.{KnowsOf}
 use Rattle.cd_closures.specs.MapsOf.{AreMapsOf}
 use Rattle.cd_safety.specs.PatternsIn.{EachOfFunction}
 use Rattle.cd_safety.specs.PatternTypes.{IsTypedPattern}
-use Rattle.cd_parts.specs.Inner.PlainParts.{trees_of}
+use Rattle.cd_code.specs.Inner.PlainParts.{trees_of}
 use Rattle.cd_placed.specs.Patterns.{all_patterns, StartsDiffer}
 use Rattle.cd_code.specs.Codes.{IsCodeOf}
 use Rattle.cd_code.specs.Compiled.{program_of, IsReady}

@@ -4,3 +4,7 @@ pub mod Bindings
 pub mod SoundPatterns
 pub mod Kernels
 pub mod Taking
+pub mod Collecting
+pub mod PlainParts
+pub mod Keys
+pub mod ByPlace

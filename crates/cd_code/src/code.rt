@@ -11,10 +11,10 @@ ghost use Rattle.cd_code.specs.Compiled.{program_of, captured_of, IsPatternOf, i
 ghost use Rattle.cd_code.specs.Compiled.{ArePartsOf, IsReady};
 
 use crate::find::find;
+use crate::parts::Functions;
 use crate::pattern_code::PatternCode;
 use crate::take::take;
 use cd_cells::{Part, Slots, ValueId, Values};
-use cd_parts::Functions;
 use cd_program::expr::FunctionTree;
 use cd_syntax::type_tree::Tree;
 use cd_taking::{Taker, Tests};

@@ -9,6 +9,7 @@ mod compiling;
 mod copy;
 mod find;
 pub mod laws;
+mod parts;
 mod pattern;
 pub mod pattern_code;
 mod patterns;

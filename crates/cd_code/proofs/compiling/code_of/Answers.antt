@@ -8,7 +8,7 @@ use Rattle.cd_cells.specs.Table.{names as names_in}
 use Rattle.cd_empty.specs.Seen.{graph_of}
 use Rattle.cd_empty.proofs.GrowingWorlds.{and_further}
 use Rattle.cd_closures.specs.SoundInterfaces.{HasSoundInterface}
-use Rattle.cd_parts.specs.Inner.PlainParts.{functions_of, trees_of}
+use Rattle.cd_code.specs.Inner.PlainParts.{functions_of, trees_of}
 use Rattle.cd_placed.specs.Patterns.{all_patterns}
 use Rattle.cd_code.specs.Inner.SoundPatterns.{IsSoundPattern}
 use Rattle.cd_code.proofs.CodesMade.{names_grown}

@@ -1,2 +1,0 @@
-mod PartsFound
-mod SlotsFilled
