@@ -1,3 +1,5 @@
+mod Characters
+mod NextItem
 mod PartsFound
 mod SlotsFilled
 mod VariableNumbers

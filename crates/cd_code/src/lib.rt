@@ -1,4 +1,5 @@
-//! The code of a program: its functions by their places and names, and what its patterns take.
+//! The code of a program: its functions by their places and names, and what its patterns take. The
+//! constants of a program are elements.
 #![tactic(auto)]
 
 mod binding;
@@ -6,6 +7,7 @@ mod bindings;
 mod capturing;
 pub mod code;
 mod compiling;
+mod constants;
 mod copy;
 mod find;
 pub mod laws;
@@ -18,3 +20,4 @@ mod tests;
 
 pub use code::Code;
 pub use compiling::compile;
+pub use constants::constants_are_elements;

@@ -11,7 +11,7 @@ use Rattle.cd_safety.specs.WellWritten.{InRange, HaveCharacters}
 use Rattle.cd_names.proofs.ExprSizes.{size, size_kind, size_exprs, size_items, size_item}
 use Rattle.cd_names.proofs.ExprSizes.{size_fields, size_tails, size_tail, size_branches}
 use Rattle.cd_names.proofs.ExprSizes.{size_function}
-use Rattle.cd_constants.proofs.+walk.Given as goal
+use Rattle.cd_code.proofs.constants.+walk.Given as goal
 
 abbrev pub decreases-expr::walk : goal.decreases-expr::walk
 decreases-expr::walk l = size (plain l.expr.now)

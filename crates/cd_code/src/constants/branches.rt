@@ -6,7 +6,7 @@ ghost use Rattle.cd_program.specs.WellMade.{IsWellMadeFunction};
 ghost use Rattle.cd_safety.specs.KindsIn.{EachKind, KindsOfBranches, KindsOfFunction};
 ghost use Rattle.cd_safety.specs.WellWritten.{InRange};
 
-use crate::expr::walk;
+use crate::constants::expr::walk;
 use cd_program::expr::{Branch, Branches, Expr, FunctionTree};
 
 /// Walks over a value, and over the branches that it goes to.

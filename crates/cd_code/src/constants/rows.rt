@@ -10,8 +10,8 @@ ghost use Rattle.cd_safety.specs.KindsIn.{EachKind, KindsOfExprs, KindsOfItems, 
 ghost use Rattle.cd_safety.specs.KindsIn.{KindsOfTails};
 ghost use Rattle.cd_safety.specs.WellWritten.{InRange, HaveCharacters};
 
-use crate::constant::characters;
-use crate::expr::walk;
+use crate::constants::constant::characters;
+use crate::constants::expr::walk;
 use cd_program::expr::{Expr, Exprs, FieldExpr, FieldExprs, Item, Items, Tail, Tails};
 
 /// Walks over expressions in turn.

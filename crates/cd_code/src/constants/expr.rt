@@ -4,9 +4,9 @@ ghost use Rattle.cd_program.specs.WellMade.{IsWellMadeExpr, IsWellMadeExprKind};
 ghost use Rattle.cd_safety.specs.KindsIn.{EachKind, KindsWithin};
 ghost use Rattle.cd_safety.specs.WellWritten.{InRange};
 
-use crate::branches::{walk_function, walk_matching};
-use crate::constant::constant;
-use crate::rows::{walk_chain, walk_exprs, walk_fields, walk_items};
+use crate::constants::branches::{walk_function, walk_matching};
+use crate::constants::constant::constant;
+use crate::constants::rows::{walk_chain, walk_exprs, walk_fields, walk_items};
 use cd_program::expr::{Expr, ExprKind};
 
 /// Walks over an expression.

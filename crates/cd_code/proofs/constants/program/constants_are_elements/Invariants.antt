@@ -5,7 +5,7 @@ use Rattle.cd_program.specs.WellMade.{AreWellMadeFunctions}
 use Rattle.cd_model.specs.AllOf.{AllOf}
 use Rattle.cd_safety.specs.KindsIn.{KindsOfFunction}
 use Rattle.cd_safety.specs.WellWritten.{InRange}
-use Rattle.cd_constants.proofs.program.constants_are_elements.Given as goal
+use Rattle.cd_code.proofs.constants.program.constants_are_elements.Given as goal
 
 -- what is left is well made, and what is so of it leads to what is so of all
 abbrev pub invariant-loop-function : goal.invariant-loop-function

@@ -5,7 +5,7 @@ ghost use Rattle.cd_model.specs.AllOf.{AllOf};
 ghost use Rattle.cd_safety.specs.KindsIn.{KindsOfFunction};
 ghost use Rattle.cd_safety.specs.WellWritten.{InRange};
 
-use crate::branches::walk_function;
+use crate::constants::branches::walk_function;
 use cd_program::program::Program;
 
 /// The constants of a program are elements, and the characters in its sequences are of Unicode: a

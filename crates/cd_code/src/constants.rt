@@ -1,5 +1,4 @@
 //! The constants of a program are elements: a walk over it, whose contract says so.
-#![tactic(auto)]
 
 mod branches;
 mod constant;

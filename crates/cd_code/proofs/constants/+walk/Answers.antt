@@ -5,8 +5,8 @@ use Rattle.cd_program.specs.WellMade.{AreWellMadeExprs, AreWellMadeItems, AreWel
 use Rattle.cd_program.specs.WellMade.{AreWellMadeTails, AreWellMadeBranches}
 use Rattle.cd_names.proofs.ExprSizes.{exprs_fall, items_fall, fields_fall, tails_fall}
 use Rattle.cd_names.proofs.ExprSizes.{branches_fall}
-use Rattle.cd_constants.proofs.NextItem.{from_here}
-use Rattle.cd_constants.proofs.+walk.Goals as goal
+use Rattle.cd_code.proofs.NextItem.{from_here}
+use Rattle.cd_code.proofs.constants.+walk.Goals as goal
 
 -- each item of a row is smaller than the row, and well made
 pub rows::walk_exprs-walk-requires : goal.rows::walk_exprs-walk-requires
