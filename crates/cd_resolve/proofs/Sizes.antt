@@ -20,24 +20,25 @@ abbrev mutual
   size_kind (Tuple trees) = suc (suc (size_trees trees))
   size_kind (Arrows trees) = suc (suc (size_trees trees))
   size_kind (Union trees) = suc (suc (size_trees trees))
-  size_kind (Meet first signs) = suc (suc (size first + size_signs signs))
+  size_kind (Meet first signs) = suc (suc (suc (size first + size_signs signs)))
   size_kind (Sequence is) = suc (suc (size_regular is))
   size_kind (Record fields more) = suc (suc (size_fields fields))
-  size_kind (Xml tag attributes content) = suc (suc (size tag + size attributes + size content))
+  size_kind (Xml tag attributes content) =
+      suc (suc (suc (size tag + size attributes + size content)))
   size_kind (Where is declarations) = suc (suc (suc (size is + size_declarations declarations)))
   size_kind kind = suc zero
 
   pub size_trees : Trees → ℕ
   size_trees NoTree = zero
-  size_trees (ATree first rest) = suc (size first + size_trees rest)
+  size_trees (ATree first rest) = suc (suc (size first + size_trees rest))
 
   pub size_signs : Signs → ℕ
   size_signs NoSign = zero
-  size_signs (ASign kept is rest) = suc (size is + size_signs rest)
+  size_signs (ASign kept is rest) = suc (suc (size is + size_signs rest))
 
   pub size_fields : Fields → ℕ
   size_fields NoField = zero
-  size_fields (AField label at optional is rest) = suc (size is + size_fields rest)
+  size_fields (AField label at optional is rest) = suc (suc (size is + size_fields rest))
 
   pub size_declarations : Declarations → ℕ
   size_declarations NoDeclaration = zero
@@ -49,19 +50,23 @@ abbrev mutual
   pub size_regular_kind : RegularKind → ℕ
   size_regular_kind Nothing = suc zero
   size_regular_kind (Item is) = suc (size is)
-  size_regular_kind (Seq all) = suc (size_regulars all)
+  size_regular_kind (Seq all) = suc (suc (size_regulars all))
   size_regular_kind (Alt all) = suc (size_regulars all)
-  size_regular_kind (Repeat is post) = suc (size_regular is)
+  size_regular_kind (Repeat is post) = suc (suc (size_regular is))
   size_regular_kind (Capture name is) = suc (suc (size_regular is))
 
   pub size_regulars : Regulars → ℕ
   size_regulars NoRegular = zero
-  size_regulars (ARegular first rest) = suc (size_regular first + size_regulars rest)
+  size_regulars (ARegular first rest) = suc (suc (size_regular first + size_regulars rest))
 
--- an item of a list is smaller than the list
+-- a step less, and as small
+pub below : {m n : ℕ} → suc m < n → m < n
+below fall = omega (arith, fall)
+
+-- an item of a list is smaller than the list, by more than a step
 pub trees_fall : (items : List CodeTree) (index : ℕ) (item : CodeTree) → item ≡ get_or items index item
     → index < length items
-    → size (plain item) < size_trees (trees_of (map plain items))
+    → suc (size (plain item)) < size_trees (trees_of (map plain items))
 trees_fall [] index item is within = absurd (omega arith)
 trees_fall (first ∷ rest) zero item is within = rw is (omega arith)
 trees_fall (first ∷ rest) (suc index) item is within =
@@ -69,7 +74,7 @@ trees_fall (first ∷ rest) (suc index) item is within =
 
 pub signs_fall : (items : List CodeSigned) (index : ℕ) (item : CodeSigned) → item ≡ get_or items index item
     → index < length items
-    → size (plain_signed item).tree < size_signs (signs_of (map plain_signed items))
+    → suc (size (plain_signed item).tree) < size_signs (signs_of (map plain_signed items))
 signs_fall [] index item is within = absurd (omega arith)
 signs_fall (first ∷ rest) zero item is within = rw is (omega arith)
 signs_fall (first ∷ rest) (suc index) item is within =
@@ -77,7 +82,7 @@ signs_fall (first ∷ rest) (suc index) item is within =
 
 pub fields_fall : (items : List CodeField) (index : ℕ) (item : CodeField) → item ≡ get_or items index item
     → index < length items
-    → size (plain_field item).tree < size_fields (fields_of (map plain_field items))
+    → suc (size (plain_field item).tree) < size_fields (fields_of (map plain_field items))
 fields_fall [] index item is within = absurd (omega arith)
 fields_fall (first ∷ rest) zero item is within = rw is (omega arith)
 fields_fall (first ∷ rest) (suc index) item is within = let on = fields_fall rest index item is (omega arith) in omega
@@ -93,7 +98,7 @@ declarations_fall (first ∷ rest) (suc index) item is within = let on = declara
 
 pub regulars_fall : (items : List CodeRegular) (index : ℕ) (item : CodeRegular) → item ≡ get_or items index item
     → index < length items
-    → size_regular (plain_regular item) < size_regulars (regulars_of (map plain_regular items))
+    → suc (size_regular (plain_regular item)) < size_regulars (regulars_of (map plain_regular items))
 regulars_fall [] index item is within = absurd (omega arith)
 regulars_fall (first ∷ rest) zero item is within = rw is (omega arith)
 regulars_fall (first ∷ rest) (suc index) item is within =

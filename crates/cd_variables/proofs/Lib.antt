@@ -1,4 +1,3 @@
-mod Sizes
 mod Views
 mod NamesFound
 mod NamesAmong

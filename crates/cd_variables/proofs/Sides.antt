@@ -7,7 +7,7 @@ use Rattle.cd_syntax.specs.PlainTree.{plain_signed}
 use Rattle.cd_syntax.specs.declared.type_tree.SignedTree.{SignedTree as CodeSigned}
 use Rattle.cd_variables.specs.Occurrences.{takes_away}
 use Rattle.cd_variables.specs.FindingVariables.{sides_in}
-use Rattle.cd_variables.proofs.Views.{at_item}
+use Rattle.cd_resolve.proofs.Views.{at_item}
 
 -- where no tree is taken away, none is on a side
 pub no_sides : (signs : Signs) → takes_away signs ≡ false → sides_in signs ≡ 0

@@ -18,7 +18,7 @@ use Rattle.cd_resolve.specs.Inner.PlainFound.{plain_found, plain_start}
 use Rattle.cd_resolve.specs.Inner.PlainState.{plain_frames, plain_joint, HaveLabels}
 use Rattle.cd_resolve.proofs.Declaring.{one_name_more, declared_more as found_more}
 use Rattle.cd_resolve.proofs.Labelled.{walked_labels}
-use Rattle.cd_resolve.proofs.Sizes.{trees_fall, signs_fall, fields_fall, declarations_fall, regulars_fall}
+use Rattle.cd_resolve.proofs.Sizes.{below, trees_fall, signs_fall, fields_fall, declarations_fall, regulars_fall}
 use Rattle.cd_resolve.proofs.Steps.{chain_is, signs_more, fields_more, declared_more}
 use Rattle.cd_resolve.proofs.Views.{signed_is, field_is, declaration_is, at_item}
 use Rattle.cd_resolve.proofs.WellMadeItems.{tree_made, sign_made, field_made, declaration_made, regular_made}
@@ -42,7 +42,7 @@ walk::walk_trees-walk-requires t c =
     let made = tree_made c.items-tree-items.result.now c.loop-tree.tree-index c.tree-item.result c.tree-item.is
     c.loop-tree-test.true
     (subst AreWellMadePatterns (sym c.items-tree-items.ensures) c.requires) in
-    (search (rules, fall, c.decreases), made)
+    (search (rules, below fall, c.decreases), made)
 
 pub walk::walk_signs-walk-requires : goal.walk::walk_signs-walk-requires
 walk::walk_signs-walk-requires t c =
@@ -53,7 +53,7 @@ walk::walk_signs-walk-requires t c =
     (sign_made c.items-sign-items.result.now c.loop-sign.sign-index c.sign-item.result c.sign-item.is
     c.loop-sign-test.true
     (subst AreWellMadePatternSigns (sym c.items-sign-items.ensures) c.requires)) in
-    (search (rules, fall, c.decreases), made)
+    (search (rules, below fall, c.decreases), made)
 
 pub record::walk_fields-walk-requires : goal.record::walk_fields-walk-requires
 record::walk_fields-walk-requires t c =
@@ -64,7 +64,7 @@ record::walk_fields-walk-requires t c =
     (field_made c.items-field-items.result.now c.loop-field.field-index c.field-item.result c.field-item.is
     c.loop-field-test.true
     (subst AreWellMadePatternFields (sym c.items-field-items.ensures) c.requires)) in
-    (search (rules, fall, c.decreases), made)
+    (search (rules, below fall, c.decreases), made)
 
 pub sequence::walk_regulars-walk_regular-requires : goal.sequence::walk_regulars-walk_regular-requires
 sequence::walk_regulars-walk_regular-requires t c =
@@ -73,7 +73,7 @@ sequence::walk_regulars-walk_regular-requires t c =
     let made = regular_made c.items-expression-items.result.now c.loop-expression.expression-index
     c.expression-item.result c.expression-item.is c.loop-expression-test.true
     (subst AreWellMadePatternRegulars (sym c.items-expression-items.ensures) c.requires) in
-    (search (rules, fall, c.decreases), made)
+    (search (rules, below fall, c.decreases), made)
 
 pub declare::walk_declared-walk-requires : goal.declare::walk_declared-walk-requires
 declare::walk_declared-walk-requires t c =

@@ -12,8 +12,9 @@ use Rattle.cd_variables.specs.FindingVariables.{told_if, told_again, told_of_eac
 use Rattle.cd_variables.specs.FindingVariables.{names_among, variable_faults, union_faults}
 use Rattle.cd_variables.specs.FindingVariables.{alternative_faults, choice_faults, other_faults}
 use Rattle.cd_variables.specs.PlainTold.{plain_occurrence, plain_told}
-use Rattle.cd_variables.proofs.Sizes.{trees_fall, signs_fall, fields_fall, regulars_fall}
-use Rattle.cd_variables.proofs.Views.{signed_is, field_is, at_item, tree_begins, regular_starts}
+use Rattle.cd_resolve.proofs.Sizes.{trees_fall, signs_fall, fields_fall, regulars_fall}
+use Rattle.cd_resolve.proofs.Views.{signed_is, field_is, at_item}
+use Rattle.cd_variables.proofs.Views.{tree_begins, regular_starts}
 use Rattle.cd_variables.proofs.Chosen.{first_and_rest, side_bound, kept_bound, side_found, kept_found}
 use Rattle.cd_variables.proofs.Since.{last_part}
 use Rattle.cd_variables.proofs.Stepping.{optional_step, present_step, side_step, kept_step}

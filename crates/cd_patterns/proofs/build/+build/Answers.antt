@@ -5,7 +5,7 @@ use Rattle.cd_syntax.specs.PlainTree.{plain as plain_tree, plain_trees}
 use Rattle.cd_syntax.specs.PlainTree.{plain_field as plain_field_tree}
 use Rattle.cd_matching.specs.PlainPattern.{plain, plain_field}
 use Rattle.cd_matching.specs.WrittenPattern.{field_patterns}
-use Rattle.cd_resolve.proofs.Sizes.{trees_fall, signs_fall, fields_fall, regulars_fall}
+use Rattle.cd_resolve.proofs.Sizes.{below, trees_fall, signs_fall, fields_fall, regulars_fall}
 use Rattle.cd_resolve.proofs.Views.{signed_is, field_is, at_item}
 use Rattle.cd_patterns.specs.Inner.Types.{fields_filled}
 use Rattle.cd_patterns.proofs.Filling.{tuple_made, optional_next, present_next}
@@ -20,7 +20,7 @@ build_trees-build-requires t c =
     (trees_fall c.items-tree-items.result.now c.loop-tree.tree-index c.tree-item.result
     c.tree-item.is
     c.loop-tree-test.true) in
-    search (rules, fall, c.decreases)
+    search (rules, below fall, c.decreases)
 
 pub build_signs-build-requires : goal.build_signs-build-requires
 build_signs-build-requires t c =
@@ -29,7 +29,7 @@ build_signs-build-requires t c =
     (signs_fall c.items-sign-items.result.now c.loop-sign.sign-index c.sign-item.result
     c.sign-item.is
     c.loop-sign-test.true) in
-    search (rules, fall, c.decreases)
+    search (rules, below fall, c.decreases)
 
 pub build_fields-build-requires : goal.build_fields-build-requires
 build_fields-build-requires t c =
@@ -38,7 +38,7 @@ build_fields-build-requires t c =
     (fields_fall c.items-field-items.result.now c.loop-field.field-index c.field-item.result
     c.field-item.is
     c.loop-field-test.true) in
-    search (rules, fall, c.decreases)
+    search (rules, below fall, c.decreases)
 
 pub build_regulars-build_regular-requires : goal.build_regulars-build_regular-requires
 build_regulars-build_regular-requires t c =
@@ -46,7 +46,7 @@ build_regulars-build_regular-requires t c =
     (regulars_fall c.items-expression-items.result.now c.loop-expression.expression-index
     c.expression-item.result c.expression-item.is
     c.loop-expression-test.true) in
-    search (rules, fall, c.decreases)
+    search (rules, below fall, c.decreases)
 
 -- the patterns of a tuple's trees, as the parts of pairs
 pub build_tuple-returns : goal.build_tuple-returns

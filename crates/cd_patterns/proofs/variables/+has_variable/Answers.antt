@@ -1,5 +1,5 @@
 use Rattle.std.proofs.Common.{ap, rules}
-use Rattle.cd_resolve.proofs.Sizes.{trees_fall, signs_fall, fields_fall, declarations_fall}
+use Rattle.cd_resolve.proofs.Sizes.{below, trees_fall, signs_fall, fields_fall, declarations_fall}
 use Rattle.cd_resolve.proofs.Sizes.{regulars_fall}
 use Rattle.cd_resolve.proofs.Views.{signed_is, field_is, declaration_is}
 use Rattle.cd_patterns.proofs.variables.+has_variable.Goals as goal
@@ -10,7 +10,7 @@ trees_have-has_variable-requires t c =
     let fall = rw c.items-tree-items.ensures at
     (trees_fall c.items-tree-items.result.now c.loop-tree.tree-index
     c.tree-item.result c.tree-item.is c.loop-tree-test.true) in
-    search (rules, fall, c.decreases)
+    search (rules, below fall, c.decreases)
 
 pub signs_have-has_variable-requires : goal.signs_have-has_variable-requires
 signs_have-has_variable-requires t c =
@@ -19,7 +19,7 @@ signs_have-has_variable-requires t c =
     (signs_fall c.items-sign-items.result.now c.loop-sign.sign-index c.sign-item.result
     c.sign-item.is
     c.loop-sign-test.true) in
-    search (rules, fall, c.decreases)
+    search (rules, below fall, c.decreases)
 
 pub fields_have-has_variable-requires : goal.fields_have-has_variable-requires
 fields_have-has_variable-requires t c =
@@ -28,7 +28,7 @@ fields_have-has_variable-requires t c =
     (fields_fall c.items-field-items.result.now c.loop-field.field-index c.field-item.result
     c.field-item.is
     c.loop-field-test.true) in
-    search (rules, fall, c.decreases)
+    search (rules, below fall, c.decreases)
 
 pub declarations_have-has_variable-requires : goal.declarations_have-has_variable-requires
 declarations_have-has_variable-requires t c =
@@ -47,4 +47,4 @@ regulars_have-regular_has-requires t c =
     (regulars_fall c.items-expression-items.result.now
     c.loop-expression.expression-index c.expression-item.result c.expression-item.is
     c.loop-expression-test.true) in
-    search (rules, fall, c.decreases)
+    search (rules, below fall, c.decreases)

@@ -1,7 +1,7 @@
 use Rattle.std.proofs.Common.{◌≡◌, List, OnOk, ap, sym, subst, rules}
 use Rattle.cd_syntax.specs.PlainTree.{plain_trees}
 use Rattle.cd_model.specs.Written.{Written}
-use Rattle.cd_resolve.proofs.Sizes.{trees_fall, signs_fall, fields_fall, regulars_fall}
+use Rattle.cd_resolve.proofs.Sizes.{below, trees_fall, signs_fall, fields_fall, regulars_fall}
 use Rattle.cd_resolve.proofs.Views.{signed_is, field_is}
 use Rattle.cd_patterns.specs.Inner.Types.{wanted_types}
 use Rattle.cd_patterns.proofs.TypesInTurn.{tuple_after}
@@ -14,7 +14,7 @@ want_trees-want-requires t c =
     (trees_fall c.items-tree-items.result.now c.loop-tree.tree-index c.tree-item.result
     c.tree-item.is
     c.loop-tree-test.true) in
-    search (rules, fall, c.decreases)
+    search (rules, below fall, c.decreases)
 
 pub want_signs-want-requires : goal.want_signs-want-requires
 want_signs-want-requires t c =
@@ -23,7 +23,7 @@ want_signs-want-requires t c =
     (signs_fall c.items-sign-items.result.now c.loop-sign.sign-index c.sign-item.result
     c.sign-item.is
     c.loop-sign-test.true) in
-    search (rules, fall, c.decreases)
+    search (rules, below fall, c.decreases)
 
 pub want_fields-want-requires : goal.want_fields-want-requires
 want_fields-want-requires t c =
@@ -32,7 +32,7 @@ want_fields-want-requires t c =
     (fields_fall c.items-field-items.result.now c.loop-field.field-index c.field-item.result
     c.field-item.is
     c.loop-field-test.true) in
-    search (rules, fall, c.decreases)
+    search (rules, below fall, c.decreases)
 
 pub want_regulars-want_regular-requires : goal.want_regulars-want_regular-requires
 want_regulars-want_regular-requires t c =
@@ -40,7 +40,7 @@ want_regulars-want_regular-requires t c =
     (regulars_fall c.items-expression-items.result.now c.loop-expression.expression-index
     c.expression-item.result c.expression-item.is
     c.loop-expression-test.true) in
-    search (rules, fall, c.decreases)
+    search (rules, below fall, c.decreases)
 
 -- the types of a tuple are those of its trees
 pub want_tuple-returns : goal.want_tuple-returns

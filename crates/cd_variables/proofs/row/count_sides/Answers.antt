@@ -2,7 +2,7 @@ use Rattle.std.proofs.Common.{sym, ap, ◌∙◌, arith}
 use Rattle.cd_syntax.specs.declared.type_tree.RegKind.TheViews.{out-SignedTree}
 use Rattle.cd_variables.specs.FindingVariables.{sides_in}
 use Rattle.cd_variables.proofs.Sides.{sides_counted, none_counted}
-use Rattle.cd_variables.proofs.Views.{signed_is}
+use Rattle.cd_resolve.proofs.Views.{signed_is}
 use Rattle.cd_variables.proofs.row.count_sides.Goals as goal
 
 -- the last of those is taken away
