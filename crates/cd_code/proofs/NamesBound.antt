@@ -7,8 +7,8 @@ use Rattle.cd_matching.specs.Kernel.{number_of}
 use Rattle.cd_syntax.specs.TypeTree.{Tree}
 use Rattle.cd_names.specs.ProgramFaults.{names_of}
 use Rattle.cd_variables.specs.Occurrences.{Occurrence as PlainOccurrence, bound}
-use Rattle.cd_variables.specs.PlainTold.{plain_occurrence}
-use Rattle.cd_variables.specs.declared.told.Occurrence.{Occurrence}
+use Rattle.cd_variables.specs.PlainOccurrences.{plain_occurrence}
+use Rattle.cd_variables.specs.declared.occurrence.Occurrence.{Occurrence}
 use Rattle.cd_code.specs.Inner.Numbered.{with_number, numbered}
 
 abbrev pub name_of : Occurrence → Name

@@ -14,7 +14,7 @@ use cd_cells::Values;
 use cd_syntax::name::Name;
 use cd_syntax::type_tree::Tree;
 use cd_variables::check_variables;
-use cd_variables::told::Occurrence;
+use cd_variables::occurrence::Occurrence;
 use std::alloc::{AllocError, Global};
 
 /// The names that a pattern binds, the innermost first, by the numbers of these variables and of a

@@ -11,7 +11,7 @@ use Rattle.cd_model.specs.AllOf.{AllOf, AnyOf}
 use Rattle.cd_resolve.specs.Faults.{IsFaultOfType}
 use Rattle.cd_resolve.specs.declared.error.NameError.{NameError}
 use Rattle.cd_names.specs.Inner.Faults.{IsFaultOfOne, Tells}
-use Rattle.cd_names.specs.Inner.Least.{first_of}
+use Rattle.cd_resolve.specs.Least.{first_of}
 use Rattle.cd_names.specs.Inner.PlainFound.{plain_trees}
 use Rattle.cd_names.proofs.FirstTold.{both_told, tells_same}
 

@@ -1,5 +1,5 @@
 -- What is told of two kinds of faults is told of both.
-use Rattle.std.proofs.Common.{◌≡◌, ◌⊎◌, inl, inr, ◌↔◌, List, true, false, cond, None, Result, Ok}
+use Rattle.std.proofs.Common.{◌≡◌, ◌⊎◌, inl, inr, ◌↔◌, List, [], ◌∷◌, sym, true, false, cond, None, Result, Ok}
 use Rattle.std.proofs.Common.{Err, OnOk, IfErr}
 use Rattle.std.proofs.lemmas.Bool.{cases_Bool}
 use Rattle.cd_resolve.specs.Errors.{IsToldError}
@@ -8,9 +8,10 @@ use Rattle.cd_resolve.specs.declared.error.NameError.{NameError}
 use Rattle.cd_resolve.specs.declared.error.NameError.TheVariants as error
 use Rattle.cd_variables.specs.VariableFaults.{IsOneIn}
 use Rattle.cd_names.specs.Inner.Faults.{Tells}
-use Rattle.cd_names.specs.Inner.Least.{goes_before, least_from, IsLeast, first_error}
-use Rattle.cd_names.specs.Inner.Least.{first_of}
-use Rattle.cd_names.proofs.LeastTold.{before_on, is_before, is_after, nothing_told, least_told}
+use Rattle.cd_resolve.specs.Least.{goes_before, least_from, IsLeast, first_error}
+use Rattle.cd_resolve.specs.Least.{first_of}
+use Rattle.cd_resolve.proofs.InLists.{IsIn}
+use Rattle.cd_resolve.proofs.LeastFault.{before_on, is_before, is_after, nothing_told, least_told}
 
 told_same : (A B : Fault → Type 0) → ((f : Fault) → A f ↔ B f) → (one : Fault) → IsTold A one
     → IsTold B one
@@ -101,16 +102,31 @@ both_told A B (Err one) (Err other) told told_too = record {
   fault = errors_told A B one other told.fault told_too.fault;
 }
 
+-- one of a list, said from either side
+one_is_in : (faults : List Fault) (one : Fault) → IsOneIn one faults → IsIn one faults
+one_is_in [] one is = is
+one_is_in (first ∷ rest) one (inl same) = inl (sym same)
+one_is_in (first ∷ rest) one (inr on) = inr (one_is_in rest one on)
+
+in_is_one : (faults : List Fault) (one : Fault) → IsIn one faults → IsOneIn one faults
+in_is_one [] one is = is
+in_is_one (first ∷ rest) one (inl same) = inl (sym same)
+in_is_one (first ∷ rest) one (inr on) = inr (in_is_one rest one on)
+
 -- what the least of a list says
 least_error : (faults : List Fault) (e : NameError) → IsLeast (least_from None faults) e
     → IsToldError (λ f. IsOneIn f faults) e
 least_error faults (error.Fault fault name at) least =
-    least_told faults (record { fault = fault; name = name; at = at }) least
+    least_told faults (λ f. IsOneIn f faults) (in_is_one faults) (one_is_in faults)
+    (record { fault = fault; name = name; at = at }) least
 least_error faults error.Memory least = tt
 
 pub list_told : (faults : List Fault) (result : Result (Unit {0}) NameError)
     → OnOk result (least_from None faults ≡ None)
     → IfErr result (λ e. IsLeast (least_from None faults) e)
     → Tells (λ f. IsOneIn f faults) result
-list_told faults (Ok done) none least = record { sound = nothing_told faults none; fault = tt }
+list_told faults (Ok done) none least = record {
+  sound = nothing_told faults (λ f. IsOneIn f faults) (one_is_in faults) none;
+  fault = tt;
+}
 list_told faults (Err e) none least = record { sound = tt; fault = least_error faults e least }

@@ -1,6 +1,5 @@
 mod LocalNames
 pub mod ExprSizes
-mod LeastTold
 mod FirstTold
 mod CheckedTrees
 mod Covering

@@ -14,8 +14,8 @@ use Rattle.cd_variables.specs.Occurrences.{Occurrence, bound}
 use Rattle.cd_resolve.specs.FirstPlaces.{first_place}
 use Rattle.cd_resolve.proofs.Places.{has_place}
 use Rattle.cd_names.specs.ProgramFaults.{names_of, is_seen}
-use Rattle.cd_variables.specs.PlainTold.{plain_occurrence, occurring}
-use Rattle.cd_variables.specs.declared.told.Occurrence.{Occurrence as CodeOccurrence}
+use Rattle.cd_variables.specs.PlainOccurrences.{plain_occurrence, occurring}
+use Rattle.cd_variables.specs.declared.occurrence.Occurrence.{Occurrence as CodeOccurrence}
 
 -- the lower part of a list is what is left of its other order
 pub cut_part : {X : Type 0} (count : ℕ) (all above below : List X) → reverse all ≡ above ++ below

@@ -10,7 +10,7 @@ use Rattle.cd_names.specs.ProgramFaults as faults
 use Rattle.cd_names.specs.ProgramFaults.{IsFaultOfProgram}
 use Rattle.cd_names.specs.Inner.Faults.{IsFaultOfOne, Tells}
 use Rattle.cd_names.specs.Inner.FindingInPrograms.{Found, found_in_program}
-use Rattle.cd_names.specs.Inner.Least.{first_of}
+use Rattle.cd_resolve.specs.Least.{first_of}
 use Rattle.cd_names.proofs.Covering.{Covers, VariablesFound, each_member}
 use Rattle.cd_names.proofs.FaultsFound.{OfProgram, covers_program}
 use Rattle.cd_names.proofs.FirstTold.{both_told, tells_same}

@@ -1,6 +1,5 @@
 -- What serves private functions. No public clause speaks of it.
 pub mod FindingInPrograms
 pub mod PlainFound
-pub mod Least
 pub mod Faults
 pub mod TwoByTwo

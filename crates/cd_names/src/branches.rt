@@ -8,7 +8,7 @@ ghost use Rattle.cd_names.specs.ProgramFaults.{names_of};
 ghost use Rattle.cd_names.specs.Inner.FindingInPrograms.{found_in_expr, found_in_branches};
 ghost use Rattle.cd_names.specs.Inner.FindingInPrograms.{with_pattern};
 ghost use Rattle.cd_names.specs.Inner.PlainFound.{plain_found};
-ghost use Rattle.cd_variables.specs.PlainTold.{plain_occurrence};
+ghost use Rattle.cd_variables.specs.PlainOccurrences.{plain_occurrence};
 
 use crate::base::Base;
 use crate::expr::walk;
@@ -17,7 +17,7 @@ use crate::locals::Locals;
 use cd_program::expr::{Branch, Branches, Expr};
 use cd_syntax::type_tree::Tree;
 use cd_variables::check_variables;
-use cd_variables::told::Occurrence;
+use cd_variables::occurrence::Occurrence;
 use std::alloc::{AllocError, Global};
 
 /// Walks over a value and the branches that it goes to.

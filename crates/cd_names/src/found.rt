@@ -6,9 +6,9 @@ ghost use Rattle.cd_names.specs.Inner.FindingInPrograms.{nothing, told, told_if,
 ghost use Rattle.cd_names.specs.Inner.PlainFound.{plain_found};
 
 use cd_resolve::fault::NameFault;
+use cd_resolve::told::Told;
 use cd_syntax::name::Name;
 use cd_syntax::type_tree::Tree;
-use cd_variables::told::Told;
 use std::alloc::{AllocError, Global};
 
 /// The faults of names and variables, and the trees whose types are to be looked at.

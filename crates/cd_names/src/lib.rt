@@ -8,7 +8,6 @@ mod expr;
 mod found;
 mod function;
 pub mod laws;
-mod least;
 mod lists;
 mod locals;
 mod program;

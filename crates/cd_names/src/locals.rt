@@ -3,10 +3,10 @@ ghost use Rattle.std.specs.Prelude.{◌≡◌, List, [], ◌∷◌, ◌++◌, ma
 ghost use Rattle.std.specs.Prelude.{OnOk};
 ghost use Rattle.std.specs.List.{list_any};
 ghost use Rattle.cd_syntax.specs.Name.{Name as AName};
-ghost use Rattle.cd_variables.specs.PlainTold.{occurring};
+ghost use Rattle.cd_variables.specs.PlainOccurrences.{occurring};
 
 use cd_syntax::name::Name;
-use cd_variables::told::Occurrence;
+use cd_variables::occurrence::Occurrence;
 use std::alloc::{AllocError, Global};
 use std::marker::Model;
 

@@ -9,8 +9,8 @@ ghost use Rattle.cd_resolve.specs.Named.{declared_by};
 ghost use Rattle.cd_names.specs.Inner.PlainFound.{plain_trees};
 ghost use Rattle.cd_names.specs.Inner.Faults.{IsFaultOfOne};
 
-use crate::least::first_of;
 use cd_resolve::error::NameError;
+use cd_resolve::least::first_of;
 use cd_resolve::{Names, check_tree};
 use cd_syntax::type_tree::Tree;
 use std::alloc::Global;

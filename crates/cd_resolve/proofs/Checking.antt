@@ -7,8 +7,9 @@ use Rattle.cd_syntax.specs.TypeTree.{Tree, Declarations}
 use Rattle.cd_resolve.specs.Faults.{Fault, IsFault, IsFaultOfList}
 use Rattle.cd_resolve.specs.Errors.{IsToldError}
 use Rattle.cd_resolve.specs.Inner.Finding.{Frames, State, entered, found_in}
-use Rattle.cd_resolve.specs.Inner.Cycles.{least_from}
-use Rattle.cd_resolve.specs.Inner.Check.{found_in_type, found_in_declarations, all_faults, IsLeast}
+use Rattle.cd_resolve.specs.Least.{least_from}
+use Rattle.cd_resolve.specs.Inner.Check.{found_in_type, found_in_declarations, all_faults}
+use Rattle.cd_resolve.specs.Least.{IsLeast}
 use Rattle.cd_resolve.specs.declared.error.NameError.{NameError}
 use Rattle.cd_resolve.specs.declared.error.NameError.TheVariants as error
 use Rattle.cd_resolve.proofs.Rich.{whole, lean, lean_walked, lean_list}

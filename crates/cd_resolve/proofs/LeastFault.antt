@@ -6,7 +6,7 @@ use Rattle.std.proofs.lemmas.Bool.{cases_Bool, cases_order, cases_lt}
 use Rattle.std.proofs.lemmas.Bool.Decides.{Decides-eqb, Decides-and, Decides-or, Decides-ltb}
 use Rattle.std.proofs.lemmas.Option.{same_Some}
 use Rattle.cd_resolve.specs.Faults.{Fault, rank, IsBefore, IsTold}
-use Rattle.cd_resolve.specs.Inner.Cycles.{goes_before, lesser, least_from}
+use Rattle.cd_resolve.specs.Least.{goes_before, lesser, least_from}
 use Rattle.cd_resolve.proofs.InLists.{IsIn}
 
 goes_before_decides : (one other : Fault) → Decides (goes_before one other)
@@ -17,21 +17,21 @@ goes_before_decides one other = Decides-or _ _ (Decides-ltb one.at other.at)
 before_itself : (one : Fault) → IsBefore one one
 before_itself one = inr (refl, omega arith)
 
-before_on : (one middle other : Fault) → IsBefore one middle → IsBefore middle other → IsBefore one other
+pub before_on : (one middle other : Fault) → IsBefore one middle → IsBefore middle other → IsBefore one other
 before_on one middle other (inl less) (inl more) = inl (omega arith)
 before_on one middle other (inl less) (inr equal) = let at = equal.0 in inl (omega arith)
 before_on one middle other (inr equal) (inl more) = let at = equal.0 in inl (omega arith)
 before_on one middle other (inr equal) (inr equal_too) = inr
     (equal.0 ∙ equal_too.0, (let first = equal.1 in let second = equal_too.1 in omega arith))
 
-is_before : (one other : Fault) → goes_before one other ≡ true → IsBefore one other
+pub is_before : (one other : Fault) → goes_before one other ≡ true → IsBefore one other
 is_before one other is = by ((goes_before_decides one other).0 is)
   where
     by : (one.at < other.at) ⊎ ((one.at ≡ other.at) × (rank one.fault < rank other.fault)) → IsBefore one other
     by (inl less) = inl less
     by (inr equal) = let more = equal.1 in inr (equal.0, omega arith)
 
-is_after : (one other : Fault) → goes_before one other ≡ false → IsBefore other one
+pub is_after : (one other : Fault) → goes_before one other ≡ false → IsBefore other one
 is_after one other is = by (cases_order one.at other.at)
   where
     never : (one.at < other.at) ⊎ ((one.at ≡ other.at) × (rank one.fault < rank other.fault)) → IsBefore other one

@@ -4,12 +4,14 @@ ghost use Rattle.cd_resolve.specs.Inner.Cycles.{same_id, is_held, with_next, wit
 ghost use Rattle.cd_resolve.specs.Inner.Cycles.{reached as reached_by, is_cyclic as is_cyclic_id};
 ghost use Rattle.cd_resolve.specs.Inner.Cycles.{told_cycle, cycles_told};
 ghost use Rattle.cd_resolve.specs.Inner.Ranks.{all_fall};
-ghost use Rattle.cd_resolve.specs.Inner.PlainFound.{plain_id, plain_link, plain_told};
+ghost use Rattle.cd_resolve.specs.Inner.PlainFound.{plain_id, plain_link};
+ghost use Rattle.cd_resolve.specs.PlainTold.{plain_told};
 
 use crate::compare::is_same;
 use crate::fault::NameFault;
-use crate::found::{Id, Link, Told};
+use crate::found::{Id, Link};
 use crate::ranks::Ranks;
+use crate::told::Told;
 use std::alloc::{AllocError, Global};
 
 // Whether both are one declared name.
@@ -142,7 +144,7 @@ fn tell_cycle<'t>(
     if found {
         faults.push(Told {
             fault: NameFault::Unguarded,
-            name: link.to.name,
+            name: Some(link.to.name),
             at: link.at,
         })?;
     }

@@ -7,17 +7,10 @@ ghost use Rattle.cd_resolve.specs.Inner.PlainFound.{plain_id, plain_start, plain
 ghost use Rattle.cd_resolve.specs.Inner.PlainFound.{plain_found};
 
 use crate::fault::NameFault;
+use crate::told::Told;
 use cd_syntax::name::Name;
 use cd_syntax::type_tree::Declarations;
 use std::alloc::{AllocError, Global};
-
-/// A fault, the name that it is told of, and its place.
-#[derive(Clone, Copy)]
-pub(crate) struct Told<'t> {
-    pub(crate) fault: NameFault,
-    pub(crate) name: &'t Name,
-    pub(crate) at: usize,
-}
 
 /// A declared name: the first of its name in the list of this number.
 #[derive(Clone, Copy)]
@@ -71,7 +64,11 @@ impl<'t> Found<'t> {
         ensures { IfOk result (λ _.
             plain_found self.new ≡ told fault name.now at (plain_found self.old)) }
     {
-        self.faults.push(Told { fault, name, at })?;
+        self.faults.push(Told {
+            fault,
+            name: Some(name),
+            at,
+        })?;
         Ok(())
     }
 

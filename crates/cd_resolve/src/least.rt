@@ -1,16 +1,35 @@
 //! The fault that is told of several.
-ghost use Rattle.std.specs.Prelude.{◌≡◌, map, None};
+ghost use Rattle.std.specs.Prelude.{◌≡◌, map, None, Some, OnOk, IfOk, IfErr};
 ghost use Rattle.std.specs.Option.{option_map};
 ghost use Rattle.cd_resolve.specs.Faults.{rank as rank_of};
-ghost use Rattle.cd_resolve.specs.Inner.Cycles.{goes_before as goes_before_fault};
-ghost use Rattle.cd_resolve.specs.Inner.Cycles.{lesser as lesser_fault, least_from};
-ghost use Rattle.cd_resolve.specs.Inner.PlainFound.{plain_told};
+ghost use Rattle.cd_resolve.specs.Least.{goes_before as goes_before_fault};
+ghost use Rattle.cd_resolve.specs.Least.{lesser as lesser_fault, least_from, IsLeast};
+ghost use Rattle.cd_resolve.specs.Least.{comes_first as comes_first_of};
+ghost use Rattle.cd_resolve.specs.Least.{goes_first as goes_first_error};
+ghost use Rattle.cd_resolve.specs.Least.{first_error as first_of_errors};
+ghost use Rattle.cd_resolve.specs.Least.{first_of as first_of_results};
+ghost use Rattle.cd_resolve.specs.PlainTold.{plain_told, name_or_none};
 
+use crate::error::NameError;
 use crate::fault::NameFault;
-use crate::found::Told;
+use crate::told::Told;
+use cd_syntax::name::Name;
+use std::alloc::{AllocError, Global};
 
-/// The fault with the least place, and at one place the first in the order of `NameFault`.
-pub(crate) fn least<'t>(faults: &[Told<'t>]) -> Option<Told<'t>>
+/// Tells the least of these faults: the one with the least place, and at one place the first in the
+/// order of `NameFault`.
+pub fn tell_least(alloc: Global, faults: &[Told<'_>]) -> Result<(), NameError>
+    ensures sound { OnOk result (least_from None (map plain_told faults.now) ≡ None) }
+    ensures fault { IfErr result
+        (λ error. IsLeast (least_from None (map plain_told faults.now)) error) }
+{
+    match least(faults) {
+        Some(told) => Err(error_of(alloc, &told)),
+        None => Ok(()),
+    }
+}
+
+fn least<'t>(faults: &[Told<'t>]) -> Option<Told<'t>>
     ensures { option_map plain_told result ≡ least_from None (map plain_told faults.now) }
 {
     let mut least = None;
@@ -36,7 +55,14 @@ fn lesser<'t>(least: Option<Told<'t>>, fault: &Told<'t>) -> Option<Told<'t>>
 fn goes_before(one: &Told<'_>, other: &Told<'_>) -> bool
     ensures { result ≡ goes_before_fault (plain_told one.now) (plain_told other.now) }
 {
-    one.at < other.at || one.at == other.at && rank(one.fault) < rank(other.fault)
+    comes_first(one.at, one.fault, other.at, other.fault)
+}
+
+// Whether what stands here is told rather than what stands there.
+fn comes_first(at: usize, fault: NameFault, there: usize, other: NameFault) -> bool
+    ensures { result ≡ comes_first_of at fault there other }
+{
+    at < there || at == there && rank(fault) < rank(other)
 }
 
 fn rank(fault: NameFault) -> usize
@@ -51,5 +77,70 @@ fn rank(fault: NameFault) -> usize
         NameFault::VariableRepeats => 5,
         NameFault::VariableMisplaced => 6,
         NameFault::NoMain => 7,
+    }
+}
+
+// The error that tells a fault.
+fn error_of(alloc: Global, told: &Told<'_>) -> NameError
+    ensures { IsLeast (Some (plain_told told.now)) result }
+{
+    match name_of(alloc, told.name) {
+        Ok(name) => NameError::Fault {
+            fault: told.fault,
+            name,
+            at: told.at,
+        },
+        Err(_) => NameError::Memory,
+    }
+}
+
+// The name that a fault is told of, or one with no characters.
+fn name_of(alloc: Global, name: Option<&Name>) -> Result<Name, AllocError>
+    ensures { IfOk result (λ copy.
+        copy ≡ name_or_none (option_map (λ name. name.now) name.entry)) }
+{
+    match name {
+        Some(name) => name.copy(),
+        None => Name::of_characters(alloc, &[]),
+    }
+}
+
+/// What is told of two results: want of memory, or the lesser of their faults.
+pub fn first_of(one: Result<(), NameError>, other: Result<(), NameError>) -> Result<(), NameError>
+    ensures { result ≡ first_of_results one other }
+{
+    match one {
+        Ok(()) => other,
+        Err(one) => match other {
+            Ok(()) => Err(one),
+            Err(other) => Err(first_error(one, other)),
+        },
+    }
+}
+
+fn first_error(one: NameError, other: NameError) -> NameError
+    ensures { result ≡ first_of_errors one other }
+{
+    if goes_first(&other, &one) {
+        drop(one);
+        return other;
+    }
+    drop(other);
+    one
+}
+
+fn goes_first(one: &NameError, other: &NameError) -> bool
+    ensures { result ≡ goes_first_error one.now other.now }
+{
+    match one {
+        NameError::Memory => true,
+        NameError::Fault { fault, at, .. } => match other {
+            NameError::Memory => false,
+            NameError::Fault {
+                fault: other,
+                at: there,
+                ..
+            } => comes_first(*at, *fault, *there, *other),
+        },
     }
 }

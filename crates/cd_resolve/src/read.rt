@@ -9,12 +9,13 @@ ghost use Rattle.cd_resolve.specs.Errors.{IsToldError};
 ghost use Rattle.cd_resolve.specs.Faults.{Fault, IsFaultOfType, IsFaultOfDeclarations};
 ghost use Rattle.cd_resolve.specs.Named.{plain_names, declared_by};
 ghost use Rattle.cd_resolve.specs.Wanted.{wanted_tree};
-ghost use Rattle.cd_resolve.specs.Inner.Check.{found_in_type, all_faults, IsLeast};
-ghost use Rattle.cd_resolve.specs.Inner.Cycles.{least_from};
+ghost use Rattle.cd_resolve.specs.Inner.Check.{found_in_type, all_faults};
+ghost use Rattle.cd_resolve.specs.Least.{least_from, IsLeast};
 ghost use Rattle.cd_resolve.specs.Inner.Equation.{plain_equations};
 ghost use Rattle.cd_resolve.specs.Inner.Names.{numbered};
 ghost use Rattle.cd_resolve.specs.Inner.PlainBase.{names_outside, lists_outside};
-ghost use Rattle.cd_resolve.specs.Inner.PlainFound.{plain_told, plain_found};
+ghost use Rattle.cd_resolve.specs.PlainTold.{plain_told};
+ghost use Rattle.cd_resolve.specs.Inner.PlainFound.{plain_found};
 ghost use Rattle.cd_resolve.specs.Inner.Walk.{walked, walked_list, walked_trees};
 
 use crate::base::Base;
@@ -22,10 +23,11 @@ use crate::cycle::tell_cycles;
 use crate::declare::walk_list;
 use crate::equation::Equation;
 use crate::error::NameError;
-use crate::found::{Found, Told};
-use crate::least::least;
+use crate::found::Found;
+use crate::least::tell_least;
 use crate::names::Names;
 use crate::state::State;
+use crate::told::Told;
 use crate::walk::walk;
 use crate::wanted::WantedType;
 use cd_graph::built_in::ANY;
@@ -196,10 +198,7 @@ fn told(alloc: Global, found: Found<'_>) -> Result<(), NameError>
         (λ error. IsLeast (least_from None (all_faults (plain_found found.entry))) error) }
 {
     let faults = faults_of(alloc, found)?;
-    match least(faults.as_slice()) {
-        Some(told) => Err(error_of(&told)),
-        None => Ok(()),
-    }
+    tell_least(alloc, faults.as_slice())
 }
 
 // All faults of what is found.
@@ -210,18 +209,4 @@ fn faults_of<'t>(alloc: Global, found: Found<'t>) -> Result<Vec<Told<'t>>, Alloc
     let mut faults = found.faults;
     tell_cycles(alloc, found.links.as_slice(), &mut faults)?;
     Ok(faults)
-}
-
-// The error that tells a fault.
-fn error_of(told: &Told<'_>) -> NameError
-    ensures { IsLeast (Some (plain_told told.now)) result }
-{
-    match told.name.copy() {
-        Ok(name) => NameError::Fault {
-            fault: told.fault,
-            name,
-            at: told.at,
-        },
-        Err(_) => NameError::Memory,
-    }
 }

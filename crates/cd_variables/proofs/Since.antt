@@ -3,8 +3,8 @@ use Rattle.std.proofs.Common.{◌≡◌, ◌∙◌, ap, sym, ℕ, List, ◌++◌
 use Rattle.std.proofs.lemmas.List.{length-map, drop-map}
 use Rattle.std.proofs.Math.Seq.{drop-append_seam}
 use Rattle.cd_variables.specs.Occurrences.{Occurrence}
-use Rattle.cd_variables.specs.PlainTold.{plain_occurrence}
-use Rattle.cd_variables.specs.declared.told.Occurrence.{Occurrence as CodeOccurrence}
+use Rattle.cd_variables.specs.PlainOccurrences.{plain_occurrence}
+use Rattle.cd_variables.specs.declared.occurrence.Occurrence.{Occurrence as CodeOccurrence}
 
 -- from here on the rest of a list is left
 pub last_part : (before all since : List CodeOccurrence) (from : ℕ) (part : List Occurrence)

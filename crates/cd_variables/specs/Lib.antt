@@ -1,5 +1,5 @@
 pub mod Occurrences
 pub mod VariableFaults
-pub mod PlainTold
+pub mod PlainOccurrences
 pub mod FindingMisplaced
 pub mod FindingVariables

@@ -8,12 +8,14 @@ ghost use Rattle.cd_variables.specs.VariableFaults.{regular_begins, differs};
 ghost use Rattle.cd_variables.specs.FindingVariables.{choice_faults, other_faults};
 ghost use Rattle.cd_variables.specs.FindingVariables.{told_if, differ, names_among};
 ghost use Rattle.cd_variables.specs.FindingVariables.{regular_faults};
-ghost use Rattle.cd_variables.specs.PlainTold.{plain_occurrence, plain_told};
+ghost use Rattle.cd_variables.specs.PlainOccurrences.{plain_occurrence};
+ghost use Rattle.cd_resolve.specs.PlainTold.{plain_told};
 
 use crate::name_set::{NameSet, tell_if_differs};
+use crate::occurrence::Occurrence;
 use crate::regular::check_regular;
 use crate::seen::since;
-use crate::told::{Occurrence, Told};
+use cd_resolve::told::Told;
 use cd_syntax::type_tree::{RegTree, RegTrees};
 use std::alloc::{AllocError, Global};
 

@@ -6,11 +6,11 @@ mod choice;
 pub mod laws;
 mod misplaced;
 mod name_set;
+pub mod occurrence;
 mod pattern;
 mod regular;
 mod row;
 mod seen;
-pub mod told;
 mod turn;
 
 pub use pattern::check_variables;

@@ -10,10 +10,10 @@ ghost use Rattle.cd_variables.specs.FindingMisplaced.{misplaced_in_declarations}
 ghost use Rattle.cd_variables.specs.FindingMisplaced.{misplaced_in_regular};
 ghost use Rattle.cd_variables.specs.FindingMisplaced.{misplaced_in_regular_kind};
 ghost use Rattle.cd_variables.specs.FindingMisplaced.{misplaced_in_regulars, one_misplaced};
-ghost use Rattle.cd_variables.specs.PlainTold.{plain_told};
+ghost use Rattle.cd_resolve.specs.PlainTold.{plain_told};
 
-use crate::told::Told;
 use cd_resolve::fault::NameFault;
+use cd_resolve::told::Told;
 use cd_syntax::name::Name;
 use cd_syntax::type_tree::{
     Declarations, FieldTrees, RegKind, RegTree, RegTrees, Signed, Tree, TreeKind, Trees,

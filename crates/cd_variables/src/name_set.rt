@@ -4,12 +4,14 @@ ghost use Rattle.std.specs.List.{list_all};
 ghost use Rattle.cd_variables.specs.VariableFaults.{differs};
 ghost use Rattle.cd_variables.specs.FindingVariables.{has_name, names_among, differ, told_if};
 ghost use Rattle.cd_variables.specs.FindingVariables.{HaveSameNames};
-ghost use Rattle.cd_variables.specs.PlainTold.{plain_occurrence, plain_told};
+ghost use Rattle.cd_variables.specs.PlainOccurrences.{plain_occurrence};
+ghost use Rattle.cd_resolve.specs.PlainTold.{plain_told};
 
+use crate::occurrence::Occurrence;
 use crate::seen::has;
-use crate::told::{Occurrence, Told};
 use cd_resolve::NameIndex;
 use cd_resolve::fault::NameFault;
+use cd_resolve::told::Told;
 use cd_syntax::name::Name;
 use std::alloc::{AllocError, Global};
 use std::marker::Model;

@@ -5,14 +5,16 @@ ghost use Rattle.cd_syntax.specs.PlainTree.{plain, plain_kind, plain_declaration
 ghost use Rattle.cd_syntax.specs.PlainTree.{plain_regular};
 ghost use Rattle.cd_variables.specs.Occurrences.{bound as bound_by, bound_in, one};
 ghost use Rattle.cd_variables.specs.FindingVariables.{variable_faults, kind_faults};
-ghost use Rattle.cd_variables.specs.PlainTold.{plain_occurrence, plain_told};
+ghost use Rattle.cd_variables.specs.PlainOccurrences.{plain_occurrence};
+ghost use Rattle.cd_resolve.specs.PlainTold.{plain_told};
 
 use crate::alternatives::check_union;
 use crate::misplaced::{tell_in_declarations, tell_in_trees, tell_misplaced};
+use crate::occurrence::Occurrence;
 use crate::regular::check_regular;
 use crate::row::{check_meet, check_record, check_tuple, check_xml};
-use crate::told::{Occurrence, Told};
 use cd_resolve::NameIndex;
+use cd_resolve::told::Told;
 use cd_syntax::name::Name;
 use cd_syntax::type_tree::{Declarations, RegTree, Tree, TreeKind};
 use std::alloc::{AllocError, Global};

@@ -7,13 +7,15 @@ ghost use Rattle.cd_variables.specs.Occurrences.{gathered as gathered_ones, gath
 ghost use Rattle.cd_variables.specs.VariableFaults.{repeats};
 ghost use Rattle.cd_variables.specs.FindingVariables.{regular_faults, regular_kind_faults};
 ghost use Rattle.cd_variables.specs.FindingVariables.{told_again, told_of_each};
-ghost use Rattle.cd_variables.specs.PlainTold.{plain_occurrence, plain_told};
+ghost use Rattle.cd_variables.specs.PlainOccurrences.{plain_occurrence};
+ghost use Rattle.cd_resolve.specs.PlainTold.{plain_told};
 
 use crate::choice::check_choice;
+use crate::occurrence::Occurrence;
 use crate::pattern::check_variables;
 use crate::seen::{since, tell_inside, tell_repeats};
-use crate::told::{Occurrence, Told};
 use crate::turn::check_turn;
+use cd_resolve::told::Told;
 use cd_syntax::name::Name;
 use cd_syntax::type_tree::{RegKind, RegTree};
 use std::alloc::{AllocError, Global};

@@ -8,13 +8,15 @@ ghost use Rattle.cd_variables.specs.FindingVariables.{names_among, told_again};
 ghost use Rattle.cd_variables.specs.FindingVariables.{variable_faults, kind_faults};
 ghost use Rattle.cd_variables.specs.FindingVariables.{row_faults, sign_faults};
 ghost use Rattle.cd_variables.specs.FindingVariables.{field_faults, sides_in};
-ghost use Rattle.cd_variables.specs.PlainTold.{plain_occurrence, plain_told};
+ghost use Rattle.cd_variables.specs.PlainOccurrences.{plain_occurrence};
+ghost use Rattle.cd_resolve.specs.PlainTold.{plain_told};
 
 use crate::misplaced::tell_misplaced;
+use crate::occurrence::Occurrence;
 use crate::pattern::check_variables;
 use crate::seen::{add_names, since, tell_again};
-use crate::told::{Occurrence, Told};
 use cd_resolve::NameIndex;
+use cd_resolve::told::Told;
 use cd_syntax::type_tree::{FieldTrees, Signed, Tree, Trees};
 use std::alloc::{AllocError, Global};
 

@@ -3,11 +3,13 @@ ghost use Rattle.std.specs.Prelude.{◌≡◌, ◌++◌, ◌∷◌, [], IfOk, ma
 ghost use Rattle.cd_variables.specs.VariableFaults.{repeats};
 ghost use Rattle.cd_variables.specs.FindingVariables.{has_name, names_among, told_again};
 ghost use Rattle.cd_variables.specs.FindingVariables.{told_of_each};
-ghost use Rattle.cd_variables.specs.PlainTold.{plain_occurrence, plain_told};
+ghost use Rattle.cd_variables.specs.PlainOccurrences.{plain_occurrence};
+ghost use Rattle.cd_resolve.specs.PlainTold.{plain_told};
 
-use crate::told::{Occurrence, Told};
+use crate::occurrence::Occurrence;
 use cd_resolve::NameIndex;
 use cd_resolve::fault::NameFault;
+use cd_resolve::told::Told;
 use cd_syntax::name::Name;
 use std::alloc::AllocError;
 

@@ -5,12 +5,14 @@ ghost use Rattle.cd_variables.specs.Occurrences.{plain as plain_ones, plain_of_a
 ghost use Rattle.cd_variables.specs.Occurrences.{gathered as gathered_ones, gathered_of_all};
 ghost use Rattle.cd_variables.specs.FindingVariables.{names_among, told_again};
 ghost use Rattle.cd_variables.specs.FindingVariables.{regular_faults, turn_faults};
-ghost use Rattle.cd_variables.specs.PlainTold.{plain_occurrence, plain_told};
+ghost use Rattle.cd_variables.specs.PlainOccurrences.{plain_occurrence};
+ghost use Rattle.cd_resolve.specs.PlainTold.{plain_told};
 
+use crate::occurrence::Occurrence;
 use crate::regular::check_regular;
 use crate::seen::{add_names, since, tell_again};
-use crate::told::{Occurrence, Told};
 use cd_resolve::NameIndex;
+use cd_resolve::told::Told;
 use cd_syntax::type_tree::{RegTree, RegTrees};
 use std::alloc::{AllocError, Global};
 

@@ -8,7 +8,7 @@ use Rattle.cd_program.specs.Expr.{expr, Kind, Variable, Record, FunctionTree}
 use Rattle.cd_model.specs.AllOf.{AllOf}
 use Rattle.cd_resolve.specs.Faults.{Fault, IsFaultOfType, IsFaultOfDeclarations}
 use Rattle.cd_resolve.specs.Inner.BuiltinNames.{is_builtin}
-use Rattle.cd_resolve.specs.Inner.Cycles.{least_from}
+use Rattle.cd_resolve.specs.Least.{least_from}
 use Rattle.cd_resolve.specs.Inner.Check.{found_in_type, all_faults}
 use Rattle.cd_resolve.proofs.Checking.{type_sound, declared_sound}
 use Rattle.cd_variables.specs.VariableFaults.{IsOneIn}

@@ -1,11 +1,9 @@
 -- What is told of a type, and of type declarations, from one walk over it.
-use Rattle.std.specs.Prelude.{◌≡◌, List, [], ◌∷◌, Option, Some, None}
+use Rattle.std.specs.Prelude.{List, [], ◌∷◌, None}
 use Rattle.cd_syntax.specs.TypeTree.{Tree, Declarations}
 use Rattle.cd_resolve.specs.Faults.{Fault}
 use Rattle.cd_resolve.specs.Inner.Finding.{State, innermost, found_in, found_in_list}
 use Rattle.cd_resolve.specs.Inner.Cycles.{cycles_told}
-use Rattle.cd_resolve.specs.declared.error.NameError.{NameError}
-use Rattle.cd_resolve.specs.declared.error.NameError.TheVariants as error
 
 -- the declarations that a type sees are entered, and not walked over
 abbrev pub found_in_type : Declarations → Tree → State Declarations
@@ -19,9 +17,3 @@ found_in_declarations declared = found_in_list innermost [] declared
 
 abbrev pub all_faults : State Declarations → List Fault
 all_faults s = cycles_told s.links s.links s.faults
-
--- the error is this fault; want of memory says nothing
-abbrev pub IsLeast : Option Fault → NameError → Type 0
-IsLeast least (error.Fault fault name at) = least
-    ≡ Some (record { fault = fault; name = name; at = at })
-IsLeast least error.Memory = Unit {0}

@@ -1,10 +1,9 @@
 -- The declared names that lead back to themselves by links, and the least of all faults.
-use Rattle.std.specs.Prelude.{ℕ, zero, suc, ◌==◌, nat_lt, Bool, true, false, not, ◌&&◌, ◌||◌, List}
+use Rattle.std.specs.Prelude.{ℕ, zero, suc, ◌==◌, Bool, true, false, not, ◌&&◌, List}
 use Rattle.std.specs.Prelude.{[], ◌∷◌, ◌++◌, length, Option, Some, None, bytes_eq, slice_get}
-use Rattle.std.specs.Prelude.{if◌then◌else◌}
 use Rattle.std.specs.List.{list_any}
 use Rattle.cd_resolve.specs.declared.fault.NameFault.TheVariants.{Unguarded}
-use Rattle.cd_resolve.specs.Faults.{Fault, rank}
+use Rattle.cd_resolve.specs.Faults.{Fault}
 use Rattle.cd_resolve.specs.Inner.Finding.{Id, Link}
 
 abbrev pub same_id : Id → Id → Bool
@@ -53,16 +52,3 @@ abbrev pub cycles_told : List Link → List Link → List Fault → List Fault
 cycles_told links [] faults = faults
 cycles_told links (link ∷ rest) faults =
     cycles_told links rest (told_cycle (is_cyclic links link.to) link faults)
-
--- whether the one is told before the other, and the least of a list of faults and one before them
-abbrev pub goes_before : Fault → Fault → Bool
-goes_before one other = nat_lt one.at other.at || one.at == other.at
-    && nat_lt (rank one.fault) (rank other.fault)
-
-abbrev pub lesser : Option Fault → Fault → Option Fault
-lesser None one = Some one
-lesser (Some least) one = if goes_before one least then Some one else Some least
-
-abbrev pub least_from : Option Fault → List Fault → Option Fault
-least_from least [] = least
-least_from least (one ∷ rest) = least_from (lesser least one) rest

@@ -3,18 +3,14 @@ use Rattle.std.specs.Prelude.{List, Option, map, length}
 use Rattle.std.specs.Option.{option_map}
 use Rattle.cd_syntax.specs.TypeTree.{Declarations}
 use Rattle.cd_syntax.specs.PlainTree.{plain_declarations}
-use Rattle.cd_resolve.specs.Faults.{Fault}
+use Rattle.cd_resolve.specs.PlainTold.{plain_told}
 use Rattle.cd_resolve.specs.Inner.Finding as walk
 use Rattle.cd_resolve.specs.Inner.Finding.{State}
-use Rattle.cd_resolve.specs.declared.found.Told.{Told}
 use Rattle.cd_resolve.specs.declared.frame.Frame.{Frame}
 use Rattle.cd_resolve.specs.declared.found.Id.{Id}
 use Rattle.cd_resolve.specs.declared.found.Link.{Link}
 use Rattle.cd_resolve.specs.declared.found.Place.{Place}
 use Rattle.cd_resolve.specs.declared.found.Found.{Found}
-
-abbrev pub plain_told : Told → Fault
-plain_told one = record { fault = one.fault; name = one.name.now; at = one.at }
 
 abbrev pub list_frame : Frame → walk.Frame
 list_frame frame = record {

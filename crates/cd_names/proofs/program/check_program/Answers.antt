@@ -6,9 +6,9 @@ use Rattle.cd_resolve.specs.Named.{declared_by}
 use Rattle.cd_names.specs.ProgramFaults.{IsFaultOfProgram}
 use Rattle.cd_variables.specs.VariableFaults.{IsOneIn}
 use Rattle.cd_names.specs.Inner.Faults.{IsFaultOfOne, Tells}
-use Rattle.cd_names.specs.Inner.Least.{first_of}
+use Rattle.cd_resolve.specs.Least.{first_of}
 use Rattle.cd_names.specs.Inner.PlainFound.{plain_found, plain_trees}
-use Rattle.cd_variables.specs.PlainTold.{plain_told}
+use Rattle.cd_resolve.specs.PlainTold.{plain_told}
 use Rattle.cd_names.proofs.FirstTold.{list_told}
 use Rattle.cd_names.proofs.FoundMade.{made_program}
 use Rattle.cd_names.proofs.ProgramTold.{program_told}

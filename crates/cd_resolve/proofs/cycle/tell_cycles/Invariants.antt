@@ -1,6 +1,7 @@
 use Rattle.std.proofs.Common.{◌≡◌, map, drop}
 use Rattle.cd_resolve.specs.Inner.Cycles.{cycles_told}
-use Rattle.cd_resolve.specs.Inner.PlainFound.{plain_told, plain_link}
+use Rattle.cd_resolve.specs.PlainTold.{plain_told}
+use Rattle.cd_resolve.specs.Inner.PlainFound.{plain_link}
 use Rattle.cd_resolve.proofs.cycle.tell_cycles.Given as goal
 
 abbrev pub invariant-loop-link : goal.invariant-loop-link

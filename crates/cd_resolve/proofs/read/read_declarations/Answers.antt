@@ -1,7 +1,7 @@
 use Rattle.std.proofs.Common.{◌≡◌, None, [], ap, ◌∙◌, subst}
 use Rattle.cd_syntax.specs.PlainTree.{plain_declarations}
-use Rattle.cd_resolve.specs.Inner.Check.{all_faults, IsLeast}
-use Rattle.cd_resolve.specs.Inner.Cycles.{least_from}
+use Rattle.cd_resolve.specs.Inner.Check.{all_faults}
+use Rattle.cd_resolve.specs.Least.{least_from, IsLeast}
 use Rattle.cd_resolve.specs.Inner.Finding.{innermost, found_in_list}
 use Rattle.cd_resolve.proofs.Checking.{declared_sound, declared_told}
 use Rattle.cd_resolve.proofs.TypesArePatterns.{declarations_are_patterns}

@@ -1,8 +1,8 @@
 use Rattle.std.proofs.Common.{◌≡◌, None, subst}
 use Rattle.cd_syntax.specs.PlainTree.{plain}
 use Rattle.cd_resolve.specs.Named.{declared_by}
-use Rattle.cd_resolve.specs.Inner.Check.{all_faults, IsLeast}
-use Rattle.cd_resolve.specs.Inner.Cycles.{least_from}
+use Rattle.cd_resolve.specs.Inner.Check.{all_faults}
+use Rattle.cd_resolve.specs.Least.{least_from, IsLeast}
 use Rattle.cd_resolve.proofs.Checking.{type_sound, type_told}
 use Rattle.cd_resolve.proofs.read.read_type.Goals as goal
 

@@ -1,6 +1,6 @@
 use Rattle.std.proofs.Common.{◌≡◌, ◌++◌, map, drop}
 use Rattle.cd_variables.specs.FindingVariables.{names_among, HaveSameNames}
-use Rattle.cd_variables.specs.PlainTold.{plain_occurrence}
+use Rattle.cd_variables.specs.PlainOccurrences.{plain_occurrence}
 use Rattle.cd_variables.proofs.name_set.collect.Given as goal
 
 -- those that were added, and those that are left, are all

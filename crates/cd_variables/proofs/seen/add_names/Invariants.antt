@@ -1,6 +1,6 @@
 use Rattle.std.proofs.Common.{◌≡◌, ◌++◌, map, drop}
 use Rattle.cd_variables.specs.FindingVariables.{names_among}
-use Rattle.cd_variables.specs.PlainTold.{plain_occurrence}
+use Rattle.cd_variables.specs.PlainOccurrences.{plain_occurrence}
 use Rattle.cd_variables.proofs.seen.add_names.Given as goal
 
 -- those that were added, and those that are left, are all

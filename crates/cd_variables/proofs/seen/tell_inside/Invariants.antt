@@ -1,6 +1,7 @@
 use Rattle.std.proofs.Common.{◌≡◌, [], ◌∷◌, map, drop}
 use Rattle.cd_variables.specs.FindingVariables.{told_again}
-use Rattle.cd_variables.specs.PlainTold.{plain_occurrence, plain_told}
+use Rattle.cd_variables.specs.PlainOccurrences.{plain_occurrence}
+use Rattle.cd_resolve.specs.PlainTold.{plain_told}
 use Rattle.cd_variables.proofs.seen.tell_inside.Given as goal
 
 -- to go on from here gives what the whole gives from the start

@@ -1,5 +1,5 @@
 use Rattle.std.proofs.Common.{◌≡◌, ◌++◌, map, length}
-use Rattle.cd_variables.specs.PlainTold.{occurring}
+use Rattle.cd_variables.specs.PlainOccurrences.{occurring}
 use Rattle.cd_names.proofs.locals.Locals.enter_all.Given as goal
 
 -- to go on from here gives what the whole gives from the start

@@ -1,5 +1,5 @@
-//! Faults and occurrences as they are found.
-use cd_resolve::fault::NameFault;
+//! Faults as they are found.
+use crate::fault::NameFault;
 use cd_syntax::name::Name;
 
 /// A fault of a name, and where it is.
@@ -10,14 +10,5 @@ pub struct Told<'t> {
     /// The name that it is told of, if it is told of one.
     pub name: Option<&'t Name>,
     /// Its place.
-    pub at: usize,
-}
-
-/// A variable where it stands.
-#[derive(Clone, Copy)]
-pub struct Occurrence<'t> {
-    /// Its name.
-    pub name: &'t Name,
-    /// The place.
     pub at: usize,
 }
