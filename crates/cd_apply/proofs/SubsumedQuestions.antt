@@ -8,7 +8,7 @@ use Rattle.cd_sets.specs.declared.node_id.NodeId.{NodeId}
 use Rattle.cd_sets.specs.declared.question.Question.{Question}
 use Rattle.cd_sets.proofs.Members.{id_from_number}
 use Rattle.cd_model.specs.AllOf.{AllOf, AnyOf}
-use Rattle.cd_rules.specs.Family.{AsksNoLess}
+use Rattle.cd_rules.specs.Family.{IsSubsumedBy}
 use Rattle.cd_apply.specs.Inner.Subsuming.{asks_no_less}
 
 -- both are so, and one of two is
@@ -39,11 +39,11 @@ held ids id is = one_shown (λ other. other.0 == id.0) (λ other. other ≡ id)
     (λ other same. id_from_number other id (eqb-true other.0 id.0 same)) ids is
 
 pub is_subsuming : (question : Question) (others : List Question)
-    → list_any (asks_no_less question) others ≡ true → AnyOf (AsksNoLess question) others
+    → list_any (asks_no_less question) others ≡ true → AnyOf (IsSubsumedBy question) others
 is_subsuming question others is =
-    one_shown (asks_no_less question) (AsksNoLess question) no_less others is
+    one_shown (asks_no_less question) (IsSubsumedBy question) no_less others is
   where
-    no_less : (other : Question) → asks_no_less question other ≡ true → AsksNoLess question other
+    no_less : (other : Question) → asks_no_less question other ≡ true → IsSubsumedBy question other
     no_less other is =
         let both = both_true (list_all (holds question.pos) other.pos)
         (list_all (holds question.neg) other.neg) is in (

@@ -9,7 +9,7 @@ use Rattle.cd_model.proofs.Apart.{element_apart}
 use Rattle.cd_model.proofs.ApartAtNodes.{nodes_keep}
 use Rattle.cd_model.proofs.DecidedAtNodes.{in_or_outside}
 use Rattle.cd_rules.specs.Clauses.{Pair}
-use Rattle.cd_rules.specs.Family.{AsksNoLess}
+use Rattle.cd_rules.specs.Family.{IsSubsumedBy}
 use Rattle.cd_rules.specs.Members.{HasElement}
 use Rattle.cd_rules.proofs.Among.{each_of_among}
 use Rattle.cd_model.proofs.Ones.{one_weaker, one_on_left, one_on_right, one_on_a_side}
@@ -135,10 +135,10 @@ module _ (graph : Graph) where
 
   -- what a question holds that asks no less than one of some questions is in one of these
   pub in_subsuming : (results : Question) (questions : List Question)
-      → AnyOf (AsksNoLess results) questions → (e : Thing) → IsInQuestion graph results e
+      → AnyOf (IsSubsumedBy results) questions → (e : Thing) → IsInQuestion graph results e
       → IsInOne graph questions e
   in_subsuming results questions some e is =
-      one_weaker (AsksNoLess results) (λ question. IsInQuestion graph question e)
+      one_weaker (IsSubsumedBy results) (λ question. IsInQuestion graph question e)
       (λ question less. (
         each_of_among (λ id. in_node graph e id true) question.pos results.pos less.0 is.0,
         each_of_among (λ id. in_node graph e id false) question.neg results.neg less.1 is.1,

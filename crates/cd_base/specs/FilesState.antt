@@ -7,17 +7,17 @@ use Rattle.cd_base.specs.declared.files.ReadError.TheVariants.{Failed, Memory}
 -- the bytes of the file of each name, where they are told; the count of faults, which never falls;
 -- and the name of the latest read that failed
 pub record FilesState : Type 0 where
-  pub told : List ℕ → Option (List ℕ)
+  pub known : List ℕ → Option (List ℕ)
   pub faults : ℕ
   pub last : Option (List ℕ)
 
 -- these are the first bytes of a file that is told: `most` of them, or all where there are fewer
-abbrev pub IsFrontOf : Option (List ℕ) → ℕ → List ℕ → Type 0
-IsFrontOf told most bytes = IfSome told (λ all. bytes ≡ take most all)
+abbrev pub IsPrefixOf : Option (List ℕ) → ℕ → List ℕ → Type 0
+IsPrefixOf known most bytes = IfSome known (λ all. bytes ≡ take most all)
 
 -- the count of faults rose by a read of this name, and what is told stayed
 pub record FailsToRead (old new : FilesState) (name : List ℕ) : Type 0 where
-  pub told : new.told ≡ old.told
+  pub known : new.known ≡ old.known
   pub rose : Rose old.faults new.faults
   pub never_falls : old.faults ≤ new.faults
   pub last : new.last ≡ Some name

@@ -25,7 +25,7 @@ held files name = option_map (λ file. file.1) (find (λ file. bytes_eq file.0 n
 
 -- what such files tell: all that they hold
 abbrev pub memory_files : MemoryFilesState → FilesState
-memory_files f = record { told = held f.files; faults = f.faults; last = f.last }
+memory_files f = record { known = held f.files; faults = f.faults; last = f.last }
 
 -- the read was to fail, or no file has its name
 abbrev pub IsRefused : MemoryFilesState → ℕ → List ℕ → Type 0

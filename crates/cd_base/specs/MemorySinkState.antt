@@ -13,7 +13,7 @@ pub record MemorySinkState : Type 0 where
 
 -- what such a sink tells: all that it holds
 abbrev pub sink_state : MemorySinkState → SinkState
-sink_state s = record { told = Some s.bytes; faults = s.faults }
+sink_state s = record { known = Some s.bytes; faults = s.faults }
 
 -- how many bytes the put of this number keeps, where it is to fail; the first entry of a number
 -- counts

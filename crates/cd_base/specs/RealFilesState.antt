@@ -8,4 +8,4 @@ pub record RealFilesState : Type 0 where
   pub last : Option (List ℕ)
 
 abbrev pub files_state : RealFilesState → FilesState
-files_state f = record { told = λ name. None; faults = f.faults; last = f.last }
+files_state f = record { known = λ name. None; faults = f.faults; last = f.last }

@@ -1,5 +1,5 @@
 ghost use Rattle.std.specs.Prelude.{◌≡◌, None, IfOk, OnOk, IfErr};
-ghost use Rattle.cd_base.specs.FilesState.{FilesState, IsFrontOf, AfterRefusedRead};
+ghost use Rattle.cd_base.specs.FilesState.{FilesState, IsPrefixOf, AfterRefusedRead};
 
 use std::alloc::AllocError;
 use thiserror::Error;
@@ -32,8 +32,8 @@ pub trait Files {
 
     /// The first `most` bytes of a file, or all of them where there are fewer.
     fn read(&mut self, name: &str, most: usize) -> Result<Vec<u8>, ReadError>
-        ensures front { IfOk result
-            (λ bytes. IsFrontOf ((state self.old).told name.now) most bytes.items) }
+        ensures prefix { IfOk result
+            (λ bytes. IsPrefixOf ((state self.old).known name.now) most bytes.items) }
         ensures ok { OnOk result (state self.new ≡ state self.old) }
         ensures err { IfErr result
             (λ error. AfterRefusedRead error (state self.old) (state self.new) name.now) };

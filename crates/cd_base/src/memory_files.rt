@@ -2,7 +2,7 @@ ghost use Rattle.std.specs.Prelude.{◌≡◌, ◌⊎◌, Some, None, OnOk, IfOk
 ghost use Rattle.std.specs.Prelude.{Contains};
 ghost use Rattle.std.specs.Option.{option_map};
 ghost use Rattle.cd_base.specs.Faults.{one_more};
-ghost use Rattle.cd_base.specs.FilesState.{IsFrontOf, AfterRefusedRead};
+ghost use Rattle.cd_base.specs.FilesState.{IsPrefixOf, AfterRefusedRead};
 ghost use Rattle.cd_base.specs.MemoryFilesState.{contents, held, memory_files, IsRefused};
 
 use crate::files::{Files, ReadError};
@@ -63,8 +63,8 @@ impl Files for MemoryFiles {
     ghost state = { memory_files };
 
     fn read(&mut self, name: &str, most: usize) -> Result<Vec<u8>, ReadError>
-        ensures front { IfOk result
-            (λ bytes. IsFrontOf (held self.old.files name.now) most bytes.items) }
+        ensures prefix { IfOk result
+            (λ bytes. IsPrefixOf (held self.old.files name.now) most bytes.items) }
         ensures ok { OnOk result (memory_files self.new ≡ memory_files self.old) }
         ensures err { IfErr result
             (λ error. AfterRefusedRead error (memory_files self.old)

@@ -1,6 +1,6 @@
 ghost use Rattle.std.specs.Prelude.{◌≡◌, ◌≤◌, None, OnOk, IfOk, IfErr, IsErrOf, vec_len};
 ghost use Rattle.cd_base.specs.Faults.{one_more};
-ghost use Rattle.cd_base.specs.FilesState.{IsFrontOf, AfterRefusedRead};
+ghost use Rattle.cd_base.specs.FilesState.{IsPrefixOf, AfterRefusedRead};
 ghost use Rattle.cd_base.specs.RealFilesState.{files_state};
 
 use crate::files::{Files, ReadError};
@@ -48,8 +48,8 @@ impl<R: rt::Files> Files for RealFiles<R> {
     ghost state = { files_state };
 
     fn read(&mut self, name: &str, most: usize) -> Result<Vec<u8>, ReadError>
-        ensures front { IfOk result
-            (λ bytes. IsFrontOf ((files_state self.old).told name.now) most bytes.items) }
+        ensures prefix { IfOk result
+            (λ bytes. IsPrefixOf ((files_state self.old).known name.now) most bytes.items) }
         ensures ok { OnOk result (files_state self.new ≡ files_state self.old) }
         ensures err { IfErr result
             (λ error. AfterRefusedRead error (files_state self.old)
@@ -58,7 +58,7 @@ impl<R: rt::Files> Files for RealFiles<R> {
         ensures failed_once { IsErrOf result ReadError.Failed
             → self.new.faults ≡ one_more self.old.faults }
     {
-        match read_front(self.alloc, &self.runtime, name, most) {
+        match read_prefix(self.alloc, &self.runtime, name, most) {
             Ok(bytes) => Ok(bytes),
             Err(error) if error.kind() == ErrorKind::OutOfMemory => Err(ReadError::Memory),
             Err(_) => {
@@ -72,7 +72,7 @@ impl<R: rt::Files> Files for RealFiles<R> {
 }
 
 // The front of a file.
-fn read_front<R: rt::Files>(
+fn read_prefix<R: rt::Files>(
     alloc: Global,
     runtime: &R,
     name: &str,
@@ -80,12 +80,12 @@ fn read_front<R: rt::Files>(
 ) -> io::Result<Vec<u8>>
     ensures { IfOk result (λ bytes. vec_len bytes ≤ most) }
 {
-    front(alloc, File::open(runtime, name)?, most)
+    prefix(alloc, File::open(runtime, name)?, most)
 }
 
 // The first `most` bytes that a reader gives, or all of them where there are fewer.
-fn front<R: Read + Drop>(alloc: Global, reader: R, most: usize) -> io::Result<Vec<u8>>
-    ensures front { IfOk result (λ bytes. IsFrontOf (R.remaining reader) most bytes.items) }
+fn prefix<R: Read + Drop>(alloc: Global, reader: R, most: usize) -> io::Result<Vec<u8>>
+    ensures prefix { IfOk result (λ bytes. IsPrefixOf (R.remaining reader) most bytes.items) }
     ensures within { IfOk result (λ bytes. vec_len bytes ≤ most) }
 {
     let mut bytes = Vec::new(alloc);

@@ -28,13 +28,13 @@ impl Model for RealSink {
 
     ghost Value = { SinkState };
 
-    ghost view = { λ s. record { told = None; faults = s.faults } };
+    ghost view = { λ s. record { known = None; faults = s.faults } };
 }
 
 impl RealSink {
     /// Standard output.
     pub fn output(stream: Stdout) -> RealSink
-        ensures { result ≡ record { told = None; faults = 0 } }
+        ensures { result ≡ record { known = None; faults = 0 } }
     {
         RealSink {
             stream: Stream::Output(stream),
@@ -44,7 +44,7 @@ impl RealSink {
 
     /// Standard error.
     pub fn errors(stream: Stderr) -> RealSink
-        ensures { result ≡ record { told = None; faults = 0 } }
+        ensures { result ≡ record { known = None; faults = 0 } }
     {
         RealSink {
             stream: Stream::Errors(stream),

@@ -75,7 +75,7 @@ module _ (graph : Graph) (nodes : List (KernelNode NodeId)) where
     elements = (
       map (asked_fields named) rows,
       fields_are_rows (in_node graph) IsElement question
-          (λ row label e living. has_picked (in_node graph) row living label e) named rows rising are,
+          (λ row label e witnesses. has_picked (in_node graph) row witnesses label e) named rows rising are,
       refl,
     );
     values = λ others interfaces sound arrows. (

@@ -14,7 +14,7 @@ use Rattle.cd_matching.specs.Take.{at_label}
 use Rattle.cd_rules.specs.InRow.{thing_at, IsInCell}
 use Rattle.cd_rules.specs.Rows.{Cell, Row}
 use Rattle.cd_model.proofs.Ones.{one_of_map, one_weaker}
-use Rattle.cd_rows.specs.RecordRows.{cell_in, asked_at, InRecordRow, IsLivingRow, CoverRecords}
+use Rattle.cd_rows.specs.RecordRows.{cell_in, asked_at, InRecordRow, RowHasWitnesses, CoverRecords}
 use Rattle.cd_rows.specs.RecordRows.{AreRecordRows}
 use Rattle.cd_filter.specs.Rows.{ArePresent, InRow, Picks, CoverRows, AreRows}
 use Rattle.cd_captured.specs.Inner.FieldRows.{asked_fields}
@@ -79,7 +79,7 @@ module _ (answers : Thing → Answers NodeId) where
 
     -- a living row has a record with any thing at a label that it asks for there
     abbrev pub PickRecords : Type 0
-    PickRecords = (row : Row) (label : Name) (d : Thing) → IsLivingRow answers Sort row
+    PickRecords = (row : Row) (label : Name) (d : Thing) → RowHasWitnesses answers Sort row
         → IsLabel label → Sort d → asked (answers d) (asked_at row label) true
         → (fields : Fields) × Sort (Record fields) × InRecordRow answers fields row
         × (thing_at fields label ≡ Some d)
@@ -91,27 +91,27 @@ module _ (answers : Thing → Answers NodeId) where
           → InRecordRow answers fields row → asked (answers (Record fields)) question true
 
       picks_of : (named : List (Name × KernelField NodeId)) (before : Option Name) (row : Row)
-          → AreRisingLabels before named → IsLivingRow answers Sort row → AreOfQuestion row
+          → AreRisingLabels before named → RowHasWitnesses answers Sort row → AreOfQuestion row
           → Picks answers Sort question named (asked_fields named row)
-      picks_of [] before row rising living only = tt
-      picks_of ((label, Present number) ∷ named) before row rising living only = (
-        λ d sort inside. let it = pick row label d living rising.0 sort inside in
+      picks_of [] before row rising witnesses only = tt
+      picks_of ((label, Present number) ∷ named) before row rising witnesses only = (
+        λ d sort inside. let it = pick row label d witnesses rising.0 sort inside in
             (it.0, it.1, only it.0 it.1 it.2, same_label it.0 label ∙ it.3),
-        picks_of named (Some label) row rising.2 living only,
+        picks_of named (Some label) row rising.2 witnesses only,
       )
-      picks_of ((label, Optional type) ∷ named) before row rising living only =
-          picks_of named (Some label) row rising.2 living only
+      picks_of ((label, Optional type) ∷ named) before row rising witnesses only =
+          picks_of named (Some label) row rising.2 witnesses only
 
       all_pick : (named : List (Name × KernelField NodeId)) (rows : List Row)
-          → AreRisingLabels None named → AllOf (IsLivingRow answers Sort) rows
+          → AreRisingLabels None named → AllOf (RowHasWitnesses answers Sort) rows
           → ((fields : Fields) → Sort (Record fields) → AnyOf (InRecordRow answers fields) rows
           → asked (answers (Record fields)) question true)
           → AllOf (Picks answers Sort question named) (map (asked_fields named) rows)
-      all_pick named [] rising living only = tt
-      all_pick named (row ∷ rows) rising living only = (
-        picks_of named None row rising living.0
+      all_pick named [] rising witnesses only = tt
+      all_pick named (row ∷ rows) rising witnesses only = (
+        picks_of named None row rising witnesses.0
             (λ fields sort inside. only fields sort (inl inside)),
-        all_pick named rows rising living.1 (λ fields sort inside. only fields sort (inr inside)),
+        all_pick named rows rising witnesses.1 (λ fields sort inside. only fields sort (inr inside)),
       )
 
       pub fields_are_rows : (named : List (Name × KernelField NodeId)) (rows : List Row)
@@ -119,5 +119,5 @@ module _ (answers : Thing → Answers NodeId) where
           → AreRows answers Sort question named (map (asked_fields named) rows)
       fields_are_rows named rows rising are = record {
         covers = cover_fields named rows are.covers;
-        picks = all_pick named rows rising are.living are.only;
+        picks = all_pick named rows rising are.witnesses are.only;
       }

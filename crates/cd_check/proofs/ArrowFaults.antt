@@ -26,11 +26,11 @@ module _ (scope : Scope) (graph : Graph) (nodes : Nodes) (table : List Thing) (h
   pub arrow_uncovered : Fails graph nodes table (λ types. IsUncovered scope here branches (elements_of graph arrow.0)) error
       → Fails graph nodes table (ArrowFault scope graph here branches arrow) error
   arrow_uncovered = fails_more graph nodes table (λ types. IsUncovered scope here branches (elements_of graph arrow.0))
-      (ArrowFault scope graph here branches arrow) (λ types of at told d uncovered. inl uncovered) error
+      (ArrowFault scope graph here branches arrow) (λ types of at reported d uncovered. inl uncovered) error
 
   pub arrow_body_fault : Fails graph nodes table
       (λ types. BranchFault scope types [] (elements_of graph arrow.0) (Owes scope graph (Some (within_result arrow))) branches) error
       → Fails graph nodes table (ArrowFault scope graph here branches arrow) error
   arrow_body_fault = fails_more graph nodes table
       (λ types. BranchFault scope types [] (elements_of graph arrow.0) (Owes scope graph (Some (within_result arrow))) branches)
-      (ArrowFault scope graph here branches arrow) (λ types of at told d fault. inr fault) error
+      (ArrowFault scope graph here branches arrow) (λ types of at reported d fault. inr fault) error

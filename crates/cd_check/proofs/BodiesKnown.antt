@@ -69,11 +69,11 @@ module _ (scope : Scope) where
       pub least : (later : Graph) → IsLater graph later → (types : Types) → AreOfTypes old nodes types → (more : List (Option Typ))
           → AreBodiesLeast scope types [] next left more
           → AreBodiesLeast scope types [] start all (map (option_map (typ later)) found ++ more)
-      pub faults : (types : Types) (at : ℕ) (told : Rule) (d : Thing) → BranchFault scope types [] next (Owes scope old limit) left at told d
-          → BranchFault scope types [] start (Owes scope old limit) all at told d
+      pub faults : (types : Types) (at : ℕ) (reported : Rule) (d : Thing) → BranchFault scope types [] next (Owes scope old limit) left at reported d
+          → BranchFault scope types [] start (Owes scope old limit) all at reported d
 
     pub none_known : (all : Branches) → BodiesKnown old all all start []
-    none_known all = record { found = []; are = refl; least = λ later is types of more least. least; faults = λ types at told d fault. fault }
+    none_known all = record { found = []; are = refl; least = λ later is types of more least. least; faults = λ types at reported d fault. fault }
 
     pub all_known : (graph : Graph) → IsGraph graph → (all : Branches) (next : Set) (results : List NodeId)
         → BodiesKnown graph all NoBranch next results → BodiesLeast scope old nodes graph all start results
@@ -103,8 +103,8 @@ module _ (scope : Scope) where
                   (least types (types_later old graph first sound nodes old_nodes types of)),
               bodies_least_alike scope rest [] (pattern ∷ []) next_set matched back types more left,
             ));
-        faults = λ types at told d fault. known.faults types at told d
-            (inr (branch_fault_alike scope owed owed (owes_itself scope owed) types at told d rest [] (pattern ∷ []) next_set matched back fault));
+        faults = λ types at reported d fault. known.faults types at reported d
+            (inr (branch_fault_alike scope owed owed (owes_itself scope owed) types at reported d rest [] (pattern ∷ []) next_set matched back fault));
       }
         where
           next_set : Set
@@ -127,7 +127,7 @@ module _ (scope : Scope) where
       one_fails below table = fails_earlier old graph first sound nodes old_nodes table
           (λ types. BodyFault scope types pattern matched (Owes scope graph limit) body)
           (λ types. BranchFault scope types [] start (Owes scope old limit) all)
-          (λ types of at told d fault. known.faults types at told d (inl
-          (body_fault_alike scope (Owes scope graph limit) (Owes scope old limit) (owes_earlier scope old graph first sound limit below) types at told
+          (λ types of at reported d fault. known.faults types at reported d (inl
+          (body_fault_alike scope (Owes scope graph limit) (Owes scope old limit) (owes_earlier scope old graph first sound limit below) types at reported
           d [] [] matched matched (come_same scope [] matched matched (record { within = itself matched; whole = itself matched })) pattern body
           fault)))

@@ -32,29 +32,29 @@ module _ (scope : Scope) (old : Graph) (nodes : Nodes) (pattern : Tree) (matched
 
   module _ (table : List Thing) (owed : Owed scope) (error : CheckError) where
     -- the body has a fault, or breaks what it owes
-    abbrev Told : Types → ℕ → Rule → Thing → Type 0
-    Told types at told d = Fault scope types body at told d ⊎ owed types body at told d
+    abbrev Reported : Types → ℕ → Rule → Thing → Type 0
+    Reported types at reported d = Fault scope types body at reported d ⊎ owed types body at reported d
 
-    told_fails : Fails middle all table Told error → Fails old nodes table (λ types. BodyFault scope types pattern matched owed body) error
-    told_fails = reports_more table (λ at told d. (types : Types) → AreOfTypes middle all types → Told types at told d)
-        (λ at told d. (types : Types) → AreOfTypes old nodes types → BodyFault scope types pattern matched owed body at told d)
-        (λ at told d is types of. (e, captures, first, own, captured, is (own ++ types) (of_all types of))) error
+    reported_fails : Fails middle all table Reported error → Fails old nodes table (λ types. BodyFault scope types pattern matched owed body) error
+    reported_fails = reports_more table (λ at reported d. (types : Types) → AreOfTypes middle all types → Reported types at reported d)
+        (λ at reported d. (types : Types) → AreOfTypes old nodes types → BodyFault scope types pattern matched owed body at reported d)
+        (λ at reported d is types of. (e, captures, first, own, captured, is (own ++ types) (of_all types of))) error
 
     pub body_fails : Fails middle all table (λ types. Fault scope types body) error
         → Fails old nodes table (λ types. BodyFault scope types pattern matched owed body) error
-    body_fails fails = told_fails (fails_more middle all table (λ types. Fault scope types body) Told (λ types of at told d is. inl is) error fails)
+    body_fails fails = reported_fails (fails_more middle all table (λ types. Fault scope types body) Reported (λ types of at reported d is. inl is) error fails)
 
     owed_fails : Fails middle all table (λ types. owed types body) error
         → Fails old nodes table (λ types. BodyFault scope types pattern matched owed body) error
-    owed_fails fails = told_fails (fails_more middle all table (λ types. owed types body) Told (λ types of at told d is. inr is) error fails)
+    owed_fails fails = reported_fails (fails_more middle all table (λ types. owed types body) Reported (λ types of at reported d is. inr is) error fails)
 
   -- a known body is beyond the limit
   pub limit_fails : (new : Graph) (id : NodeId) → IsKnown middle all scope new body id → (table : List Thing) (limit : Option Limit)
       → ((is : Limit) → limit ≡ Some is → elements_of old is.node ⊆ elements_of new is.node) → (at : ℕ) → at ≡ place_of body
       → (error : CheckError) → IsBeyond new table id limit at error
       → Fails old nodes table (λ types. BodyFault scope types pattern matched (Owes scope old limit) body) error
-  limit_fails new id known table None holds at place error beyond = reports_more table (λ place told d. ⊥)
-      (λ at told d. (types : Types) → AreOfTypes old nodes types → BodyFault scope types pattern matched (Owes scope old None) body at told d)
-      (λ at told d never types of. absurd never) error beyond
+  limit_fails new id known table None holds at place error beyond = reports_more table (λ place reported d. ⊥)
+      (λ at reported d. (types : Types) → AreOfTypes old nodes types → BodyFault scope types pattern matched (Owes scope old None) body at reported d)
+      (λ at reported d never types of. absurd never) error beyond
   limit_fails new id known table (Some limit) holds at place error beyond = owed_fails table (Owes scope old (Some limit)) error
       (breaks scope middle all new body id known limit.node (elements_of old limit.node) (holds limit refl) at place limit.rule table error beyond)

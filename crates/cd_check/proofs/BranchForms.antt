@@ -113,10 +113,10 @@ module _ (scope : Scope) (old : Graph) (sound : IsGraph old) (nodes : Nodes) (ol
     match_fails table here = fails_earlier old first is_first sound nodes old_nodes table
         (λ types. CoveringFault scope types here (elements_of first matched) (Nothing scope) branches)
         (λ types. KindFault scope types here (Match value branches))
-        (λ types of at told d fault. inr (
+        (λ types of at reported d fault. inr (
           some types of,
           covering_same scope (Nothing scope) (Nothing scope) (owes_itself scope (Nothing scope))
-              types at told d here branches (elements_of first matched) (Least scope types value) (same_least types of) fault,
+              types at reported d here branches (elements_of first matched) (Least scope types value) (same_least types of) fault,
         ))
 
   -- the body of `let` is checked from a second graph on
@@ -159,20 +159,20 @@ module _ (scope : Scope) (old : Graph) (sound : IsGraph old) (nodes : Nodes) (ol
     let_fails table here = fails_earlier old second (later_still old first second is_first is_second) sound nodes old_nodes table
         (λ types. BodyFault scope types pattern (elements_of second matched) (Owes scope second None) rest)
         (λ types. KindFault scope types here (Let pattern value rest))
-        (λ types of at told d fault. inr (
+        (λ types of at reported d fault. inr (
           some types of,
-          inr (by types at told d (body_fault_alike scope (Nothing scope) (Nothing scope)
-              (owes_itself scope (Nothing scope)) types at told d [] [] (elements_of second matched) (Least scope types value)
+          inr (by types at reported d (body_fault_alike scope (Nothing scope) (Nothing scope)
+              (owes_itself scope (Nothing scope)) types at reported d [] [] (elements_of second matched) (Least scope types value)
               (come_same scope [] (elements_of second matched) (Least scope types value) (matched_least types of)) pattern rest fault)),
         ))
       where
-        by : (types : Types) (at : ℕ) (told : Rule) (d : Thing)
-            → FirstFault scope types [] pattern (Least scope types value) (Nothing scope) rest at told d
+        by : (types : Types) (at : ℕ) (reported : Rule) (d : Thing)
+            → FirstFault scope types [] pattern (Least scope types value) (Nothing scope) rest at reported d
             → (e : Thing) × (captures : Captures Name) × IsFirst scope [] pattern (Least scope types value) e captures
-            × (own : Types) × AreCaptured scope own [] pattern (Least scope types value) × Fault scope (own ++ types) rest at told d
-        by types at told d fault = (fault.0, fault.1, fault.2, fault.3, fault.4, one fault.5)
+            × (own : Types) × AreCaptured scope own [] pattern (Least scope types value) × Fault scope (own ++ types) rest at reported d
+        by types at reported d fault = (fault.0, fault.1, fault.2, fault.3, fault.4, one fault.5)
           where
-            one : Fault scope (fault.3 ++ types) rest at told d ⊎ ⊥ → Fault scope (fault.3 ++ types) rest at told d
+            one : Fault scope (fault.3 ++ types) rest at reported d ⊎ ⊥ → Fault scope (fault.3 ++ types) rest at reported d
             one (inl own) = own
             one (inr never) = absurd never
 
@@ -183,10 +183,10 @@ module _ (scope : Scope) (old : Graph) (sound : IsGraph old) (nodes : Nodes) (ol
     let_uncovered table here = fails_earlier old second (later_still old first second is_first is_second) sound nodes old_nodes table
         (λ types. IsUncovered scope here (ABranch pattern rest NoBranch) (elements_of second matched))
         (λ types. KindFault scope types here (Let pattern value rest))
-        (λ types of at told d fault. inr (
+        (λ types of at reported d fault. inr (
           some types of,
           inl (uncovered_more scope (Nothing scope) (Nothing scope)
-              (owes_itself scope (Nothing scope)) types at told d here (ABranch pattern rest NoBranch) (elements_of second matched)
+              (owes_itself scope (Nothing scope)) types at reported d here (ABranch pattern rest NoBranch) (elements_of second matched)
               (Least scope types value) (matched_least types of).within fault),
         ))
 
@@ -218,7 +218,7 @@ module _ (scope : Scope) (old : Graph) (sound : IsGraph old) (nodes : Nodes) (ol
     try_fails table here = fails_earlier old first is_first sound nodes old_nodes table
         (λ types. BranchFault scope types [] (elements_of first DATA) (Owes scope first None) branches)
         (λ types. KindFault scope types here (Try value branches))
-        (λ types of at told d fault. inr (branch_fault_alike scope (Nothing scope) (Nothing scope) (owes_itself scope (Nothing scope)) types at told d
+        (λ types of at reported d fault. inr (branch_fault_alike scope (Nothing scope) (Nothing scope) (owes_itself scope (Nothing scope)) types at reported d
         branches [] [] (elements_of first DATA) (BuiltIn DATA) (come_same scope [] (elements_of first DATA) (BuiltIn DATA) data_first) fault))
 
   -- the items of what is matched are in a node of a second graph
@@ -247,12 +247,12 @@ module _ (scope : Scope) (old : Graph) (sound : IsGraph old) (nodes : Nodes) (ol
     map_fails table here = fails_earlier old second (later_still old first second is_first is_second) sound nodes old_nodes table
         (λ types. CoveringFault scope types here (elements_of second item) (Nothing scope) branches)
         (λ types. KindFault scope types here (Map value branches))
-        (λ types of at told d fault. inr (inr (some types of, whole types of at told d fault)))
+        (λ types of at reported d fault. inr (inr (some types of, whole types of at reported d fault)))
       where
-        whole : (types : Types) → AreOfTypes old nodes types → (at : ℕ) (told : Rule) (d : Thing)
-            → CoveringFault scope types here (elements_of second item) (Nothing scope) branches at told d
-            → CoveringFault scope types here (IsItemOf (Least scope types value)) (Nothing scope) branches at told d
-        whole types of at told d = covering_same scope (Nothing scope) (Nothing scope) (owes_itself scope (Nothing scope)) types at told d here
+        whole : (types : Types) → AreOfTypes old nodes types → (at : ℕ) (reported : Rule) (d : Thing)
+            → CoveringFault scope types here (elements_of second item) (Nothing scope) branches at reported d
+            → CoveringFault scope types here (IsItemOf (Least scope types value)) (Nothing scope) branches at reported d
+        whole types of at reported d = covering_same scope (Nothing scope) (Nothing scope) (owes_itself scope (Nothing scope)) types at reported d here
             branches (elements_of second item) (IsItemOf (Least scope types value)) (same_items types of second item has only)
 
     pub transform_is_least : (third fourth fifth new : Graph) (results : List NodeId) (lists inner id : NodeId)
@@ -279,16 +279,16 @@ module _ (scope : Scope) (old : Graph) (sound : IsGraph old) (nodes : Nodes) (ol
     transform_fails limit is_rule sequences table here = fails_earlier old second (later_still old first second is_first is_second) sound nodes
         old_nodes table (λ types. BranchFault scope types [] (elements_of second item) (Owes scope second (Some limit)) branches)
         (λ types. KindFault scope types here (Transform value branches))
-        (λ types of at told d fault. inr (inr (some types of, whole types of at told d fault)))
+        (λ types of at reported d fault. inr (inr (some types of, whole types of at reported d fault)))
       where
-        owes : (types : Types) (e : Expr) (at : ℕ) (told : Rule) (d : Thing) → Owes scope second (Some limit) types e at told d
-            → ASequence scope types e at told d
-        owes types e at told d owed = subst (λ (is : Rule). Breaks scope types e IsSequence is at told d) is_rule
-            (owes_less scope second limit IsSequence sequences types e at told d owed)
+        owes : (types : Types) (e : Expr) (at : ℕ) (reported : Rule) (d : Thing) → Owes scope second (Some limit) types e at reported d
+            → ASequence scope types e at reported d
+        owes types e at reported d owed = subst (λ (is : Rule). Breaks scope types e IsSequence is at reported d) is_rule
+            (owes_less scope second limit IsSequence sequences types e at reported d owed)
 
-        whole : (types : Types) → AreOfTypes old nodes types → (at : ℕ) (told : Rule) (d : Thing)
-            → BranchFault scope types [] (elements_of second item) (Owes scope second (Some limit)) branches at told d
-            → BranchFault scope types [] (IsItemOf (Least scope types value)) (ASequence scope) branches at told d
-        whole types of at told d = branch_fault_alike scope (Owes scope second (Some limit)) (ASequence scope) owes types at told d branches [] []
+        whole : (types : Types) → AreOfTypes old nodes types → (at : ℕ) (reported : Rule) (d : Thing)
+            → BranchFault scope types [] (elements_of second item) (Owes scope second (Some limit)) branches at reported d
+            → BranchFault scope types [] (IsItemOf (Least scope types value)) (ASequence scope) branches at reported d
+        whole types of at reported d = branch_fault_alike scope (Owes scope second (Some limit)) (ASequence scope) owes types at reported d branches [] []
             (elements_of second item) (IsItemOf (Least scope types value))
             (come_same scope [] (elements_of second item) (IsItemOf (Least scope types value)) (same_items types of second item has only))

@@ -47,8 +47,8 @@ module _ (scope : Scope) (old : Graph) (sound : IsGraph old) (nodes : Nodes) (ol
     branches_fail_earlier limit limit_below table error fails = fails_earlier old middle is sound nodes old_nodes table
         (λ types. BranchFault scope types [] (elements_of middle matched) (Owes scope middle limit) branches)
         (λ types. BranchFault scope types [] (elements_of old matched) (Owes scope old limit) branches)
-        (λ types of at told d fault. branch_fault_alike scope (Owes scope middle limit) (Owes scope old limit)
-        (owes_earlier scope old middle is sound limit limit_below) types at told d branches [] [] (elements_of middle matched)
+        (λ types of at reported d fault. branch_fault_alike scope (Owes scope middle limit) (Owes scope old limit)
+        (owes_earlier scope old middle is sound limit limit_below) types at reported d branches [] [] (elements_of middle matched)
         (elements_of old matched) come_earlier fault) error
         (subst (λ (id : NodeId). Fails middle nodes table
         (λ types. BranchFault scope types [] (elements_of middle id) (Owes scope middle limit) branches) error) is_matched

@@ -62,7 +62,7 @@ module _ (scope : Scope) (nodes : Nodes) where
       before = f;
       known = stands.0;
       stands = stands.1;
-      faults = λ types at told d is. is;
+      faults = λ types at reported d is. is;
     }
 
     module _ (graph : Graph) (later : IsLater old graph) (here : ℕ) (f : Expr) (id : NodeId) (place : ℕ) where
@@ -81,8 +81,8 @@ module _ (scope : Scope) (nodes : Nodes) where
               (known_then old graph later sound nodes are scope graph before.before id before.known) (follows NoExpr) least here types
               (types_later old graph later sound nodes are types of);
           stands = refl;
-          faults = λ types place told d is. before.faults types place told d
-              (subst (λ (left : List CodeExpr). ArgumentsFault scope types here before.before (exprs_of (map plain left)) place told d)
+          faults = λ types place reported d is. before.faults types place reported d
+              (subst (λ (left : List CodeExpr). ArgumentsFault scope types here before.before (exprs_of (map plain left)) place reported d)
               (sym (left_is items index item at within)) (inr (inr is)));
         }
 
@@ -99,8 +99,8 @@ module _ (scope : Scope) (nodes : Nodes) where
               (known_then old graph later sound nodes are scope graph before.before id before.known) gives least here types
               (types_later old graph later sound nodes are types of);
           stands = refl;
-          faults = λ types place told d is. before.faults types place told d
-              (subst (λ (left : List CodeTail). TailsFault scope types here before.before (tails_of (map plain_tail left)) place told d)
+          faults = λ types place reported d is. before.faults types place reported d
+              (subst (λ (left : List CodeTail). TailsFault scope types here before.before (tails_of (map plain_tail left)) place reported d)
               (sym (left_is items index item at within)) (inr is));
         }
 
@@ -110,36 +110,36 @@ module _ (scope : Scope) (nodes : Nodes) where
           → FaultsOn scope (λ types one rest. ArgumentsFault scope types here one rest) old nodes f graph all
           (exprs_of (map plain (drop index items))) id place → (error : CheckError)
           → ((one : Expr) → StandsAs nodes scope graph id place one → Fails graph nodes table
-          (λ types at told d. Fault scope types (plain item) at told d ⊎ ArgumentFault scope types one (plain item) at told d) error)
-          → Fails old nodes table (λ types at told d. ArgumentsFault scope types here f all at told d) error
+          (λ types at reported d. Fault scope types (plain item) at reported d ⊎ ArgumentFault scope types one (plain item) at reported d) error)
+          → Fails old nodes table (λ types at reported d. ArgumentsFault scope types here f all at reported d) error
       all_arguments_fail table all items index item at within before error fails =
           fails_earlier old graph later sound nodes are table
-          (λ types at told d. Fault scope types (plain item) at told d ⊎ ArgumentFault scope types before.before (plain item) at told d)
-          (λ types at told d. ArgumentsFault scope types here f all at told d)
-          (λ types of place told d is. before.faults types place told d
-          (subst (λ (left : List CodeExpr). ArgumentsFault scope types here before.before (exprs_of (map plain left)) place told d)
-          (sym (left_is items index item at within)) (next types place told d is)))
+          (λ types at reported d. Fault scope types (plain item) at reported d ⊎ ArgumentFault scope types before.before (plain item) at reported d)
+          (λ types at reported d. ArgumentsFault scope types here f all at reported d)
+          (λ types of place reported d is. before.faults types place reported d
+          (subst (λ (left : List CodeExpr). ArgumentsFault scope types here before.before (exprs_of (map plain left)) place reported d)
+          (sym (left_is items index item at within)) (next types place reported d is)))
           error (fails before.before (known_then old graph later sound nodes are scope graph before.before id before.known, before.stands))
         where
-          next : (types : Types) (place : ℕ) (told : Rule) (d : Thing) → Fault scope types (plain item) place told d
-              ⊎ ArgumentFault scope types before.before (plain item) place told d
-              → ArgumentsFault scope types here before.before (AnExpr (plain item) (exprs_of (map plain (drop (index + 1) items)))) place told d
-          next types place told d (inl is) = inl is
-          next types place told d (inr is) = inr (inl is)
+          next : (types : Types) (place : ℕ) (reported : Rule) (d : Thing) → Fault scope types (plain item) place reported d
+              ⊎ ArgumentFault scope types before.before (plain item) place reported d
+              → ArgumentsFault scope types here before.before (AnExpr (plain item) (exprs_of (map plain (drop (index + 1) items)))) place reported d
+          next types place reported d (inl is) = inl is
+          next types place reported d (inr is) = inr (inl is)
 
       pub all_tails_fail : (table : List Thing) (all : Tails) (items : List CodeTail) (index : ℕ) (item : CodeTail)
           → item ≡ get_or items index item → index < length items
           → FaultsOn scope (λ types one rest. TailsFault scope types here one rest) old nodes f graph all
           (tails_of (map plain_tail (drop index items))) id place → (error : CheckError)
           → ((one : Expr) → StandsAs nodes scope graph id place one
-          → Fails graph nodes table (λ types at told d. TailFault scope types one (plain_tail item) at told d) error)
-          → Fails old nodes table (λ types at told d. TailsFault scope types here f all at told d) error
+          → Fails graph nodes table (λ types at reported d. TailFault scope types one (plain_tail item) at reported d) error)
+          → Fails old nodes table (λ types at reported d. TailsFault scope types here f all at reported d) error
       all_tails_fail table all items index item at within before error fails =
           fails_earlier old graph later sound nodes are table
-          (λ types at told d. TailFault scope types before.before (plain_tail item) at told d)
-          (λ types at told d. TailsFault scope types here f all at told d)
-          (λ types of place told d is. before.faults types place told d
-          (subst (λ (left : List CodeTail). TailsFault scope types here before.before (tails_of (map plain_tail left)) place told d)
+          (λ types at reported d. TailFault scope types before.before (plain_tail item) at reported d)
+          (λ types at reported d. TailsFault scope types here f all at reported d)
+          (λ types of place reported d is. before.faults types place reported d
+          (subst (λ (left : List CodeTail). TailsFault scope types here before.before (tails_of (map plain_tail left)) place reported d)
           (sym (left_is items index item at within)) (inl is)))
           error (fails before.before (known_then old graph later sound nodes are scope graph before.before id before.known, before.stands))
 
@@ -151,18 +151,18 @@ module _ (scope : Scope) (nodes : Nodes) where
 
       pub apply_fails : (here : ℕ) (table : List Thing) (rest : Exprs) (error : CheckError)
           → ((f : Expr) → StandsAs nodes scope middle self from f
-          → Fails middle nodes table (λ types at told d. ArgumentsFault scope types here f rest at told d) error)
-          → Fails old nodes table (λ types at told d. KindFault scope types here (Apply (AnExpr e rest)) at told d) error
+          → Fails middle nodes table (λ types at reported d. ArgumentsFault scope types here f rest at reported d) error)
+          → Fails old nodes table (λ types at reported d. KindFault scope types here (Apply (AnExpr e rest)) at reported d) error
       apply_fails here table rest error fails = fails_earlier old middle later sound nodes are table
-          (λ types at told d. ArgumentsFault scope types here e rest at told d)
-          (λ types at told d. KindFault scope types here (Apply (AnExpr e rest)) at told d)
-          (λ types of at told d is. inr is) error (fails e stands_then)
+          (λ types at reported d. ArgumentsFault scope types here e rest at reported d)
+          (λ types at reported d. KindFault scope types here (Apply (AnExpr e rest)) at reported d)
+          (λ types of at reported d is. inr is) error (fails e stands_then)
 
       pub chain_fails : (here : ℕ) (table : List Thing) (tails : Tails) (error : CheckError)
           → ((f : Expr) → StandsAs nodes scope middle self from f
-          → Fails middle nodes table (λ types at told d. TailsFault scope types here f tails at told d) error)
-          → Fails old nodes table (λ types at told d. KindFault scope types here (Chain e tails) at told d) error
+          → Fails middle nodes table (λ types at reported d. TailsFault scope types here f tails at reported d) error)
+          → Fails old nodes table (λ types at reported d. KindFault scope types here (Chain e tails) at reported d) error
       chain_fails here table tails error fails = fails_earlier old middle later sound nodes are table
-          (λ types at told d. TailsFault scope types here e tails at told d)
-          (λ types at told d. KindFault scope types here (Chain e tails) at told d)
-          (λ types of at told d is. inr is) error (fails e stands_then)
+          (λ types at reported d. TailsFault scope types here e tails at reported d)
+          (λ types at reported d. KindFault scope types here (Chain e tails) at reported d)
+          (λ types of at reported d is. inr is) error (fails e stands_then)

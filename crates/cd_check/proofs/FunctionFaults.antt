@@ -33,16 +33,16 @@ module _ (scope : Scope) where
 
   -- the function's own name has the type of what is in all arrows
   pub one_faulty : (graph : Graph) (here : ℕ) (name : Option Name) (name_at : ℕ) (interface : List Signature) (branches : Branches)
-      → (arrows : List (NodeId × NodeId)) (whole : NodeId) → IsPromise scope graph interface arrows whole → (types : Types) (at : ℕ) (told : Rule)
-      → (d : Thing) → AnyOf (λ arrow. ArrowFault graph here branches arrow (with_type name (typ graph whole) types) at told d) arrows
-      → FunctionFault scope types (function here name name_at interface branches) at told d
-  one_faulty graph here name name_at interface branches arrows whole promise types at told d any = (
+      → (arrows : List (NodeId × NodeId)) (whole : NodeId) → IsPromise scope graph interface arrows whole → (types : Types) (at : ℕ) (reported : Rule)
+      → (d : Thing) → AnyOf (λ arrow. ArrowFault graph here branches arrow (with_type name (typ graph whole) types) at reported d) arrows
+      → FunctionFault scope types (function here name name_at interface branches) at reported d
+  one_faulty graph here name name_at interface branches arrows whole promise types at reported d any = (
     arrows_in graph arrows,
     typ graph whole,
     promise.written,
     promise.is_whole,
     any_of_map (arrow_in graph) (λ (arrow : Arrow). CoveringFault scope (with_type name (typ graph whole) types) here (In arrow.argument)
-        (AResult scope (In arrow.result)) branches at told d) arrows any,
+        (AResult scope (In arrow.result)) branches at reported d) arrows any,
   )
 
   -- the interface is read in an old graph, and the branches are checked for an arrow from a later one on
@@ -54,13 +54,13 @@ module _ (scope : Scope) where
       → Fails old nodes table (λ types. FunctionFault scope types (function here name name_at interface branches)) error
   arrow_at_fault old later is sound nodes are table here name name_at interface branches arrows whole promise index arrow at more =
       reports_more table
-      (λ place told d. (inner : Types) → AreOfTypes later (with_node name whole nodes) inner
-      → ArrowFault later here branches arrow inner place told d)
-      (λ place told d. (types : Types) → AreOfTypes old nodes types
-      → FunctionFault scope types (function here name name_at interface branches) place told d)
-      (λ place told d fault types of. one_faulty later here name name_at interface branches arrows whole
-      (promise_later old later is sound scope interface arrows whole promise) types place told d
-      (any_at (λ (one : NodeId × NodeId). ArrowFault later here branches one (with_type name (typ later whole) types) place told d)
+      (λ place reported d. (inner : Types) → AreOfTypes later (with_node name whole nodes) inner
+      → ArrowFault later here branches arrow inner place reported d)
+      (λ place reported d. (types : Types) → AreOfTypes old nodes types
+      → FunctionFault scope types (function here name name_at interface branches) place reported d)
+      (λ place reported d fault types of. one_faulty later here name name_at interface branches arrows whole
+      (promise_later old later is sound scope interface arrows whole promise) types place reported d
+      (any_at (λ (one : NodeId × NodeId). ArrowFault later here branches one (with_type name (typ later whole) types) place reported d)
       arrows index arrow at more
       (fault (with_type name (typ later whole) types) (named_types scope later nodes types (typ later whole) whole
       (types_later old later is sound nodes are types of)

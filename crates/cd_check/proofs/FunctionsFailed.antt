@@ -46,4 +46,4 @@ pub function_failed : (base : Base) (old first : Graph) → IsLater old first �
     → (table : List Thing) (error : CheckError) → PromiseFails base first locals table f error → FormFails base old locals table (Function f) error
 function_failed base old first is locals ready f table error fails here = fails_earlier old first is ready.sound (seen_by base locals) ready.nodes
     table (λ types. FunctionFault (scope_of base) types f) (λ types. FunctionFault (scope_of base) types f)
-    (λ types of at told d fault. fault) error fails
+    (λ types of at reported d fault. fault) error fails

@@ -21,7 +21,7 @@ use Rattle.cd_check.specs.declared.fault.CheckError.TheVariants.{IllTyped, Memor
 
 -- a fault of which another one follows
 pub reports_more : (table : List Thing) (fault other : ℕ → Rule → Thing → Type 0)
-    → ((at : ℕ) (told : Rule) (d : Thing) → fault at told d → other at told d) → (error : CheckError) → Reports table fault error
+    → ((at : ℕ) (reported : Rule) (d : Thing) → fault at reported d → other at reported d) → (error : CheckError) → Reports table fault error
     → Reports table other error
 reports_more table fault other more (IllTyped is) reports = (reports.0, more _ _ _ reports.1)
 reports_more table fault other more Memory reports = tt
@@ -63,17 +63,17 @@ module _ (old middle : Graph) (is : IsLater old middle) (sound : IsGraph old) (n
 
   -- and another fault follows
   pub fails_earlier : (table : List Thing) (fault other : Types → ℕ → Rule → Thing → Type 0)
-      → ((types : Types) → AreOfTypes old nodes types → (at : ℕ) (told : Rule) (d : Thing) → fault types at told d → other types at told d)
+      → ((types : Types) → AreOfTypes old nodes types → (at : ℕ) (reported : Rule) (d : Thing) → fault types at reported d → other types at reported d)
       → (error : CheckError) → Fails middle nodes table fault error → Fails old nodes table other error
   fails_earlier table fault other more = reports_more table
-      (λ at told d. (types : Types) → AreOfTypes middle nodes types → fault types at told d)
-      (λ at told d. (types : Types) → AreOfTypes old nodes types → other types at told d)
-      (λ at told d is_fault types of. more types of at told d (is_fault types (types_later old middle is sound nodes are types of)))
+      (λ at reported d. (types : Types) → AreOfTypes middle nodes types → fault types at reported d)
+      (λ at reported d. (types : Types) → AreOfTypes old nodes types → other types at reported d)
+      (λ at reported d is_fault types of. more types of at reported d (is_fault types (types_later old middle is sound nodes are types of)))
 
 pub fails_more : (old : Graph) (nodes : Nodes) (table : List Thing) (fault other : Types → ℕ → Rule → Thing → Type 0)
-    → ((types : Types) → AreOfTypes old nodes types → (at : ℕ) (told : Rule) (d : Thing) → fault types at told d → other types at told d)
+    → ((types : Types) → AreOfTypes old nodes types → (at : ℕ) (reported : Rule) (d : Thing) → fault types at reported d → other types at reported d)
     → (error : CheckError) → Fails old nodes table fault error → Fails old nodes table other error
 fails_more old nodes table fault other more = reports_more table
-    (λ at told d. (types : Types) → AreOfTypes old nodes types → fault types at told d)
-    (λ at told d. (types : Types) → AreOfTypes old nodes types → other types at told d)
-    (λ at told d is_fault types of. more types of at told d (is_fault types of))
+    (λ at reported d. (types : Types) → AreOfTypes old nodes types → fault types at reported d)
+    (λ at reported d. (types : Types) → AreOfTypes old nodes types → other types at reported d)
+    (λ at reported d is_fault types of. more types of at reported d (is_fault types of))

@@ -85,20 +85,20 @@ module _ (scope : Scope) where
 
   -- what bodies owe here, they owe there
   abbrev pub OwesMore : (owed more : Owed scope) → Type 0
-  OwesMore owed more = (types : Types) (e : Expr) (at : ℕ) (told : Rule) (d : Thing) → owed types e at told d → more types e at told d
+  OwesMore owed more = (types : Types) (e : Expr) (at : ℕ) (reported : Rule) (d : Thing) → owed types e at reported d → more types e at reported d
 
   pub owes_itself : (owed : Owed scope) → OwesMore owed owed
-  owes_itself owed types e at told d owes = owes
+  owes_itself owed types e at reported d owes = owes
 
   -- of the body that some element is the first to come to after others
   abbrev pub FirstFault : Types → (before : List Tree) → Tree → (matched : Set) → Owed scope → Expr → (at : ℕ) → Rule → Thing → Type 0
-  FirstFault types before pattern matched owed body at told d = (e : Thing) × (captures : Captures Name)
+  FirstFault types before pattern matched owed body at reported d = (e : Thing) × (captures : Captures Name)
       × IsFirst scope before pattern matched e captures × (own : Types) × AreCaptured scope own before pattern matched
-      × (Fault scope (own ++ types) body at told d ⊎ owed (own ++ types) body at told d)
+      × (Fault scope (own ++ types) body at reported d ⊎ owed (own ++ types) body at reported d)
 
-  module _ (owed more : Owed scope) (owes : OwesMore owed more) (types : Types) (at : ℕ) (told : Rule) (d : Thing) where
+  module _ (owed more : Owed scope) (owes : OwesMore owed more) (types : Types) (at : ℕ) (reported : Rule) (d : Thing) where
     pub body_fault_alike : (before others : List Tree) (matched left : Set) → ComeAlike before others matched left → (pattern : Tree) (body : Expr)
-        → FirstFault types before pattern matched owed body at told d → FirstFault types others pattern left more body at told d
+        → FirstFault types before pattern matched owed body at reported d → FirstFault types others pattern left more body at reported d
     body_fault_alike before others matched left alike pattern body fault = (
       fault.0,
       fault.1,
@@ -108,14 +108,14 @@ module _ (scope : Scope) where
       by fault.5,
     )
       where
-        by : Fault scope (fault.3 ++ types) body at told d ⊎ owed (fault.3 ++ types) body at told d
-            → Fault scope (fault.3 ++ types) body at told d ⊎ more (fault.3 ++ types) body at told d
+        by : Fault scope (fault.3 ++ types) body at reported d ⊎ owed (fault.3 ++ types) body at reported d
+            → Fault scope (fault.3 ++ types) body at reported d ⊎ more (fault.3 ++ types) body at reported d
         by (inl own) = inl own
-        by (inr owing) = inr (owes (fault.3 ++ types) body at told d owing)
+        by (inr owing) = inr (owes (fault.3 ++ types) body at reported d owing)
 
     -- faults of branches
     pub branch_fault_alike : (branches : Branches) (before others : List Tree) (matched left : Set) → ComeAlike before others matched left
-        → BranchFault scope types before matched owed branches at told d → BranchFault scope types others left more branches at told d
+        → BranchFault scope types before matched owed branches at reported d → BranchFault scope types others left more branches at reported d
     branch_fault_alike NoBranch before others matched left alike fault = fault
     branch_fault_alike (ABranch pattern body rest) before others matched left alike (inl here) =
         inl (body_fault_alike before others matched left alike pattern body here)
@@ -124,7 +124,7 @@ module _ (scope : Scope) where
 
     -- what no branch takes of a set, none takes of a wider one
     pub uncovered_more : (here : ℕ) (branches : Branches) (matched wider : Set) → matched ⊆ wider
-        → IsUncovered scope here branches matched at told d → IsUncovered scope here branches wider at told d
+        → IsUncovered scope here branches matched at reported d → IsUncovered scope here branches wider at reported d
     uncovered_more here branches matched wider within fault = record {
       rule = fault.rule;
       place = fault.place;
@@ -134,7 +134,7 @@ module _ (scope : Scope) where
     }
 
     pub covering_same : (here : ℕ) (branches : Branches) (matched other : Set) → AreSame matched other
-        → CoveringFault scope types here matched owed branches at told d → CoveringFault scope types here other more branches at told d
+        → CoveringFault scope types here matched owed branches at reported d → CoveringFault scope types here other more branches at reported d
     covering_same here branches matched other same (inl uncovered) = inl (uncovered_more here branches matched other same.within uncovered)
     covering_same here branches matched other same (inr fault) =
         inr (branch_fault_alike branches [] [] matched other (come_same [] matched other same) fault)

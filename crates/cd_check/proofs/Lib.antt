@@ -54,7 +54,7 @@ mod OwnNames
 mod OwnTypes
 mod Places
 mod ProgramFails
-mod ProgramFaultsTold
+mod ProgramFaultsReported
 mod ProgramTyped
 mod ProgramViews
 mod Promises
@@ -68,7 +68,7 @@ mod SoundAt
 mod SoundExprs
 mod StopsPlaced
 mod Tests
-mod ToldOfOne
+mod ReportedOfOne
 mod TruthNodes
 mod TypesEarlier
 mod TypesLater

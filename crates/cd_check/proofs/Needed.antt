@@ -33,9 +33,9 @@ pub breaks : (scope : Scope) (old : Graph) (nodes : Nodes) (graph : Graph) (e : 
     (error : CheckError) → IsOutside graph table id needed at rule error
     → Fails old nodes table (λ types. Breaks scope types e set rule) error
 breaks scope old nodes graph e id known needed set within at place rule table = reports_more table
-    (λ told_at told d. (told_at ≡ at) × (told ≡ rule) × IsElement d × elements_of graph id d × (elements_of graph needed d → ⊥))
-    (λ told_at told d. (types : Types) → AreOfTypes old nodes types → Breaks scope types e set rule told_at told d)
-    (λ told_at told d is types of. (
+    (λ reported_at reported d. (reported_at ≡ at) × (reported ≡ rule) × IsElement d × elements_of graph id d × (elements_of graph needed d → ⊥))
+    (λ reported_at reported d. (types : Types) → AreOfTypes old nodes types → Breaks scope types e set rule reported_at reported d)
+    (λ reported_at reported d is types of. (
       is.1,
-      known_misses scope old nodes graph e id known types of set told_at (is.0 ∙ place) d is.2 is.3 (λ inside. is.4 (within d is.2 inside)),
+      known_misses scope old nodes graph e id known types of set reported_at (is.0 ∙ place) d is.2 is.3 (λ inside. is.4 (within d is.2 inside)),
     ))

@@ -34,9 +34,9 @@ use Rattle.cd_check.proofs.Needed.{known_misses}
 use Rattle.cd_check.proofs.StopsPlaced.{one_place}
 
 -- what is missed is of the table
-both_named : (graph : Graph) (table : List Thing) (self id : NodeId) (needed : Set) (told : Rule) (misfit : Misfit)
-    → IsMisfitOfBoth graph table self id needed told (stop.Misfit misfit) → Names table misfit.element
-both_named graph table self id needed told misfit fits = fits.1.named
+both_named : (graph : Graph) (table : List Thing) (self id : NodeId) (needed : Set) (reported : Rule) (misfit : Misfit)
+    → IsMisfitOfBoth graph table self id needed reported (stop.Misfit misfit) → Names table misfit.element
+both_named graph table self id needed reported misfit fits = fits.1.named
 
 quotient_named : (graph : Graph) (table : List Thing) (self id : NodeId) (misfit : Misfit)
     → IsMisfitOfQuotient graph table self id (stop.Misfit misfit) → Names table misfit.element
@@ -63,9 +63,9 @@ misfit_named graph table op.Times self id misfit fits = fits.1.named
 module _ (scope : Scope) (old : Graph) (nodes : Nodes) (graph : Graph) (table : List Thing) where
   -- an element of a node that is known, and that is not what a rule needs
   pub missing_breaks : (e : Expr) (id : NodeId) → IsKnown old nodes scope graph e id → (needed : Set) (is : Rule) (element : ElementId)
-      → Misses graph table id needed element → (told : Rule) → told ≡ is → (at : ℕ) → at ≡ place_of e → (types : Types)
-      → AreOfTypes old nodes types → Breaks scope types e needed is at told (element_at table element)
-  missing_breaks e id known needed is element misses told same at place types of = (
+      → Misses graph table id needed element → (reported : Rule) → reported ≡ is → (at : ℕ) → at ≡ place_of e → (types : Types)
+      → AreOfTypes old nodes types → Breaks scope types e needed is at reported (element_at table element)
+  missing_breaks e id known needed is element misses reported same at place types of = (
     same,
     known_misses scope old nodes graph e id known types of needed at place (element_at table element) misses.is_element misses.inside
         misses.missed,
@@ -75,12 +75,12 @@ module _ (scope : Scope) (old : Graph) (nodes : Nodes) (graph : Graph) (table : 
       (known_second : IsKnown old nodes scope graph second id) (at e_at : ℕ) (stands : at ≡ place_of first) (e_stands : e_at ≡ place_of second)
       (types : Types) (of : AreOfTypes old nodes types) where
     one_breaks : (needed : Set) (is : Rule) (which : Side) (element : ElementId) → Misses graph table (operand which self id) needed element
-        → (told : Rule) → told ≡ is
-        → BreaksOne scope types first second needed is (place_at which at e_at) told (element_at table element)
-    one_breaks needed is side.First element misses told same =
-        inl (missing_breaks first self known_first needed is element misses told same at stands types of)
-    one_breaks needed is side.Second element misses told same =
-        inr (missing_breaks second id known_second needed is element misses told same e_at e_stands types of)
+        → (reported : Rule) → reported ≡ is
+        → BreaksOne scope types first second needed is (place_at which at e_at) reported (element_at table element)
+    one_breaks needed is side.First element misses reported same =
+        inl (missing_breaks first self known_first needed is element misses reported same at stands types of)
+    one_breaks needed is side.Second element misses reported same =
+        inr (missing_breaks second id known_second needed is element misses reported same e_at e_stands types of)
 
     both_break : (needed : Set) (is : Rule) (misfit : Misfit) → IsMisfitOfBoth graph table self id needed is (stop.Misfit misfit)
         → BreaksOne scope types first second needed is (place_at misfit.side at e_at) misfit.rule (element_at table misfit.element)
@@ -88,15 +88,15 @@ module _ (scope : Scope) (old : Graph) (nodes : Nodes) (graph : Graph) (table : 
 
     -- of the first one that is no integer
     integers_break : (which : Side) (element : ElementId) → Misses graph table (operand which self id) (BuiltIn INT) element
-        → (which ≡ side.Second → elements_of graph self ⊆ BuiltIn INT) → (told : Rule) → told ≡ rule.Operand
-        → Breaks scope types first (BuiltIn INT) rule.Operand (place_at which at e_at) told (element_at table element)
+        → (which ≡ side.Second → elements_of graph self ⊆ BuiltIn INT) → (reported : Rule) → reported ≡ rule.Operand
+        → Breaks scope types first (BuiltIn INT) rule.Operand (place_at which at e_at) reported (element_at table element)
         ⊎ (HasWithin scope types first (BuiltIn INT)
-        × Breaks scope types second (BuiltIn INT) rule.Operand (place_at which at e_at) told (element_at table element))
-    integers_break side.First element misses within told same =
-        inl (missing_breaks first self known_first (BuiltIn INT) rule.Operand element misses told same at stands types of)
-    integers_break side.Second element misses within told same = inr (
+        × Breaks scope types second (BuiltIn INT) rule.Operand (place_at which at e_at) reported (element_at table element))
+    integers_break side.First element misses within reported same =
+        inl (missing_breaks first self known_first (BuiltIn INT) rule.Operand element misses reported same at stands types of)
+    integers_break side.Second element misses within reported same = inr (
       (_, (known_first types of).is_type, (known_first types of).has, within refl),
-      missing_breaks second id known_second (BuiltIn INT) rule.Operand element misses told same e_at e_stands types of,
+      missing_breaks second id known_second (BuiltIn INT) rule.Operand element misses reported same e_at e_stands types of,
     )
 
     -- what is within a set in some type is so in the least one
@@ -142,7 +142,7 @@ module _ (scope : Scope) (old : Graph) (nodes : Nodes) (graph : Graph) (table : 
   pub operand_fails : (first second : Expr) (self id : NodeId) → IsKnown old nodes scope graph first self
       → IsKnown old nodes scope graph second id → (at e_at : ℕ) → at ≡ place_of first → e_at ≡ place_of second → (is : Op) → IsMet is
       → (stopped : Stop) → IsMisfit graph table is self id stopped
-      → Fails old nodes table (λ types at told d. TailFault scope types first (Operand is second) at told d) (placed_at stopped at e_at)
+      → Fails old nodes table (λ types at reported d. TailFault scope types first (Operand is second) at reported d) (placed_at stopped at e_at)
   operand_fails first second self id known_first known_second at e_at stands e_stands is met (stop.Misfit misfit) fits = (
     misfit_named graph table is self id misfit fits,
     λ types of. inr (operator_breaks first second self id known_first known_second at e_at stands e_stands types of is met misfit fits),
@@ -152,7 +152,7 @@ module _ (scope : Scope) (old : Graph) (nodes : Nodes) (graph : Graph) (table : 
   -- and of one that takes fields
   pub without_fails : (f : Expr) (self : NodeId) → IsKnown old nodes scope graph f self → (at : ℕ) → at ≡ place_of f → (label : Name)
       → (stopped : Stop) → IsMisfitOf graph table side.First self (BuiltIn RECORD) rule.Record stopped
-      → Fails old nodes table (λ types at told d. TailFault scope types f (Without label) at told d) (placed_at stopped at at)
+      → Fails old nodes table (λ types at reported d. TailFault scope types f (Without label) at reported d) (placed_at stopped at at)
   without_fails f self known at stands label (stop.Misfit misfit) fits = (
     fits.2.named,
     missing_breaks f self known (BuiltIn RECORD) rule.Record misfit.element fits.2 misfit.rule fits.1 (place_at misfit.side at at)
@@ -162,7 +162,7 @@ module _ (scope : Scope) (old : Graph) (nodes : Nodes) (graph : Graph) (table : 
 
   pub select_fails : (f : Expr) (self : NodeId) → IsKnown old nodes scope graph f self → (at : ℕ) → at ≡ place_of f → (label : Name)
       → (stopped : Stop) → IsMisfitOf graph table side.First self (HasFieldAt label) rule.Field stopped
-      → Fails old nodes table (λ types at told d. TailFault scope types f (Select label) at told d) (placed_at stopped at at)
+      → Fails old nodes table (λ types at reported d. TailFault scope types f (Select label) at reported d) (placed_at stopped at at)
   select_fails f self known at stands label (stop.Misfit misfit) fits = (
     fits.2.named,
     missing_breaks f self known (HasFieldAt label) rule.Field misfit.element fits.2 misfit.rule fits.1 (place_at misfit.side at at)

@@ -17,9 +17,9 @@ use Rattle.cd_check.specs.declared.bodies.Limit.{Limit}
 
 module _ (scope : Scope) where
   -- what is outside of a set is outside of what is within it
-  pub breaks_less : (types : Types) (e : Expr) (needed less : Set) → less ⊆ needed → (is : Rule) (at : ℕ) (told : Rule) (d : Thing)
-      → Breaks scope types e needed is at told d → Breaks scope types e less is at told d
-  breaks_less types e needed less within is at told d fault = let misses = fault.1 in (
+  pub breaks_less : (types : Types) (e : Expr) (needed less : Set) → less ⊆ needed → (is : Rule) (at : ℕ) (reported : Rule) (d : Thing)
+      → Breaks scope types e needed is at reported d → Breaks scope types e less is at reported d
+  breaks_less types e needed less within is at reported d fault = let misses = fault.1 in (
     fault.0,
     record {
       place = misses.place;
@@ -32,8 +32,8 @@ module _ (scope : Scope) where
 
   -- what is owed by a limit is owed by what is within it
   pub owes_less : (graph : Graph) (limit : Limit) (less : Set) → less ⊆ elements_of graph limit.node
-      → OwesMore scope (Owes scope graph (Some limit)) (λ types e at told d. Breaks scope types e less limit.rule at told d)
-  owes_less graph limit less within types e at told d = breaks_less types e (elements_of graph limit.node) less within limit.rule at told d
+      → OwesMore scope (Owes scope graph (Some limit)) (λ types e at reported d. Breaks scope types e less limit.rule at reported d)
+  owes_less graph limit less within types e at reported d = breaks_less types e (elements_of graph limit.node) less within limit.rule at reported d
 
   -- a limit in a longer graph
   pub owes_earlier : (old later : Graph) → IsLater old later → IsGraph old → (limit : Option Limit) → IsLimit old limit

@@ -15,7 +15,7 @@ use Rattle.cd_check.specs.Inner.FunctionNames.{function_names}
 use Rattle.cd_check.specs.Inner.Programs.{function_of, IsPromised, FunctionsFail, MainsFault}
 use Rattle.cd_check.specs.Inner.Ready.{declarations_of, scope_of, seen_by}
 use Rattle.cd_check.proofs.FunctionsPromised.{arrows_of, whole_of, are_named, nodes_of_all}
-use Rattle.cd_check.proofs.ProgramFaultsTold.{told_by_functions, told_by_main}
+use Rattle.cd_check.proofs.ProgramFaultsReported.{reported_by_functions, reported_by_main}
 
 -- the graph in which they are checked
 module _ (program : Program) (base : Base) (same : declarations_of base ≡ program.types) (all : List Promised)
@@ -24,11 +24,11 @@ module _ (program : Program) (base : Base) (same : declarations_of base ≡ prog
     (sound : IsGraph graph) (promised : AllOf (IsPromised (scope_of base) graph) all) (table : List Thing) (error : CheckError) where
   -- whether each keeps what it promises
   pub functions_fail : FunctionsFail base graph table all error → Reports table (ProgramFault program) error
-  functions_fail fails = told_by_functions function_of arrows_of whole_of (declarations_of base) graph more begins sound program same all are
+  functions_fail fails = reported_by_functions function_of arrows_of whole_of (declarations_of base) graph more begins sound program same all are
       (are_named program base same all are names ids made) promised (seen_by base []) (nodes_of_all program base same all are names ids made)
       table error fails
 
   -- whether `main` gives data
   pub main_fails : Reports table (MainsFault graph all) error → Reports table (ProgramFault program) error
-  main_fails fails = told_by_main function_of arrows_of whole_of (declarations_of base) graph more begins sound program same all are
+  main_fails fails = reported_by_main function_of arrows_of whole_of (declarations_of base) graph more begins sound program same all are
       (are_named program base same all are names ids made) promised table error fails

@@ -104,31 +104,31 @@ module _ (scope : Scope) (nodes : Nodes) where
 
     -- faults of the sides, which are checked in a graph in which the condition is known
     module _ (table : List Thing) (condition then_one else_one : Expr) (here : ℕ) (error : CheckError) where
-      pub condition_fails : Fails old nodes table (λ types at told d. Fault scope types condition at told d) error
-          → Fails old nodes table (λ types at told d. KindFault scope types here (If condition then_one else_one) at told d) error
-      condition_fails = fails_more old nodes table (λ types at told d. Fault scope types condition at told d)
-          (λ types at told d. KindFault scope types here (If condition then_one else_one) at told d) (λ types of at told d is. inl is) error
+      pub condition_fails : Fails old nodes table (λ types at reported d. Fault scope types condition at reported d) error
+          → Fails old nodes table (λ types at reported d. KindFault scope types here (If condition then_one else_one) at reported d) error
+      condition_fails = fails_more old nodes table (λ types at reported d. Fault scope types condition at reported d)
+          (λ types at reported d. KindFault scope types here (If condition then_one else_one) at reported d) (λ types of at reported d is. inl is) error
 
       pub test_fails : Fails old nodes table (λ types. Breaks scope types condition (BuiltIn BOOL) rule.Condition) error
-          → Fails old nodes table (λ types at told d. KindFault scope types here (If condition then_one else_one) at told d) error
+          → Fails old nodes table (λ types at reported d. KindFault scope types here (If condition then_one else_one) at reported d) error
       test_fails = fails_more old nodes table (λ types. Breaks scope types condition (BuiltIn BOOL) rule.Condition)
-          (λ types at told d. KindFault scope types here (If condition then_one else_one) at told d) (λ types of at told d is. inr (inl is)) error
+          (λ types at reported d. KindFault scope types here (If condition then_one else_one) at reported d) (λ types of at reported d is. inr (inl is)) error
 
       module _ (graph : Graph) (later : IsLater old graph) (tested : NodeId) (known : IsKnown old nodes scope graph condition tested) where
-        pub then_fails : Fails graph nodes table (λ types at told d. elements_of graph tested (truth true) × Fault scope types then_one at told d)
-            error → Fails old nodes table (λ types at told d. KindFault scope types here (If condition then_one else_one) at told d) error
+        pub then_fails : Fails graph nodes table (λ types at reported d. elements_of graph tested (truth true) × Fault scope types then_one at reported d)
+            error → Fails old nodes table (λ types at reported d. KindFault scope types here (If condition then_one else_one) at reported d) error
         then_fails = fails_earlier old graph later sound nodes are table
-            (λ types at told d. elements_of graph tested (truth true) × Fault scope types then_one at told d)
-            (λ types at told d. KindFault scope types here (If condition then_one else_one) at told d)
-            (λ types of at told d is. let one = value_least graph condition tested known true is.0 types of in
+            (λ types at reported d. elements_of graph tested (truth true) × Fault scope types then_one at reported d)
+            (λ types at reported d. KindFault scope types here (If condition then_one else_one) at reported d)
+            (λ types of at reported d is. let one = value_least graph condition tested known true is.0 types of in
             inr (inr (one.0, inl (one.1, is.1)))) error
 
-        pub else_fails : Fails graph nodes table (λ types at told d. elements_of graph tested (truth false) × Fault scope types else_one at told d)
-            error → Fails old nodes table (λ types at told d. KindFault scope types here (If condition then_one else_one) at told d) error
+        pub else_fails : Fails graph nodes table (λ types at reported d. elements_of graph tested (truth false) × Fault scope types else_one at reported d)
+            error → Fails old nodes table (λ types at reported d. KindFault scope types here (If condition then_one else_one) at reported d) error
         else_fails = fails_earlier old graph later sound nodes are table
-            (λ types at told d. elements_of graph tested (truth false) × Fault scope types else_one at told d)
-            (λ types at told d. KindFault scope types here (If condition then_one else_one) at told d)
-            (λ types of at told d is. let one = value_least graph condition tested known false is.0 types of in
+            (λ types at reported d. elements_of graph tested (truth false) × Fault scope types else_one at reported d)
+            (λ types at reported d. KindFault scope types here (If condition then_one else_one) at reported d)
+            (λ types of at reported d is. let one = value_least graph condition tested known false is.0 types of in
             inr (inr (one.0, inr (one.1, is.1)))) error
 
     -- `&&` and `||`: what is tested is the left operand
@@ -174,20 +174,20 @@ module _ (scope : Scope) (nodes : Nodes) where
 
       module _ (table : List Thing) (f : Expr) (error : CheckError) where
         pub short_test_fails : (met : Bool) → Fails old nodes table (λ types. Breaks scope types f (BuiltIn BOOL) rule.Condition) error
-            → Fails old nodes table (λ types at told d. TailFault scope types f (Operand (short_op met) e) at told d) error
+            → Fails old nodes table (λ types at reported d. TailFault scope types f (Operand (short_op met) e) at reported d) error
         short_test_fails true = fails_more old nodes table (λ types. Breaks scope types f (BuiltIn BOOL) rule.Condition)
-            (λ types at told d. TailFault scope types f (Operand (short_op true) e) at told d) (λ types of at told d is. inr is) error
+            (λ types at reported d. TailFault scope types f (Operand (short_op true) e) at reported d) (λ types of at reported d is. inr is) error
         short_test_fails false = fails_more old nodes table (λ types. Breaks scope types f (BuiltIn BOOL) rule.Condition)
-            (λ types at told d. TailFault scope types f (Operand (short_op false) e) at told d) (λ types of at told d is. inr is) error
+            (λ types at reported d. TailFault scope types f (Operand (short_op false) e) at reported d) (λ types of at reported d is. inr is) error
 
         pub short_side_fails : IsKnown old nodes scope old f first → (met : Bool)
-            → Fails old nodes table (λ types at told d. elements_of old first (truth met) × Fault scope types e at told d) error
-            → Fails old nodes table (λ types at told d. TailFault scope types f (Operand (short_op met) e) at told d) error
+            → Fails old nodes table (λ types at reported d. elements_of old first (truth met) × Fault scope types e at reported d) error
+            → Fails old nodes table (λ types at reported d. TailFault scope types f (Operand (short_op met) e) at reported d) error
         short_side_fails known true = fails_more old nodes table
-            (λ types at told d. elements_of old first (truth true) × Fault scope types e at told d)
-            (λ types at told d. TailFault scope types f (Operand (short_op true) e) at told d)
-            (λ types of at told d is. inl (value_least old f first known true is.0 types of, is.1)) error
+            (λ types at reported d. elements_of old first (truth true) × Fault scope types e at reported d)
+            (λ types at reported d. TailFault scope types f (Operand (short_op true) e) at reported d)
+            (λ types of at reported d is. inl (value_least old f first known true is.0 types of, is.1)) error
         short_side_fails known false = fails_more old nodes table
-            (λ types at told d. elements_of old first (truth false) × Fault scope types e at told d)
-            (λ types at told d. TailFault scope types f (Operand (short_op false) e) at told d)
-            (λ types of at told d is. inl (value_least old f first known false is.0 types of, is.1)) error
+            (λ types at reported d. elements_of old first (truth false) × Fault scope types e at reported d)
+            (λ types at reported d. TailFault scope types f (Operand (short_op false) e) at reported d)
+            (λ types of at reported d is. inl (value_least old f first known false is.0 types of, is.1)) error

@@ -27,13 +27,13 @@ pub one_place : (is : Side) (at : ℕ) → place_at is at at ≡ at
 one_place side.First at = refl
 one_place side.Second at = refl
 
-pub word_breaks : (scope : Scope) (types : Types) (word : Word) (e : Expr) (at : ℕ) (told : Rule) (d : Thing)
-    → Breaks scope types e (WordNeeds word) (rule_of word) at told d → WordFault scope types word e at told d
-word_breaks scope types word.Not e at told d is = is
-word_breaks scope types word.Flatten e at told d is = is
-word_breaks scope types word.IntOf e at told d is = is
-word_breaks scope types word.StringOf e at told d is = is
-word_breaks scope types word.Raise e at told d is = is
+pub word_breaks : (scope : Scope) (types : Types) (word : Word) (e : Expr) (at : ℕ) (reported : Rule) (d : Thing)
+    → Breaks scope types e (WordNeeds word) (rule_of word) at reported d → WordFault scope types word e at reported d
+word_breaks scope types word.Not e at reported d is = is
+word_breaks scope types word.Flatten e at reported d is = is
+word_breaks scope types word.IntOf e at reported d is = is
+word_breaks scope types word.StringOf e at reported d is = is
+word_breaks scope types word.Raise e at reported d is = is
 
 pub word_placed : (scope : Scope) (old : Graph) (nodes : Nodes) (graph : Graph) (e : Expr) (id : NodeId) → IsKnown old nodes scope graph e id
     → (word : Word) (table : List Thing) (at : ℕ) → at ≡ place_of e → (is : Stop) → IsMisfitOfWord graph table word id is

@@ -21,9 +21,9 @@ pub uncovered_fails : (scope : Scope) (old : Graph) (nodes : Nodes) (graph : Gra
     (error : CheckError) → IsOutside graph table rest EMPTY here rule.NoBranch error
     → Fails old nodes table (λ types. IsUncovered scope here branches matched) error
 uncovered_fails scope old nodes graph branches matched rest none here table = reports_more table
-    (λ at told d. (at ≡ here) × (told ≡ rule.NoBranch) × IsElement d × elements_of graph rest d × (elements_of graph EMPTY d → ⊥))
-    (λ at told d. (types : Types) → AreOfTypes old nodes types → IsUncovered scope here branches matched at told d)
-    (λ at told d is types of. let left = none d is.2 is.3 in record {
+    (λ at reported d. (at ≡ here) × (reported ≡ rule.NoBranch) × IsElement d × elements_of graph rest d × (elements_of graph EMPTY d → ⊥))
+    (λ at reported d. (types : Types) → AreOfTypes old nodes types → IsUncovered scope here branches matched at reported d)
+    (λ at reported d is types of. let left = none d is.2 is.3 in record {
       rule = is.1;
       place = is.0;
       element = is.2;

@@ -49,7 +49,7 @@ module _ (scope : Scope) (nodes : Nodes) (old first second third : Graph) (sound
           → IsOutside third table tag_id ATOM at rule.Tag error
           → Fails old nodes table (λ types. KindFault scope types here (Xml tag attributes content)) error
       tag_misfits holds at place outside = fails_more old nodes table (λ types. Breaks scope types tag (BuiltIn ATOM) rule.Tag)
-          (λ types. KindFault scope types here (Xml tag attributes content)) (λ types of told_at told d is. inr (inr (inr (inl is)))) error
+          (λ types. KindFault scope types here (Xml tag attributes content)) (λ types of reported_at reported d is. inr (inr (inr (inl is)))) error
           (breaks scope old nodes third tag tag_id tag_still ATOM (BuiltIn ATOM) holds at place rule.Tag table error outside)
 
       pub attributes_misfit : BuiltIn RECORD ⊆ elements_of third RECORD → (at : ℕ) → at ≡ place_of attributes
@@ -57,7 +57,7 @@ module _ (scope : Scope) (nodes : Nodes) (old first second third : Graph) (sound
           → Fails old nodes table (λ types. KindFault scope types here (Xml tag attributes content)) error
       attributes_misfit holds at place outside = fails_more old nodes table
           (λ types. Breaks scope types attributes (BuiltIn RECORD) rule.Attributes)
-          (λ types. KindFault scope types here (Xml tag attributes content)) (λ types of told_at told d is. inr (inr (inr (inr is)))) error
+          (λ types. KindFault scope types here (Xml tag attributes content)) (λ types of reported_at reported d is. inr (inr (inr (inr is)))) error
           (breaks scope old nodes third attributes attributes_id attributes_still RECORD (BuiltIn RECORD) holds at place rule.Attributes table error
           outside)
 
@@ -67,9 +67,9 @@ module _ (scope : Scope) (nodes : Nodes) (old middle : Graph) (sound : IsGraph o
   pub attributes_fail : Fails middle nodes table (λ types. Fault scope types attributes) error
       → Fails old nodes table (λ types. KindFault scope types here (Xml tag attributes content)) error
   attributes_fail = fails_earlier old middle is sound nodes old_nodes table (λ types. Fault scope types attributes)
-      (λ types. KindFault scope types here (Xml tag attributes content)) (λ types of at told d one. inr (inl one)) error
+      (λ types. KindFault scope types here (Xml tag attributes content)) (λ types of at reported d one. inr (inl one)) error
 
   pub content_fails : Fails middle nodes table (λ types. Fault scope types content) error
       → Fails old nodes table (λ types. KindFault scope types here (Xml tag attributes content)) error
   content_fails = fails_earlier old middle is sound nodes old_nodes table (λ types. Fault scope types content)
-      (λ types. KindFault scope types here (Xml tag attributes content)) (λ types of at told d one. inr (inr (inl one))) error
+      (λ types. KindFault scope types here (Xml tag attributes content)) (λ types of at reported d one. inr (inr (inl one))) error

@@ -10,7 +10,7 @@ ghost use Rattle.cd_check.specs.Inner.Failing.{FormFails, TailFails, SideFails};
 ghost use Rattle.cd_check.specs.Inner.Giving.{KindGives, TailGives, SideGives};
 ghost use Rattle.cd_check.specs.Inner.LeastNodes.{KindLeast, TailLeast, SideLeast};
 ghost use Rattle.cd_check.specs.Inner.Ready.{IsReady, IsAfter, declarations_of, names_seen};
-ghost use Rattle.cd_check.specs.Inner.Sides.{short_op, truth_node, AreApart, IfSome, HoldsSome};
+ghost use Rattle.cd_check.specs.Inner.Sides.{short_op, truth_node, AreDisjoint, IfSome, HoldsSome};
 ghost use Rattle.cd_check.specs.Inner.Sides.{MaySkip, AreTogether, IsInEither};
 ghost use Rattle.cd_check.specs.Inner.SoundNames.{IsSound};
 
@@ -160,7 +160,8 @@ fn may_be(
     requires one { one.0 < length (graph_of world.old) }
     requires other { other.0 < length (graph_of world.old) }
     ensures apart { IfOk result (λ answer. answer ≡ false
-        → AreApart (elements_of (graph_of world.old) one) (elements_of (graph_of world.old) other)) }
+        → AreDisjoint (elements_of (graph_of world.old) one)
+        (elements_of (graph_of world.old) other)) }
     ensures together { IfOk result (λ answer. answer ≡ true
         → AreTogether (elements_of (graph_of world.old) one)
         (elements_of (graph_of world.old) other)) }

@@ -7,35 +7,35 @@ use Rattle.cd_base.specs.FilesState.{FilesState}
 use Rattle.cd_replies.specs.Bytes.{Bytes}
 use Rattle.cd_replies.specs.Reply.{Reply, cannot_read}
 use Rattle.cd_replies.specs.Texts.{RefusesProgram}
-use Rattle.cd_replies.specs.Disk.{Disk, HasText, marked, told_disk, marked_disk}
+use Rattle.cd_replies.specs.Disk.{Disk, HasText, unreadable, known_disk, unreadable_disk}
 use Rattle.cd_replies.specs.File.{IsFileRead, said_of}
 use Rattle.cd_replies.specs.Message.{IsAnswer, reply_of}
 use Rattle.cd_replies.specs.declared.file.FileFault.{FileFault}
 use Rattle.cd_replies.specs.declared.message.Message.{Message}
 use Rattle.cd_replies.proofs.Messages.{replies}
-use Rattle.cd_replies.proofs.FilesMet.{has_text, met_same, FaultMet, failed, granted, fault_met}
+use Rattle.cd_replies.proofs.FilesEncountered.{has_text, encountered_same, FaultMet, failed, granted, fault_encountered}
 use Rattle.cd_checking.specs.CheckAnswer.{CheckAnswer, file_refused}
 
 -- what is said of a file that has no text is an answer
-answers_met : (old new : FilesState) (name : Bytes) (reply : Reply) → FaultMet RefusesProgram old new name reply
+answers_encountered : (old new : FilesState) (name : Bytes) (reply : Reply) → FaultMet RefusesProgram old new name reply
     → (r : Result Message AllocError) → IfOk r (λ message. reply_of message ≡ reply)
     → IsAnswer (λ disk. CheckAnswer disk name) old new r
-answers_met old new name _ (failed is refusal) r said = (
-  marked_disk old name,
-  marked name is.rose is.last,
-  replies r (cannot_read name) (CheckAnswer (marked_disk old name) name) said (file_refused (cannot_read name) refusal),
+answers_encountered old new name _ (failed is refusal) r said = (
+  unreadable_disk old name,
+  unreadable name is.rose is.last,
+  replies r (cannot_read name) (CheckAnswer (unreadable_disk old name) name) said (file_refused (cannot_read name) refusal),
 )
-answers_met old new name _ (granted same reply refusal) r said = (
-  told_disk old,
-  met_same old new same,
-  replies r reply (CheckAnswer (told_disk old) name) said (file_refused reply refusal),
+answers_encountered old new name _ (granted same reply refusal) r said = (
+  known_disk old,
+  encountered_same old new same,
+  replies r reply (CheckAnswer (known_disk old) name) said (file_refused reply refusal),
 )
 
 pub answers_fault : (old new : FilesState) (name : Bytes) (fault : FileFault) → IsFileRead old new name (Ok (Err fault))
     → (r : Result Message AllocError) → IfOk r (λ message. reply_of message ≡ said_of name fault)
     → IsAnswer (λ disk. CheckAnswer disk name) old new r
 answers_fault old new name fault is r said =
-    answers_met old new name (said_of name fault) (fault_met RefusesProgram old new name fault is) r said
+    answers_encountered old new name (said_of name fault) (fault_encountered RefusesProgram old new name fault is) r said
 
 -- and so is what is said where it has one
 pub answers_text : (old new : FilesState) (name : Bytes) (text : String Global) → IsFileRead old new name (Ok (Ok text))
@@ -44,12 +44,12 @@ pub answers_text : (old new : FilesState) (name : Bytes) (text : String Global) 
     (λ message. (disk : Disk) → HasText disk name (string_bytes text) → CheckAnswer disk name (reply_of message))
     → IsAnswer (λ disk. CheckAnswer disk name) old new r
 answers_text old new name text is (Ok message) said = (
-  told_disk old,
-  met_same old new is.0,
-  said (told_disk old) (has_text old new name text is),
+  known_disk old,
+  encountered_same old new is.0,
+  said (known_disk old) (has_text old new name text is),
 )
-answers_text old new name text is (Err error) said = (told_disk old, met_same old new is.0, tt)
+answers_text old new name text is (Err error) said = (known_disk old, encountered_same old new is.0, tt)
 
 pub answers_nothing : (old new : FilesState) (name : Bytes) (error : AllocError) → IsFileRead old new name (Err error)
     → IsAnswer (λ disk. CheckAnswer disk name) old new (Err error)
-answers_nothing old new name error is = (told_disk old, met_same old new is, tt)
+answers_nothing old new name error is = (known_disk old, encountered_same old new is, tt)

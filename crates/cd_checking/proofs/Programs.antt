@@ -13,13 +13,13 @@ use Rattle.cd_replies.specs.Disk.{Disk, HasText}
 use Rattle.cd_replies.specs.Message.{reply_of}
 use Rattle.cd_replies.specs.Naming.{RefusesNames, naming}
 use Rattle.cd_replies.specs.Reply.{Reply}
-use Rattle.cd_replies.specs.Texts.{Against, ReadsAsProgram}
+use Rattle.cd_replies.specs.Texts.{TextFault, ReadsAsProgram}
 use Rattle.cd_replies.specs.declared.message.Message.{Message}
 use Rattle.cd_least.specs.ProgramFaults.{ProgramFault}
 use Rattle.cd_check.specs.Faults.{Reports}
 use Rattle.cd_check.specs.declared.fault.CheckError.{CheckError}
 use Rattle.cd_check.specs.declared.fault.CheckError.TheVariants.{IllTyped, Memory}
-use Rattle.cd_checking.specs.CheckAnswer.{ProgramAnswer, CheckAnswer, TellsFault, on_program, unmet}
+use Rattle.cd_checking.specs.CheckAnswer.{ProgramAnswer, CheckAnswer, ReportsFault, on_program, unmet}
 use Rattle.cd_checking.specs.Inner.FaultSaid.{IsSaid}
 
 -- it is an answer on a file of that text
@@ -31,8 +31,8 @@ answers_program file text program reads (Ok message) answers =
 answers_program file text program reads (Err error) answers = tt
 
 -- no naming fault is told of its declarations
-pub names_sound : (text : Bytes) (program : Program) → ReadsAsProgram text program → (against : Against) → RefusesNames program.types against → ⊥
-names_sound text program reads _ (naming fault told) = reads.sound fault (in_types fault told.is)
+pub names_sound : (text : Bytes) (program : Program) → ReadsAsProgram text program → (text_fault : TextFault) → RefusesNames program.types text_fault → ⊥
+names_sound text program reads _ (naming fault reported) = reads.sound fault (in_types fault reported.is)
 
 -- what a number of the table names is an element
 pub element_is : (table : List Thing) (id : ElementId) → AllOf IsElement table → Names table id → IsElement (element_at table id)
@@ -44,8 +44,8 @@ element_is table id are names = at table id.0 are names
     at (first ∷ rest) (suc index) are below = at rest index are.1 (omega arith)
 
 -- what is said of an error of the checker is a fault of the program
-pub fault_told : (file text : Bytes) (program : Program) (table : List Thing) (error : CheckError)
-    → Reports table (ProgramFault program) error → (reply : Reply) → IsSaid file text table error reply → TellsFault file text program reply
-fault_told file text program table (IllTyped fault) reports reply said = subst (TellsFault file text program) (sym said.1)
+pub fault_reported : (file text : Bytes) (program : Program) (table : List Thing) (error : CheckError)
+    → Reports table (ProgramFault program) error → (reply : Reply) → IsSaid file text table error reply → ReportsFault file text program reply
+fault_reported file text program table (IllTyped fault) reports reply said = subst (ReportsFault file text program) (sym said.1)
     (unmet fault.at fault.rule (element_at table fault.element) reports.1 said.0)
-fault_told file text program table Memory reports reply said = absurd said
+fault_reported file text program table Memory reports reply said = absurd said

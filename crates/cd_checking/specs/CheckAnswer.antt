@@ -20,9 +20,9 @@ pub record FileHasProgram (disk : Disk) (file text : Bytes) (program : Program) 
   pub reads : ReadsAsProgram text program
 
 -- a fault of typing is said: its place, the text of its rule, and the canonical text of its element
-pub data TellsFault (file text : Bytes) (program : Program) : Reply → Type 0 where
+pub data ReportsFault (file text : Bytes) (program : Program) : Reply → Type 0 where
   unmet : (place : ℕ) (rule : Rule) (element : Thing) → ProgramFault program place rule element
-      → IsElement element → TellsFault file text program
+      → IsElement element → ReportsFault file text program
       (reply.ill_typed file text place (text_of rule) (encode_utf8_all (canonical element)))
 
 -- the answers on a program that a file's text reads as
@@ -30,7 +30,7 @@ pub data ProgramAnswer (file text : Bytes) (program : Program) : Reply → Type 
   -- the typing rules type it
   accepted : IsTyped program → ProgramAnswer file text program (says Done (codes "accepted"))
   -- they do not, by a fault that is said
-  ill_typed : (reply : Reply) → TellsFault file text program reply
+  ill_typed : (reply : Reply) → ReportsFault file text program reply
       → ProgramAnswer file text program reply
 
 pub data CheckAnswer (disk : Disk) (file : Bytes) : Reply → Type 0 where

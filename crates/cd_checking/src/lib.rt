@@ -10,7 +10,7 @@ ghost use Rattle.cd_replies.specs.File.{ReadsThere};
 ghost use Rattle.cd_replies.specs.Message.{IsAnswer, reply_of};
 ghost use Rattle.cd_replies.specs.Texts.{ReadsAsProgram};
 ghost use Rattle.cd_empty.specs.Seen.{table_of};
-ghost use Rattle.cd_checking.specs.CheckAnswer.{CheckAnswer, ProgramAnswer, TellsFault};
+ghost use Rattle.cd_checking.specs.CheckAnswer.{CheckAnswer, ProgramAnswer, ReportsFault};
 ghost use Rattle.cd_checking.specs.Inner.FaultSaid.{IsNamed, IsSaid};
 
 use cd_base::files::Files;
@@ -32,7 +32,7 @@ use std::alloc::{AllocError, Global};
 pub fn check<F: Files>(alloc: Global, files: &mut F, file: &str) -> Result<Message, AllocError>
     ensures answer { IsAnswer (λ disk. CheckAnswer disk file.now) (F.state files.old)
         (F.state files.new) result }
-    ensures told { (F.state files.new).told ≡ (F.state files.old).told }
+    ensures known { (F.state files.new).known ≡ (F.state files.old).known }
     ensures read { ReadsThere (F.state files.old) (F.state files.new) file.now }
 {
     match read_file(files, file) {
@@ -86,7 +86,8 @@ pub fn no_types(
     requires reads { ReadsAsProgram text.now (plain_program program.now) }
     requires well_made { IsWellMadeProgram (plain_program program.now) }
     ensures { IfOk result (λ found. MatchOption found (IsTyped (plain_program program.now))
-        (λ message. TellsFault file.now text.now (plain_program program.now) (reply_of message))) }
+        (λ message. ReportsFault file.now text.now (plain_program program.now)
+        (reply_of message))) }
 {
     let mut world = World::new(alloc)?;
     let names = match declare(alloc, &mut world, &program.types)? {

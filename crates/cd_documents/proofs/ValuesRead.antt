@@ -18,7 +18,7 @@ use Rattle.cd_syntax.specs.Name.{Name, is_word, IsLabel, IsAbove}
 use Rattle.cd_syntax.specs.Quotes as quotes
 use Rattle.cd_syntax.specs.Quotes.{Quotes, IsEscapeLetter}
 use Rattle.cd_syntax.specs.Tokens as tokens_of
-use Rattle.cd_syntax.specs.Tokens.{Writes, Spells}
+use Rattle.cd_syntax.specs.Tokens.{IsLexemeOf, Lexes}
 use Rattle.cd_syntax.specs.Tokens.{at}
 use Rattle.cd_model.specs.AllOf.{AllOf}
 use Rattle.cd_model.specs.Thing.{Thing, Fields, NoField, Field, LabelsRise, IsValue, AreValues}
@@ -58,7 +58,7 @@ quoted_scalars quote _ _ (quotes.code digits written characters is rest) all =
     let after = both IsScalar digits (59 ∷ written) all.1 in
     (is.scalar, quoted_scalars quote written characters rest after.1.1)
 
-kind_sound : (joined : Bool) (written text : List ℕ) (kind : TokenKind) → Writes joined written text kind → AllOf IsScalar written → IsSound kind
+kind_sound : (joined : Bool) (written text : List ℕ) (kind : TokenKind) → IsLexemeOf joined written text kind → AllOf IsScalar written → IsSound kind
 kind_sound joined _ _ _ (tokens_of.word name text is ends) all = is
 kind_sound joined _ _ _ (tokens_of.number digits text are begins fits) all = fits
 kind_sound joined _ _ _ (tokens_of.negative digits text apart are begins fits) all = fits
@@ -67,7 +67,7 @@ kind_sound joined _ _ _ (tokens_of.text written characters text is) all = quoted
 kind_sound joined _ _ _ (tokens_of.atom name text is ends) all = is
 kind_sound joined _ _ _ (tokens_of.sign is text longest no_comment no_number) all = tt
 
-spelled_sound : (joined : Bool) (from : ℕ) (text : List ℕ) (tokens : List Token) → Spells joined from text tokens → AllOf IsScalar text → AreSound tokens
+spelled_sound : (joined : Bool) (from : ℕ) (text : List ℕ) (tokens : List Token) → Lexes joined from text tokens → AllOf IsScalar text → AreSound tokens
 spelled_sound joined from _ _ (tokens_of.nothing _ _) all = tt
 spelled_sound joined from _ _ (tokens_of.dropped _ _ written text tokens is rest) all =
     spelled_sound _ _ text tokens rest (both IsScalar written text all).1
@@ -218,5 +218,5 @@ mutual
       (attributes_lack depth (label ∷ before) rest others are label (itself_among label before))
       (attributes_value depth (label ∷ before) rest others are (parted mark rest each.1).1)
 
-pub spelled_value : (depth : ℕ) (text : List ℕ) (tokens : List Token) (value : Thing) → AllOf IsScalar text → Spells false 0 text tokens → IsDocument depth tokens value → IsValue value
-spelled_value depth text tokens value all spells is = is_value depth tokens value is (spelled_sound false 0 text tokens spells all)
+pub spelled_value : (depth : ℕ) (text : List ℕ) (tokens : List Token) (value : Thing) → AllOf IsScalar text → Lexes false 0 text tokens → IsDocument depth tokens value → IsValue value
+spelled_value depth text tokens value all lexes is = is_value depth tokens value is (spelled_sound false 0 text tokens lexes all)

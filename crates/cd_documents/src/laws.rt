@@ -3,7 +3,7 @@ ghost use Rattle.std.specs.Prelude.{◌≡◌, ◌++◌, ◌+◌, ◌≤◌, ℕ
 ghost use Rattle.std.specs.Prelude.{length, map, false, ◌⊎◌};
 ghost use Rattle.std.specs.Char.{IsScalar};
 ghost use Rattle.cd_syntax.specs.declared.tokens.Token.{Token};
-ghost use Rattle.cd_syntax.specs.Tokens.{Spells};
+ghost use Rattle.cd_syntax.specs.Tokens.{Lexes};
 ghost use Rattle.cd_model.specs.AllOf.{AllOf};
 ghost use Rattle.cd_model.specs.Thing.{Thing, IsValue, IsData};
 ghost use Rattle.cd_documents.specs.Document.{the_nil, IsDocument};
@@ -56,7 +56,7 @@ pub fn documents_are_values()
     ensures data { (depth : ℕ) (tokens : List Token) (value : Thing)
         → IsDocument depth tokens value → IsData value }
     ensures sound { (depth : ℕ) (text : List ℕ) (tokens : List Token) (value : Thing)
-        → AllOf IsScalar text → Spells false 0 text tokens → IsDocument depth tokens value
+        → AllOf IsScalar text → Lexes false 0 text tokens → IsDocument depth tokens value
         → IsValue value }
 {}
 

@@ -9,7 +9,7 @@ use Rattle.std.proofs.lemmas.Str.Parse.{IsNumeralModel, numerals_by_fold, digits
 use Rattle.cd_syntax.specs.Digits.{AreDigits, decimal_value}
 use Rattle.cd_replies.specs.Bytes.{Bytes}
 use Rattle.cd_running.specs.RunAnswer.{UNITS}
-use Rattle.cd_driver.specs.Command.{texts, Give, GiveRun, Check, Work, Member, SubTypes, IsSize}
+use Rattle.cd_driver.specs.Command.{texts, ParseAs, ParseAsRun, Check, Work, Member, SubTypes, IsSize}
 use Rattle.cd_driver.specs.Inner.Request.{WritesSize}
 
 digits_model : IsNumeralModel (λ digits. list_all is_ascii_digit digits ≡ true) decimal_value
@@ -33,24 +33,24 @@ parse_units word r parses are short =
 
 -- words that give a command
 pub asks_sub_types : (name option a b c : Bytes) → name ≡ codes "sub" → option ≡ codes "--types"
-    → Give (name ∷ option ∷ a ∷ b ∷ c ∷ []) (SubTypes a b c)
+    → ParseAs (name ∷ option ∷ a ∷ b ∷ c ∷ []) (SubTypes a b c)
 asks_sub_types name option a b c is types = rw (is, types) refl
 
-pub asks_member : (name a b c : Bytes) → name ≡ codes "member" → Give (name ∷ a ∷ b ∷ c ∷ []) (Member a b c)
+pub asks_member : (name a b c : Bytes) → name ≡ codes "member" → ParseAs (name ∷ a ∷ b ∷ c ∷ []) (Member a b c)
 asks_member name a b c is = rw is refl
 
-pub asks_check : (name a : Bytes) → name ≡ codes "check" → Give (name ∷ a ∷ []) (Check a)
+pub asks_check : (name a : Bytes) → name ≡ codes "check" → ParseAs (name ∷ a ∷ []) (Check a)
 asks_check name a is = rw is refl
 
-pub asks_run : (name a b : Bytes) → name ≡ codes "run" → GiveRun (name ∷ a ∷ b ∷ []) UNITS a b
+pub asks_run : (name a b : Bytes) → name ≡ codes "run" → ParseAsRun (name ∷ a ∷ b ∷ []) UNITS a b
 asks_run name a b is = inl (rw is refl, refl)
 
 pub asks_run_steps : (name option a b c : Bytes) (units : ℕ) → name ≡ codes "run" → option ≡ codes "--steps" → AreDigits a → length a ≤ 18
-    → units ≡ decimal_value a → GiveRun (name ∷ option ∷ a ∷ b ∷ c ∷ []) units b c
+    → units ≡ decimal_value a → ParseAsRun (name ∷ option ∷ a ∷ b ∷ c ∷ []) units b c
 asks_run_steps name option a b c units is steps digits short value =
     inr (a, rw (is, steps) refl, record { digits = digits; short = short; value = value })
 
-pub asks_work : (name a : Bytes) (size : ℕ) → name ≡ codes "work" → WritesSize a → size ≡ decimal_value a → Give (name ∷ a ∷ []) (Work size)
+pub asks_work : (name a : Bytes) (size : ℕ) → name ≡ codes "work" → WritesSize a → size ≡ decimal_value a → ParseAs (name ∷ a ∷ []) (Work size)
 asks_work name a size is writes value = (a, rw is refl, subst (IsSize a) (writes.1.numeral.value ∙ sym value) writes.1)
 
 -- the texts of four words, and of five

@@ -10,12 +10,12 @@ use Rattle.cd_syntax.specs.TypeTree.{NoDeclaration}
 use Rattle.cd_replies.specs.Bytes.{Bytes}
 use Rattle.cd_driver.specs.Command.{Command, Sub, SubTypes, Member, Check, Run, RunSteps, Work}
 use Rattle.cd_replies.specs.Reply.{Reply}
-use Rattle.cd_driver.specs.World.{World, world}
-use Rattle.cd_replies.specs.Disk.{Disk, Met, unmarked, marked}
+use Rattle.cd_driver.specs.Outside.{Outside, outside}
+use Rattle.cd_replies.specs.Disk.{Disk, Encountered, all_read, unreadable}
 use Rattle.cd_driver.specs.Answer.{Answer, AnswerOf}
 use Rattle.cd_driver.specs.Ending.{Delivered, whole, out_refused, err_refused, out_cut, err_cut, Ending, answered, no_memory, Completes}
-use Rattle.cd_driver.specs.Headline.{NothingFailed, IsAnswered, Headline, told_files}
-use Rattle.cd_driver.specs.Inner.Telling.{Put, whole as put_whole, refused as put_refused, cut as put_cut}
+use Rattle.cd_driver.specs.Headline.{NothingFailed, IsAnswered, Headline, known_files}
+use Rattle.cd_driver.specs.Inner.Delivering.{Put, whole as put_whole, refused as put_refused, cut as put_cut}
 use Rattle.cd_replies.specs.declared.message.Message.{Message}
 use Rattle.cd_replies.specs.Message.{reply_of}
 use Rattle.cd_replies.proofs.Replies.{IsReply}
@@ -41,28 +41,28 @@ answer_is_reply words disk reply (inl none) = subst IsReply (sym none.1) (record
 answer_is_reply words disk reply (inr given) = command_is_reply disk given.0 reply given.2
 
 -- nothing was put
-appends_nothing : (told : Option (List ℕ)) → Appends told told []
+appends_nothing : (known : Option (List ℕ)) → Appends known known []
 appends_nothing None = tt
 appends_nothing (Some bytes) = search rules
 
 puts_nothing : (old new : SinkState) → new ≡ old → Puts old new []
-puts_nothing old new same = record { told = rw same (appends_nothing old.told); faults = ap (λ s. s.faults) same }
+puts_nothing old new same = record { known = rw same (appends_nothing old.known); faults = ap (λ s. s.faults) same }
 
 -- the text of a message went to one sink
-delivered_out : (before after : World) (status : Status) (text : Bytes) → (text ≡ [] → ⊥) → (ending : Status)
+delivered_out : (before after : Outside) (status : Status) (text : Bytes) → (text ≡ [] → ⊥) → (ending : Status)
     → Put text status before.out after.out ending → after.err ≡ before.err → Delivered before after (record { status = status; out = text; err = [] }) ending
 delivered_out before after status text some _ (put_whole puts) same = whole puts (puts_nothing before.err after.err same)
 delivered_out before after status text some _ (put_refused fails) same = out_refused some fails same
 delivered_out before after status text some _ (put_cut puts) same = out_cut some puts same
 
-delivered_err : (before after : World) (status : Status) (text : Bytes) → (text ≡ [] → ⊥) → (ending : Status)
+delivered_err : (before after : Outside) (status : Status) (text : Bytes) → (text ≡ [] → ⊥) → (ending : Status)
     → Put text status before.err after.err ending → after.out ≡ before.out → Delivered before after (record { status = status; out = []; err = text }) ending
 delivered_err before after status text some _ (put_whole puts) same = whole (puts_nothing before.out after.out same) puts
 delivered_err before after status text some _ (put_refused fails) same = err_refused some fails same
 delivered_err before after status text some _ (put_cut puts) same = err_cut some puts same
 
 -- a message that is an answer was delivered
-delivered_message : (words : List Bytes) (disk : Disk) (before after : World) (on_output : Bool) (status : Status) (text : Bytes) (ending : Status)
+delivered_message : (words : List Bytes) (disk : Disk) (before after : Outside) (on_output : Bool) (status : Status) (text : Bytes) (ending : Status)
     → Answer words disk (if on_output then record { status = status; out = text; err = [] } else record { status = status; out = []; err = text })
     → (IsTrue on_output → Put text status before.out after.out ending × (after.err ≡ before.err))
     → (on_output ≡ false → Put text status before.err after.err ending × (after.out ≡ before.out))
@@ -75,39 +75,39 @@ delivered_message words disk before after false status text ending answer output
     answered (record { status = status; out = []; err = text }) answer ending (delivered_err before after status text (λ none. (answer_is_reply words disk (record { status = status; out = []; err = text }) answer).text refl none) ending put.0 put.1)
 
 -- a call ends with the put of a message that answers the words, or with nothing put where memory ran out
-pub ends : (words : List Bytes) (before : World) (files : FilesState) (out err : SinkState) (message : Message) (ending : Status)
-    → (disk : Disk) → Met before.files files disk → Answer words disk (reply_of message)
+pub ends : (words : List Bytes) (before : Outside) (files : FilesState) (out err : SinkState) (message : Message) (ending : Status)
+    → (disk : Disk) → Encountered before.files files disk → Answer words disk (reply_of message)
     → (IsTrue message.on_output → Put (string_bytes message.text) message.status before.out out ending × (err ≡ before.err))
     → (message.on_output ≡ false → Put (string_bytes message.text) message.status before.err err ending × (out ≡ before.out))
-    → Completes words before (world files out err) ending
-ends words before files out err message ending disk met answer output errors = record {
+    → Completes words before (outside files out err) ending
+ends words before files out err message ending disk encountered answer output errors = record {
   disk = disk;
-  met = met;
-  ending = delivered_message words disk before (world files out err) message.on_output message.status (string_bytes message.text) ending answer output errors;
+  encountered = encountered;
+  ending = delivered_message words disk before (outside files out err) message.on_output message.status (string_bytes message.text) ending answer output errors;
 }
 
-pub ends_at_once : (words : List Bytes) (before : World) (files : FilesState) (disk : Disk) → Met before.files files disk
-    → Completes words before (world files before.out before.err) NoMemory
-ends_at_once words before files disk met = record { disk = disk; met = met; ending = no_memory refl refl }
+pub ends_at_once : (words : List Bytes) (before : Outside) (files : FilesState) (disk : Disk) → Encountered before.files files disk
+    → Completes words before (outside files before.out before.err) NoMemory
+ends_at_once words before files disk encountered = record { disk = disk; encountered = encountered; ending = no_memory refl refl }
 
 -- where nothing failed, the way that a call ended is an answer, or memory ran out
-headline_delivered : (words : List Bytes) (before after : World) (reply : Reply) → Answer words (told_files before) reply → (status : Status) → Delivered before after reply status → NothingFailed before after
+headline_delivered : (words : List Bytes) (before after : Outside) (reply : Reply) → Answer words (known_files before) reply → (status : Status) → Delivered before after reply status → NothingFailed before after
     → (status ≡ NoMemory) ⊎ IsAnswered words before after status
-headline_delivered words before after reply answer _ (whole out err) nothing = inr (record { reply = reply; answer = answer; status_is = refl; out = out.told; err = err.told })
+headline_delivered words before after reply answer _ (whole out err) nothing = inr (record { reply = reply; answer = answer; status_is = refl; out = out.known; err = err.known })
 headline_delivered words before after reply answer _ (out_refused some fails same) nothing = absurd (nothing.out fails.rose)
 headline_delivered words before after reply answer _ (err_refused some fails same) nothing = absurd (nothing.err fails.rose)
 headline_delivered words before after reply answer _ (out_cut some puts same) nothing = inl refl
 headline_delivered words before after reply answer _ (err_cut some puts same) nothing = inl refl
 
-headline_ending : (words : List Bytes) (before after : World) (status : Status) → Ending words (told_files before) before after status → NothingFailed before after
+headline_ending : (words : List Bytes) (before after : Outside) (status : Status) → Ending words (known_files before) before after status → NothingFailed before after
     → (status ≡ NoMemory) ⊎ IsAnswered words before after status
 headline_ending words before after _ (answered reply answer status ways) nothing = headline_delivered words before after reply answer status ways nothing
 headline_ending words before after _ (no_memory out err) nothing = inl refl
 
-headline_met : (words : List Bytes) (before after : World) (status : Status) (disk : Disk) → Met before.files after.files disk → Ending words disk before after status
+headline_encountered : (words : List Bytes) (before after : Outside) (status : Status) (disk : Disk) → Encountered before.files after.files disk → Ending words disk before after status
     → NothingFailed before after → (status ≡ NoMemory) ⊎ IsAnswered words before after status
-headline_met words before after status _ (unmarked same) ending nothing = headline_ending words before after status ending nothing
-headline_met words before after status _ (marked name rose last) ending nothing = absurd (nothing.files rose)
+headline_encountered words before after status _ (all_read same) ending nothing = headline_ending words before after status ending nothing
+headline_encountered words before after status _ (unreadable name rose last) ending nothing = absurd (nothing.files rose)
 
-pub headline : (words : List Bytes) (before after : World) (status : Status) → Completes words before after status → Headline words before after status
-headline words before after status completes = λ nothing. headline_met words before after status completes.disk completes.met completes.ending nothing
+pub headline : (words : List Bytes) (before after : Outside) (status : Status) → Completes words before after status → Headline words before after status
+headline words before after status completes = λ nothing. headline_encountered words before after status completes.disk completes.encountered completes.ending nothing

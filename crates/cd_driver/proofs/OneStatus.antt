@@ -10,7 +10,7 @@ use Rattle.cd_model.specs.Written.{Written}
 use Rattle.cd_model.proofs.ApartAtWritten.{not_both}
 use Rattle.cd_replies.specs.Bytes.{Bytes}
 use Rattle.cd_driver.specs.Command.{Command, Sub, SubTypes, Member, Check, Run, RunSteps, Work, files_of}
-use Rattle.cd_replies.specs.Texts.{Against, ReadsAs, Declares, ReadsAsProgram, RefusesType, RefusesDeclarations, RefusesProgram}
+use Rattle.cd_replies.specs.Texts.{TextFault, ReadsAs, Declares, ReadsAsProgram, RefusesType, RefusesDeclarations, RefusesProgram}
 use Rattle.cd_replies.specs.Within.{IsIn, IsOutside, IsWithin}
 use Rattle.cd_replies.specs.Reply.{Reply, refusal}
 use Rattle.cd_replies.specs.Disk.{Disk, Has, HasText, LARGEST, FileRefusal, unread, large, encoding, refused}
@@ -22,7 +22,7 @@ use Rattle.cd_replies.specs.Documents.{RefusesDocument, FileWrites, IsValueIn, I
 use Rattle.cd_member.specs.MemberAnswer as member
 use Rattle.cd_member.specs.MemberAnswer.{FileDeclares, DocumentAnswer, MemberAnswer}
 use Rattle.cd_checking.specs.CheckAnswer as checking
-use Rattle.cd_checking.specs.CheckAnswer.{CheckAnswer, FileHasProgram, ProgramAnswer, TellsFault}
+use Rattle.cd_checking.specs.CheckAnswer.{CheckAnswer, FileHasProgram, ProgramAnswer, ReportsFault}
 use Rattle.cd_checking.proofs.FaultsUntyped.{fault_status, fault_untyped}
 use Rattle.cd_typing.specs.Typed.{IsTyped}
 use Rattle.cd_evaluation.specs.Code.{place_of}
@@ -33,7 +33,7 @@ use Rattle.cd_evaluation.specs.Runs.{Outcome, Result}
 use Rattle.cd_evaluation.proofs.OneResult.{one_meaning}
 use Rattle.cd_evaluation.proofs.ProgramTakes.{takes_once}
 use Rattle.cd_safety.specs.SafeProgram.{IsMain, ComesTo}
-use Rattle.cd_running.specs.Ending.{Tells, done, raised, overflow, spent}
+use Rattle.cd_running.specs.Ending.{Reports, done, raised, overflow, spent}
 use Rattle.cd_running.specs.Input.{IsInput, IsNoInput}
 use Rattle.cd_running.proofs.InputDecided.{in_or_none}
 use Rattle.cd_running.specs.RunAnswer as run
@@ -61,31 +61,31 @@ module _ (declared : Declarations) (text1 text2 : Bytes) where
   sub_one _ _ (yes a b a_is b_is within) (yes c d c_is d_is within') = refl
   sub_one _ _ (yes a b a_is b_is within) (no c d c_is d_is element is inside outside) =
       apart a b c d a_is b_is c_is d_is within element is inside outside
-  sub_one _ _ (yes a b a_is b_is within) (first_refused against stands) = absurd (reads_unrefused declared text1 a a_is against stands)
-  sub_one _ _ (yes a b a_is b_is within) (second_refused c c_is against stands) = absurd (reads_unrefused declared text2 b b_is against stands)
+  sub_one _ _ (yes a b a_is b_is within) (first_refused text_fault stands) = absurd (reads_unrefused declared text1 a a_is text_fault stands)
+  sub_one _ _ (yes a b a_is b_is within) (second_refused c c_is text_fault stands) = absurd (reads_unrefused declared text2 b b_is text_fault stands)
   sub_one _ _ (no c d c_is d_is element is inside outside) (yes a b a_is b_is within) =
       apart a b c d a_is b_is c_is d_is within element is inside outside
   sub_one _ _ (no a b a_is b_is element is inside outside) (no c d c_is d_is element' is' inside' outside') = refl
-  sub_one _ _ (no a b a_is b_is element is inside outside) (first_refused against stands) = absurd (reads_unrefused declared text1 a a_is against stands)
-  sub_one _ _ (no a b a_is b_is element is inside outside) (second_refused c c_is against stands) = absurd (reads_unrefused declared text2 b b_is against stands)
-  sub_one _ _ (first_refused against stands) (yes a b a_is b_is within) = absurd (reads_unrefused declared text1 a a_is against stands)
-  sub_one _ _ (first_refused against stands) (no a b a_is b_is element is inside outside) = absurd (reads_unrefused declared text1 a a_is against stands)
-  sub_one _ _ (first_refused against stands) (first_refused other stands') = one_type_refusal declared (codes "T1") text1 against other stands stands'
-  sub_one _ _ (first_refused against stands) (second_refused a a_is other stands') = absurd (reads_unrefused declared text1 a a_is against stands)
-  sub_one _ _ (second_refused c c_is against stands) (yes a b a_is b_is within) = absurd (reads_unrefused declared text2 b b_is against stands)
-  sub_one _ _ (second_refused c c_is against stands) (no a b a_is b_is element is inside outside) = absurd (reads_unrefused declared text2 b b_is against stands)
-  sub_one _ _ (second_refused c c_is against stands) (first_refused other stands') = absurd (reads_unrefused declared text1 c c_is other stands')
-  sub_one _ _ (second_refused c c_is against stands) (second_refused a a_is other stands') = one_type_refusal declared (codes "T2") text2 against other stands stands'
+  sub_one _ _ (no a b a_is b_is element is inside outside) (first_refused text_fault stands) = absurd (reads_unrefused declared text1 a a_is text_fault stands)
+  sub_one _ _ (no a b a_is b_is element is inside outside) (second_refused c c_is text_fault stands) = absurd (reads_unrefused declared text2 b b_is text_fault stands)
+  sub_one _ _ (first_refused text_fault stands) (yes a b a_is b_is within) = absurd (reads_unrefused declared text1 a a_is text_fault stands)
+  sub_one _ _ (first_refused text_fault stands) (no a b a_is b_is element is inside outside) = absurd (reads_unrefused declared text1 a a_is text_fault stands)
+  sub_one _ _ (first_refused text_fault stands) (first_refused other stands') = one_type_refusal declared (codes "T1") text1 text_fault other stands stands'
+  sub_one _ _ (first_refused text_fault stands) (second_refused a a_is other stands') = absurd (reads_unrefused declared text1 a a_is text_fault stands)
+  sub_one _ _ (second_refused c c_is text_fault stands) (yes a b a_is b_is within) = absurd (reads_unrefused declared text2 b b_is text_fault stands)
+  sub_one _ _ (second_refused c c_is text_fault stands) (no a b a_is b_is element is inside outside) = absurd (reads_unrefused declared text2 b b_is text_fault stands)
+  sub_one _ _ (second_refused c c_is text_fault stands) (first_refused other stands') = absurd (reads_unrefused declared text1 c c_is other stands')
+  sub_one _ _ (second_refused c c_is text_fault stands) (second_refused a a_is other stands') = one_type_refusal declared (codes "T2") text2 text_fault other stands stands'
 
 -- a file that is known has one content at most
 one_content : (disk : Disk) (file : Bytes) → IsKnown disk file → (a b : Bytes) → Has disk file a → Has disk file b → a ≡ b
-one_content disk file (inl marked) a b first second = absurd (first.read marked)
-one_content disk file (inr told) a b first second =
-    let same = λ (bytes : Bytes) (has : Has disk file bytes). told_bytes told.0 bytes told.1 has in
+one_content disk file (inl unreadable) a b first second = absurd (first.read unreadable)
+one_content disk file (inr held) a b first second =
+    let same = λ (bytes : Bytes) (has : Has disk file bytes). known_bytes held.0 bytes held.1 has in
     sym (same a first) ∙ same b second
   where
-    told_bytes : (all bytes : Bytes) → disk.told file ≡ Some all → Has disk file bytes → all ≡ bytes
-    told_bytes all bytes told has = rw told at has.told
+    known_bytes : (all bytes : Bytes) → disk.known file ≡ Some all → Has disk file bytes → all ≡ bytes
+    known_bytes all bytes held has = rw held at has.known
 
 -- a known file decides the status of what is said of it, whatever may stand against its text
 module _ (disk : Disk) (file : Bytes) (known : IsKnown disk file) where
@@ -108,37 +108,37 @@ module _ (disk : Disk) (file : Bytes) (known : IsKnown disk file) where
       let large : LARGEST < length b = subst (λ bs. LARGEST < length bs) (same_two a b first second) is in
       omega arith
 
-  module _ (refuses : Bytes → Against → Type 0) where
-    file_one : ((text : Bytes) (a b : Against) → refuses text a → refuses text b → (refusal file text a).status ≡ (refusal file text b).status)
+  module _ (refuses : Bytes → TextFault → Type 0) where
+    file_one : ((text : Bytes) (a b : TextFault) → refuses text a → refuses text b → (refusal file text a).status ≡ (refusal file text b).status)
         → (r s : Reply) → FileRefusal refuses disk file r → FileRefusal refuses disk file s → r.status ≡ s.status
-    file_one one _ _ (unread marked) (unread marked') = refl
-    file_one one _ _ (unread marked) (large bytes has is) = absurd (has.read marked)
-    file_one one _ _ (unread marked) (encoding bytes has size is) = absurd (has.read marked)
-    file_one one _ _ (unread marked) (refused text has against stands) = absurd (has.has.read marked)
-    file_one one _ _ (large bytes has is) (unread marked) = absurd (has.read marked)
+    file_one one _ _ (unread unreadable) (unread unreadable') = refl
+    file_one one _ _ (unread unreadable) (large bytes has is) = absurd (has.read unreadable)
+    file_one one _ _ (unread unreadable) (encoding bytes has size is) = absurd (has.read unreadable)
+    file_one one _ _ (unread unreadable) (refused text has text_fault stands) = absurd (has.has.read unreadable)
+    file_one one _ _ (large bytes has is) (unread unreadable) = absurd (has.read unreadable)
     file_one one _ _ (large bytes has is) (large bytes' has' is') = refl
     file_one one _ _ (large bytes has is) (encoding bytes' has' size is') = absurd (large_or_not bytes bytes' has is has' size)
-    file_one one _ _ (large bytes has is) (refused text has' against stands) = absurd (text_or_large text bytes has' has is)
-    file_one one _ _ (encoding bytes has size is) (unread marked) = absurd (has.read marked)
+    file_one one _ _ (large bytes has is) (refused text has' text_fault stands) = absurd (text_or_large text bytes has' has is)
+    file_one one _ _ (encoding bytes has size is) (unread unreadable) = absurd (has.read unreadable)
     file_one one _ _ (encoding bytes has size is) (large bytes' has' is') = absurd (large_or_not bytes' bytes has' is' has size)
     file_one one _ _ (encoding bytes has size is) (encoding bytes' has' size' is') = refl
-    file_one one _ _ (encoding bytes has size is) (refused text has' against stands) = absurd (text_or_not text bytes has' has is)
-    file_one one _ _ (refused text has against stands) (unread marked) = absurd (has.has.read marked)
-    file_one one _ _ (refused text has against stands) (large bytes has' is) = absurd (text_or_large text bytes has has' is)
-    file_one one _ _ (refused text has against stands) (encoding bytes has' size is) = absurd (text_or_not text bytes has has' is)
-    file_one one _ _ (refused text has against stands) (refused text' has' against' stands') =
+    file_one one _ _ (encoding bytes has size is) (refused text has' text_fault stands) = absurd (text_or_not text bytes has' has is)
+    file_one one _ _ (refused text has text_fault stands) (unread unreadable) = absurd (has.has.read unreadable)
+    file_one one _ _ (refused text has text_fault stands) (large bytes has' is) = absurd (text_or_large text bytes has has' is)
+    file_one one _ _ (refused text has text_fault stands) (encoding bytes has' size is) = absurd (text_or_not text bytes has has' is)
+    file_one one _ _ (refused text has text_fault stands) (refused text' has' text_fault' stands') =
         let same = same_two text' text has'.has has.has in
-        one text against against' stands (subst (λ t. refuses t against') same stands')
-        ∙ ap (λ t. (refusal file t against').status) (sym same)
+        one text text_fault text_fault' stands (subst (λ t. refuses t text_fault') same stands')
+        ∙ ap (λ t. (refusal file t text_fault').status) (sym same)
 
     -- a file that is refused has no text against which nothing stands
     refused_or_not : (reply : Reply) (text : Bytes) → FileRefusal refuses disk file reply → HasText disk file text
-        → ((against : Against) → refuses text against → ⊥) → ⊥
-    refused_or_not _ text (unread marked) has none = has.has.read marked
+        → ((text_fault : TextFault) → refuses text text_fault → ⊥) → ⊥
+    refused_or_not _ text (unread unreadable) has none = has.has.read unreadable
     refused_or_not _ text (large bytes other is) has none = text_or_large text bytes has other is
     refused_or_not _ text (encoding bytes other size is) has none = text_or_not text bytes has other is
-    refused_or_not _ text (refused text' other against stands) has none =
-        none against (subst (λ t. refuses t against) (same_two text' text other.has has.has) stands)
+    refused_or_not _ text (refused text' other text_fault stands) has none =
+        none text_fault (subst (λ t. refuses t text_fault) (same_two text' text other.has has.has) stands)
 
   -- it declares one list
   one_list : (text text' : Bytes) (declared declared' : Declarations) → HasText disk file text → HasText disk file text'
@@ -207,19 +207,19 @@ module _ (disk : Disk) (file : Bytes) (known : IsKnown disk file) where
 
   -- which has types, or a fault
   typed_or_not : {A : Type 0} (text text' : Bytes) (program program' : Program) → FileHasProgram disk file text program
-      → FileHasProgram disk file text' program' → IsTyped program → (reply : Reply) → TellsFault file text' program' reply → A
-  typed_or_not text text' program program' has has' typed reply tells =
-      absurd (fault_untyped file text' program' reply tells (subst IsTyped (one_program text text' program program' has has') typed))
+      → FileHasProgram disk file text' program' → IsTyped program → (reply : Reply) → ReportsFault file text' program' reply → A
+  typed_or_not text text' program program' has has' typed reply reports =
+      absurd (fault_untyped file text' program' reply reports (subst IsTyped (one_program text text' program program' has has') typed))
 
   programs_one : (text text' : Bytes) (program program' : Program) → FileHasProgram disk file text program → FileHasProgram disk file text' program'
       → (r s : Reply) → ProgramAnswer file text program r → ProgramAnswer file text' program' s → r.status ≡ s.status
   programs_one text text' program program' has has' _ _ (checking.accepted typed) (checking.accepted typed') = refl
-  programs_one text text' program program' has has' _ _ (checking.accepted typed) (checking.ill_typed s tells) =
-      typed_or_not text text' program program' has has' typed s tells
-  programs_one text text' program program' has has' _ _ (checking.ill_typed r tells) (checking.accepted typed) =
-      typed_or_not text' text program' program has' has typed r tells
-  programs_one text text' program program' has has' _ _ (checking.ill_typed r tells) (checking.ill_typed s tells') =
-      fault_status file text program r tells ∙ sym (fault_status file text' program' s tells')
+  programs_one text text' program program' has has' _ _ (checking.accepted typed) (checking.ill_typed s reports) =
+      typed_or_not text text' program program' has has' typed s reports
+  programs_one text text' program program' has has' _ _ (checking.ill_typed r reports) (checking.accepted typed) =
+      typed_or_not text' text program' program has' has typed r reports
+  programs_one text text' program program' has has' _ _ (checking.ill_typed r reports) (checking.ill_typed s reports') =
+      fault_status file text program r reports ∙ sym (fault_status file text' program' s reports')
 
   check_one : (r s : Reply) → CheckAnswer disk file r → CheckAnswer disk file s → r.status ≡ s.status
   check_one _ _ (checking.file_refused r refusal) (checking.file_refused s refusal') =
@@ -235,27 +235,27 @@ module _ (disk : Disk) (file document text : Bytes) (known : IsKnown disk file) 
   declared_one first second one other = one_list disk file known one.text other.text first second one.has other.has one.declares other.declares
 
   unread_type : {A : Type 0} (first second : Declarations) → FileDeclares disk file first → FileDeclares disk file second
-      → (against : Against) → RefusesType first text against → (type : Written) → ReadsAs second text type → A
-  unread_type first second one other against stands type reads =
-      absurd (reads_unrefused first text type (subst (λ list. ReadsAs list text type) (declared_one first second one other) reads) against stands)
+      → (text_fault : TextFault) → RefusesType first text text_fault → (type : Written) → ReadsAs second text type → A
+  unread_type first second one other text_fault stands type reads =
+      absurd (reads_unrefused first text type (subst (λ list. ReadsAs list text type) (declared_one first second one other) reads) text_fault stands)
 
   member_one : (r s : Reply) → MemberAnswer disk file document text r → MemberAnswer disk file document text s → r.status ≡ s.status
   member_one _ _ (member.file_refused r refusal) (member.file_refused s refusal') = declarations_one disk file known r s refusal refusal'
-  member_one _ _ (member.file_refused r refusal) (member.type_refused declared declares against stands) =
+  member_one _ _ (member.file_refused r refusal) (member.type_refused declared declares text_fault stands) =
       undeclared disk file known r declares.text declared refusal declares.has declares.declares
   member_one _ _ (member.file_refused r refusal) (member.on_document declared declares type reads s answers) =
       undeclared disk file known r declares.text declared refusal declares.has declares.declares
-  member_one _ _ (member.type_refused declared declares against stands) (member.file_refused s refusal) =
+  member_one _ _ (member.type_refused declared declares text_fault stands) (member.file_refused s refusal) =
       undeclared disk file known s declares.text declared refusal declares.has declares.declares
-  member_one _ _ (member.type_refused declared declares against stands) (member.type_refused declared' declares' against' stands') =
-      one_type_refusal declared (codes "T") text against against' stands
-      (subst (λ list. RefusesType list text against') (declared_one declared declared' declares declares') stands')
-  member_one _ _ (member.type_refused declared declares against stands) (member.on_document declared' declares' type reads s answers) =
-      unread_type declared declared' declares declares' against stands type reads
+  member_one _ _ (member.type_refused declared declares text_fault stands) (member.type_refused declared' declares' text_fault' stands') =
+      one_type_refusal declared (codes "T") text text_fault text_fault' stands
+      (subst (λ list. RefusesType list text text_fault') (declared_one declared declared' declares declares') stands')
+  member_one _ _ (member.type_refused declared declares text_fault stands) (member.on_document declared' declares' type reads s answers) =
+      unread_type declared declared' declares declares' text_fault stands type reads
   member_one _ _ (member.on_document declared declares type reads r answers) (member.file_refused s refusal) =
       undeclared disk file known s declares.text declared refusal declares.has declares.declares
-  member_one _ _ (member.on_document declared declares type reads r answers) (member.type_refused declared' declares' against stands) =
-      unread_type declared' declared declares' declares against stands type reads
+  member_one _ _ (member.on_document declared declares type reads r answers) (member.type_refused declared' declares' text_fault stands) =
+      unread_type declared' declared declares' declares text_fault stands type reads
   member_one _ _ (member.on_document declared declares type reads r answers) (member.on_document declared' declares' type' reads' s answers') =
       let same = reads_one declared text type' type
       (subst (λ list. ReadsAs list text type') (declared_one declared declared' declares declares') reads') reads in
@@ -263,11 +263,11 @@ module _ (disk : Disk) (file document text : Bytes) (known : IsKnown disk file) 
       (subst (λ type. DocumentAnswer disk document type s) same answers')
 
 -- an outcome is told in one way
-told_once : (outcome : Outcome) (r s : Reply) → Tells outcome r → Tells outcome s → r.status ≡ s.status
-told_once _ _ _ (done v) (done _) = refl
-told_once _ _ _ (raised v) (raised _) = refl
-told_once _ _ _ overflow overflow = refl
-told_once _ _ _ spent spent = refl
+reported_once : (outcome : Outcome) (r s : Reply) → Reports outcome r → Reports outcome s → r.status ≡ s.status
+reported_once _ _ _ (done v) (done _) = refl
+reported_once _ _ _ (raised v) (raised _) = refl
+reported_once _ _ _ overflow overflow = refl
+reported_once _ _ _ spent spent = refl
 
 -- the program and the document decide the status of what `run` answers
 module _ (disk : Disk) (units : ℕ) (file document : Bytes)
@@ -296,8 +296,8 @@ module _ (disk : Disk) (units : ℕ) (file document : Bytes)
 
   -- a program has types, or a fault
   faulty : {A : Type 0} (text : Bytes) (program program' : Program) → FileHasTyped disk file program → FileHasProgram disk file text program'
-      → (reply : Reply) → TellsFault file text program' reply → A
-  faulty text program program' has has' reply tells = typed_or_not disk file known has.text text program program' has.has has' has.typed reply tells
+      → (reply : Reply) → ReportsFault file text program' reply → A
+  faulty text program program' has has' reply reports = typed_or_not disk file known has.text text program program' has.has has' has.typed reply reports
 
   -- a document is taken, or not
   taken_or_not : {A : Type 0} (one other : Given disk file document) → IsNoInput one.program one.main one.value
@@ -321,45 +321,45 @@ module _ (disk : Disk) (units : ℕ) (file document : Bytes)
   run_one : (r s : Reply) → RunAnswer disk units file document r → RunAnswer disk units file document s → r.status ≡ s.status
   run_one _ _ (run.file_refused r refusal) (run.file_refused s refusal') =
       file_one disk file known RefusesProgram (λ text a b first second. one_program_refusal file text a b first second) r s refusal refusal'
-  run_one _ _ (run.file_refused r refusal) (run.program_refused text program has s tells) = unrefused disk file known r text program refusal has
+  run_one _ _ (run.file_refused r refusal) (run.program_refused text program has s reports) = unrefused disk file known r text program refusal has
   run_one _ _ (run.file_refused r refusal) (run.document_refused program has s refusal') = unprogrammed r program refusal has
   run_one _ _ (run.file_refused r refusal) (run.not_input given outside) = unprogrammed r given.program refusal given.has
-  run_one _ _ (run.file_refused r refusal) (run.ran result has s tells) = unprogrammed r has.given.program refusal has.given.has
-  run_one _ _ (run.program_refused text program has r tells) (run.file_refused s refusal) = unrefused disk file known s text program refusal has
-  run_one _ _ (run.program_refused text program has r tells) (run.program_refused text' program' has' s tells') =
-      fault_status file text program r tells ∙ sym (fault_status file text' program' s tells')
-  run_one _ _ (run.program_refused text program has r tells) (run.document_refused program' has' s refusal) =
-      faulty text program' program has' has r tells
-  run_one _ _ (run.program_refused text program has r tells) (run.not_input given outside) =
-      faulty text given.program program given.has has r tells
-  run_one _ _ (run.program_refused text program has r tells) (run.ran result has' s tells') =
-      faulty text has'.given.program program has'.given.has has r tells
+  run_one _ _ (run.file_refused r refusal) (run.ran result has s reports) = unprogrammed r has.given.program refusal has.given.has
+  run_one _ _ (run.program_refused text program has r reports) (run.file_refused s refusal) = unrefused disk file known s text program refusal has
+  run_one _ _ (run.program_refused text program has r reports) (run.program_refused text' program' has' s reports') =
+      fault_status file text program r reports ∙ sym (fault_status file text' program' s reports')
+  run_one _ _ (run.program_refused text program has r reports) (run.document_refused program' has' s refusal) =
+      faulty text program' program has' has r reports
+  run_one _ _ (run.program_refused text program has r reports) (run.not_input given outside) =
+      faulty text given.program program given.has has r reports
+  run_one _ _ (run.program_refused text program has r reports) (run.ran result has' s reports') =
+      faulty text has'.given.program program has'.given.has has r reports
   run_one _ _ (run.document_refused program has r refusal) (run.file_refused s refusal') = unprogrammed s program refusal' has
-  run_one _ _ (run.document_refused program has r refusal) (run.program_refused text program' has' s tells) =
-      faulty text program program' has has' s tells
+  run_one _ _ (run.document_refused program has r refusal) (run.program_refused text program' has' s reports) =
+      faulty text program program' has has' s reports
   run_one _ _ (run.document_refused program has r refusal) (run.document_refused program' has' s refusal') =
       file_one disk document document_known RefusesDocument (λ text a b first second. one_document_refusal text document a b first second)
       r s refusal refusal'
   run_one _ _ (run.document_refused program has r refusal) (run.not_input given outside) =
       unwritten disk document document_known r given.value refusal given.writes
-  run_one _ _ (run.document_refused program has r refusal) (run.ran result has' s tells) =
+  run_one _ _ (run.document_refused program has r refusal) (run.ran result has' s reports) =
       unwritten disk document document_known r has'.given.value refusal has'.given.writes
   run_one _ _ (run.not_input given outside) (run.file_refused s refusal) = unprogrammed s given.program refusal given.has
-  run_one _ _ (run.not_input given outside) (run.program_refused text program has s tells) =
-      faulty text given.program program given.has has s tells
+  run_one _ _ (run.not_input given outside) (run.program_refused text program has s reports) =
+      faulty text given.program program given.has has s reports
   run_one _ _ (run.not_input given outside) (run.document_refused program has s refusal) =
       unwritten disk document document_known s given.value refusal given.writes
   run_one _ _ (run.not_input given outside) (run.not_input given' outside') = refl
-  run_one _ _ (run.not_input given outside) (run.ran result has s tells) = taken_or_not given has.given outside has.run.input
-  run_one _ _ (run.ran result has r tells) (run.file_refused s refusal) = unprogrammed s has.given.program refusal has.given.has
-  run_one _ _ (run.ran result has r tells) (run.program_refused text program has' s tells') =
-      faulty text has.given.program program has.given.has has' s tells'
-  run_one _ _ (run.ran result has r tells) (run.document_refused program has' s refusal) =
+  run_one _ _ (run.not_input given outside) (run.ran result has s reports) = taken_or_not given has.given outside has.run.input
+  run_one _ _ (run.ran result has r reports) (run.file_refused s refusal) = unprogrammed s has.given.program refusal has.given.has
+  run_one _ _ (run.ran result has r reports) (run.program_refused text program has' s reports') =
+      faulty text has.given.program program has.given.has has' s reports'
+  run_one _ _ (run.ran result has r reports) (run.document_refused program has' s refusal) =
       unwritten disk document document_known s has.given.value refusal has.given.writes
-  run_one _ _ (run.ran result has r tells) (run.not_input given outside) = taken_or_not given has.given outside has.run.input
-  run_one _ _ (run.ran result has r tells) (run.ran result' has' s tells') =
+  run_one _ _ (run.ran result has r reports) (run.not_input given outside) = taken_or_not given has.given outside has.run.input
+  run_one _ _ (run.ran result has r reports) (run.ran result' has' s reports') =
       let same = result_same result result' has has' in
-      told_once result.outcome r s tells (subst (λ result. Tells result.outcome s) (sym same) tells')
+      reported_once result.outcome r s reports (subst (λ result. Reports result.outcome s) (sym same) reports')
 
 -- work has one status
 work_one : (size : ℕ) (r s : Reply) → WorkAnswer size r → WorkAnswer size s → r.status ≡ s.status

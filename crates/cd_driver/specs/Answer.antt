@@ -4,7 +4,7 @@ use Rattle.cd_syntax.specs.TypeTree.{NoDeclaration}
 use Rattle.cd_model.specs.AllOf.{AllOf}
 use Rattle.cd_replies.specs.Bytes.{Bytes}
 use Rattle.cd_driver.specs.Command.{Command, Sub, SubTypes, Member, Check, Run, RunSteps, Work}
-use Rattle.cd_driver.specs.Command.{Give, HaveNoForm, files_of}
+use Rattle.cd_driver.specs.Command.{ParseAs, AreNoCommand, files_of}
 use Rattle.cd_replies.specs.Reply.{Reply, usage}
 use Rattle.cd_replies.specs.Disk.{Disk}
 use Rattle.cd_checking.specs.CheckAnswer.{CheckAnswer}
@@ -25,14 +25,15 @@ AnswerOf (Work size) disk reply = WorkAnswer size reply
 
 -- the answers to words: those that have no listed form get the usage line
 abbrev pub Answer : List Bytes → Disk → Reply → Type 0
-Answer words disk reply = (HaveNoForm words × (reply ≡ usage))
-    ⊎ ((command : Command) × Give words command × AnswerOf command disk reply)
+Answer words disk reply = (AreNoCommand words × (reply ≡ usage))
+    ⊎ ((command : Command) × ParseAs words command × AnswerOf command disk reply)
 
 -- the file can't be read, or is told
 abbrev pub IsKnown : Disk → Bytes → Type 0
-IsKnown disk file = (disk.marked ≡ Some file) ⊎ ((bytes : Bytes) × (disk.told file ≡ Some bytes))
+IsKnown disk file = (disk.unreadable ≡ Some file)
+    ⊎ ((bytes : Bytes) × (disk.known file ≡ Some bytes))
 
 -- each file that the words' command reads is known
 abbrev pub FileIsKnown : List Bytes → Disk → Type 0
-FileIsKnown words disk = (command : Command) → Give words command
+FileIsKnown words disk = (command : Command) → ParseAs words command
     → AllOf (IsKnown disk) (files_of command)

@@ -39,27 +39,27 @@ pub record IsSize (word : Bytes) (size : ℕ) : Type 0 where
   pub most : size ≤ 100000
 
 -- the words give the command
-abbrev pub Give : List Bytes → Command → Type 0
-Give words (Sub first second) = words ≡ codes "sub" ∷ first ∷ second ∷ []
-Give words (SubTypes file first second) =
+abbrev pub ParseAs : List Bytes → Command → Type 0
+ParseAs words (Sub first second) = words ≡ codes "sub" ∷ first ∷ second ∷ []
+ParseAs words (SubTypes file first second) =
     words ≡ codes "sub" ∷ codes "--types" ∷ file ∷ first ∷ second ∷ []
-Give words (Member file document type) = words ≡ codes "member" ∷ file ∷ document ∷ type ∷ []
-Give words (Check file) = words ≡ codes "check" ∷ file ∷ []
-Give words (Run file document) = words ≡ codes "run" ∷ file ∷ document ∷ []
-Give words (RunSteps units file document) =
+ParseAs words (Member file document type) = words ≡ codes "member" ∷ file ∷ document ∷ type ∷ []
+ParseAs words (Check file) = words ≡ codes "check" ∷ file ∷ []
+ParseAs words (Run file document) = words ≡ codes "run" ∷ file ∷ document ∷ []
+ParseAs words (RunSteps units file document) =
     (word : Bytes) × (words ≡ codes "run" ∷ codes "--steps" ∷ word ∷ file ∷ document ∷ [])
     × IsNumeral 18 word units
-Give words (Work size) =
+ParseAs words (Work size) =
     (word : Bytes) × (words ≡ codes "work" ∷ word ∷ []) × IsSize word size
 
 -- the words ask for a run of the program of a file on a document, with so many units
-abbrev pub GiveRun : List Bytes → (units : ℕ) → (file document : Bytes) → Type 0
-GiveRun words units file document = (Give words (Run file document) × (units ≡ UNITS))
-    ⊎ Give words (RunSteps units file document)
+abbrev pub ParseAsRun : List Bytes → (units : ℕ) → (file document : Bytes) → Type 0
+ParseAsRun words units file document = (ParseAs words (Run file document) × (units ≡ UNITS))
+    ⊎ ParseAs words (RunSteps units file document)
 
 -- the words have no form that is listed
-abbrev pub HaveNoForm : List Bytes → Type 0
-HaveNoForm words = (command : Command) → Give words command → ⊥
+abbrev pub AreNoCommand : List Bytes → Type 0
+AreNoCommand words = (command : Command) → ParseAs words command → ⊥
 
 -- the file of the program that a command is about, if it is about one
 abbrev pub program_of : Command → Option Bytes

@@ -5,12 +5,12 @@ use Rattle.cd_base.specs.declared.status.Status.TheVariants.{WriteFault, NoMemor
 use Rattle.cd_base.specs.SinkState.{Puts, PutsPrefix, FailsToPut}
 use Rattle.cd_replies.specs.Bytes.{Bytes}
 use Rattle.cd_replies.specs.Reply.{Reply}
-use Rattle.cd_driver.specs.World.{World}
-use Rattle.cd_replies.specs.Disk.{Disk, Met}
+use Rattle.cd_driver.specs.Outside.{Outside}
+use Rattle.cd_replies.specs.Disk.{Disk, Encountered}
 use Rattle.cd_driver.specs.Answer.{Answer}
 
 -- the ways to deliver a reply to the sinks, and the status that each ends with
-pub data Delivered (before after : World) (reply : Reply) : Status → Type 0 where
+pub data Delivered (before after : Outside) (reply : Reply) : Status → Type 0 where
   -- both texts were written whole
   whole : Puts before.out after.out reply.out → Puts before.err after.err reply.err
       → Delivered before after reply reply.status
@@ -27,7 +27,7 @@ pub data Delivered (before after : World) (reply : Reply) : Status → Type 0 wh
       → Delivered before after reply NoMemory
 
 -- the ways that a call on these words ends
-pub data Ending (words : List Bytes) (disk : Disk) (before after : World) : Status → Type 0 where
+pub data Ending (words : List Bytes) (disk : Disk) (before after : Outside) : Status → Type 0 where
   -- an answer to the words was delivered, or a prefix of it
   answered : (reply : Reply) → Answer words disk reply → (status : Status)
       → Delivered before after reply status
@@ -37,7 +37,7 @@ pub data Ending (words : List Bytes) (disk : Disk) (before after : World) : Stat
       → Ending words disk before after NoMemory
 
 -- whatever faults came, the call ended in one of these ways, for the files that it met
-pub record Completes (words : List Bytes) (before after : World) (status : Status) : Type 0 where
+pub record Completes (words : List Bytes) (before after : Outside) (status : Status) : Type 0 where
   pub disk : Disk
-  pub met : Met before.files after.files disk
+  pub encountered : Encountered before.files after.files disk
   pub ending : Ending words disk before after status

@@ -1,3 +1,3 @@
 -- What serves private functions. No public clause speaks of it.
 pub mod Request
-pub mod Telling
+pub mod Delivering

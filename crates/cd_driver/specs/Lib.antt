@@ -1,5 +1,5 @@
 pub mod Command
-pub mod World
+pub mod Outside
 pub mod Answer
 pub mod FilesRead
 pub mod Ending

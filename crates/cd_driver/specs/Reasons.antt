@@ -12,13 +12,14 @@ use Rattle.cd_model.specs.Written.{Written}
 use Rattle.cd_resolve.specs.Faults.{Fault}
 use Rattle.cd_replies.specs.Bytes.{Bytes}
 use Rattle.cd_model.specs.AllOf.{AnyOf}
-use Rattle.cd_driver.specs.Command.{Command, Sub, SubTypes, Member, Check, Work, Give, GiveRun}
-use Rattle.cd_driver.specs.Command.{HaveNoForm, files_of, program_of}
-use Rattle.cd_replies.specs.Texts.{Against, Lexical, Syntax, TooDeep, Naming, ReadsAs, Declares}
+use Rattle.cd_driver.specs.Command.{Command, Sub, SubTypes, Member, Check, Work, ParseAs}
+use Rattle.cd_driver.specs.Command.{ParseAsRun}
+use Rattle.cd_driver.specs.Command.{AreNoCommand, files_of, program_of}
+use Rattle.cd_replies.specs.Texts.{TextFault, Lexical, Syntax, TooDeep, Naming, ReadsAs, Declares}
 use Rattle.cd_replies.specs.Texts.{RefusesType, RefusesDeclarations, RefusesProgram}
 use Rattle.cd_replies.specs.Within.{IsIn, IsOutside, IsWithin}
-use Rattle.cd_driver.specs.World.{World}
-use Rattle.cd_replies.specs.Disk.{Disk, Met, Has, HasText, LARGEST}
+use Rattle.cd_driver.specs.Outside.{Outside}
+use Rattle.cd_replies.specs.Disk.{Disk, Encountered, Has, HasText, LARGEST}
 use Rattle.cd_driver.specs.Causes.{SinkFailed}
 use Rattle.cd_replies.specs.Documents.{RefusesDocument, FileWrites, IsValueIn, IsValueOutside}
 use Rattle.cd_member.specs.MemberAnswer.{FileDeclares}
@@ -32,35 +33,36 @@ use Rattle.cd_work.specs.Queries.{Answered}
 use Rattle.cd_work.specs.WorkAnswer.{Runs}
 
 -- the words ask about two type texts, which see these declarations: none, or those of a file
-pub data GiveTexts (words : List Bytes) (disk : Disk) : Declarations → (text1 text2 : Bytes)
+pub data ParseAsTexts (words : List Bytes) (disk : Disk) : Declarations → (text1 text2 : Bytes)
     → Type 0 where
-  alone : (text1 text2 : Bytes) → Give words (Sub text1 text2)
-      → GiveTexts words disk NoDeclaration text1 text2
-  with_file : (file text1 text2 : Bytes) → Give words (SubTypes file text1 text2) → (text : Bytes)
+  alone : (text1 text2 : Bytes) → ParseAs words (Sub text1 text2)
+      → ParseAsTexts words disk NoDeclaration text1 text2
+  with_file : (file text1 text2 : Bytes) → ParseAs words (SubTypes file text1 text2)
+      → (text : Bytes)
       → HasText disk file text
       → (declared : Declarations) → Declares text declared
-      → GiveTexts words disk declared text1 text2
+      → ParseAsTexts words disk declared text1 text2
 
 -- the words ask whether the first type is within the second, for the files that were met
-pub record Ask (words : List Bytes) (before after : World) (first second : Written) : Type 0 where
+pub record Ask (words : List Bytes) (before after : Outside) (first second : Written) : Type 0 where
   pub disk : Disk
-  pub met : Met before.files after.files disk
+  pub encountered : Encountered before.files after.files disk
   pub declared : Declarations
   pub text1 : Bytes
   pub text2 : Bytes
-  pub give : GiveTexts words disk declared text1 text2
+  pub parse : ParseAsTexts words disk declared text1 text2
   pub first_is : ReadsAs declared text1 first
   pub second_is : ReadsAs declared text2 second
 
 -- each element of the first type is in the second
-pub record IsYes (words : List Bytes) (before after : World) : Type 0 where
+pub record IsYes (words : List Bytes) (before after : Outside) : Type 0 where
   pub first : Written
   pub second : Written
   pub ask : Ask words before after first second
   pub within : IsWithin first second
 
 -- an element of the first type is outside the second
-pub record IsNo (words : List Bytes) (before after : World) : Type 0 where
+pub record IsNo (words : List Bytes) (before after : Outside) : Type 0 where
   pub first : Written
   pub second : Written
   pub ask : Ask words before after first second
@@ -70,101 +72,102 @@ pub record IsNo (words : List Bytes) (before after : World) : Type 0 where
   pub outside : IsOutside element second
 
 -- the words ask whether the value is in the type, for the files that were met
-pub record AskMember (words : List Bytes) (before after : World) (v : Thing)
+pub record AskMember (words : List Bytes) (before after : Outside) (v : Thing)
     (type : Written) : Type 0 where
   pub disk : Disk
-  pub met : Met before.files after.files disk
+  pub encountered : Encountered before.files after.files disk
   pub file : Bytes
   pub document : Bytes
   pub text : Bytes
-  pub give : Give words (Member file document text)
+  pub parse : ParseAs words (Member file document text)
   pub declared : Declarations
   pub declares : FileDeclares disk file declared
   pub type_is : ReadsAs declared text type
   pub writes : FileWrites disk document v
 
 -- the value of the document is in the type
-pub record IsMember (words : List Bytes) (before after : World) : Type 0 where
+pub record IsMember (words : List Bytes) (before after : Outside) : Type 0 where
   pub v : Thing
   pub type : Written
   pub ask : AskMember words before after v type
   pub inside : IsValueIn v type
 
 -- the value of the document is outside the type
-pub record IsNoMember (words : List Bytes) (before after : World) : Type 0 where
+pub record IsNoMember (words : List Bytes) (before after : Outside) : Type 0 where
   pub v : Thing
   pub type : Written
   pub ask : AskMember words before after v type
   pub outside : IsValueOutside v type
 
 -- this stands against a text that the words give
-pub data StandsAgainst (words : List Bytes) (disk : Disk) (against : Against) : Type 0 where
-  in_file : (file text1 text2 : Bytes) → Give words (SubTypes file text1 text2) → (text : Bytes)
+pub data HasTextFault (words : List Bytes) (disk : Disk) (text_fault : TextFault) : Type 0 where
+  in_file : (file text1 text2 : Bytes) → ParseAs words (SubTypes file text1 text2) → (text : Bytes)
       → HasText disk file text
-      → RefusesDeclarations text against → StandsAgainst words disk against
+      → RefusesDeclarations text text_fault → HasTextFault words disk text_fault
   in_first : (declared : Declarations) (text1 text2 : Bytes)
-      → GiveTexts words disk declared text1 text2
-      → RefusesType declared text1 against → StandsAgainst words disk against
+      → ParseAsTexts words disk declared text1 text2
+      → RefusesType declared text1 text_fault → HasTextFault words disk text_fault
   in_second : (declared : Declarations) (text1 text2 : Bytes)
-      → GiveTexts words disk declared text1 text2
-      → (first : Written) → ReadsAs declared text1 first → RefusesType declared text2 against
-      → StandsAgainst words disk against
-  in_declarations : (file document text : Bytes) → Give words (Member file document text)
+      → ParseAsTexts words disk declared text1 text2
+      → (first : Written) → ReadsAs declared text1 first → RefusesType declared text2 text_fault
+      → HasTextFault words disk text_fault
+  in_declarations : (file document text : Bytes) → ParseAs words (Member file document text)
       → (declarations : Bytes) → HasText disk file declarations
-      → RefusesDeclarations declarations against → StandsAgainst words disk against
-  in_type : (file document text : Bytes) → Give words (Member file document text)
+      → RefusesDeclarations declarations text_fault → HasTextFault words disk text_fault
+  in_type : (file document text : Bytes) → ParseAs words (Member file document text)
       → (declared : Declarations) → FileDeclares disk file declared
-      → RefusesType declared text against → StandsAgainst words disk against
-  in_document : (file document text : Bytes) → Give words (Member file document text)
+      → RefusesType declared text text_fault → HasTextFault words disk text_fault
+  in_document : (file document text : Bytes) → ParseAs words (Member file document text)
       → (declared : Declarations) → FileDeclares disk file declared → (type : Written)
       → ReadsAs declared text type → (notation : Bytes) → HasText disk document notation
-      → RefusesDocument notation against → StandsAgainst words disk against
-  in_program : (command : Command) (file : Bytes) → Give words command
+      → RefusesDocument notation text_fault → HasTextFault words disk text_fault
+  in_program : (command : Command) (file : Bytes) → ParseAs words command
       → program_of command ≡ Some file → (text : Bytes) → HasText disk file text
-      → RefusesProgram text against → StandsAgainst words disk against
-  in_run : (units : ℕ) (file document : Bytes) → GiveRun words units file document
+      → RefusesProgram text text_fault → HasTextFault words disk text_fault
+  in_run : (units : ℕ) (file document : Bytes) → ParseAsRun words units file document
       → (program : Program) → FileHasTyped disk file program → (notation : Bytes)
       → HasText disk document notation
-      → RefusesDocument notation against → StandsAgainst words disk against
+      → RefusesDocument notation text_fault → HasTextFault words disk text_fault
 
 -- and it is of this kind
-pub record IsRefused (words : List Bytes) (before after : World)
-    (is : Against → Type 0) : Type 0 where
+pub record IsRefused (words : List Bytes) (before after : Outside)
+    (is : TextFault → Type 0) : Type 0 where
   pub disk : Disk
-  pub met : Met before.files after.files disk
-  pub against : Against
-  pub kind : is against
-  pub stands : StandsAgainst words disk against
+  pub encountered : Encountered before.files after.files disk
+  pub text_fault : TextFault
+  pub kind : is text_fault
+  pub stands : HasTextFault words disk text_fault
 
-abbrev pub IsLexical : Against → Type 0
-IsLexical against = (fault : LexError) × (against ≡ Lexical fault)
+abbrev pub IsLexical : TextFault → Type 0
+IsLexical text_fault = (fault : LexError) × (text_fault ≡ Lexical fault)
 
-abbrev pub IsSyntax : Against → Type 0
-IsSyntax against = (place : _) × (against ≡ Syntax place)
+abbrev pub IsSyntax : TextFault → Type 0
+IsSyntax text_fault = (place : _) × (text_fault ≡ Syntax place)
 
-abbrev pub IsTooDeep : Against → Type 0
-IsTooDeep against = (place : _) × (against ≡ TooDeep place)
+abbrev pub IsTooDeep : TextFault → Type 0
+IsTooDeep text_fault = (place : _) × (text_fault ≡ TooDeep place)
 
-abbrev pub IsNaming : Against → Type 0
-IsNaming against = (fault : Fault) × (against ≡ Naming fault)
+abbrev pub IsNaming : TextFault → Type 0
+IsNaming text_fault = (fault : Fault) × (text_fault ≡ Naming fault)
 
 -- the words' command reads a file of this name
 pub record NamesFile (words : List Bytes) (file : Bytes) : Type 0 where
   pub command : Command
-  pub give : Give words command
+  pub parse : ParseAs words command
   pub is : AnyOf (λ name. name ≡ file) (files_of command)
 
 -- a read of a file that the words name failed
-pub record IsUnread (words : List Bytes) (before after : World) : Type 0 where
+pub record IsUnread (words : List Bytes) (before after : Outside) : Type 0 where
   pub file : Bytes
   pub named : NamesFile words file
   pub rose : Rose before.files.faults after.files.faults
   pub last : after.files.last ≡ Some file
 
 -- the bytes of a file that the words name are of this kind
-pub record FileIs (words : List Bytes) (before after : World) (kind : Bytes → Type 0) : Type 0 where
+pub record FileIs (words : List Bytes) (before after : Outside)
+    (kind : Bytes → Type 0) : Type 0 where
   pub disk : Disk
-  pub met : Met before.files after.files disk
+  pub encountered : Encountered before.files after.files disk
   pub file : Bytes
   pub named : NamesFile words file
   pub bytes : Bytes
@@ -179,38 +182,38 @@ IsNotText bytes = (length bytes ≤ LARGEST) × (IsUtf8 bytes → ⊥)
 
 -- the words' command is about the program of a file, which is this one, for the files that were
 -- met; its names are sound
-pub record AskProgram (words : List Bytes) (before after : World) (command : Command)
+pub record AskProgram (words : List Bytes) (before after : Outside) (command : Command)
     (program : Program) : Type 0 where
   pub disk : Disk
-  pub met : Met before.files after.files disk
-  pub give : Give words command
+  pub encountered : Encountered before.files after.files disk
+  pub parse : ParseAs words command
   pub file : Bytes
   pub about : program_of command ≡ Some file
   pub text : Bytes
   pub has : FileHasProgram disk file text program
 
 -- the words ask whether a program has types, and the typing rules type it
-pub record IsWellTyped (words : List Bytes) (before after : World) : Type 0 where
+pub record IsWellTyped (words : List Bytes) (before after : Outside) : Type 0 where
   pub file : Bytes
   pub program : Program
   pub ask : AskProgram words before after (Check file) program
   pub typed : IsTyped program
 
 -- the typing rules do not type the program of the words' command
-pub record IsIllTyped (words : List Bytes) (before after : World) : Type 0 where
+pub record IsIllTyped (words : List Bytes) (before after : Outside) : Type 0 where
   pub command : Command
   pub program : Program
   pub ask : AskProgram words before after command program
   pub untyped : IsTyped program → ⊥
 
 -- the words ask for a run with so many units, for the files that were met
-pub record AskRun (words : List Bytes) (before after : World) (disk : Disk) (units : ℕ)
+pub record AskRun (words : List Bytes) (before after : Outside) (disk : Disk) (units : ℕ)
     (file document : Bytes) : Type 0 where
-  pub met : Met before.files after.files disk
-  pub give : GiveRun words units file document
+  pub encountered : Encountered before.files after.files disk
+  pub parse : ParseAsRun words units file document
 
 -- the run that they ask for ends with an outcome of this kind, and is safe
-pub record HasEnded (words : List Bytes) (before after : World) (kind : Outcome → Type 0)
+pub record HasEnded (words : List Bytes) (before after : Outside) (kind : Outcome → Type 0)
     : Type 0 where
   pub disk : Disk
   pub units : ℕ
@@ -222,7 +225,7 @@ pub record HasEnded (words : List Bytes) (before after : World) (kind : Outcome 
   pub is : kind result.outcome
 
 -- the document is in no argument of the program's `main`
-pub record IsNotTaken (words : List Bytes) (before after : World) : Type 0 where
+pub record IsNotTaken (words : List Bytes) (before after : Outside) : Type 0 where
   pub disk : Disk
   pub units : ℕ
   pub file : Bytes
@@ -234,7 +237,7 @@ pub record IsNotTaken (words : List Bytes) (before after : World) : Type 0 where
 -- the words ask for the workload, whose run and whose queries have an answer
 pub record HasWorked (words : List Bytes) : Type 0 where
   pub size : ℕ
-  pub give : Give words (Work size)
+  pub parse : ParseAs words (Work size)
   pub used : ℕ
   pub value : Thing
   pub runs : Runs size used value
@@ -242,13 +245,13 @@ pub record HasWorked (words : List Bytes) : Type 0 where
   pub answered : Answered size affirmed
 
 -- the reason for each status; want of memory is free, and one number stands for nothing
-abbrev pub Reason : List Bytes → World → World → Status → Type 0
+abbrev pub Reason : List Bytes → Outside → Outside → Status → Type 0
 Reason words before after status.Done =
     IsYes words before after ⊎ (IsMember words before after ⊎ (IsWellTyped words before after
     ⊎ (HasEnded words before after (λ is. (v : Thing) × (is ≡ outcome.Done v))
     ⊎ HasWorked words)))
 Reason words before after status.No = IsNo words before after ⊎ IsNoMember words before after
-Reason words before after status.Usage = HaveNoForm words
+Reason words before after status.Usage = AreNoCommand words
 Reason words before after status.ReadFault = IsUnread words before after
 Reason words before after status.WriteFault = SinkFailed words before after
 Reason words before after status.NoMemory = Unit {0}

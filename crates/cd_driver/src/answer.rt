@@ -22,7 +22,7 @@ pub(crate) fn answer<F: Files>(
 ) -> Result<Message, AllocError>
     ensures answer { IsAnswer (λ disk. Answer (texts words.now) disk) (F.state files.old)
         (F.state files.new) result }
-    ensures told { (F.state files.new).told ≡ (F.state files.old).told }
+    ensures known { (F.state files.new).known ≡ (F.state files.old).known }
     ensures files { ReadsFilesOf (texts words.now) (F.state files.old) (F.state files.new) }
 {
     match request_of(words) {

@@ -7,8 +7,8 @@ ghost use Rattle.cd_replies.specs.Disk.{Disk};
 ghost use Rattle.cd_replies.specs.File.{ReadsThere, ReadsAmong};
 ghost use Rattle.cd_replies.specs.Reply.{Reply};
 ghost use Rattle.cd_driver.specs.Answer.{Answer, FileIsKnown};
-ghost use Rattle.cd_driver.specs.Command.{Command, SubTypes, Give, files_of};
-ghost use Rattle.cd_driver.specs.World.{World};
+ghost use Rattle.cd_driver.specs.Command.{Command, SubTypes, ParseAs, files_of};
+ghost use Rattle.cd_driver.specs.Outside.{Outside};
 ghost use Rattle.cd_driver.specs.FilesRead.{ReadsFilesOf, NamesNoFile};
 ghost use Rattle.cd_driver.specs.Causes.{Cause};
 ghost use Rattle.cd_driver.specs.Reasons.{Reason};
@@ -24,7 +24,7 @@ pub fn status_is_decided()
 
 /// What each status says of the words, the files and the sinks.
 pub fn causes()
-    ensures { (words : List Bytes) (before after : World) (status : Status)
+    ensures { (words : List Bytes) (before after : Outside) (status : Status)
         → Cause words before after status → Reason words before after status }
 {}
 
@@ -32,10 +32,10 @@ pub fn causes()
 /// faults rose and the last fault came at one of these; where it reads none, it stays as it was.
 pub fn files_are_named()
     ensures read { (words : List Bytes) (old new : FilesState) → ReadsFilesOf words old new
-        → (file text1 text2 : Bytes) → Give words (SubTypes file text1 text2)
+        → (file text1 text2 : Bytes) → ParseAs words (SubTypes file text1 text2)
         → ReadsThere old new file }
     ensures among { (words : List Bytes) (old new : FilesState) → ReadsFilesOf words old new
-        → (command : Command) → Give words command → ReadsAmong old new (files_of command) }
+        → (command : Command) → ParseAs words command → ReadsAmong old new (files_of command) }
     ensures unread { (words : List Bytes) (old new : FilesState) → ReadsFilesOf words old new
         → NamesNoFile words → new ≡ old }
 {}

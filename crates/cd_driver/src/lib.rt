@@ -7,8 +7,8 @@ ghost use Rattle.cd_driver.specs.Command.{texts};
 ghost use Rattle.cd_driver.specs.Ending.{Completes};
 ghost use Rattle.cd_driver.specs.FilesRead.{ReadsFilesOf};
 ghost use Rattle.cd_driver.specs.Headline.{Headline};
-ghost use Rattle.cd_driver.specs.Inner.Telling.{Put};
-ghost use Rattle.cd_driver.specs.World.{world};
+ghost use Rattle.cd_driver.specs.Inner.Delivering.{Put};
+ghost use Rattle.cd_driver.specs.Outside.{outside};
 
 use answer::answer;
 use cd_base::files::Files;
@@ -35,33 +35,33 @@ pub fn cduce<F: Files, S: Sink>(
 ) -> Status
     // Where no read and no write failed, the status and the texts are an answer, memory aside.
     ensures headline { Headline (texts words.now)
-        (world (F.state files.old) (S.state out.old) (S.state err.old))
-        (world (F.state files.new) (S.state out.new) (S.state err.new)) result }
+        (outside (F.state files.old) (S.state out.old) (S.state err.old))
+        (outside (F.state files.new) (S.state out.new) (S.state err.new)) result }
 
     // Whatever failed: an answer was written whole, or a prefix of one where a sink refused it or
     // memory ran out, or nothing was written for want of memory.
     ensures complete { Completes (texts words.now)
-        (world (F.state files.old) (S.state out.old) (S.state err.old))
-        (world (F.state files.new) (S.state out.new) (S.state err.new)) result }
+        (outside (F.state files.old) (S.state out.old) (S.state err.old))
+        (outside (F.state files.new) (S.state out.new) (S.state err.new)) result }
 
     // Each status has its cause, whatever the files and sinks tell.
     ensures cause { Cause (texts words.now)
-        (world (F.state files.old) (S.state out.old) (S.state err.old))
-        (world (F.state files.new) (S.state out.new) (S.state err.new)) result }
+        (outside (F.state files.old) (S.state out.old) (S.state err.old))
+        (outside (F.state files.new) (S.state out.new) (S.state err.new)) result }
 
     // What is told of files stays. What is known of files stays as it was; or a fault was counted
     // at a file that the words' command reads, which is the last at which one came.
-    ensures told { (F.state files.new).told ≡ (F.state files.old).told }
+    ensures known { (F.state files.new).known ≡ (F.state files.old).known }
     ensures files { ReadsFilesOf (texts words.now) (F.state files.old) (F.state files.new) }
 {
     match answer(alloc, words, files) {
-        Ok(message) => tell(&message, out, err),
+        Ok(message) => deliver(&message, out, err),
         Err(_) => Status::NoMemory,
     }
 }
 
 // Puts the text of a message to its sink.
-fn tell<S: Sink>(message: &Message, out: &mut S, err: &mut S) -> Status
+fn deliver<S: Sink>(message: &Message, out: &mut S, err: &mut S) -> Status
     ensures output { IsTrue message.now.on_output
         → Put (string_bytes message.now.text) message.now.status (S.state out.old)
         (S.state out.new) result × (S.state err.new ≡ S.state err.old) }

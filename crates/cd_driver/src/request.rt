@@ -2,7 +2,7 @@ ghost use Rattle.std.specs.Prelude.{◌≡◌, ◌≤◌, ◌↔◌, [], ◌∷�
 ghost use Rattle.std.specs.Char.{is_ascii_digit};
 ghost use Rattle.std.specs.List.{list_all};
 ghost use Rattle.cd_syntax.specs.Digits.{AreDigits, decimal_value};
-ghost use Rattle.cd_driver.specs.Command.{texts, HaveNoForm};
+ghost use Rattle.cd_driver.specs.Command.{texts, AreNoCommand};
 ghost use Rattle.cd_driver.specs.Inner.Request.{StandsFor, WritesSize};
 
 /// What words ask for.
@@ -26,7 +26,7 @@ pub(crate) enum Request<'a> {
 
 /// What the words ask for, where they have a listed form.
 pub(crate) fn request_of(words: &[String]) -> Option<Request<'_>>
-    ensures { MatchOption result (HaveNoForm (texts words.now))
+    ensures { MatchOption result (AreNoCommand (texts words.now))
         (λ request. StandsFor (texts words.now) request) }
 {
     match words {
@@ -45,7 +45,7 @@ pub(crate) fn request_of(words: &[String]) -> Option<Request<'_>>
 }
 
 fn of_two<'a>(name: &str, word: &'a str) -> Option<Request<'a>>
-    ensures { MatchOption result (HaveNoForm (name.now ∷ word.now ∷ []))
+    ensures { MatchOption result (AreNoCommand (name.now ∷ word.now ∷ []))
         (λ request. StandsFor (name.now ∷ word.now ∷ []) request) }
 {
     match name {
@@ -56,7 +56,7 @@ fn of_two<'a>(name: &str, word: &'a str) -> Option<Request<'a>>
 }
 
 fn of_three<'a>(name: &str, first: &'a str, second: &'a str) -> Option<Request<'a>>
-    ensures { MatchOption result (HaveNoForm (name.now ∷ first.now ∷ second.now ∷ []))
+    ensures { MatchOption result (AreNoCommand (name.now ∷ first.now ∷ second.now ∷ []))
         (λ request. StandsFor (name.now ∷ first.now ∷ second.now ∷ []) request) }
 {
     match name {
@@ -67,7 +67,7 @@ fn of_three<'a>(name: &str, first: &'a str, second: &'a str) -> Option<Request<'
 }
 
 fn of_four<'a>(name: &str, first: &'a str, second: &'a str, third: &'a str) -> Option<Request<'a>>
-    ensures { MatchOption result (HaveNoForm (name.now ∷ first.now ∷ second.now ∷ third.now ∷ []))
+    ensures { MatchOption result (AreNoCommand (name.now ∷ first.now ∷ second.now ∷ third.now ∷ []))
         (λ request. StandsFor (name.now ∷ first.now ∷ second.now ∷ third.now ∷ []) request) }
 {
     match name {
@@ -84,7 +84,7 @@ fn of_five<'a>(
     third: &'a str,
 ) -> Option<Request<'a>>
     ensures { MatchOption result
-        (HaveNoForm (name.now ∷ option.now ∷ first.now ∷ second.now ∷ third.now ∷ []))
+        (AreNoCommand (name.now ∷ option.now ∷ first.now ∷ second.now ∷ third.now ∷ []))
         (λ request. StandsFor (name.now ∷ option.now ∷ first.now ∷ second.now ∷ third.now
         ∷ []) request) }
 {

@@ -4,7 +4,7 @@ use Rattle.std.proofs.Common.{append_assoc}
 use Rattle.std.specs.Prelude.{codes, if◌then◌else◌}
 use Rattle.std.specs.Str.{chars}
 use Rattle.std.proofs.lemmas.Str.{chars-nil}
-use Rattle.cd_model.specs.Canonical.{Text, part_text, plainly, nil_written, atom_written, canonical, written, field_texts}
+use Rattle.cd_model.specs.Canonical.{Text, part_text, plainly, nil_printed, atom_printed, canonical, printed, field_texts}
 use Rattle.cd_model.specs.Canonical.{pair_texts}
 use Rattle.cd_syntax.specs.Name.{Name}
 use Rattle.cd_model.specs.Thing as thing
@@ -37,15 +37,15 @@ pairs_written table (pair ∷ pairs) =
         ap (λ one. one ∷ pair_texts rest) (append_assoc (canonical argument) (codes " => ") (text_in table id))
 
 -- a part of a row that is no sequence is written as the element that it is
-atom_part : (name : Name) → part_text (atom_written name).part ≡ (atom_written name).text
+atom_part : (name : Name) → part_text (atom_printed name).part ≡ (atom_printed name).text
 atom_part name = either (bytes_eq name (codes "nil"))
   where
-    either : (is : Bool) → part_text (if is then nil_written else plainly (codes "`" ++ name)).part
-        ≡ (if is then nil_written else plainly (codes "`" ++ name)).text
+    either : (is : Bool) → part_text (if is then nil_printed else plainly (codes "`" ++ name)).part
+        ≡ (if is then nil_printed else plainly (codes "`" ++ name)).text
     either true = refl
     either false = refl
 
-part_written : (one : Thing) → part_text (written one).part ≡ canonical one
+part_written : (one : Thing) → part_text (printed one).part ≡ canonical one
 part_written (thing.Integer n) = refl
 part_written (thing.Character c) = refl
 part_written (thing.Atom name) = atom_part name

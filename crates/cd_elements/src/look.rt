@@ -1,7 +1,7 @@
 //! What a text asks of the elements that it is of.
 ghost use Rattle.std.specs.Prelude.{◌≡◌, map, bytes_eq, codes};
 ghost use Rattle.std.specs.Str.{chars};
-ghost use Rattle.cd_model.specs.Canonical.{written, tag_name};
+ghost use Rattle.cd_model.specs.Canonical.{printed, tag_name};
 ghost use Rattle.cd_elements.specs.Table.{element_at};
 ghost use Rattle.cd_elements.specs.Elements.{table};
 ghost use Rattle.cd_elements.specs.Inner.Tasks.{text_in, part_in};
@@ -64,7 +64,7 @@ pub(crate) fn tag_at<'a>(elements: &'a Elements, id: ElementId) -> &'a str
 /// The fields of a record. What is no record has none.
 #[tactic(auto, using(crate::proofs::Looks::fields_written))]
 pub(crate) fn fields_at<'a>(elements: &'a Elements, id: ElementId) -> &'a [(Name, ElementId)]
-    ensures { (written (element_at (table elements.now) id)).fields
+    ensures { (printed (element_at (table elements.now) id)).fields
         ≡ map (part_text_in (table elements.now)) result.now }
 {
     match elements.at(id) {

@@ -1,7 +1,7 @@
 //! What stands along the right of an element: the first parts of pairs, and the end.
 ghost use Rattle.std.specs.Prelude.{◌≡◌, map, IfOk};
 ghost use Rattle.std.specs.Option.{option_map};
-ghost use Rattle.cd_model.specs.Canonical.{written};
+ghost use Rattle.cd_model.specs.Canonical.{printed};
 ghost use Rattle.cd_elements.specs.Table.{element_at};
 ghost use Rattle.cd_elements.specs.Elements.{table};
 ghost use Rattle.cd_elements.specs.Inner.Tasks.{part_in};
@@ -22,7 +22,7 @@ pub(crate) struct Row {
 /// What stands along the right of an element.
 pub(crate) fn row_of(elements: &Elements, id: ElementId) -> Result<Row, AllocError>
     ensures { IfOk result (λ row.
-        row_in (table elements.now) row ≡ (written (element_at (table elements.now) id)).row) }
+        row_in (table elements.now) row ≡ (printed (element_at (table elements.now) id)).row) }
 {
     let mut firsts = Vec::new(elements.allocator());
     let mut next = id;

@@ -1,6 +1,6 @@
 //! The canonical text of an element. A stack of tasks has what is left to be written.
 ghost use Rattle.std.specs.Prelude.{◌≡◌, ◌<◌, ◌++◌, length, map, OnOk, IfOk};
-ghost use Rattle.cd_model.specs.Canonical.{canonical, written, atom_written, row_text};
+ghost use Rattle.cd_model.specs.Canonical.{canonical, printed, atom_printed, row_text};
 ghost use Rattle.cd_model.specs.Canonical.{sequence_text, pieces_of};
 ghost use Rattle.cd_model.specs.Thing.{Xml as AnXml, Record as ARecord, Function as AFunction};
 ghost use Rattle.cd_elements.specs.Table.{element_at, fields_of, pairs_of};
@@ -82,7 +82,7 @@ fn write_element<'a>(
 
 // Writes an atom.
 fn write_atom(name: &Name, output: &mut Output) -> Result<(), AllocError>
-    ensures text { OnOk result (output.new ≡ output.old ++ (atom_written name.now).text) }
+    ensures text { OnOk result (output.new ≡ output.old ++ (atom_printed name.now).text) }
     ensures longer { OnOk result (length output.old < length output.new) }
 {
     if is_nil(name) {
@@ -100,9 +100,9 @@ fn write_row(
     tasks: &mut Tasks<'_>,
     output: &mut Output,
 ) -> Result<(), AllocError>
-    requires { 0 < length (written (element_at (table elements.now) id)).row.parts }
+    requires { 0 < length (printed (element_at (table elements.now) id)).row.parts }
     ensures { let all = table elements.now in
-        let row = (written (element_at all id)).row in
+        let row = (printed (element_at all id)).row in
         OnOk result
         (Writes all (row_text row.parts row.end) output.old tasks.old output.new tasks.new) }
 {

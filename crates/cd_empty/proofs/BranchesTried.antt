@@ -11,7 +11,7 @@ use Rattle.cd_rules.specs.Machine.{work, Works, drops, splits}
 use Rattle.cd_members.specs.Attempts.{IsElementFor}
 use Rattle.cd_normal.specs.Partials.{partials}
 use Rattle.cd_normal.specs.PlainClause.{plain_clause}
-use Rattle.cd_rules.specs.Family.{IsCovered, AsksNodes}
+use Rattle.cd_rules.specs.Family.{IsSubsumed, AsksNodes}
 use Rattle.cd_rules.specs.Tasks as rules
 use Rattle.cd_rules.specs.Tasks.{AreCases, questions_of}
 use Rattle.cd_rules.proofs.Among.{of_each}
@@ -34,13 +34,13 @@ same_frame frame branches same = λ i. record frame { branches = same i }
 module _ (graph : Graph) (decider : Decider) (frame : Frame) (branch : Task) where
   -- a question of the branch is covered
   pub dropped : IsFit graph (table decider) (with_branch branch frame)
-      → AnyOf (λ question. IsCovered question (known decider)) (questions_of (plain_task branch))
+      → AnyOf (λ question. IsSubsumed question (known decider)) (questions_of (plain_task branch))
       → IsDoing graph decider (with_branch branch frame) frame Worked
-  dropped fit covered = (
-    drops (partials frame.choices) (option_map plain_clause frame.clause) (map plain_task frame.later) (plain_task branch)
-        (map plain_task frame.branches) covered,
+  dropped fit subsumed = (
+    drops (partials frame.conjuncts) (option_map plain_clause frame.clause) (map plain_task frame.later) (plain_task branch)
+        (map plain_task frame.branches) subsumed,
     record {
-      choices = fit.choices;
+      conjuncts = fit.conjuncts;
       named = fit.named;
       function = function_drops graph (option_map plain_clause frame.clause) (pairs_of (table decider) frame.pairs.items)
           (map plain_task frame.later) (plain_task branch) (map plain_task frame.branches) fit.function;
@@ -66,10 +66,10 @@ module _ (graph : Graph) (decider : Decider) (frame : Frame) (branch : Task) whe
       let clause = option_map plain_clause frame.clause in
       let later = map plain_task frame.later in
       let rest = map plain_task frame.branches in (
-        subst (λ (branches : List rules.Task). Works (known decider) (plain_work (with_branch branch frame)) (work (partials frame.choices) clause later branches))
-            (sym plain) (splits (partials frame.choices) clause later (plain_task branch) rest (map plain_task cases) are),
+        subst (λ (branches : List rules.Task). Works (known decider) (plain_work (with_branch branch frame)) (work (partials frame.conjuncts) clause later branches))
+            (sym plain) (splits (partials frame.conjuncts) clause later (plain_task branch) rest (map plain_task cases) are),
         record {
-          choices = fit.choices;
+          conjuncts = fit.conjuncts;
           named = fit.named;
           function = subst (IsFunctionSoFar graph clause (pairs_of (table decider) frame.pairs.items) later) (sym plain)
               (function_splits graph clause (pairs_of (table decider) frame.pairs.items) later (plain_task branch)

@@ -8,7 +8,7 @@ use Rattle.cd_model.specs.Thing.{Thing}
 use Rattle.cd_rules.specs.Machine.{IsWitness}
 use Rattle.cd_rules.specs.Family.{IsOfFamily, IsClosed, AsksNodes}
 use Rattle.cd_rules.proofs.ClosedStays.{closed_stays}
-use Rattle.cd_rules.proofs.Covering.{covers_own}
+use Rattle.cd_rules.proofs.Subsumption.{subsumes_own}
 use Rattle.cd_rules.proofs.NoMember.{element_out, value_out}
 use Rattle.cd_empty.specs.declared.decider.Decider.{Decider}
 use Rattle.cd_empty.specs.declared.verdict.Verdict.{Verdict}
@@ -37,10 +37,10 @@ module _ (graph : Graph) (begins : (more : Graph) × (graph ≡ built_ins ++ mor
   none_in : (family : List Question) → AllOf (AsksNodes (length graph)) family → IsClosed graph family
       → (question : Question) → IsOfFamily question family → HasNoElement graph question × HasNoValue graph question
   none_in family asks closed question there = (
-    λ is element asking. element_out graph begins family closed is element question asking (covers_own family question there),
+    λ is element asking. element_out graph begins family closed is element question asking (subsumes_own family question there),
     λ more interfaces v value asking.
         value_out (graph ++ more) (grows_then built_ins graph (graph ++ more) begins (more, refl)) family
-        (closed_stays graph more family asks closed) interfaces v value question asking (covers_own family question there),
+        (closed_stays graph more family asks closed) interfaces v value question asking (subsumes_own family question there),
   )
 
   each_exact : (table : List Thing) (kept : List (Question × Verdict)) → AllOf (λ one. IsNamed table one.1) kept

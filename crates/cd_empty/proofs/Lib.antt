@@ -17,7 +17,7 @@ pub mod FunctionsSoFar
 pub mod BranchesTried
 pub mod PairsAdded
 pub mod NeedsLookedAt
-pub mod FirstChoices
+pub mod FirstConjuncts
 pub mod WitnessesOfVerdicts
 pub mod ElementsKept
 pub mod RunningDeciders

@@ -10,8 +10,8 @@ use Rattle.cd_sets.specs.declared.question.Question.{Question}
 use Rattle.cd_model.specs.AllOf.{AnyOf}
 use Rattle.cd_elements.specs.declared.shape.ElementId.{ElementId}
 use Rattle.cd_rules.specs.Machine.{NotIn}
-use Rattle.cd_rules.specs.Family.{IsOfFamily, IsCovered}
-use Rattle.cd_rules.proofs.Covering.{covers_own}
+use Rattle.cd_rules.specs.Family.{IsOfFamily, IsSubsumed}
+use Rattle.cd_rules.proofs.Subsumption.{subsumes_own}
 use Rattle.cd_model.proofs.Ones.{one_on_left, one_on_right}
 use Rattle.cd_empty.specs.declared.decider.Decider.{Decider}
 use Rattle.cd_empty.specs.declared.verdict.Verdict.{Verdict}
@@ -32,8 +32,8 @@ kept_empty ((other, Empty) ∷ kept) question (inr later) = inr (kept_empty kept
 kept_empty ((other, Inhabited id) ∷ kept) question (inr later) = kept_empty kept question later
 
 pub empty_is_known : (decider : Decider) (question : Question) → IsKept (kept decider) question Empty
-    → IsCovered question (known decider)
-empty_is_known decider question is = covers_own (known decider) question
+    → IsSubsumed question (known decider)
+empty_is_known decider question is = subsumes_own (known decider) question
     (one_on_left (λ other. other ≡ question) (family (kept decider)) decider.list (kept_empty (kept decider) question is))
 
 -- a question with a number in a list is one of it
@@ -43,8 +43,8 @@ listed (one ∷ list) zero question at = inl (same_Some one question at)
 listed (one ∷ list) (suc number) question at = inr (listed list number question at)
 
 pub listed_is_known : (decider : Decider) (number : ℕ) (question : Question) → slice_get decider.list number ≡ Some question
-    → IsCovered question (known decider)
-listed_is_known decider number question at = covers_own (known decider) question
+    → IsSubsumed question (known decider)
+listed_is_known decider number question at = subsumes_own (known decider) question
     (one_on_right (λ other. other ≡ question) (family (kept decider)) decider.list (listed decider.list number question at))
 
 -- a set that has a number has one that is it
@@ -68,9 +68,9 @@ contradicts_by (id ∷ pos) neg is = by_test (holds neg id) refl is (contradicts
     by_test true at is on = inl (has_one neg id at)
     by_test false at is on = inr (on is)
 
-pub contradiction_is_covered : (family : List Question) (question : Question) → list_any (holds question.neg) question.pos ≡ true
-    → IsCovered question family
-contradiction_is_covered family question is = inr (contradicts_by question.pos question.neg is)
+pub contradiction_is_subsumed : (family : List Question) (question : Question) → list_any (holds question.neg) question.pos ≡ true
+    → IsSubsumed question family
+contradiction_is_subsumed family question is = inr (contradicts_by question.pos question.neg is)
 
 -- where it refuses none it doesn't
 pub none_refused : (pos neg : List NodeId) → length neg ≡ 0 → false ≡ list_any (holds neg) pos
@@ -113,12 +113,12 @@ have_one_more decider ids questions place id question other within at have is =
     (subst (λ (question : Question). IsKept (kept decider) question (Inhabited id)) at is))
 
 -- the one at a place is known to have none
-pub one_covered : (decider : Decider) (questions : List Question) (place : ℕ) (question other : Question) → place < length questions
-    → question ≡ get_or questions place other → IsCovered question (known decider)
-    → AnyOf (λ question. IsCovered question (known decider)) questions
-one_covered decider questions place question other within at is =
-    one_at (λ question. IsCovered question (known decider)) questions place other
-    (subst (λ (question : Question). IsCovered question (known decider)) at is) within
+pub one_subsumed : (decider : Decider) (questions : List Question) (place : ℕ) (question other : Question) → place < length questions
+    → question ≡ get_or questions place other → IsSubsumed question (known decider)
+    → AnyOf (λ question. IsSubsumed question (known decider)) questions
+one_subsumed decider questions place question other within at is =
+    one_at (λ question. IsSubsumed question (known decider)) questions place other
+    (subst (λ (question : Question). IsSubsumed question (known decider)) at is) within
 
 -- it is one of them
 pub one_there : (questions : List Question) (place : ℕ) (question other copy : Question) → place < length questions

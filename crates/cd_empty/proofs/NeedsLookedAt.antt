@@ -3,10 +3,10 @@ use Rattle.std.proofs.Common.{◌≡◌, List, ◌∷◌, Option, Some, None, re
 use Rattle.cd_sets.specs.declared.question.Question.{Question}
 use Rattle.cd_model.specs.AllOf.{AllOf, AnyOf}
 use Rattle.cd_model.specs.Formula.{Graph}
-use Rattle.cd_normal.specs.ChoicesGoOn.{IsNeededByTop}
-use Rattle.cd_rules.specs.Family.{AreAmong, IsCovered}
-use Rattle.cd_rules.specs.PartialChoices.{Partial, PartialFails}
-use Rattle.cd_rules.proofs.Covering.{covers_on, covered_where}
+use Rattle.cd_normal.specs.ConjunctsGoOn.{IsNeededByTop}
+use Rattle.cd_rules.specs.Family.{AreAmong, IsSubsumed}
+use Rattle.cd_rules.specs.PartialConjuncts.{Partial, PartialFails}
+use Rattle.cd_rules.proofs.Subsumption.{subsumes_on, subsumed_where}
 use Rattle.cd_model.proofs.Ones.{one_leads, one_with_each}
 use Rattle.cd_empty.specs.declared.decider.Decider.{Decider}
 use Rattle.cd_empty.specs.declared.doing.Doing.{Doing}
@@ -18,18 +18,18 @@ IsCut known before after = (first : Partial) × (before ≡ first ∷ after)
     × ((family : List Question) → AreAmong known family → PartialFails family first)
 
 cut_by_one : (known : List Question) (before after : List Partial) → after ≡ drop 1 before → (question : Question)
-    → IsCovered question known × IsNeededByTop before question → IsCut known before after
-cut_by_one known before after cut question (covered, (first, rest, is, fails)) = (
+    → IsSubsumed question known × IsNeededByTop before question → IsCut known before after
+cut_by_one known before after cut question (subsumed, (first, rest, is, fails)) = (
   first,
   is ∙ ap (λ (rest : List Partial). first ∷ rest) (sym (cut ∙ ap (drop 1) is)),
-  λ family among. fails family (covers_on known family (covered_where known family among) question covered),
+  λ family among. fails family (subsumes_on known family (subsumed_where known family among) question subsumed),
 )
 
 pub cut_by : (known : List Question) (before after : List Partial) (questions : List Question) → after ≡ drop 1 before
-    → AllOf (IsNeededByTop before) questions → AnyOf (λ question. IsCovered question known) questions → IsCut known before after
-cut_by known before after questions cut needed covered =
-    one_leads (λ question. IsCovered question known × IsNeededByTop before question) (cut_by_one known before after cut) questions
-    (one_with_each (λ question. IsCovered question known) (IsNeededByTop before) questions covered needed)
+    → AllOf (IsNeededByTop before) questions → AnyOf (λ question. IsSubsumed question known) questions → IsCut known before after
+cut_by known before after questions cut needed subsumed =
+    one_leads (λ question. IsSubsumed question known × IsNeededByTop before question) (cut_by_one known before after cut) questions
+    (one_with_each (λ question. IsSubsumed question known) (IsNeededByTop before) questions subsumed needed)
 
 -- where it gave nothing, the choices are as they were
 pub looked_on : (graph : Graph) (decider : Decider) (before after : List Partial) (found : Option Doing)

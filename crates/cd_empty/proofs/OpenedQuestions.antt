@@ -8,8 +8,8 @@ use Rattle.cd_model.specs.Formula.{Graph}
 use Rattle.cd_model.specs.Thing.{Thing}
 use Rattle.cd_rules.specs.BasicSets.{HasNoBasic}
 use Rattle.cd_rules.specs.Family.{AsksNodes}
-use Rattle.cd_rules.specs.PartialChoices.{Partial, partial_choices}
-use Rattle.cd_rules.proofs.ClausesByKind.{accounts_for_clauses, partial_choices_are}
+use Rattle.cd_rules.specs.PartialConjuncts.{Partial, partial_conjuncts}
+use Rattle.cd_rules.proofs.ClausesByKind.{accounts_for_clauses, partial_conjuncts_are}
 use Rattle.cd_rules.specs.Machine.{Witness, state, frame, work, NotIn, Step, opens, knows}
 use Rattle.cd_rules.specs.Right.{HasFirst}
 use Rattle.cd_empty.specs.declared.decider.Decider.{Decider}
@@ -39,28 +39,28 @@ is_added old new place question none at (inr added) = added
 
 module _ (graph : Graph) where
   -- the question is assumed to have no element
-  pub stepped_by_question : (before after : Decider) (question : Question) (choices : List Partial) (first : Frame) (frames : List Frame)
+  pub stepped_by_question : (before after : Decider) (question : Question) (conjuncts : List Partial) (first : Frame) (frames : List Frame)
       → IsRunning graph before frames → IsUnknown before question → AsksNodes (length graph) question → HasNoBasic graph question
-      → choices ≡ partial_choices graph question
-      → plain_frame first ≡ frame (length before.list) question (work choices None [] []) → IsFit graph (table before) first
+      → conjuncts ≡ partial_conjuncts graph question
+      → plain_frame first ≡ frame (length before.list) question (work conjuncts None [] []) → IsFit graph (table before) first
       → table after ≡ table before → witnesses after ≡ witnesses before → after.list ≡ before.list ++ question ∷ []
       → IsStepped graph before after frames (first ∷ frames)
-  stepped_by_question before after question choices first frames running unknown asks basic are plain fit same found listed = record {
+  stepped_by_question before after question conjuncts first frames running unknown asks basic are plain fit same found listed = record {
     step = subst (Step graph (settled before) (state_of before frames)) opened
-        (opens (state_of before frames) question (partial_choices graph question) (unknown_is_new graph before frames question unknown) asks
-        (partial_choices_are graph question)
+        (opens (state_of before frames) question (partial_conjuncts graph question) (unknown_is_new graph before frames question unknown) asks
+        (partial_conjuncts_are graph question)
         (accounts_for_clauses graph (settled before ++ (before.list ++ question ∷ [])) question basic));
     fit = subst (λ (table : List Thing). AllOf (IsFit graph table) (first ∷ frames)) (sym same) (fit, running.fit);
   }
     where
       opened : state (witnesses before) (before.list ++ question ∷ [])
-          (frame (length before.list) question (work (partial_choices graph question) None [] []) ∷ map plain_frame frames)
+          (frame (length before.list) question (work (partial_conjuncts graph question) None [] []) ∷ map plain_frame frames)
           ≡ state_of after (first ∷ frames)
       opened =
           let found_same = sym found in
           let listed_same = sym listed in
-          let choices_same = sym are in
-          let its_frame = ap (λ (choices : List Partial). frame (length before.list) question (work choices None [] [])) choices_same ∙ sym plain in
+          let conjuncts_same = sym are in
+          let its_frame = ap (λ (conjuncts : List Partial). frame (length before.list) question (work conjuncts None [] [])) conjuncts_same ∙ sym plain in
           λ i. state (found_same i) (listed_same i) (its_frame i ∷ map plain_frame frames)
 
   -- an element of it is kept

@@ -9,7 +9,7 @@ use Rattle.cd_elements.specs.Table.{element_at, result_at, pair_before, pairs_of
 use Rattle.cd_rules.specs.Machine.{Work, work, Works, IsWitness, goes_on}
 use Rattle.cd_members.specs.Attempts.{IsForArrow, IsPairFor, IsAttempt}
 use Rattle.cd_members.specs.declared.attempt.Attempt.TheVariants.{Maps}
-use Rattle.cd_normal.specs.ChoicesGoOn.{IsOfNodes}
+use Rattle.cd_normal.specs.ConjunctsGoOn.{IsOfNodes}
 use Rattle.cd_normal.specs.Partials.{partials}
 use Rattle.cd_normal.specs.PlainClause.{plain_clause}
 use Rattle.cd_rules.specs.Clauses.{Clause}
@@ -39,7 +39,7 @@ module _ (graph : Graph) (decider : Decider) (frame after : Frame) (branch : Tas
     (serves : IsPairOfTask graph (table decider) (plain_task branch) pair) where
   -- the next task is begun
   goes_to_next : AddsPair decider pair frame after Worked → IsDoing graph decider (with_branch branch frame) after Worked
-  goes_to_next (next, later, begun, choices, clause, pairs) = (steps, fits)
+  goes_to_next (next, later, begun, conjuncts, clause, pairs) = (steps, fits)
     where
       plain_clauses : option_map plain_clause after.clause ≡ option_map plain_clause frame.clause
       plain_clauses = ap (option_map plain_clause) clause
@@ -55,13 +55,13 @@ module _ (graph : Graph) (decider : Decider) (frame after : Frame) (branch : Tas
           let old = option_map plain_clause frame.clause in
           let rest = map plain_task frame.branches in
           let late = map plain_task after.later in
-          let step : Works (known decider) (work (partials frame.choices) old (plain_task next ∷ late) (plain_task branch ∷ rest))
-          (work (partials frame.choices) old late (plain_task next ∷ [])) =
-          goes_on (partials frame.choices) old (plain_task next) late (plain_task branch) rest in
+          let step : Works (known decider) (work (partials frame.conjuncts) old (plain_task next ∷ late) (plain_task branch ∷ rest))
+          (work (partials frame.conjuncts) old late (plain_task next ∷ [])) =
+          goes_on (partials frame.conjuncts) old (plain_task next) late (plain_task branch) rest in
           subst (λ (left : Work). Works (known decider) left (plain_work after))
-          (λ i. work (partials frame.choices) old (sym plain_later i) (plain_task branch ∷ rest))
-          (subst (Works (known decider) (work (partials frame.choices) old (plain_task next ∷ late) (plain_task branch ∷ rest)))
-          (λ i. work (sym choices i) (sym plain_clauses i) late (sym plain_begun i)) step)
+          (λ i. work (partials frame.conjuncts) old (sym plain_later i) (plain_task branch ∷ rest))
+          (subst (Works (known decider) (work (partials frame.conjuncts) old (plain_task next ∷ late) (plain_task branch ∷ rest)))
+          (λ i. work (sym conjuncts i) (sym plain_clauses i) late (sym plain_begun i)) step)
 
       so_far : IsFunctionSoFar graph (option_map plain_clause frame.clause)
           (pairs_of (table decider) frame.pairs.items) (plain_task next ∷ map plain_task after.later)
@@ -78,7 +78,7 @@ module _ (graph : Graph) (decider : Decider) (frame after : Frame) (branch : Tas
 
       fits : IsFit graph (table decider) after
       fits = record {
-        choices = subst (AllOf (IsOfNodes (length graph))) (sym choices) ready.fit.choices;
+        conjuncts = subst (AllOf (IsOfNodes (length graph))) (sym conjuncts) ready.fit.conjuncts;
         named = subst (AllOf (IsPairNamed (table decider))) (sym pairs) (named, ready.fit.named);
         function = subst (λ (branches : List rules.Task). IsFunctionSoFar graph (option_map plain_clause after.clause)
             (pairs_of (table decider) after.pairs.items) (map plain_task after.later) branches) (sym plain_begun)

@@ -92,7 +92,7 @@ same_known before after keeps = λ i. family (keeps.kept i) ++ keeps.list i
 -- a frame still fits
 fit_longer : (graph : Graph) (table more : List Thing) (frame : Frame) → IsFit graph table frame → IsFit graph (table ++ more) frame
 fit_longer graph table more frame fit = record {
-  choices = fit.choices;
+  conjuncts = fit.conjuncts;
   named = pairs_longer table more frame.pairs.items fit.named;
   function = subst (λ (pairs : Pairs). IsFunctionSoFar graph (option_map plain_clause frame.clause) pairs
       (map plain_task frame.later) (map plain_task frame.branches)) (sym (pairs_same table more frame.pairs.items fit.named)) fit.function;

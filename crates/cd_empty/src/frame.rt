@@ -3,15 +3,15 @@ ghost use Rattle.cd_model.specs.AllOf.{AllOf};
 ghost use Rattle.cd_model.specs.Formula.{Graph as PlainGraph};
 ghost use Rattle.cd_model.specs.Thing.{Thing};
 ghost use Rattle.cd_rules.specs.Machine.{frame, work};
-ghost use Rattle.cd_normal.specs.ChoicesGoOn.{IsOfNodes};
+ghost use Rattle.cd_normal.specs.ConjunctsGoOn.{IsOfNodes};
 ghost use Rattle.cd_normal.specs.Partials.{partials};
 ghost use Rattle.cd_empty.specs.Inner.Fit.{IsFit};
 ghost use Rattle.cd_empty.specs.Inner.PlainFrame.{plain_frame};
 
 use crate::stack::Stack;
 use cd_elements::ElementId;
-use cd_normal::choices::Choices;
 use cd_normal::clause::Clause;
+use cd_normal::conjuncts::Conjuncts;
 use cd_sets::question::Question;
 use cd_tasks::Task;
 use std::alloc::Global;
@@ -23,7 +23,7 @@ pub(crate) struct Frame<'g> {
     pub(crate) place: usize,
     pub(crate) question: Question,
     /// The choices whose clauses are not begun.
-    pub(crate) choices: Choices<'g>,
+    pub(crate) conjuncts: Conjuncts<'g>,
     /// The clause that is begun.
     pub(crate) clause: Option<Clause<'g>>,
     /// Its tasks that are not begun.
@@ -40,17 +40,18 @@ impl<'g> Frame<'g> {
         alloc: Global,
         place: usize,
         question: Question,
-        choices: Choices<'g>,
+        conjuncts: Conjuncts<'g>,
     ) -> Frame<'g>
         ensures plain { plain_frame result
-            ≡ frame place question (work (partials choices.entry) None [] []) }
+            ≡ frame place question (work (partials conjuncts.entry) None [] []) }
         ensures fit { (graph : PlainGraph) (table : List Thing)
-            → AllOf (IsOfNodes (length graph)) (partials choices.entry) → IsFit graph table result }
+            → AllOf (IsOfNodes (length graph)) (partials conjuncts.entry)
+            → IsFit graph table result }
     {
         Frame {
             place,
             question,
-            choices,
+            conjuncts,
             clause: None,
             later: Stack::new(alloc),
             branches: Stack::new(alloc),

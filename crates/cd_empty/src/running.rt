@@ -20,7 +20,7 @@ use crate::went::Went;
 use cd_elements::ElementId;
 use cd_graph::Graph;
 use cd_members::basic_element;
-use cd_normal::choices::Choices;
+use cd_normal::conjuncts::Conjuncts;
 use cd_sets::question::Question;
 use std::alloc::AllocError;
 
@@ -236,9 +236,9 @@ impl Decider {
         ensures same { self.new ≡ record self.old { list = self.new.list } }
     {
         let place = self.list.len();
-        let choices = Choices::of(self.allocator(), graph, &question)?;
+        let conjuncts = Conjuncts::of(self.allocator(), graph, &question)?;
         self.list.number(question.copy()?)?;
-        let frame = Frame::new(self.allocator(), place, question, choices);
+        let frame = Frame::new(self.allocator(), place, question, conjuncts);
         frames.push(Box::new(self.allocator(), frame)?)?;
         Ok(())
     }

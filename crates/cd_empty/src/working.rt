@@ -6,7 +6,7 @@ ghost use Rattle.cd_elements.specs.Table.{Names, element_at, pairs_of};
 ghost use Rattle.cd_members.specs.Attempts.{IsAttempt};
 ghost use Rattle.cd_rules.specs.Right.{IsWorkOf};
 ghost use Rattle.cd_model.specs.Thing.{Function};
-ghost use Rattle.cd_normal.specs.ChoicesGoOn.{IsOfNodes};
+ghost use Rattle.cd_normal.specs.ConjunctsGoOn.{IsOfNodes};
 ghost use Rattle.cd_normal.specs.Partials.{partials};
 ghost use Rattle.cd_normal.specs.PlainClause.{plain_clause};
 ghost use Rattle.cd_rules.specs.Tasks.{IsTaskOfNodes, questions_of};
@@ -28,8 +28,8 @@ use cd_elements::{ElementId, Pairs, Shape};
 use cd_graph::Graph;
 use cd_members::{Attempt, attempt_task};
 use cd_normal::advance::Advance;
-use cd_normal::choices::Choices;
 use cd_normal::clause::Clause;
+use cd_normal::conjuncts::Conjuncts;
 use cd_tasks::{Task, tasks_of};
 use std::alloc::AllocError;
 use std::mem;
@@ -57,7 +57,7 @@ impl Decider {
     {
         match frame.branches.pop() {
             Some(branch) => self.work_at_branch(graph, frame, branch),
-            None => self.work_at_choice(graph, frame),
+            None => self.work_at_conjunct(graph, frame),
         }
     }
 
@@ -188,7 +188,7 @@ impl Decider {
     }
 
     // Does one thing for the first choice of a frame without branches.
-    fn work_at_choice<'g>(
+    fn work_at_conjunct<'g>(
         &mut self,
         graph: &Graph,
         frame: &mut Frame<'g>,
@@ -201,10 +201,10 @@ impl Decider {
         ensures sound { IsSound (nodes graph.now) self.new }
         ensures keeps { KeepsKnown self.old self.new }
     {
-        if let Some(doing) = self.look_at_needs(graph, &mut frame.choices)? {
+        if let Some(doing) = self.look_at_needs(graph, &mut frame.conjuncts)? {
             return Ok(doing);
         }
-        match frame.choices.advance()? {
+        match frame.conjuncts.advance()? {
             Advance::Nothing => Ok(Doing::Nothing),
             Advance::Went => Ok(Doing::Worked),
             Advance::Complete(clause) => self.begin(frame, clause),
@@ -215,25 +215,25 @@ impl Decider {
     fn look_at_needs(
         &self,
         graph: &Graph,
-        choices: &mut Choices<'_>,
+        conjuncts: &mut Conjuncts<'_>,
     ) -> Result<Option<Doing>, AllocError>
-        requires { AllOf (IsOfNodes (length (nodes graph.now))) (partials choices.old) }
+        requires { AllOf (IsOfNodes (length (nodes graph.now))) (partials conjuncts.old) }
         ensures { IfOk result
-            (IsLook (nodes graph.now) self.now (partials choices.old) (partials choices.new)) }
+            (IsLook (nodes graph.now) self.now (partials conjuncts.old) (partials conjuncts.new)) }
     {
         // The contract of this call says that the graph begins with the built-in nodes.
         graph.knows();
-        let Some(questions) = choices.needs()? else {
+        let Some(questions) = conjuncts.needs()? else {
             return Ok(None);
         };
         match self.parts(questions.as_slice())? {
             Parts::Missing => {
-                choices.cut();
+                conjuncts.cut();
                 Ok(Some(Doing::Worked))
             }
             Parts::Unknown(question) => Ok(Some(Doing::Wants(question))),
             Parts::Are(_) => {
-                choices.look();
+                conjuncts.look();
                 Ok(None)
             }
         }

@@ -19,7 +19,7 @@ use Rattle.cd_model.proofs.ByNumber.{all_got}
 use Rattle.cd_matching.specs.Captures.{Captures, or_else, joined, both}
 use Rattle.cd_matching.specs.Kernel.{KernelNode, KernelField, Present, Optional, Test, Bind, Put}
 use Rattle.cd_matching.specs.Kernel.{Pair, Xml, Record, Both, First, Gather, field_nodes, leads_to}
-use Rattle.cd_matching.specs.Kernel.{parts_of, Binds, BindApart, IsSoundNode, just, before}
+use Rattle.cd_matching.specs.Kernel.{parts_of, Binds, BindDisjoint, IsSoundNode, just, before}
 use Rattle.cd_matching.specs.Kernel.{gathered}
 use Rattle.cd_matching.specs.Kernel.{by_node, all_named, apart_of, taken}
 use Rattle.cd_matching.specs.Sequences.{thing_of}
@@ -152,7 +152,7 @@ module _ (answers : Thing → Answers NodeId) (Sort : Thing → Type 0)
 
   -- two parts, one of which captures it
   of_parts : (d e : Thing) (p q : ℕ) → AllOf (λ number. number < length nodes) (p ∷ q ∷ [])
-      → BindApart nodes (p ∷ q ∷ []) → (b c : Captures ℕ) → takes d p ≡ Some b
+      → BindDisjoint nodes (p ∷ q ∷ []) → (b c : Captures ℕ) → takes d p ≡ Some b
       → takes e q ≡ Some c → (what : Thing)
       → (b variable ≡ Some what) ⊎ (c variable ≡ Some what) → joined b c variable ≡ Some what
   of_parts d e p q within disjoint b c takes_d takes_e what (inl has) =
@@ -348,7 +348,7 @@ module _ (answers : Thing → Answers NodeId) (Sort : Thing → Type 0)
     three_in_range : AllOf (λ number. number < length nodes) (p ∷ q ∷ r ∷ [])
     three_in_range = is_in_range place what (Xml p q r) there accepted
 
-    three_apart : BindApart nodes (p ∷ q ∷ r ∷ [])
+    three_apart : BindDisjoint nodes (p ∷ q ∷ r ∷ [])
     three_apart = is_sound place what (Xml p q r) there accepted
 
     at_xml : OfTriple answers Sort test nodes variable p q r triples what → CapturedAt place what
@@ -405,7 +405,7 @@ module _ (answers : Thing → Answers NodeId) (Sort : Thing → Type 0)
   tail_range (name, Optional id) named within = within
 
   tail_apart : (field : Name × KernelField NodeId) (named : Named)
-      → BindApart nodes (field_nodes (field ∷ named)) → BindApart nodes (field_nodes named)
+      → BindDisjoint nodes (field_nodes (field ∷ named)) → BindDisjoint nodes (field_nodes named)
   tail_apart (name, Present other) named disjoint = disjoint.1
   tail_apart (name, Optional id) named disjoint = disjoint
 
@@ -414,7 +414,7 @@ module _ (answers : Thing → Answers NodeId) (Sort : Thing → Type 0)
       (has : c variable ≡ Some what) where
     first_none : (field : Name × KernelField NodeId) (named : Named) (b : Captures ℕ)
         → AllOf (λ n. n < length nodes) (field_nodes (field ∷ named))
-        → BindApart nodes (field_nodes (field ∷ named))
+        → BindDisjoint nodes (field_nodes (field ∷ named))
         → AnyOf (λ other. other ≡ (label, Present number)) named
         → field_takes test nodes fields field ≡ Some b → b variable ≡ None
     first_none (name, Optional id) named b within disjoint later takes_b =
@@ -437,7 +437,7 @@ module _ (answers : Thing → Answers NodeId) (Sort : Thing → Type 0)
             (none-some b (sym (absent_takes test nodes fields name other none) ∙ takes_b))
 
     fields_have : (named : Named) → AllOf (λ n. n < length nodes) (field_nodes named)
-        → BindApart nodes (field_nodes named)
+        → BindDisjoint nodes (field_nodes named)
         → AnyOf (λ field. field ≡ (label, Present number)) named → (all : Captures ℕ)
         → fields_take test nodes fields named ≡ Some all → all variable ≡ Some what
     fields_have [] within disjoint one all takes_all = absurd one

@@ -1,7 +1,7 @@
 -- What the tokens of a text write is well made.
 use Rattle.std.proofs.Common.{sym, subst, ℕ, Bool, true, false, List, map}
 use Rattle.cd_syntax.specs.declared.tokens.Token.{Token}
-use Rattle.cd_syntax.specs.Tokens.{Spells}
+use Rattle.cd_syntax.specs.Tokens.{Lexes}
 use Rattle.cd_syntax.specs.TypeTree.{Tree, Declaration, Declarations, declarations_of}
 use Rattle.cd_syntax.specs.WellMade.{IsWellMade, AreWellMadeDeclarations}
 use Rattle.cd_program.specs.Expr.{FunctionTree, Program}
@@ -33,10 +33,10 @@ well_made_kept = record {
 }
 
 written_fits : (is : Goal) (source : List ℕ) (tokens : List Token) (depth : ℕ) (part : Part)
-    → Spells false 0 source tokens → Writes is depth tokens part → Fits well_made (sort_of_goal is) part
-written_fits is source tokens depth part spells written =
+    → Lexes false 0 source tokens → Writes is depth tokens part → Fits well_made (sort_of_goal is) part
+written_fits is source tokens depth part lexes written =
     whole_fits well_made well_made_kept is depth (map Read tokens) (written.0, part)
-    (tokens_are_proper false 0 source tokens spells) written.1
+    (tokens_are_proper false 0 source tokens lexes) written.1
 
 well_made_tree : (is : Tree) → Fits well_made (OfTree false) (ATree is) → IsWellMade is
 well_made_tree is (one_tree _ so) = so
@@ -51,23 +51,23 @@ well_made_program types functions (one_program _ _ are so) =
     (declarations_made types are, functions_made functions so)
 
 -- a type that the tokens of a text write is well made
-pub text_makes_type : (text : List ℕ) (tokens : List Token) (depth : ℕ) (is : Tree) → Spells false 0 text tokens
+pub text_makes_type : (text : List ℕ) (tokens : List Token) (depth : ℕ) (is : Tree) → Lexes false 0 text tokens
     → IsTree depth tokens is → IsWellMade is
-text_makes_type text tokens depth is spells written =
-    well_made_tree is (written_fits goal.TypeText text tokens depth (ATree is) spells written)
+text_makes_type text tokens depth is lexes written =
+    well_made_tree is (written_fits goal.TypeText text tokens depth (ATree is) lexes written)
 
 -- and so are the declarations of a file
 pub text_makes_declarations : (text : List ℕ) (tokens : List Token) (depth : ℕ) (declarations : Declarations)
-    → Spells false 0 text tokens
+    → Lexes false 0 text tokens
     → AreDeclared depth tokens declarations → AreWellMadeDeclarations declarations
-text_makes_declarations text tokens depth declarations spells written =
-    well_made_file declarations (written_fits goal.TypeFile text tokens depth (AFile declarations) spells written)
+text_makes_declarations text tokens depth declarations lexes written =
+    well_made_file declarations (written_fits goal.TypeFile text tokens depth (AFile declarations) lexes written)
 
 -- and so is a program
 pub text_makes_program : (text : List ℕ) (tokens : List Token) (depth : ℕ) (program : Program)
-    → Spells false 0 text tokens → IsProgram depth tokens program → IsWellMadeProgram program
-text_makes_program text tokens depth program spells (types, same, written) =
+    → Lexes false 0 text tokens → IsProgram depth tokens program → IsWellMadeProgram program
+text_makes_program text tokens depth program lexes (types, same, written) =
     let part = AProgram types program.functions in
     let made = well_made_program types program.functions
-    (written_fits goal.ProgramText text tokens depth part spells written) in
+    (written_fits goal.ProgramText text tokens depth part lexes written) in
     (subst AreWellMadeDeclarations (sym same) made.0, made.1)

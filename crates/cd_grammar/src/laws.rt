@@ -6,7 +6,7 @@ ghost use Rattle.cd_syntax.specs.declared.tokens.Token.{Token};
 ghost use Rattle.cd_syntax.specs.declared.tokens.TokenKind.TheVariants as token;
 ghost use Rattle.cd_syntax.specs.SyntaxFaults.{IsForm, BeginNone, IsWrong};
 ghost use Rattle.cd_syntax.specs.SyntaxFaults.{IsUnfinished};
-ghost use Rattle.cd_syntax.specs.Tokens.{at, Spells};
+ghost use Rattle.cd_syntax.specs.Tokens.{at, Lexes};
 ghost use Rattle.cd_syntax.specs.WellMade.{IsWellMade, AreWellMadeDeclarations};
 ghost use Rattle.cd_syntax.specs.TypeTree.{Tree, Declarations, NoDeclaration};
 ghost use Rattle.cd_program.specs.Expr.{Program};
@@ -74,13 +74,13 @@ pub fn tables_are_of_the_lines()
 /// What tokens of a text write is well made: a type, type declarations, and a program.
 pub fn trees_are_well_made()
     ensures types { (text : List ℕ) (tokens : List Token) (depth : ℕ) (is : Tree)
-        → Spells false 0 text tokens → IsTree depth tokens is → IsWellMade is }
+        → Lexes false 0 text tokens → IsTree depth tokens is → IsWellMade is }
     ensures declarations { (text : List ℕ) (tokens : List Token) (depth : ℕ)
         (declarations : Declarations)
-        → Spells false 0 text tokens → AreDeclared depth tokens declarations
+        → Lexes false 0 text tokens → AreDeclared depth tokens declarations
         → AreWellMadeDeclarations declarations }
     ensures programs { (text : List ℕ) (tokens : List Token) (depth : ℕ) (program : Program)
-        → Spells false 0 text tokens → IsProgram depth tokens program
+        → Lexes false 0 text tokens → IsProgram depth tokens program
         → IsWellMadeProgram program }
 {}
 

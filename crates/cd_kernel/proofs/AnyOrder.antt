@@ -77,8 +77,8 @@ module _ {A : Type 0} where
       (two_reordered R turned xs (before ++ after) rest two.1))
 
 -- no variable is captured by both
-abbrev pub CaptureApart : (one other : Option (Captures Name)) → Type 0
-CaptureApart a b = (name : Name) → Lacks name a ⊎ Lacks name b
+abbrev pub CaptureDisjoint : (one other : Option (Captures Name)) → Type 0
+CaptureDisjoint a b = (name : Name) → Lacks name a ⊎ Lacks name b
 
 or_swap : (a b c : Option Thing) → (a ≡ None) ⊎ (b ≡ None)
     → or_else a (or_else b c) ≡ or_else b (or_else a c)
@@ -87,7 +87,7 @@ or_swap (Some x) None c apart = refl
 or_swap (Some x) (Some y) c (inl none) = absurd (none-some x (sym none))
 or_swap (Some x) (Some y) c (inr none) = absurd (none-some y (sym none))
 
-both_swap : (a b c : Option (Captures Name)) → CaptureApart a b
+both_swap : (a b c : Option (Captures Name)) → CaptureDisjoint a b
     → both a (both b c) ≡ both b (both a c)
 both_swap None None c apart = refl
 both_swap None (Some d) None apart = refl
@@ -106,21 +106,21 @@ module _ {A : Type 0} (has : A → Option (Captures Name)) where
   all_both [] = Some nothing
   all_both (x ∷ xs) = both (has x) (all_both xs)
 
-  abbrev pub HaveApart : A → A → Type 0
-  HaveApart x y = CaptureApart (has x) (has y)
+  abbrev pub HaveDisjoint : A → A → Type 0
+  HaveDisjoint x y = CaptureDisjoint (has x) (has y)
 
-  put_first : (before after : List A) (x : A) → AllOf (HaveApart x) before
+  put_first : (before after : List A) (x : A) → AllOf (HaveDisjoint x) before
       → all_both (before ++ x ∷ after) ≡ both (has x) (all_both (before ++ after))
   put_first [] after x apart = refl
   put_first (y ∷ before) after x apart =
       ap (both (has y)) (put_first before after x apart.1)
       ∙ sym (both_swap (has x) (has y) (all_both (before ++ after)) apart.0)
 
-  pub any_order : (xs ys : List A) → IsReordered xs ys → EachTwo HaveApart xs
+  pub any_order : (xs ys : List A) → IsReordered xs ys → EachTwo HaveDisjoint xs
       → all_both xs ≡ all_both ys
   any_order [] ys same apart = ap all_both (sym same)
   any_order (x ∷ xs) ys (before, after, same, rest) apart =
       ap (both (has x)) (any_order xs (before ++ after) rest apart.1)
-      ∙ sym (put_first before after x (all_before (HaveApart x) before after
-      (all_reordered (HaveApart x) xs (before ++ after) rest apart.0)))
+      ∙ sym (put_first before after x (all_before (HaveDisjoint x) before after
+      (all_reordered (HaveDisjoint x) xs (before ++ after) rest apart.0)))
       ∙ ap all_both (sym same)

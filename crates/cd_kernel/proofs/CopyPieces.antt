@@ -12,7 +12,7 @@ use Rattle.cd_syntax.specs.Name.{Name}
 use Rattle.cd_model.specs.AllOf.{AllOf}
 use Rattle.cd_matching.specs.Kernel.{KernelNode, Test, Pair}
 use Rattle.cd_matching.specs.Kernel.{Both, First, Gather}
-use Rattle.cd_matching.specs.Naming.{AreApart, IsNamed}
+use Rattle.cd_matching.specs.Naming.{AreDisjointNames, IsNamed}
 use Rattle.cd_matching.specs.Naming.{IsNamedRegular}
 use Rattle.cd_matching.specs.Naming.{AreNamedInTurn, AreNamedEither, AreNamedLike}
 use Rattle.cd_matching.specs.Pattern as pattern
@@ -194,14 +194,14 @@ module _ {T : Type 0} (IsType : T → Type 0) (types : Types T) (variables : Lis
             (item_has (made_item (inner keeps r copy)) copy.items r of.items place item its is_item
             is_its)
 
-        binds_apart : AreApart (binds its.0) later
-        binds_apart = subst (λ (o : ItemOf T). AreApart (binds o.0) later) itself apart
+        binds_disjoint : AreDisjointNames (binds its.0) later
+        binds_disjoint = subst (λ (o : ItemOf T). AreDisjointNames (binds o.0) later) itself apart
 
-        two_apart : AreApart bound (copy_binds keeps r copy later)
-        two_apart name h =
+        two_disjoint : AreDisjointNames bound (copy_binds keeps r copy later)
+        two_disjoint name h =
             let parts = and_parts (inner keeps r copy name) (binds its.0 name) h in
             ap₂ (λ (a b : Bool). a || b) (no_plain_in_group keeps r copy of name parts.0)
-            (and_right (inner keeps r copy name) (later name) (binds_apart name parts.1))
+            (and_right (inner keeps r copy name) (later name) (binds_disjoint name parts.1))
 
         split : (g i b l p : Bool) → p ≡ (b || l) → ((i && b) || (g || (i && l))) ≡ true
             → (g || (i && p)) ≡ true
@@ -222,7 +222,7 @@ module _ {T : Type 0} (IsType : T → Type 0) (types : Types T) (variables : Lis
           Pair item next,
           there,
           tt,
-          (bound, copy_binds keeps r copy later, piece, state, two_apart, within),
+          (bound, copy_binds keeps r copy later, piece, state, two_disjoint, within),
         )
         by_gatherer (Some name) is (variable, is_number, there) =
             let in_group = (gatherer_in copy.group its.1 name is).0 in (
@@ -242,7 +242,7 @@ module _ {T : Type 0} (IsType : T → Type 0) (types : Types T) (variables : Lis
                 copy_binds keeps r copy later,
                 piece,
                 state,
-                two_apart,
+                two_disjoint,
                 within,
                 (
                   name,
@@ -328,10 +328,10 @@ module _ {T : Type 0} (IsType : T → Type 0) (types : Types T) (variables : Lis
           | inr plain ↦ inr (or_right copy.plain (made_of.one_is_plain copies) plain.0, plain.1)
         ]
 
-    copies_apart : (keeps : Names) (r : Regular T) (copy : Copy) (copies : List Copy)
+    copies_disjoint : (keeps : Names) (r : Regular T) (copy : Copy) (copies : List Copy)
         → AllOf (is_copy_of keeps r) (copy ∷ copies) → AreDisjoint (copy ∷ copies)
-        → AreApart (copy_binds keeps r copy (is_plain r)) (copies_bind keeps r copies)
-    copies_apart keeps r copy copies of disjoint name h =
+        → AreDisjointNames (copy_binds keeps r copy (is_plain r)) (copies_bind keeps r copies)
+    copies_disjoint keeps r copy copies of disjoint name h =
         false_from_ne_true (copies_bind keeps r copies name)
         (λ there. by_sides
         (or_cases (is_among copy.group name) (inner keeps r copy name && is_plain r name) h)
@@ -375,7 +375,7 @@ module _ {T : Type 0} (IsType : T → Type 0) (types : Types T) (variables : Lis
         copies_bind keeps r (next ∷ copies),
         start_state keeps r copy of.0,
         joined_of keeps r (next ∷ copies) other joined of.1 disjoint.2,
-        copies_apart keeps r copy (next ∷ copies) of disjoint,
+        copies_disjoint keeps r copy (next ∷ copies) of disjoint,
         λ name h. h,
       ),
     )

@@ -13,7 +13,7 @@ use Rattle.cd_syntax.specs.declared.type_tree.Post.TheVariants as post
 use Rattle.cd_model.specs.AllOf.{AllOf}
 use Rattle.cd_model.specs.Thing.{Thing}
 use Rattle.cd_matching.specs.Captures.{Captures}
-use Rattle.cd_matching.specs.Naming.{GathersApart, GatherApart}
+use Rattle.cd_matching.specs.Naming.{GathersDisjoint, GatherDisjoint}
 use Rattle.cd_matching.specs.Pattern as pattern
 use Rattle.cd_matching.specs.Pattern.{Regular, Regulars, NoRegular, ARegular}
 use Rattle.cd_matching.specs.Take.{Taking, take, ways_taking, ways_of_item, ways, ways_in_turn}
@@ -187,7 +187,7 @@ item_gathers around take (d ∷ rest) = by_take (take d)
 
 module _ (T : Type 0) (test : T → Thing → Bool) where
   mutual
-    regular_gathers : (around : List Name) (r : Regular T) → GathersApart around r
+    regular_gathers : (around : List Name) (r : Regular T) → GathersDisjoint around r
         → Gather around (ways_in T test around r) (ways T test r)
     regular_gathers around pattern.Nothing apart = λ things.
         ap (λ (w : Way). w ∷ []) (still_gathers around things)
@@ -204,7 +204,7 @@ module _ (T : Type 0) (test : T → Thing → Bool) where
         (ap (λ (b : Bool). b || list_any (bytes_eq name) around) (names_equiv.refl name))
         r apart.1 things)
 
-    turn_gathers : (around : List Name) (all : Regulars T) → GatherApart around all
+    turn_gathers : (around : List Name) (all : Regulars T) → GatherDisjoint around all
         → Gather around (turn_in T test around all) (ways_in_turn T test all)
     turn_gathers around NoRegular apart = λ things.
         ap (λ (w : Way). w ∷ []) (still_gathers around things)
@@ -214,7 +214,7 @@ module _ (T : Type 0) (test : T → Thing → Bool) where
         ∙ then_gathers around (ways T test first things) (turn_in T test around rest)
         (ways_in_turn T test rest) (turn_gathers around rest apart.1)
 
-    one_gathers : (around : List Name) (all : Regulars T) → GatherApart around all
+    one_gathers : (around : List Name) (all : Regulars T) → GatherDisjoint around all
         → Gather around (one_in T test around all) (ways_of_one T test all)
     one_gathers around NoRegular apart = λ things. refl
     one_gathers around (ARegular first rest) apart = λ things.
@@ -227,7 +227,7 @@ module _ (T : Type 0) (test : T → Thing → Bool) where
   none_around [] = refl
   none_around (way ∷ ways) = ap (λ (l : List Way). way ∷ l) (none_around ways)
 
-  pub at_once : (r : Regular T) → GathersApart [] r → (things : List Thing)
+  pub at_once : (r : Regular T) → GathersDisjoint [] r → (things : List Thing)
       → ways_in T test [] r things ≡ ways T test r things
   at_once r apart things =
       regular_gathers [] r apart things ∙ none_around (ways T test r things)

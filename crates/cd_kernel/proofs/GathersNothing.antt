@@ -10,7 +10,7 @@ use Rattle.cd_syntax.specs.ComparingNames.{names_equiv}
 use Rattle.cd_model.specs.AllOf.{AllOf}
 use Rattle.cd_model.specs.Thing.{Thing}
 use Rattle.cd_matching.specs.Captures.{Captures}
-use Rattle.cd_matching.specs.Naming.{GathersApart, GatherApart}
+use Rattle.cd_matching.specs.Naming.{GathersDisjoint, GatherDisjoint}
 use Rattle.cd_matching.specs.Pattern as pattern
 use Rattle.cd_matching.specs.Pattern.{Regular, Regulars, NoRegular, ARegular}
 use Rattle.cd_matching.specs.Take.{Taking, take, ways_taking, ways_of_item, ways, ways_in_turn}
@@ -74,7 +74,7 @@ item_has_nothing variable take (d ∷ rest) = by_take (take d)
 module _ (T : Type 0) (test : T → Thing → Bool) (variable : Name) where
   mutual
     pub has_nothing : (around : List Name) → IsAround around variable → (r : Regular T)
-        → GathersApart around r → Keep (HasNothing variable) (ways T test r)
+        → GathersDisjoint around r → Keep (HasNothing variable) (ways T test r)
     has_nothing around is_around pattern.Nothing apart = λ things. (refl, tt)
     has_nothing around is_around (pattern.Item p) apart =
         item_has_nothing variable (take T test p)
@@ -92,7 +92,7 @@ module _ (T : Type 0) (test : T → Thing → Bool) (variable : Name) where
         things)
 
     turn_has_nothing : (around : List Name) → IsAround around variable → (all : Regulars T)
-        → GatherApart around all → Keep (HasNothing variable) (ways_in_turn T test all)
+        → GatherDisjoint around all → Keep (HasNothing variable) (ways_in_turn T test all)
     turn_has_nothing around is_around NoRegular apart = λ things. (refl, tt)
     turn_has_nothing around is_around (ARegular first rest) apart = λ things.
         then_keep (HasNothing variable) (still_has_nothing variable)
@@ -101,7 +101,7 @@ module _ (T : Type 0) (test : T → Thing → Bool) (variable : Name) where
         (turn_has_nothing around is_around rest apart.1)
 
     one_has_nothing : (around : List Name) → IsAround around variable → (all : Regulars T)
-        → GatherApart around all → Keep (HasNothing variable) (ways_of_one T test all)
+        → GatherDisjoint around all → Keep (HasNothing variable) (ways_of_one T test all)
     one_has_nothing around is_around NoRegular apart = λ things. tt
     one_has_nothing around is_around (ARegular first rest) apart = λ things.
         each_both (HasNothing variable things) (ways T test first things)

@@ -5,8 +5,8 @@ use Rattle.cd_sets.specs.declared.node_id.NodeId.{NodeId}
 use Rattle.cd_syntax.specs.Name.{Name, IsLabel}
 use Rattle.cd_kernel.specs.Labelled.{HasLabels, HaveLabels, FieldsHaveLabels, RegularHasLabels}
 use Rattle.cd_kernel.specs.Labelled.{RegularsHaveLabels}
-use Rattle.cd_matching.specs.Naming.{AreApart, GathersApart, FieldsApart, LabelsDiffer, IsNamed}
-use Rattle.cd_matching.specs.Naming.{AreNamedApart, AreNamedSame, AreNamedAs, AreNamedFields}
+use Rattle.cd_matching.specs.Naming.{AreDisjointNames, GathersDisjoint, FieldsDisjoint, LabelsDiffer, IsNamed}
+use Rattle.cd_matching.specs.Naming.{AreNamedDisjoint, AreNamedSame, AreNamedAs, AreNamedFields}
 use Rattle.cd_matching.specs.Naming.{IsNamedRegular, AreNamedInTurn, AreNamedEither, AreNamedLike}
 use Rattle.cd_matching.specs.Pattern as pattern
 use Rattle.cd_matching.specs.Pattern.{Pattern, Patterns, NoPattern, APattern, Fields, NoField}
@@ -17,11 +17,11 @@ abbrev mutual
   pub IsGood : Pattern NodeId → Type 0
   IsGood (pattern.Pair p q) = IsGood p × IsGood q
   IsGood (pattern.Xml p q r) = IsGood p × IsGood q × IsGood r
-  IsGood (pattern.Record fields more) = LabelsDiffer fields × FieldsApart fields
+  IsGood (pattern.Record fields more) = LabelsDiffer fields × FieldsDisjoint fields
       × AreGoodFields fields
   IsGood (pattern.Both all) = AreGood all
   IsGood (pattern.First all) = AreGood all
-  IsGood (pattern.Sequence r) = GathersApart [] r × AreApart (is_gathered r) (is_plain r)
+  IsGood (pattern.Sequence r) = GathersDisjoint [] r × AreDisjointNames (is_gathered r) (is_plain r)
       × IsGoodRegular r
   IsGood p = Unit {0}
 
@@ -56,14 +56,14 @@ mutual
       (good p named.2 labels.0, good q named.3 labels.1, good r named.4 labels.2)
   good (pattern.Record fields more) named labels =
       (named.0, named.1, good_fields fields named.2 labels)
-  good (pattern.Both all) named labels = good_apart all named labels
+  good (pattern.Both all) named labels = good_disjoint all named labels
   good (pattern.First all) named labels = good_same all named labels
   good (pattern.Sequence r) named labels = (named.0, named.1, good_regular r named.2 labels)
 
-  good_apart : (all : Patterns NodeId) → AreNamedApart all → HaveLabels all → AreGood all
-  good_apart NoPattern named labels = tt
-  good_apart (APattern first rest) named labels =
-      (good first named.1 labels.0, good_apart rest named.2 labels.1)
+  good_disjoint : (all : Patterns NodeId) → AreNamedDisjoint all → HaveLabels all → AreGood all
+  good_disjoint NoPattern named labels = tt
+  good_disjoint (APattern first rest) named labels =
+      (good first named.1 labels.0, good_disjoint rest named.2 labels.1)
 
   good_same : (all : Patterns NodeId) → AreNamedSame all → HaveLabels all → AreGood all
   good_same NoPattern named labels = tt

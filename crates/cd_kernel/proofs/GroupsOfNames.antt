@@ -24,11 +24,11 @@ abbrev pub in_one_of : List (List Name) → Name → Bool
 in_one_of [] name = false
 in_one_of (group ∷ groups) name = is_among group name || in_one_of groups name
 
-abbrev pub GroupsApart : List (List Name) → Type 0
-GroupsApart [] = Unit {0}
-GroupsApart (group ∷ groups) =
+abbrev pub GroupsDisjoint : List (List Name) → Type 0
+GroupsDisjoint [] = Unit {0}
+GroupsDisjoint (group ∷ groups) =
     ((name : Name) → is_among group name ≡ true → in_one_of groups name ≡ false)
-    × GroupsApart groups
+    × GroupsDisjoint groups
 
 -- no two variables of a group gather one item
 abbrev pub IsAlone : Regular NodeId → List Name → Type 0
@@ -153,13 +153,13 @@ in_a_single [] name = refl
 in_a_single (one ∷ names) name =
     ap₂ (λ (a b : Bool). a || b) (or_false (bytes_eq name one)) (in_a_single names name)
 
-singles_apart : (names : List Name) → AreDistinct names → GroupsApart (each_single names)
-singles_apart [] distinct = tt
-singles_apart (one ∷ names) distinct = (
+singles_disjoint : (names : List Name) → AreDistinct names → GroupsDisjoint (each_single names)
+singles_disjoint [] distinct = tt
+singles_disjoint (one ∷ names) distinct = (
   (λ name there. in_a_single names name
       ∙ ap (is_among names) (names_same name one (sym (or_false (bytes_eq name one)) ∙ there))
       ∙ distinct.0),
-  singles_apart names distinct.1,
+  singles_disjoint names distinct.1,
 )
 
 singles_are_groups : (variables : List Name) (r : Regular NodeId) (names : List Name)
@@ -177,7 +177,7 @@ pub record AreGroups (variables : List Name) (keeps : Name → Bool) (r : Regula
   pub rest : List (List Name)
   pub are : groups ≡ first ∷ rest
   pub each : AllOf (IsGroup variables r) groups
-  pub apart : GroupsApart groups
+  pub apart : GroupsDisjoint groups
   pub all : (name : Name) → in_one_of groups name ≡ (keeps name && is_gathered r name)
 
 module _ (variables : List Name) (keeps : Name → Bool) (r : Regular NodeId) where
@@ -252,7 +252,7 @@ module _ (variables : List Name) (keeps : Name → Bool) (r : Regular NodeId) wh
       are = refl;
       each = singles_are_groups variables r (one ∷ list)
           (subst (HaveNumbers variables) (sym is) named);
-      apart = singles_apart (one ∷ list)
+      apart = singles_disjoint (one ∷ list)
           (subst AreDistinct (sym is) (gathered_distinct r [] tt));
       all = λ name. in_a_single (one ∷ list) name
           ∙ ap (λ (all : List Name). is_among all name) is ∙ in_names name;

@@ -11,8 +11,8 @@ use Rattle.cd_model.specs.BuiltIns.{built_ins}
 use Rattle.cd_matching.specs.Kernel.{Kernel, KernelNode, KernelField, Present, Optional, Test, Bind}
 use Rattle.cd_matching.specs.Kernel.{Put, Pair, Xml, Record, Both, First, Gather, leads_to}
 use Rattle.cd_matching.specs.Kernel.{parts_of, field_nodes, optional_types, variables_of, Binds}
-use Rattle.cd_matching.specs.Kernel.{BindApart, IsSoundNode, IsSound, Ends}
-use Rattle.cd_matching.specs.Naming.{AreApart, IsNamed}
+use Rattle.cd_matching.specs.Kernel.{BindDisjoint, IsSoundNode, IsSound, Ends}
+use Rattle.cd_matching.specs.Naming.{AreDisjointNames, IsNamed}
 use Rattle.cd_matching.specs.Pattern.{Pattern, Sequence}
 use Rattle.cd_matching.specs.Variables.{binds}
 use Rattle.cd_kernel.specs.Alternatives.{HasAlternatives}
@@ -23,7 +23,7 @@ use Rattle.cd_kernel.specs.Parts.{IsPart, HasNoMore}
 use Rattle.cd_kernel.specs.WellMade.{IsWellMade}
 use Rattle.cd_kernel.proofs.AnyOrder.{all_among, EachTwo}
 use Rattle.cd_kernel.proofs.Pieces.{kept_of, Piece, made, Allowed, SubPiece, FieldIs}
-use Rattle.cd_kernel.proofs.Pieces.{FieldsBindApart, Shape, IsCopyOf}
+use Rattle.cd_kernel.proofs.Pieces.{FieldsBindDisjoint, Shape, IsCopyOf}
 use Rattle.cd_kernel.proofs.BindsNoMore.{sub_pieces, binds_no_more}
 use Rattle.cd_kernel.proofs.CompletePatterns.{complete}
 use Rattle.cd_kernel.proofs.CopyPieces.{row_state, copies_of}
@@ -44,20 +44,20 @@ module _ {T : Type 0} (IsType : T → Type 0) (types : Types T) (variables : Lis
   abbrev a_piece : Names → ℕ → Type 0
   a_piece = Piece IsType types variables nodes
 
-  two_apart : (first second : Names) (one other : ℕ) → a_piece first one → a_piece second other
-      → AreApart first second → (variable : ℕ) → Binds nodes variable one
+  two_disjoint : (first second : Names) (one other : ℕ) → a_piece first one → a_piece second other
+      → AreDisjointNames first second → (variable : ℕ) → Binds nodes variable one
       → Binds nodes variable other → ⊥
-  two_apart first second one other p q apart variable binds_one binds_other =
+  two_disjoint first second one other p q apart variable binds_one binds_other =
       let x = binds_no_more IsType types variables nodes are_types variable one binds_one first p in
       let y = binds_no_more IsType types variables nodes are_types variable other binds_other second
       q in
       true≢false (sym y.2 ∙ ap second (sym (same_numbers variables x.0 y.0 variable x.1 y.1))
       ∙ apart x.0 x.2)
 
-  pair_apart : (first second : Names) (one other : ℕ) → a_piece first one → a_piece second other
-      → AreApart first second → BindApart nodes (one ∷ other ∷ [])
-  pair_apart first second one other p q apart = (
-    λ variable bound. (two_apart first second one other p q apart variable bound, tt),
+  pair_disjoint : (first second : Names) (one other : ℕ) → a_piece first one → a_piece second other
+      → AreDisjointNames first second → BindDisjoint nodes (one ∷ other ∷ [])
+  pair_disjoint first second one other p q apart = (
+    λ variable bound. (two_disjoint first second one other p q apart variable bound, tt),
     (λ variable bound. tt, tt),
   )
 
@@ -68,26 +68,26 @@ module _ {T : Type 0} (IsType : T → Type 0) (types : Types T) (variables : Lis
   within bound (variable ∷ rest) ((name, is_number, h), allowed) =
       (number_within variables name variable is_number, within bound rest allowed)
 
-  one_apart : (label : Name) (number : ℕ) (fields : List (Name × KernelField T))
-      → AllOf (FieldsBindApart IsType types variables nodes (label, Present number)) fields
+  one_disjoint : (label : Name) (number : ℕ) (fields : List (Name × KernelField T))
+      → AllOf (FieldsBindDisjoint IsType types variables nodes (label, Present number)) fields
       → (variable : ℕ) → Binds nodes variable number
       → AllOf (λ other. Binds nodes variable other → ⊥) (field_nodes fields)
-  one_apart label number [] all variable bound = tt
-  one_apart label number ((name, Present other) ∷ fields) ((a, b, p, q, apart), all) variable bound
+  one_disjoint label number [] all variable bound = tt
+  one_disjoint label number ((name, Present other) ∷ fields) ((a, b, p, q, apart), all) variable bound
       = (
-        two_apart a b number other p q apart variable bound,
-        one_apart label number fields all variable bound,
+        two_disjoint a b number other p q apart variable bound,
+        one_disjoint label number fields all variable bound,
       )
-  one_apart label number ((name, Optional type) ∷ fields) all variable bound =
-      one_apart label number fields all.1 variable bound
+  one_disjoint label number ((name, Optional type) ∷ fields) all variable bound =
+      one_disjoint label number fields all.1 variable bound
 
-  fields_apart : (fields : List (Name × KernelField T))
-      → EachTwo (FieldsBindApart IsType types variables nodes) fields
-      → BindApart nodes (field_nodes fields)
-  fields_apart [] two = tt
-  fields_apart ((label, Present number) ∷ fields) two =
-      (one_apart label number fields two.0, fields_apart fields two.1)
-  fields_apart ((label, Optional type) ∷ fields) two = fields_apart fields two.1
+  fields_disjoint : (fields : List (Name × KernelField T))
+      → EachTwo (FieldsBindDisjoint IsType types variables nodes) fields
+      → BindDisjoint nodes (field_nodes fields)
+  fields_disjoint [] two = tt
+  fields_disjoint ((label, Present number) ∷ fields) two =
+      (one_disjoint label number fields two.0, fields_disjoint fields two.1)
+  fields_disjoint ((label, Optional type) ∷ fields) two = fields_disjoint fields two.1
 
   fields_types : (bound : Names) (fields : List (Name × KernelField T))
       → AllOf (FieldIs IsType types variables nodes bound) fields
@@ -106,23 +106,23 @@ module _ {T : Type 0} (IsType : T → Type 0) (types : Types T) (variables : Lis
   sound_node bound (Put variable constant) allowed shape =
       ((within bound (variable ∷ []) allowed).0, shape)
   sound_node bound (Pair one other) allowed (a, b, p, q, apart, sub) =
-      pair_apart a b one other p q apart
+      pair_disjoint a b one other p q apart
   sound_node bound (Xml one other last) allowed (a, b, c, p, q, r, apart, too, sub) = (
     λ variable binds_one. (
-      two_apart a b one other p q (λ name h. (or_parts (b name) (c name) (apart name h)).0)
+      two_disjoint a b one other p q (λ name h. (or_parts (b name) (c name) (apart name h)).0)
           variable binds_one,
       (
-        two_apart a c one last p r (λ name h. (or_parts (b name) (c name) (apart name h)).1)
+        two_disjoint a c one last p r (λ name h. (or_parts (b name) (c name) (apart name h)).1)
             variable binds_one,
         tt,
       ),
     ),
-    pair_apart b c other last q r too,
+    pair_disjoint b c other last q r too,
   )
   sound_node bound (Record fields more) allowed (labels, all, apart) =
-      (labels, fields_apart fields apart, fields_types bound fields all)
+      (labels, fields_disjoint fields apart, fields_types bound fields all)
   sound_node bound (Both one other) allowed (a, b, p, q, apart, sub) =
-      pair_apart a b one other p q apart
+      pair_disjoint a b one other p q apart
   sound_node bound (First one other) allowed (a, b, p, q, same, sub) = λ variable. (
     λ h. let found = binds_no_more IsType types variables nodes are_types variable one h a p in
         pieces_bind IsType types variables nodes are_types b other q found.0 variable found.1
@@ -134,8 +134,8 @@ module _ {T : Type 0} (IsType : T → Type 0) (types : Types T) (variables : Lis
   sound_node bound (Gather variable one other) allowed
       (a, b, p, q, apart, sub, (name, is_number, has)) = (
         (within bound (variable ∷ []) allowed).0,
-        pair_apart a b one other p q apart,
-        (λ h. two_apart a b one other p q apart variable h
+        pair_disjoint a b one other p q apart,
+        (λ h. two_disjoint a b one other p q apart variable h
             (pieces_bind IsType types variables nodes are_types b other q name variable is_number
             has)),
         pieces_bind IsType types variables nodes are_types b other q name variable is_number has,

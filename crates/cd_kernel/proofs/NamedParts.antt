@@ -1,7 +1,7 @@
 -- Where no variable of a pattern is at fault, none of its parts is.
 use Rattle.std.proofs.Common.{Bool}
 use Rattle.cd_syntax.specs.Name.{Name}
-use Rattle.cd_matching.specs.Naming.{IsNamed, AreNamedApart, AreNamedSame, AreNamedAs}
+use Rattle.cd_matching.specs.Naming.{IsNamed, AreNamedDisjoint, AreNamedSame, AreNamedAs}
 use Rattle.cd_matching.specs.Naming.{IsNamedRegular, AreNamedInTurn, AreNamedEither, AreNamedLike}
 use Rattle.cd_matching.specs.Pattern as pattern
 use Rattle.cd_matching.specs.Pattern.{Patterns, NoPattern, APattern}
@@ -26,9 +26,9 @@ module _ {T : Type 0} where
     AllItemsNamed NoRegular = Unit {0}
     AllItemsNamed (ARegular first rest) = ItemsNamed first × AllItemsNamed rest
 
-  pub apart_named : (all : Patterns T) → AreNamedApart all → AreNamed all
-  apart_named NoPattern named = tt
-  apart_named (APattern first rest) named = (named.1, apart_named rest named.2)
+  pub disjoint_named : (all : Patterns T) → AreNamedDisjoint all → AreNamed all
+  disjoint_named NoPattern named = tt
+  disjoint_named (APattern first rest) named = (named.1, disjoint_named rest named.2)
 
   as_named : (all : Patterns T) (bound : Name → Bool) → AreNamedAs bound all → AreNamed all
   as_named NoPattern bound named = tt

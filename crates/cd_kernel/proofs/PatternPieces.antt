@@ -7,7 +7,7 @@ use Rattle.cd_syntax.specs.declared.constant.Constant.TheVariants as constant
 use Rattle.cd_model.specs.AllOf.{AllOf}
 use Rattle.cd_matching.specs.Kernel.{KernelNode, KernelField, Present, Optional, Test, Bind, Put}
 use Rattle.cd_matching.specs.Kernel.{Pair, Xml, Record, Both, First, variables_of}
-use Rattle.cd_matching.specs.Naming.{AreApart, AreSame, FieldsApart, AreNamedApart}
+use Rattle.cd_matching.specs.Naming.{AreDisjointNames, AreSame, FieldsDisjoint, AreNamedDisjoint}
 use Rattle.cd_matching.specs.Naming.{AreNamedSame, AreNamedAs, AreNamedFields}
 use Rattle.cd_matching.specs.Pattern as pattern
 use Rattle.cd_matching.specs.Pattern.{Pattern, Patterns, NoPattern, APattern, Fields, NoField}
@@ -22,10 +22,10 @@ use Rattle.cd_kernel.proofs.CompletePatterns.{AreComplete, AreCompleteFields}
 use Rattle.cd_kernel.proofs.AnyOrder.{all_reordered, EachTwo, two_reordered}
 use Rattle.cd_kernel.proofs.PlainVariables.{Names, either}
 use Rattle.cd_kernel.proofs.VariableNumbers.{name_itself}
-use Rattle.cd_kernel.proofs.Pieces.{Within, apart_turned, kept_of, kept_within, kept_either}
-use Rattle.cd_kernel.proofs.Pieces.{kept_three, kept_apart, copies_bind, ItemMade, Piece, test_of}
+use Rattle.cd_kernel.proofs.Pieces.{Within, disjoint_turned, kept_of, kept_within, kept_either}
+use Rattle.cd_kernel.proofs.Pieces.{kept_three, kept_disjoint, copies_bind, ItemMade, Piece, test_of}
 use Rattle.cd_kernel.proofs.Pieces.{put_of, made, both_of, first_of, puts_of, state_of, move_of}
-use Rattle.cd_kernel.proofs.Pieces.{joined_of, Allowed, FieldIs, FieldsBindApart, Shape, Good}
+use Rattle.cd_kernel.proofs.Pieces.{joined_of, Allowed, FieldIs, FieldsBindDisjoint, Shape, Good}
 use Rattle.cd_kernel.proofs.Pieces.{wider}
 use Rattle.cd_kernel.proofs.CopyPieces.{good_puts, good_move, good_state, good_joined, copies_of}
 use Rattle.cd_kernel.proofs.CopyPieces.{copies_within}
@@ -44,8 +44,8 @@ module _ {T : Type 0} (IsType : T → Type 0) (types : Types T) (variables : Lis
   abbrev is_field : Names → Name × KernelField T → Type 0
   is_field = FieldIs IsType types variables nodes
 
-  abbrev bind_apart : (one other : Name × KernelField T) → Type 0
-  bind_apart = FieldsBindApart IsType types variables nodes
+  abbrev bind_disjoint : (one other : Name × KernelField T) → Type 0
+  bind_disjoint = FieldsBindDisjoint IsType types variables nodes
 
   abbrev is_allowed : Names → ℕ → Type 0
   is_allowed = Allowed IsType types variables nodes
@@ -93,66 +93,66 @@ module _ {T : Type 0} (IsType : T → Type 0) (types : Types T) (variables : Lis
         fits within = subst (AllOf (is_field bound)) (sym same)
         (fits.0, fields_are keeps bound rest others are named fits.1 within)
 
-    one_field_apart : (keeps first : Names) (label : Name) (number : ℕ)
+    one_field_disjoint : (keeps first : Names) (label : Name) (number : ℕ)
         → a_piece (kept_of keeps first) number
         → (fields : Fields T) (written : List (Name × KernelField T))
         → AreFieldsOf types variables nodes keeps fields written → AreNamedFields fields
-        → AreCompleteFields IsType fields → AreApart first (fields_bind fields)
-        → AllOf (bind_apart (label, Present number)) written
-    one_field_apart keeps first label number piece NoField written same named fits apart =
-        subst (AllOf (bind_apart (label, Present number))) (sym same) tt
-    one_field_apart keeps first label number piece (pattern.Present name p rest) written
+        → AreCompleteFields IsType fields → AreDisjointNames first (fields_bind fields)
+        → AllOf (bind_disjoint (label, Present number)) written
+    one_field_disjoint keeps first label number piece NoField written same named fits apart =
+        subst (AllOf (bind_disjoint (label, Present number))) (sym same) tt
+    one_field_disjoint keeps first label number piece (pattern.Present name p rest) written
         (other, others, same, is, are) named fits apart =
-        subst (AllOf (bind_apart (label, Present number))) (sym same) (
+        subst (AllOf (bind_disjoint (label, Present number))) (sym same) (
           (
             kept_of keeps first,
             kept_of keeps (binds p),
             piece,
             made keeps p other (is, named.0, fits.0),
-            kept_apart keeps first (binds p)
+            kept_disjoint keeps first (binds p)
                 (λ variable h. (or_parts (binds p variable) (fields_bind rest variable)
                 (apart variable h)).0),
           ),
-          one_field_apart keeps first label number piece rest others are named.1 fits.1
+          one_field_disjoint keeps first label number piece rest others are named.1 fits.1
               (λ variable h. (or_parts (binds p variable) (fields_bind rest variable)
               (apart variable h)).1),
         )
-    one_field_apart keeps first label number piece (pattern.Optional name type rest) written
+    one_field_disjoint keeps first label number piece (pattern.Optional name type rest) written
         (others, same, are) named fits apart =
-        subst (AllOf (bind_apart (label, Present number))) (sym same)
-        (tt, one_field_apart keeps first label number piece rest others are named fits.1 apart)
+        subst (AllOf (bind_disjoint (label, Present number))) (sym same)
+        (tt, one_field_disjoint keeps first label number piece rest others are named fits.1 apart)
 
-    absent_apart : (label : Name) (type : T) (written : List (Name × KernelField T))
-        → AllOf (bind_apart (label, Optional type)) written
-    absent_apart label type [] = tt
-    absent_apart label type ((name, Present number) ∷ written) =
-        (tt, absent_apart label type written)
-    absent_apart label type ((name, Optional other) ∷ written) =
-        (tt, absent_apart label type written)
+    absent_disjoint : (label : Name) (type : T) (written : List (Name × KernelField T))
+        → AllOf (bind_disjoint (label, Optional type)) written
+    absent_disjoint label type [] = tt
+    absent_disjoint label type ((name, Present number) ∷ written) =
+        (tt, absent_disjoint label type written)
+    absent_disjoint label type ((name, Optional other) ∷ written) =
+        (tt, absent_disjoint label type written)
 
-    fields_apart : (keeps : Names) (fields : Fields T) (written : List (Name × KernelField T))
+    fields_disjoint : (keeps : Names) (fields : Fields T) (written : List (Name × KernelField T))
         → AreFieldsOf types variables nodes keeps fields written → AreNamedFields fields
-        → AreCompleteFields IsType fields → FieldsApart fields → EachTwo bind_apart written
-    fields_apart keeps NoField written same named fits apart =
-        subst (EachTwo bind_apart) (sym same) tt
-    fields_apart keeps (pattern.Present label p rest) written (number, others, same, is, are) named
-        fits apart = subst (EachTwo bind_apart) (sym same) (
-          one_field_apart keeps (binds p) label number (made keeps p number (is, named.0, fits.0))
+        → AreCompleteFields IsType fields → FieldsDisjoint fields → EachTwo bind_disjoint written
+    fields_disjoint keeps NoField written same named fits apart =
+        subst (EachTwo bind_disjoint) (sym same) tt
+    fields_disjoint keeps (pattern.Present label p rest) written (number, others, same, is, are) named
+        fits apart = subst (EachTwo bind_disjoint) (sym same) (
+          one_field_disjoint keeps (binds p) label number (made keeps p number (is, named.0, fits.0))
               rest
               others are named.1 fits.1 apart.0,
-          fields_apart keeps rest others are named.1 fits.1 apart.1,
+          fields_disjoint keeps rest others are named.1 fits.1 apart.1,
         )
-    fields_apart keeps (pattern.Optional label type rest) written (others, same, are) named fits
-        apart = subst (EachTwo bind_apart) (sym same)
-        (absent_apart label type others, fields_apart keeps rest others are named fits.1 apart)
+    fields_disjoint keeps (pattern.Optional label type rest) written (others, same, are) named fits
+        apart = subst (EachTwo bind_disjoint) (sym same)
+        (absent_disjoint label type others, fields_disjoint keeps rest others are named fits.1 apart)
 
-    apart_either_way : (one other : Name × KernelField T) → bind_apart one other
-        → bind_apart other one
-    apart_either_way (label, Present number) (name, Present other) (a, b, p, q, apart) =
-        (b, a, q, p, apart_turned a b apart)
-    apart_either_way (label, Present number) (name, Optional type) apart = tt
-    apart_either_way (label, Optional type) (name, Present number) apart = tt
-    apart_either_way (label, Optional type) (name, Optional other) apart = tt
+    disjoint_either_way : (one other : Name × KernelField T) → bind_disjoint one other
+        → bind_disjoint other one
+    disjoint_either_way (label, Present number) (name, Present other) (a, b, p, q, apart) =
+        (b, a, q, p, disjoint_turned a b apart)
+    disjoint_either_way (label, Present number) (name, Optional type) apart = tt
+    disjoint_either_way (label, Optional type) (name, Present number) apart = tt
+    disjoint_either_way (label, Optional type) (name, Optional other) apart = tt
 
     -- alternatives bind the same
     all_as : (bound : Names) (first : Pattern T) (rest : Patterns T)
@@ -204,7 +204,7 @@ module _ {T : Type 0} (IsType : T → Type 0) (types : Types T) (variables : Lis
           kept_of keeps (binds q),
           made keeps p one (a, named.1, fits.0),
           made keeps q other (b, named.2, fits.1),
-          kept_apart keeps (binds p) (binds q) named.0,
+          kept_disjoint keeps (binds p) (binds q) named.0,
           λ name. kept_either (keeps name) (binds p name) (binds q name),
         ),
       )
@@ -222,7 +222,7 @@ module _ {T : Type 0} (IsType : T → Type 0) (types : Types T) (variables : Lis
               made keeps r last (c, named.4, fits.2),
               λ name h. by_kept (keeps name) (binds q name) (binds r name)
                   (named.0 name (and_parts (keeps name) (binds p name) h).1),
-              kept_apart keeps (binds q) (binds r) named.1,
+              kept_disjoint keeps (binds q) (binds r) named.1,
               λ name. kept_three (keeps name) (binds p name) (binds q name) (binds r name),
             ),
           )
@@ -241,8 +241,8 @@ module _ {T : Type 0} (IsType : T → Type 0) (types : Types T) (variables : Lis
                   (fields_are keeps (kept_of keeps (fields_bind fields)) fields written are named.2
                   fits
                   (λ name h. h)),
-              two_reordered bind_apart apart_either_way written rising order
-                  (fields_apart keeps fields written are named.2 fits named.1),
+              two_reordered bind_disjoint disjoint_either_way written rising order
+                  (fields_disjoint keeps fields written are named.2 fits named.1),
             ),
           )
       good_made keeps (pattern.Both all) number (there, named, fits) =
@@ -259,7 +259,7 @@ module _ {T : Type 0} (IsType : T → Type 0) (types : Types T) (variables : Lis
           of are.disjoint)
 
       good_both : (keeps : Names) (all : Patterns T) (number : ℕ)
-          → IsBothOf types variables nodes keeps all number → AreNamedApart all
+          → IsBothOf types variables nodes keeps all number → AreNamedDisjoint all
           → AreComplete IsType all → is_good (kept_of keeps (all_bind all)) number
       good_both keeps NoPattern number there named fits = (Test types.any, there, tt, are_types.1)
       good_both keeps (APattern p NoPattern) number there named fits =
@@ -278,7 +278,7 @@ module _ {T : Type 0} (IsType : T → Type 0) (types : Types T) (variables : Lis
               kept_of keeps (all_bind (APattern next rest)),
               made keeps p one (a, named.1, fits.0),
               both_of keeps (APattern next rest) other b named.2 fits.1,
-              kept_apart keeps (binds p) (all_bind (APattern next rest)) named.0,
+              kept_disjoint keeps (binds p) (all_bind (APattern next rest)) named.0,
               λ name. kept_either (keeps name) (binds p name) (all_bind (APattern next rest) name),
             ),
           )

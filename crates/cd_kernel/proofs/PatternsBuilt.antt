@@ -11,7 +11,7 @@ use Rattle.cd_model.specs.AllOf.{AllOf}
 use Rattle.cd_model.specs.BuiltIns.{ANY, EMPTY}
 use Rattle.cd_matching.specs.Kernel.{KernelNode, Present, Optional, Test, Bind, Put, Pair, Xml}
 use Rattle.cd_matching.specs.Kernel.{Record, Both, First}
-use Rattle.cd_matching.specs.Naming.{AreApart, LabelsDiffer}
+use Rattle.cd_matching.specs.Naming.{AreDisjointNames, LabelsDiffer}
 use Rattle.cd_matching.specs.Pattern as pattern
 use Rattle.cd_matching.specs.Pattern.{Pattern, Patterns, NoPattern, APattern, Fields, NoField}
 use Rattle.cd_matching.specs.Pattern.{Regular, Regulars, NoRegular, ARegular}
@@ -291,7 +291,7 @@ module _ (variables : List Name) (final : Nodes) where
 
   -- the first copy keeps what its items bind, and the others keep nothing
   pub inner_fits : (keeps : Name → Bool) (kept : Bool) (r : Regular NodeId) (copy : Copy)
-      → copy.plain ≡ true → AreApart (is_gathered r) (is_plain r)
+      → copy.plain ≡ true → AreDisjointNames (is_gathered r) (is_plain r)
       → Fits keeps kept (regular_binds r) → Fits (inner keeps r copy) kept (is_plain r)
   inner_fits keeps kept r copy plain apart fits name b =
       let fit = fits name (plain_binds r name b) in (

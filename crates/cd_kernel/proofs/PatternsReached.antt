@@ -32,7 +32,7 @@ use Rattle.cd_kernel.specs.Inner.Gathering.{numbered, groups_of}
 use Rattle.cd_kernel.proofs.GoodPatterns.{IsGood, AreGood, AreGoodFields, IsGoodRegular}
 use Rattle.cd_kernel.proofs.GoodPatterns.{AreGoodRegulars}
 use Rattle.cd_kernel.proofs.GrowingNodes.{keeps_more}
-use Rattle.cd_kernel.proofs.NamedParts.{AreNamed, ItemsNamed, AllItemsNamed, apart_named}
+use Rattle.cd_kernel.proofs.NamedParts.{AreNamed, ItemsNamed, AllItemsNamed, disjoint_named}
 use Rattle.cd_kernel.proofs.NamedParts.{same_named, items_named}
 use Rattle.cd_kernel.proofs.NodesReached.{AllReached, put_reached, chained_reached}
 use Rattle.cd_kernel.proofs.PatternsBuilt.{Fits, Stays, or_left, or_right, inner_fits}
@@ -187,7 +187,7 @@ module _ (variables : List Name) (final : Nodes) (IsType : NodeId → Type 0) wh
         let several = all_are_made variables kept all [] nodes tt in
         chained_reached final Part on Both both_joins ANY made.0 made.1 stay
         (root_part keeps kept (pattern.Both all) nodes fine fits stay)
-        (all_parts keeps kept all [] nodes tt (fine.0, apart_named all fine.1, fine.2, fine.3) fits
+        (all_parts keeps kept all [] nodes tt (fine.0, disjoint_named all fine.1, fine.2, fine.3) fits
         (λ n x h. stay n x
         ((chained_is_made Both both_joins ANY made.0 made.1 several.there).grows.keeps n x h))
         before)

@@ -11,7 +11,7 @@ use Rattle.cd_model.specs.AllOf.{AllOf}
 use Rattle.cd_model.specs.Formula.{AreRisingLabels}
 use Rattle.cd_matching.specs.Kernel.{KernelNode, KernelField, Present, Optional, Test, Bind, Put}
 use Rattle.cd_matching.specs.Kernel.{Pair, Xml, Record, Both, First, Gather, variables_of}
-use Rattle.cd_matching.specs.Naming.{AreApart, AreSame, IsNamed, AreNamedApart}
+use Rattle.cd_matching.specs.Naming.{AreDisjointNames, AreSame, IsNamed, AreNamedDisjoint}
 use Rattle.cd_matching.specs.Naming.{AreNamedSame}
 use Rattle.cd_matching.specs.Pattern.{Pattern, Patterns}
 use Rattle.cd_matching.specs.Pattern.{Regular, Sequence}
@@ -32,8 +32,8 @@ use Rattle.cd_kernel.proofs.StateEnds.{Ending, ends, goes}
 abbrev pub Within : Names → Names → Type 0
 Within part whole = (name : Name) → part name ≡ true → whole name ≡ true
 
-pub apart_turned : (one other : Names) → AreApart one other → AreApart other one
-apart_turned one other apart name h = false_from_ne_true (one name)
+pub disjoint_turned : (one other : Names) → AreDisjointNames one other → AreDisjointNames other one
+disjoint_turned one other apart name h = false_from_ne_true (one name)
     (λ there. true≢false (sym h ∙ apart name there))
 
 abbrev pub kept_of : (keeps bound : Names) → Names
@@ -54,9 +54,9 @@ pub kept_three : (k a b c : Bool) → ((k && a) || ((k && b) || (k && c))) ≡ t
 kept_three true a b c h = h
 kept_three false a b c h = h
 
-pub kept_apart : (keeps one other : Names) → AreApart one other
-    → AreApart (kept_of keeps one) (kept_of keeps other)
-kept_apart keeps one other apart name h =
+pub kept_disjoint : (keeps one other : Names) → AreDisjointNames one other
+    → AreDisjointNames (kept_of keeps one) (kept_of keeps other)
+kept_disjoint keeps one other apart name h =
     let parts = and_parts (keeps name) (one name) h in
     ap₂ (λ (a b : Bool). a && b) parts.0 (apart name parts.1)
 
@@ -102,7 +102,7 @@ module _ {T : Type 0} (IsType : T → Type 0) (types : Types T) (variables : Lis
     made : (keeps : Names) (p : Pattern T) (number : ℕ) → ItemMade keeps p number
         → Piece (kept_of keeps (binds p)) number
     both_of : (keeps : Names) (all : Patterns T) (number : ℕ)
-        → IsBothOf types variables nodes keeps all number → AreNamedApart all
+        → IsBothOf types variables nodes keeps all number → AreNamedDisjoint all
         → AreComplete IsType all → Piece (kept_of keeps (all_bind all)) number
     first_of : (keeps : Names) (all : Patterns T) (number : ℕ)
         → IsFirstOf types variables nodes keeps all number → AreNamedSame all
@@ -130,35 +130,35 @@ module _ {T : Type 0} (IsType : T → Type 0) (types : Types T) (variables : Lis
   SubPiece bound number = (part : Names) × Piece part number × Within part bound
 
   -- two nodes that bind apart
-  abbrev pub TwoApart : Names → ℕ → ℕ → Type 0
-  TwoApart bound one other = (first second : Names) × Piece first one × Piece second other
-      × AreApart first second × Within (either first second) bound
+  abbrev pub TwoDisjoint : Names → ℕ → ℕ → Type 0
+  TwoDisjoint bound one other = (first second : Names) × Piece first one × Piece second other
+      × AreDisjointNames first second × Within (either first second) bound
 
   abbrev pub FieldIs : Names → Name × KernelField T → Type 0
   FieldIs bound (label, Present number) = SubPiece bound number
   FieldIs bound (label, Optional type) = IsType type
 
-  abbrev pub FieldsBindApart : Name × KernelField T → Name × KernelField T → Type 0
-  FieldsBindApart (label, Present one) (name, Present other) = (first second : Names)
-      × Piece first one × Piece second other × AreApart first second
-  FieldsBindApart field another = Unit {0}
+  abbrev pub FieldsBindDisjoint : Name × KernelField T → Name × KernelField T → Type 0
+  FieldsBindDisjoint (label, Present one) (name, Present other) = (first second : Names)
+      × Piece first one × Piece second other × AreDisjointNames first second
+  FieldsBindDisjoint field another = Unit {0}
 
   -- what a node of a piece is
   abbrev pub Shape : Names → KernelNode T → Type 0
   Shape bound (Test type) = IsType type
   Shape bound (Bind variable) = Unit {0}
   Shape bound (Put variable constant) = IsElement (thing_of constant)
-  Shape bound (Pair one other) = TwoApart bound one other
+  Shape bound (Pair one other) = TwoDisjoint bound one other
   Shape bound (Xml one other last) = (first second third : Names) × Piece first one
-      × Piece second other × Piece third last × AreApart first (either second third)
-      × AreApart second third × Within (either first (either second third)) bound
+      × Piece second other × Piece third last × AreDisjointNames first (either second third)
+      × AreDisjointNames second third × Within (either first (either second third)) bound
   Shape bound (Record fields more) = AreRisingLabels None fields × AllOf (FieldIs bound) fields
-      × EachTwo FieldsBindApart fields
-  Shape bound (Both one other) = TwoApart bound one other
+      × EachTwo FieldsBindDisjoint fields
+  Shape bound (Both one other) = TwoDisjoint bound one other
   Shape bound (First one other) = (first second : Names) × Piece first one × Piece second other
       × AreSame first second × Within first bound
   Shape bound (Gather variable one other) = (first second : Names) × Piece first one
-      × Piece second other × AreApart first second × Within (either first second) bound
+      × Piece second other × AreDisjointNames first second × Within (either first second) bound
       × ((name : Name) × IsNumber variables name variable × (second name ≡ true))
 
   -- its node, whose variables are allowed

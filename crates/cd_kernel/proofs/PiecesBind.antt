@@ -13,7 +13,7 @@ use Rattle.cd_model.proofs.Ones.{each_weaker}
 use Rattle.cd_matching.specs.Kernel.{KernelNode, KernelField, Present, Optional, Bind, Put, Pair}
 use Rattle.cd_matching.specs.Kernel.{Xml, Record, Both, First, Gather, field_nodes, variables_of}
 use Rattle.cd_matching.specs.Kernel.{Binds, itself, further, number_of}
-use Rattle.cd_matching.specs.Naming.{IsNamed, AreNamedApart, AreNamedSame, AreNamedAs}
+use Rattle.cd_matching.specs.Naming.{IsNamed, AreNamedDisjoint, AreNamedSame, AreNamedAs}
 use Rattle.cd_matching.specs.Naming.{AreNamedFields, IsNamedRegular, AreNamedInTurn, AreNamedEither}
 use Rattle.cd_matching.specs.Naming.{AreNamedLike}
 use Rattle.cd_matching.specs.Pattern as pattern
@@ -368,7 +368,7 @@ module _ {T : Type 0} (IsType : T → Type 0) (types : Types T) (variables : Lis
         (sequence_within keeps r all number are named name h)
 
     binds_both : (keeps : Names) (all : Patterns T) (number : ℕ)
-        → IsBothOf types variables nodes keeps all number → AreNamedApart all
+        → IsBothOf types variables nodes keeps all number → AreNamedDisjoint all
         → AreComplete IsType all → BindsAll (kept_of keeps (all_bind all)) number
     binds_both keeps NoPattern number there named fits = λ name variable is_number h.
         absurd (true≢false (sym (and_parts (keeps name) false h).1))

@@ -10,7 +10,7 @@ use Rattle.cd_syntax.specs.Name.{Name}
 use Rattle.cd_syntax.specs.declared.type_tree.Post.{Post}
 use Rattle.cd_syntax.specs.declared.type_tree.Post.TheVariants as post
 use Rattle.cd_model.specs.AllOf.{AllOf}
-use Rattle.cd_matching.specs.Naming.{AreApart, AreSame, IsNamedRegular, AreNamedInTurn}
+use Rattle.cd_matching.specs.Naming.{AreDisjointNames, AreSame, IsNamedRegular, AreNamedInTurn}
 use Rattle.cd_matching.specs.Naming.{AreNamedEither, AreNamedLike}
 use Rattle.cd_matching.specs.Pattern as pattern
 use Rattle.cd_matching.specs.Pattern.{Pattern, Regular, Regulars, NoRegular, ARegular}
@@ -84,9 +84,9 @@ either_assoc : (a b c : Bool) → ((a || b) || c) ≡ (a || (b || c))
 either_assoc true b c = refl
 either_assoc false b c = refl
 
-apart_part : (whole part other : Names) → ((name : Name) → part name ≡ true → whole name ≡ true)
-    → AreApart whole other → AreApart part other
-apart_part whole part other within apart name h = apart name (within name h)
+disjoint_part : (whole part other : Names) → ((name : Name) → part name ≡ true → whole name ≡ true)
+    → AreDisjointNames whole other → AreDisjointNames part other
+disjoint_part whole part other within apart name h = apart name (within name h)
 
 -- no alternative has plain variables that another has not
 like_first : {T : Type 0} (plain : Names) (all : Regulars T) → AreNamedLike plain all
@@ -110,7 +110,7 @@ module _ {T : Type 0} (items : List (ItemOf T)) (all_afters : List Names) where
   FitsMove bound after End = AreSame bound after
   FitsMove bound after (To place) = (of : ItemOf T) × (later : Names)
       × (slice_get items place ≡ Some of) × (slice_get all_afters place ≡ Some later)
-      × AreApart (binds of.0) later × AreSame bound (either (binds of.0) later)
+      × AreDisjointNames (binds of.0) later × AreSame bound (either (binds of.0) later)
 
   abbrev pub Fits : (bound after : Names) → List Move → Type 0
   Fits bound after = AllOf (FitsMove bound after)
@@ -230,16 +230,16 @@ module _ {T : Type 0} (items : List (ItemOf T)) (all_afters : List Names) where
   )
 
   -- apart from what comes after
-  turn_apart : (first : Regular T) (rest : Regulars T) (after : Names)
-      → AreApart (is_plain first) (one_is_plain rest)
-      → AreApart (one_is_plain (ARegular first rest)) after
-      → AreApart (is_plain first) (either (one_is_plain rest) after)
-  turn_apart first rest after one other name h =
+  turn_disjoint : (first : Regular T) (rest : Regulars T) (after : Names)
+      → AreDisjointNames (is_plain first) (one_is_plain rest)
+      → AreDisjointNames (one_is_plain (ARegular first rest)) after
+      → AreDisjointNames (is_plain first) (either (one_is_plain rest) after)
+  turn_disjoint first rest after one other name h =
       ap₂ (λ (a b : Bool). a || b) (one name h)
       (other name (or_left (is_plain first name) (one_is_plain rest name) h))
 
   rest_apart : (first : Regular T) (rest : Regulars T) (after : Names)
-      → AreApart (one_is_plain (ARegular first rest)) after → AreApart (one_is_plain rest) after
+      → AreDisjointNames (one_is_plain (ARegular first rest)) after → AreDisjointNames (one_is_plain rest) after
   rest_apart first rest after apart name h = apart name (by_first (is_plain first name))
     where
       by_first : (b : Bool) → (b || one_is_plain rest name) ≡ true
@@ -250,13 +250,13 @@ module _ {T : Type 0} (items : List (ItemOf T)) (all_afters : List Names) where
       → AreSame (either plain after) (either (is_plain first) after)
   like_same plain first after same name = ap (λ (t : Bool). t || after name) (sym (same name))
 
-  like_apart : (plain : Names) (first : Regular T) (after : Names)
-      → AreSame (is_plain first) plain → AreApart plain after → AreApart (is_plain first) after
-  like_apart plain first after same apart name h = apart name (sym (same name) ∙ h)
+  like_disjoint : (plain : Names) (first : Regular T) (after : Names)
+      → AreSame (is_plain first) plain → AreDisjointNames plain after → AreDisjointNames (is_plain first) after
+  like_disjoint plain first after same apart name h = apart name (sym (same name) ∙ h)
 
   mutual
     heads_fit : (around : List Name) (r : Regular T) (before : ℕ) (after : Names)
-        → IsNamedRegular r → StandsAt around r before after → AreApart (is_plain r) after
+        → IsNamedRegular r → StandsAt around r before after → AreDisjointNames (is_plain r) after
         → Fits (either (is_plain r) after) after (heads r before)
     heads_fit around pattern.Nothing before after named stand apart = ((λ name. refl), tt)
     heads_fit around (pattern.Item p) before after named stand apart = (
@@ -283,7 +283,7 @@ module _ {T : Type 0} (items : List (ItemOf T)) (all_afters : List Names) where
 
     turn_fits : (around : List Name) (all : Regulars T) (before : ℕ) (after : Names)
         → AreNamedInTurn all → StandInTurn around all before after
-        → AreApart (one_is_plain all) after
+        → AreDisjointNames (one_is_plain all) after
         → Fits (either (one_is_plain all) after) after (heads_in_turn all before)
     turn_fits around NoRegular before after named stand apart = ((λ name. refl), tt)
     turn_fits around (ARegular first rest) before after named stand apart =
@@ -296,17 +296,17 @@ module _ {T : Type 0} (items : List (ItemOf T)) (all_afters : List Names) where
         (heads_in_turn rest (before + items_in first))
         (heads_fit around first before (either (one_is_plain rest) after) named.1
         (turn_first around first rest before after stand)
-        (turn_apart first rest after named.0 apart))
+        (turn_disjoint first rest after named.0 apart))
         (turn_fits around rest (before + items_in first) after named.2
         (turn_rest around first rest before after stand) (rest_apart first rest after apart)))
 
     one_fits : (around : List Name) (all : Regulars T) (before : ℕ) (after : Names)
         → AreNamedEither all → StandOfOne around all before after
-        → AreApart (one_is_plain all) after
+        → AreDisjointNames (one_is_plain all) after
         → Fits (either (one_is_plain all) after) after (heads_of_one all before)
     one_fits around NoRegular before after named stand apart = tt
     one_fits around (ARegular first rest) before after named stand apart =
-        let first_apart = apart_part (one_is_plain (ARegular first rest)) (is_plain first) after
+        let first_disjoint = disjoint_part (one_is_plain (ARegular first rest)) (is_plain first) after
         (λ name h. or_left (is_plain first name) (one_is_plain rest name) h) apart in
         fits_same (either (is_plain first) after)
         (either (one_is_plain (ARegular first rest)) after) after
@@ -315,13 +315,13 @@ module _ {T : Type 0} (items : List (ItemOf T)) (all_afters : List Names) where
         (fits_both (either (is_plain first) after) after (heads first before)
         (heads_of_one rest (before + items_in first))
         (heads_fit around first before after named.0
-        (one_first around first rest before after stand) first_apart)
+        (one_first around first rest before after stand) first_disjoint)
         (like_fits around (is_plain first) rest (before + items_in first) after named.1
-        (one_rest around first rest before after stand) first_apart))
+        (one_rest around first rest before after stand) first_disjoint))
 
     like_fits : (around : List Name) (plain : Names) (all : Regulars T) (before : ℕ)
         (after : Names) → AreNamedLike plain all → StandOfOne around all before after
-        → AreApart plain after → Fits (either plain after) after (heads_of_one all before)
+        → AreDisjointNames plain after → Fits (either plain after) after (heads_of_one all before)
     like_fits around plain NoRegular before after named stand apart = tt
     like_fits around plain (ARegular first rest) before after named stand apart =
         fits_both (either plain after) after (heads first before)
@@ -330,7 +330,7 @@ module _ {T : Type 0} (items : List (ItemOf T)) (all_afters : List Names) where
         (heads first before) (like_same plain first after named.0)
         (heads_fit around first before after named.1
         (one_first around first rest before after stand)
-        (like_apart plain first after named.0 apart)))
+        (like_disjoint plain first after named.0 apart)))
         (like_fits around plain rest (before + items_in first) after named.2
         (one_rest around first rest before after stand) apart)
 
@@ -374,7 +374,7 @@ module _ {T : Type 0} (items : List (ItemOf T)) (all_afters : List Names) where
   mutual
     states_fit : (around : List Name) (r : Regular T) (before : ℕ) (after last : Names)
         (next : List Move) → IsNamedRegular r → StandsAt around r before after
-        → AreApart (is_plain r) after → Fits after last next
+        → AreDisjointNames (is_plain r) after → Fits after last next
         → RowsFit last before (states r before next)
     states_fit around pattern.Nothing before after last next named stand apart on =
         no_rows last before
@@ -395,13 +395,13 @@ module _ {T : Type 0} (items : List (ItemOf T)) (all_afters : List Names) where
 
     turn_states_fit : (around : List Name) (all : Regulars T) (before : ℕ) (after last : Names)
         (next : List Move) → AreNamedInTurn all → StandInTurn around all before after
-        → AreApart (one_is_plain all) after → Fits after last next
+        → AreDisjointNames (one_is_plain all) after → Fits after last next
         → RowsFit last before (states_in_turn all before next)
     turn_states_fit around NoRegular before after last next named stand apart on =
         no_rows last before
     turn_states_fit around (ARegular first rest) before after last next named stand apart on =
         let stand_rest = turn_rest around first rest before after stand in
-        let apart_rest = rest_apart first rest after apart in
+        let disjoint_rest = rest_apart first rest after apart in
         both_rows last before (items_in first)
         (states first before (instead (heads_in_turn rest (before + items_in first)) next))
         (states_in_turn rest (before + items_in first) next)
@@ -409,32 +409,32 @@ module _ {T : Type 0} (items : List (ItemOf T)) (all_afters : List Names) where
         (states_fit around first before (either (one_is_plain rest) after) last
         (instead (heads_in_turn rest (before + items_in first)) next) named.1
         (turn_first around first rest before after stand)
-        (turn_apart first rest after named.0 apart)
+        (turn_disjoint first rest after named.0 apart)
         (fits_instead (either (one_is_plain rest) after) after last
         (heads_in_turn rest (before + items_in first)) next
-        (turn_fits around rest (before + items_in first) after named.2 stand_rest apart_rest) on))
+        (turn_fits around rest (before + items_in first) after named.2 stand_rest disjoint_rest) on))
         (turn_states_fit around rest (before + items_in first) after last next named.2 stand_rest
-        apart_rest on)
+        disjoint_rest on)
 
     one_states_fit : (around : List Name) (all : Regulars T) (before : ℕ) (after last : Names)
         (next : List Move) → AreNamedEither all → StandOfOne around all before after
-        → AreApart (one_is_plain all) after → Fits after last next
+        → AreDisjointNames (one_is_plain all) after → Fits after last next
         → RowsFit last before (states_of_one all before next)
     one_states_fit around NoRegular before after last next named stand apart on =
         no_rows last before
     one_states_fit around (ARegular first rest) before after last next named stand apart on =
-        let first_apart = apart_part (one_is_plain (ARegular first rest)) (is_plain first) after
+        let first_disjoint = disjoint_part (one_is_plain (ARegular first rest)) (is_plain first) after
         (λ name h. or_left (is_plain first name) (one_is_plain rest name) h) apart in
         both_rows last before (items_in first) (states first before next)
         (states_of_one rest (before + items_in first) next) (states_long first before next)
         (states_fit around first before after last next named.0
-        (one_first around first rest before after stand) first_apart on)
+        (one_first around first rest before after stand) first_disjoint on)
         (like_states_fit around (is_plain first) rest (before + items_in first) after last next
-        named.1 (one_rest around first rest before after stand) first_apart on)
+        named.1 (one_rest around first rest before after stand) first_disjoint on)
 
     like_states_fit : (around : List Name) (plain : Names) (all : Regulars T) (before : ℕ)
         (after last : Names) (next : List Move) → AreNamedLike plain all
-        → StandOfOne around all before after → AreApart plain after → Fits after last next
+        → StandOfOne around all before after → AreDisjointNames plain after → Fits after last next
         → RowsFit last before (states_of_one all before next)
     like_states_fit around plain NoRegular before after last next named stand apart on =
         no_rows last before
@@ -444,7 +444,7 @@ module _ {T : Type 0} (items : List (ItemOf T)) (all_afters : List Names) where
         (states_of_one rest (before + items_in first) next) (states_long first before next)
         (states_fit around first before after last next named.1
         (one_first around first rest before after stand)
-        (like_apart plain first after named.0 apart) on)
+        (like_disjoint plain first after named.0 apart) on)
         (like_states_fit around plain rest (before + items_in first) after last next named.2
         (one_rest around first rest before after stand) apart on)
 
@@ -476,7 +476,7 @@ module _ {T : Type 0} (r : Regular T) (named : IsNamedRegular r) where
   stand : StandsAt (items_of [] r) (afters r none) [] r 0 none
   stand = (stand_whole (items_of [] r), stand_whole (afters r none))
 
-  apart : AreApart (is_plain r) none
+  apart : AreDisjointNames (is_plain r) none
   apart name h = refl
 
   or_false : (b : Bool) → b ≡ (b || false)

@@ -13,7 +13,7 @@ use Rattle.cd_matching.specs.Captures.{Captures, both, if_so}
 use Rattle.cd_matching.specs.Kernel as kernel
 use Rattle.cd_matching.specs.Kernel.{KernelNode, KernelField, Present, Optional, Bind, Put, Pair}
 use Rattle.cd_matching.specs.Kernel.{Xml, Record, on_field, on_fields, is_named, taken, taken_at}
-use Rattle.cd_matching.specs.Naming.{FieldsApart}
+use Rattle.cd_matching.specs.Naming.{FieldsDisjoint}
 use Rattle.cd_matching.specs.Pattern as pattern
 use Rattle.cd_matching.specs.Pattern.{Pattern, Patterns, NoPattern, APattern, Fields, NoField}
 use Rattle.cd_matching.specs.Pattern.{Regular, Regulars, NoRegular, ARegular}
@@ -24,7 +24,7 @@ use Rattle.cd_matching.proofs.UnboundVariables.{Lacks, lacks}
 use Rattle.cd_kernel.specs.Copies.{Types, IsAt}
 use Rattle.cd_kernel.specs.Making.{IsReordered}
 use Rattle.cd_kernel.proofs.AnyOrder.{EachTwo, all_both}
-use Rattle.cd_kernel.proofs.AnyOrder.{HaveApart, any_order}
+use Rattle.cd_kernel.proofs.AnyOrder.{HaveDisjoint, any_order}
 use Rattle.cd_kernel.proofs.CapturesByName.{named, named_both, named_so}
 use Rattle.cd_kernel.proofs.KeptCaptures.{kept, kept_both, kept_so, kept_lacks}
 use Rattle.cd_kernel.proofs.StatesTake.{AreRight, takes_named, TakesKept}
@@ -226,16 +226,16 @@ module _ {T : Type 0} (test : T → Thing → Bool) (types : Types T) (variables
                   (λ field lack. lack) others (fields_lack rest others on),
             )
 
-        each_apart : (fields : Fields T) (written : List (Name × KernelField T))
-            → FieldsAlike keeps fields written → FieldsApart fields
-            → EachTwo (HaveApart field_has) written
-        each_apart NoField written same apart = subst (EachTwo (HaveApart field_has)) (sym same) tt
-        each_apart (pattern.Present label p rest) written (number, others, same, alike, on) apart =
-            subst (EachTwo (HaveApart field_has)) (sym same) (
-              each_weaker (FieldLacks rest) (HaveApart field_has (label, Present number))
+        each_disjoint : (fields : Fields T) (written : List (Name × KernelField T))
+            → FieldsAlike keeps fields written → FieldsDisjoint fields
+            → EachTwo (HaveDisjoint field_has) written
+        each_disjoint NoField written same apart = subst (EachTwo (HaveDisjoint field_has)) (sym same) tt
+        each_disjoint (pattern.Present label p rest) written (number, others, same, alike, on) apart =
+            subst (EachTwo (HaveDisjoint field_has)) (sym same) (
+              each_weaker (FieldLacks rest) (HaveDisjoint field_has (label, Present number))
                   (λ field lack name. by_test field lack name (binds p name) refl) others
                   (fields_lack rest others on),
-              each_apart rest others on apart.1,
+              each_disjoint rest others on apart.1,
             )
           where
             by_test : (field : Name × KernelField T) → FieldLacks rest field → (name : Name)
@@ -243,17 +243,17 @@ module _ {T : Type 0} (test : T → Thing → Bool) (types : Types T) (variables
                 → Lacks name (field_has (label, Present number)) ⊎ Lacks name (field_has field)
             by_test field lack name true bound = inr (lack name (apart.0 name bound))
             by_test field lack name false none = inl (present_lacks label p number alike name none)
-        each_apart (pattern.Optional label type rest) written (others, same, on) apart =
-            subst (EachTwo (HaveApart field_has)) (sym same) (
-              each_weaker (FieldLacks rest) (HaveApart field_has (label, Optional type))
+        each_disjoint (pattern.Optional label type rest) written (others, same, on) apart =
+            subst (EachTwo (HaveDisjoint field_has)) (sym same) (
+              each_weaker (FieldLacks rest) (HaveDisjoint field_has (label, Optional type))
                   (λ field lack name. inl (optional_lacks label type name)) others
                   (fields_lack rest others on),
-              each_apart rest others on apart,
+              each_disjoint rest others on apart,
             )
 
       pub record_alike : (fields : Fields T) (more : Bool) (number : ℕ)
           (written rising : List (Name × KernelField T)) → IsAt nodes number (Record rising more)
-          → IsReordered written rising → FieldsApart fields → FieldsAlike keeps fields written
+          → IsReordered written rising → FieldsDisjoint fields → FieldsAlike keeps fields written
           → IsAlike keeps (pattern.Record fields more) number
       record_alike fields more number written rising there order apart alike d =
           ap (named variables) (by_rule d number (Record rising more) there) ∙ by_thing d
@@ -265,7 +265,7 @@ module _ {T : Type 0} (test : T → Thing → Bool) (types : Types T) (variables
           by_test parts false = refl
           by_test parts true = fields_named parts rising
               ∙ sym (any_order (field_has parts) written rising order
-              (each_apart parts fields written alike apart))
+              (each_disjoint parts fields written alike apart))
               ∙ fields_take parts fields written alike
 
           by_more : (parts : thing.Fields) (a b : Bool) → a ≡ b

@@ -126,15 +126,15 @@ has_less row (first ∷ moves) move none = by_test (has row first) refl (has_les
 abbrev AreNotIn : List Move → List Move → Type 0
 AreNotIn row = AllOf (λ move. has row move ≡ false)
 
-less_apart : (before next after : List Move) → AreNotIn before after
+less_disjoint : (before next after : List Move) → AreNotIn before after
     → less (before ++ less before next) after ≡ less next after
-less_apart before next [] apart = refl
-less_apart before next (move ∷ after) apart =
+less_disjoint before next [] apart = refl
+less_disjoint before next (move ∷ after) apart =
     ap₂ (λ (b : Bool) (rest : List Move). if b then rest else move ∷ rest)
     (has_append before (less before next) move
     ∙ ap (λ (b : Bool). b || has (less before next) move) apart.0
     ∙ has_less before next move apart.0)
-    (less_apart before next after apart.1)
+    (less_disjoint before next after apart.1)
 
 -- what stands before the end of such a row, and after it
 record IsSplit (before after : List Move) : Type 0 where
@@ -144,32 +144,32 @@ record IsSplit (before after : List Move) : Type 0 where
   end_before : has before End ≡ false
   end_after : has after End ≡ false
 
-apart_before : (first : Move) (before after : List Move)
+disjoint_before : (first : Move) (before after : List Move)
     → has (before ++ End ∷ after) first ≡ false → AreNotIn before after
     → AreNotIn (first ∷ before) after
-apart_before first before [] none apart = tt
-apart_before first before (move ∷ after) none apart =
+disjoint_before first before [] none apart = tt
+disjoint_before first before (move ∷ after) none apart =
     let parts = neither (has before first) (has (End ∷ move ∷ after) first)
     (sym (has_append before (End ∷ move ∷ after) first) ∙ none) in
     let later = neither (same_move End first) (has (move ∷ after) first) parts.1 in
     let differ = neither (same_move move first) (has after first) later.1 in (
       ap₂ (λ (a b : Bool). a || b) (same_turned first move ∙ differ.0) apart.0,
-      apart_before first before after
+      disjoint_before first before after
           (has_append before (End ∷ after) first
           ∙ ap₂ (λ (a b : Bool). a || b) parts.0
           (ap₂ (λ (a b : Bool). a || b) later.0 differ.1)) apart.1,
     )
 
-none_apart : (after : List Move) → AreNotIn [] after
-none_apart [] = tt
-none_apart (move ∷ after) = (refl, none_apart after)
+none_disjoint : (after : List Move) → AreNotIn [] after
+none_disjoint [] = tt
+none_disjoint (move ∷ after) = (refl, none_disjoint after)
 
 split : (before after : List Move) → HasOnce (before ++ End ∷ after) → IsSplit before after
 split [] after is =
     let parts = first_once End after is in record {
       first = refl;
       second = parts.1;
-      apart = none_apart after;
+      apart = none_disjoint after;
       end_before = refl;
       end_after = parts.0;
     }
@@ -181,7 +181,7 @@ split (first ∷ before) after is =
     let end = neither (same_move End first) (has after first) none.1 in record {
       first = begins_once first before none.0 rest.first;
       second = rest.second;
-      apart = apart_before first before after parts.0 rest.apart;
+      apart = disjoint_before first before after parts.0 rest.apart;
       end_before = ap₂ (λ (a b : Bool). a || b) (same_turned first End ∙ end.0) rest.end_before;
       end_after = rest.end_after;
     }
@@ -201,7 +201,7 @@ between_is before next after parts is =
     ∙ added_more before next after
     ∙ ap (λ (row : List Move). added row after) (added_less before next is)
     ∙ added_less (before ++ less before next) after parts.second
-    ∙ ap ((before ++ less before next) ++◌) (less_apart before next after parts.apart)
+    ∙ ap ((before ++ less before next) ++◌) (less_disjoint before next after parts.apart)
 
 -- a row by the place of its end
 end_there : (row : List Move) (place : ℕ) → end_of row ≡ Some place

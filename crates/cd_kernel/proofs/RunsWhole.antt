@@ -3,7 +3,7 @@ use Rattle.std.proofs.Common.{◌≡◌, Bool, List, [], ◌∷◌, map, Some, r
 use Rattle.std.proofs.lemmas.List.{append-nil}
 use Rattle.cd_model.specs.Thing.{Thing}
 use Rattle.cd_matching.specs.Captures.{or_else}
-use Rattle.cd_matching.specs.Naming.{GathersApart}
+use Rattle.cd_matching.specs.Naming.{GathersDisjoint}
 use Rattle.cd_matching.specs.Pattern.{Regular}
 use Rattle.cd_matching.specs.Take.{ways}
 use Rattle.cd_matching.specs.Ways.{Way, still, followed, if_whole, first_whole}
@@ -60,7 +60,7 @@ module _ (T : Type 0) (test : T → Thing → Bool) (r : Regular T) where
       (λ rest. refl) (λ rest. or_else_none (nothing_left rest)) (ways_in T test [] r things)
       ∙ first_is_whole (ways_in T test [] r things)
 
-  pub runs_first : (things : List Thing) → GathersApart [] r
+  pub runs_first : (things : List Thing) → GathersDisjoint [] r
       → run_whole T test r things ≡ first_whole (ways T test r things)
   runs_first things apart =
       runs_at_once things ∙ ap first_whole (at_once T test r apart things)

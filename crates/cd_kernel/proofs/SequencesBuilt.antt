@@ -8,7 +8,7 @@ use Rattle.cd_syntax.specs.Name.{Name}
 use Rattle.cd_model.specs.AllOf.{AllOf}
 use Rattle.cd_model.specs.BuiltIns.{ANY}
 use Rattle.cd_matching.specs.Kernel.{KernelNode, Both}
-use Rattle.cd_matching.specs.Naming.{GathersApart}
+use Rattle.cd_matching.specs.Naming.{GathersDisjoint}
 use Rattle.cd_matching.specs.Pattern.{Regular}
 use Rattle.cd_matching.specs.Variables.{is_gathered}
 use Rattle.cd_kernel.specs.Automaton.{items_of}
@@ -20,7 +20,7 @@ use Rattle.cd_kernel.specs.Inner.Building.{put_sequence}
 use Rattle.cd_kernel.specs.Inner.Gathering.{groups_of, numbered}
 use Rattle.cd_kernel.proofs.ChainsBuilt.{IsChainOf, chained_is}
 use Rattle.cd_kernel.proofs.CopiesBuilt.{copy_put, is_copy, copy_is_made}
-use Rattle.cd_kernel.proofs.GroupsOfNames.{in_one_of, GroupsApart, IsGroup, are_groups}
+use Rattle.cd_kernel.proofs.GroupsOfNames.{in_one_of, GroupsDisjoint, IsGroup, are_groups}
 use Rattle.cd_kernel.proofs.GrowingNodes.{Keeps, Grows, grows_not, grows_on}
 use Rattle.cd_kernel.proofs.PatternsMade.{copies_are_made, chained_is_made, both_joins}
 
@@ -78,7 +78,7 @@ module _ (variables : List Name) (r : Regular NodeId) where
       (in_groups false others others groups (put_copy variables r group (first nodes)).1 name)
 
   are_disjoint : (plain : Bool) (first others : Making) (groups : List (List Name)) (nodes : Nodes)
-      → GroupsApart groups → AreDisjoint (copies plain first others groups nodes)
+      → GroupsDisjoint groups → AreDisjoint (copies plain first others groups nodes)
   are_disjoint plain first others [] nodes apart = tt
   are_disjoint plain first others (group ∷ groups) nodes apart =
       let copy = put_copy variables r group (first nodes) in (
@@ -135,7 +135,7 @@ module _ (variables : List Name) (r : Regular NodeId) where
         )
 
     -- they are copies of the automaton, which are joined
-    pub sequence_made : (kept : Bool) (first others : Making) (nodes : Nodes) → GathersApart [] r
+    pub sequence_made : (kept : Bool) (first others : Making) (nodes : Nodes) → GathersDisjoint [] r
         → ((name : Name) → is_gathered r name ≡ true
         → (keeps name ≡ kept) × IsNumber variables name (numbered variables name))
         → MakingGrows first → MakingGrows others → MakesAll r first → MakesAll r others

@@ -11,7 +11,7 @@ use Rattle.cd_model.specs.Formula.{AreRisingLabels}
 use Rattle.cd_matching.specs.Kernel.{Kernel, KernelNode, KernelField, Present, Optional, Test, Bind}
 use Rattle.cd_matching.specs.Kernel.{Put, Pair, Xml, Record, Both, First, Ends}
 use Rattle.cd_matching.specs.Kernel.{kernel_takes}
-use Rattle.cd_matching.specs.Naming.{GathersApart, FieldsApart}
+use Rattle.cd_matching.specs.Naming.{GathersDisjoint, FieldsDisjoint}
 use Rattle.cd_matching.specs.Pattern as pattern
 use Rattle.cd_matching.specs.Pattern.{Pattern, Patterns, NoPattern, APattern, Fields, NoField}
 use Rattle.cd_matching.specs.Pattern.{Regular, Regulars, NoRegular, ARegular}
@@ -47,7 +47,7 @@ module _ {T : Type 0} (types : Types T) (variables : List Name) (nodes : List (K
     pub groups : (name : Name) → in_a_group copies name ≡ (keeps name && is_gathered r name)
     pub plain : one_is_plain copies ≡ true
     pub disjoint : AreDisjoint copies
-    pub apart : GathersApart [] r
+    pub apart : GathersDisjoint [] r
 
   -- A node is made of a pattern where `keeps` says which of its variables are kept
   abbrev mutual
@@ -64,7 +64,7 @@ module _ {T : Type 0} (types : Types T) (variables : List Name) (nodes : List (K
         × IsKernelOf keeps q attributes × IsKernelOf keeps r content
     IsKernelOf keeps (pattern.Record fields more) number =
         (written rising : List (Name × KernelField T)) × IsAt nodes number (Record rising more)
-        × IsReordered written rising × AreRisingLabels None rising × FieldsApart fields
+        × IsReordered written rising × AreRisingLabels None rising × FieldsDisjoint fields
         × AreFieldsOf keeps fields written
     IsKernelOf keeps (pattern.Both all) number = IsBothOf keeps all number
     IsKernelOf keeps (pattern.First all) number = IsFirstOf keeps all number

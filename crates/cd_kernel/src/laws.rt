@@ -4,7 +4,7 @@ ghost use Rattle.cd_sets.specs.declared.node_id.NodeId.{NodeId};
 ghost use Rattle.cd_model.specs.BuiltIns.{built_ins};
 ghost use Rattle.cd_model.specs.Thing.{Thing};
 ghost use Rattle.cd_matching.specs.Kernel.{Kernel, IsSound};
-ghost use Rattle.cd_matching.specs.Naming.{GathersApart, IsNamed};
+ghost use Rattle.cd_matching.specs.Naming.{GathersDisjoint, IsNamed};
 ghost use Rattle.cd_matching.specs.Pattern.{Pattern, Regular};
 ghost use Rattle.cd_matching.specs.Take.{ways};
 ghost use Rattle.cd_matching.specs.Ways.{first_whole};
@@ -19,7 +19,7 @@ ghost use Rattle.cd_kernel.specs.WellMade.{IsWellMade};
 /// The automaton of an expression takes a list in the first of its ways that leaves nothing.
 pub fn automata_are_exact()
     ensures { (test : NodeId → Thing → Bool) (r : Regular NodeId) (things : List Thing)
-        → GathersApart [] r
+        → GathersDisjoint [] r
         → run_whole NodeId test r things ≡ first_whole (ways NodeId test r things) }
 {}
 

@@ -54,21 +54,21 @@ module _ (scope : Scope) where
       main_none signatures arrows others one.2 other.2 d element outside later all.1
 
 module _ (program : Program) where
-  functions_none : (types others : Types) → AreNarrower types others → (functions : List FunctionTree) (at : ℕ) (told : Rule) (d : Thing)
-      → AnyOf (λ f. FunctionFault (scope_of program) types f at told d ⊎ MainFault program f at told d) functions
+  functions_none : (types others : Types) → AreNarrower types others → (functions : List FunctionTree) (at : ℕ) (reported : Rule) (d : Thing)
+      → AnyOf (λ f. FunctionFault (scope_of program) types f at reported d ⊎ MainFault program f at reported d) functions
       → AllOf (HasOwnType (scope_of program) others) functions → AllOf (GivesData (scope_of program)) functions → ⊥
-  functions_none types others below [] at told d fault all data_all = fault
-  functions_none types others below (f ∷ functions) at told d (inl (inl fault)) all data_all =
-      refuted_function (scope_of program) f types at told d fault all.0.0
+  functions_none types others below [] at reported d fault all data_all = fault
+  functions_none types others below (f ∷ functions) at reported d (inl (inl fault)) all data_all =
+      refuted_function (scope_of program) f types at reported d fault all.0.0
       (narrow_kind (scope_of program) (Function f) types others below all.0.0 all.0.2)
-  functions_none types others below (function here name name_at interface branches ∷ functions) at told d (inl (inr fault)) all data_all =
+  functions_none types others below (function here name name_at interface branches ∷ functions) at reported d (inl (inr fault)) all data_all =
       let given = data_all.0 fault.0 in
       main_none (scope_of program) interface fault.5 given.0 fault.6 given.1 d fault.3 fault.4 fault.7 given.2
-  functions_none types others below (f ∷ functions) at told d (inr later) all data_all =
-      functions_none types others below functions at told d later all.1 data_all.1
+  functions_none types others below (f ∷ functions) at reported d (inr later) all data_all =
+      functions_none types others below functions at reported d later all.1 data_all.1
 
-  pub program_refuted : (at : ℕ) (told : Rule) (d : Thing) → ProgramFault program at told d → IsTyped program → ⊥
-  program_refuted at told d fault typed =
+  pub program_refuted : (at : ℕ) (reported : Rule) (d : Thing) → ProgramFault program at reported d → IsTyped program → ⊥
+  program_refuted at reported d fault typed =
       functions_none fault.0 typed.types
       (declared_within (scope_of program) program.functions fault.0 typed.types fault.1 typed.declared)
-      program.functions at told d fault.2 typed.functions typed.main
+      program.functions at reported d fault.2 typed.functions typed.main

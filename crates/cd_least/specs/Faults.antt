@@ -51,13 +51,13 @@ NotZero d = d ≡ Integer (pos 0) → ⊥
 module _ (scope : Scope) where
   -- an operand is told under this rule
   abbrev pub Breaks : Types → Expr → (needed : Set) → (is : Rule) → (at : ℕ) → Rule → Thing → Type 0
-  Breaks types e needed is at told d = (told ≡ is) × Misses scope types e needed at d
+  Breaks types e needed is at reported d = (reported ≡ is) × Misses scope types e needed at d
 
   -- the one operand or the other is told
   abbrev pub BreaksOne : Types → (first second : Expr) → (needed : Set) → (is : Rule) → (at : ℕ) → Rule
       → Thing → Type 0
-  BreaksOne types first second needed is at told d =
-      Breaks types first needed is at told d ⊎ Breaks types second needed is at told d
+  BreaksOne types first second needed is at reported d =
+      Breaks types first needed is at reported d ⊎ Breaks types second needed is at reported d
 
   -- the expression has a type within this set
   abbrev pub HasWithin : Types → Expr → Set → Type 0
@@ -70,21 +70,24 @@ module _ (scope : Scope) where
 
   -- the function is one, and the argument is none of those that it accepts
   abbrev pub ArgumentFault : Types → (f e : Expr) → (at : ℕ) → Rule → Thing → Type 0
-  ArgumentFault types f e at told d = Breaks types f IsFunction rule.NotFunction at told d
-      ⊎ (HasWithin types f IsFunction × Breaks types e (IsAccepted types f) rule.Argument at told d)
+  ArgumentFault types f e at reported d = Breaks types f IsFunction rule.NotFunction at reported d
+      ⊎ (HasWithin types f IsFunction
+      × Breaks types e (IsAccepted types f) rule.Argument at reported d)
 
   -- integers are needed where not both operands are records: of the first one that is none
   abbrev pub PlusFault : Types → (first second : Expr) → (at : ℕ) → Rule → Thing → Type 0
-  PlusFault types first second at told d = HasSome scope types first × HasSome scope types second
+  PlusFault types first second at reported d = HasSome scope types first
+      × HasSome scope types second
       × (HasWithin types first (BuiltIn RECORD) × HasWithin types second (BuiltIn RECORD) → ⊥)
-      × (Breaks types first (BuiltIn INT) rule.Operand at told d
-      ⊎ (HasWithin types first (BuiltIn INT) × Breaks types second (BuiltIn INT) rule.Operand at told d))
+      × (Breaks types first (BuiltIn INT) rule.Operand at reported d
+      ⊎ (HasWithin types first (BuiltIn INT)
+      × Breaks types second (BuiltIn INT) rule.Operand at reported d))
 
   -- integers are needed, and a divisor that is not 0
   abbrev pub QuotientFault : Types → (first second : Expr) → (at : ℕ) → Rule → Thing → Type 0
-  QuotientFault types first second at told d =
-      BreaksOne types first second (BuiltIn INT) rule.Operand at told d
-      ⊎ Breaks types second NotZero rule.Divisor at told d
+  QuotientFault types first second at reported d =
+      BreaksOne types first second (BuiltIn INT) rule.Operand at reported d
+      ⊎ Breaks types second NotZero rule.Divisor at reported d
 
   abbrev pub OperatorFault : Types → Op → (first second : Expr) → (at : ℕ) → Rule → Thing → Type 0
   OperatorFault types op.And first second = Breaks types first (BuiltIn BOOL) rule.Condition
@@ -119,121 +122,129 @@ module _ (scope : Scope) where
   Owed = Types → Expr → (at : ℕ) → Rule → Thing → Type 0
 
   abbrev pub Nothing : Owed
-  Nothing types e at told d = ⊥
+  Nothing types e at reported d = ⊥
 
   abbrev pub AResult : Set → Owed
-  AResult needed types e at told d = Breaks types e needed rule.Result at told d
+  AResult needed types e at reported d = Breaks types e needed rule.Result at reported d
 
   abbrev pub ASequence : Owed
-  ASequence types e at told d = Breaks types e IsSequence rule.BranchSequence at told d
+  ASequence types e at reported d = Breaks types e IsSequence rule.BranchSequence at reported d
 
   abbrev mutual
     pub Fault : Types → Expr → (at : ℕ) → Rule → Thing → Type 0
-    Fault types (expr span kind) at told d = KindFault types span.from kind at told d
+    Fault types (expr span kind) at reported d = KindFault types span.from kind at reported d
 
     pub KindFault : Types → (here : ℕ) → Kind → (at : ℕ) → Rule → Thing → Type 0
-    KindFault types here (Constant is) at told d = ⊥
-    KindFault types here (Variable name) at told d = ⊥
-    KindFault types here (Tuple exprs) at told d = ExprsFault types exprs at told d
-    KindFault types here (Sequence items) at told d = ItemsFault types items at told d
-    KindFault types here (Record fields) at told d = FieldsFault types fields at told d
-    KindFault types here (Xml tag attributes content) at told d = Fault types tag at told d
-        ⊎ (Fault types attributes at told d ⊎ (Fault types content at told d
-        ⊎ (Breaks types tag (BuiltIn ATOM) rule.Tag at told d
-        ⊎ Breaks types attributes (BuiltIn RECORD) rule.Attributes at told d)))
-    KindFault types here (Function f) at told d = FunctionFault types f at told d
-    KindFault types here (Apply exprs) at told d = ApplyFault types here exprs at told d
-    KindFault types here (Match value branches) at told d = Fault types value at told d
-        ⊎ (HasSome scope types value × (IsUncovered scope here branches (Least scope types value) at told d
-        ⊎ BranchFault types [] (Least scope types value) Nothing branches at told d))
-    KindFault types here (Let pattern value rest) at told d = Fault types value at told d
+    KindFault types here (Constant is) at reported d = ⊥
+    KindFault types here (Variable name) at reported d = ⊥
+    KindFault types here (Tuple exprs) at reported d = ExprsFault types exprs at reported d
+    KindFault types here (Sequence items) at reported d = ItemsFault types items at reported d
+    KindFault types here (Record fields) at reported d = FieldsFault types fields at reported d
+    KindFault types here (Xml tag attributes content) at reported d = Fault types tag at reported d
+        ⊎ (Fault types attributes at reported d ⊎ (Fault types content at reported d
+        ⊎ (Breaks types tag (BuiltIn ATOM) rule.Tag at reported d
+        ⊎ Breaks types attributes (BuiltIn RECORD) rule.Attributes at reported d)))
+    KindFault types here (Function f) at reported d = FunctionFault types f at reported d
+    KindFault types here (Apply exprs) at reported d = ApplyFault types here exprs at reported d
+    KindFault types here (Match value branches) at reported d = Fault types value at reported d
         ⊎ (HasSome scope types value
-        × (IsUncovered scope here (ABranch pattern rest NoBranch) (Least scope types value) at told d
+        × (IsUncovered scope here branches (Least scope types value) at reported d
+        ⊎ BranchFault types [] (Least scope types value) Nothing branches at reported d))
+    KindFault types here (Let pattern value rest) at reported d = Fault types value at reported d
+        ⊎ (HasSome scope types value
+        × (IsUncovered scope here (ABranch pattern rest NoBranch)
+        (Least scope types value) at reported d
         ⊎ ((e : Thing) × (captures : Captures Name) × IsFirst scope [] pattern (Least scope types value) e captures
         × (own : Types) × AreCaptured scope own [] pattern (Least scope types value)
-        × Fault (own ++ types) rest at told d)))
-    KindFault types here (If condition then_one else_one) at told d = Fault types condition at told d
-        ⊎ (Breaks types condition (BuiltIn BOOL) rule.Condition at told d
+        × Fault (own ++ types) rest at reported d)))
+    KindFault types here (If condition then_one else_one) at reported d =
+        Fault types condition at reported d
+        ⊎ (Breaks types condition (BuiltIn BOOL) rule.Condition at reported d
         ⊎ (HasSome scope types condition
-        × ((Least scope types condition (truth true) × Fault types then_one at told d)
-        ⊎ (Least scope types condition (truth false) × Fault types else_one at told d))))
-    KindFault types here (Try body branches) at told d = Fault types body at told d
-        ⊎ BranchFault types [] (BuiltIn DATA) Nothing branches at told d
-    KindFault types here (Map value branches) at told d = Fault types value at told d
-        ⊎ (Breaks types value IsSequence rule.Sequence at told d
+        × ((Least scope types condition (truth true) × Fault types then_one at reported d)
+        ⊎ (Least scope types condition (truth false) × Fault types else_one at reported d))))
+    KindFault types here (Try body branches) at reported d = Fault types body at reported d
+        ⊎ BranchFault types [] (BuiltIn DATA) Nothing branches at reported d
+    KindFault types here (Map value branches) at reported d = Fault types value at reported d
+        ⊎ (Breaks types value IsSequence rule.Sequence at reported d
         ⊎ (HasSome scope types value
-        × (IsUncovered scope here branches (IsItemOf (Least scope types value)) at told d
-        ⊎ BranchFault types [] (IsItemOf (Least scope types value)) Nothing branches at told d)))
-    KindFault types here (Transform value branches) at told d = Fault types value at told d
-        ⊎ (Breaks types value IsSequence rule.Sequence at told d
+        × (IsUncovered scope here branches (IsItemOf (Least scope types value)) at reported d
+        ⊎ BranchFault types []
+        (IsItemOf (Least scope types value)) Nothing branches at reported d)))
+    KindFault types here (Transform value branches) at reported d = Fault types value at reported d
+        ⊎ (Breaks types value IsSequence rule.Sequence at reported d
         ⊎ (HasSome scope types value
-        × BranchFault types [] (IsItemOf (Least scope types value)) ASequence branches at told d))
-    KindFault types here (Chain first tails) at told d = Fault types first at told d
-        ⊎ TailsFault types here first tails at told d
-    KindFault types here (Call word operand) at told d = Fault types operand at told d
-        ⊎ WordFault types word operand at told d
+        × BranchFault types []
+        (IsItemOf (Least scope types value)) ASequence branches at reported d))
+    KindFault types here (Chain first tails) at reported d = Fault types first at reported d
+        ⊎ TailsFault types here first tails at reported d
+    KindFault types here (Call word operand) at reported d = Fault types operand at reported d
+        ⊎ WordFault types word operand at reported d
 
     pub ExprsFault : Types → Exprs → (at : ℕ) → Rule → Thing → Type 0
-    ExprsFault types NoExpr at told d = ⊥
-    ExprsFault types (AnExpr e rest) at told d =
-        Fault types e at told d ⊎ ExprsFault types rest at told d
+    ExprsFault types NoExpr at reported d = ⊥
+    ExprsFault types (AnExpr e rest) at reported d =
+        Fault types e at reported d ⊎ ExprsFault types rest at reported d
 
     -- what is spliced is a sequence
     pub ItemsFault : Types → Items → (at : ℕ) → Rule → Thing → Type 0
-    ItemsFault types NoItem at told d = ⊥
-    ItemsFault types (AnItem (One e) rest) at told d =
-        Fault types e at told d ⊎ ItemsFault types rest at told d
-    ItemsFault types (AnItem (Splice e) rest) at told d = Fault types e at told d
-        ⊎ (Breaks types e IsSequence rule.Splice at told d ⊎ ItemsFault types rest at told d)
-    ItemsFault types (AnItem (Run characters) rest) at told d = ItemsFault types rest at told d
+    ItemsFault types NoItem at reported d = ⊥
+    ItemsFault types (AnItem (One e) rest) at reported d =
+        Fault types e at reported d ⊎ ItemsFault types rest at reported d
+    ItemsFault types (AnItem (Splice e) rest) at reported d = Fault types e at reported d
+        ⊎ (Breaks types e IsSequence rule.Splice at reported d
+        ⊎ ItemsFault types rest at reported d)
+    ItemsFault types (AnItem (Run characters) rest) at reported d =
+        ItemsFault types rest at reported d
 
     pub FieldsFault : Types → Fields → (at : ℕ) → Rule → Thing → Type 0
-    FieldsFault types NoField at told d = ⊥
-    FieldsFault types (AField label label_at e rest) at told d =
-        Fault types e at told d ⊎ FieldsFault types rest at told d
+    FieldsFault types NoField at reported d = ⊥
+    FieldsFault types (AField label label_at e rest) at reported d =
+        Fault types e at reported d ⊎ FieldsFault types rest at reported d
 
     -- of one of the arrows
     pub FunctionFault : Types → FunctionTree → (at : ℕ) → Rule → Thing → Type 0
-    FunctionFault types (function here name name_at interface branches) at told d =
+    FunctionFault types (function here name name_at interface branches) at reported d =
         (arrows : List Arrow) × (self : Typ) × AreWritten scope interface arrows
         × IsIntersection arrows self
-        × AnyOf (λ arrow. IsUncovered scope here branches (In arrow.argument) at told d
+        × AnyOf (λ arrow. IsUncovered scope here branches (In arrow.argument) at reported d
         ⊎ BranchFault (with_type name self types) [] (In arrow.argument) (AResult (In arrow.result))
-        branches at told d) arrows
+        branches at reported d) arrows
 
     pub ApplyFault : Types → (here : ℕ) → Exprs → (at : ℕ) → Rule → Thing → Type 0
-    ApplyFault types here NoExpr at told d = ⊥
-    ApplyFault types here (AnExpr e rest) at told d =
-        Fault types e at told d ⊎ ArgumentsFault types here e rest at told d
+    ApplyFault types here NoExpr at reported d = ⊥
+    ApplyFault types here (AnExpr e rest) at reported d =
+        Fault types e at reported d ⊎ ArgumentsFault types here e rest at reported d
 
     -- of the arguments of what stands before, in an application that begins here
     pub ArgumentsFault : Types → (here : ℕ) → (f : Expr) → Exprs → (at : ℕ) → Rule → Thing → Type 0
-    ArgumentsFault types here f NoExpr at told d = ⊥
-    ArgumentsFault types here f (AnExpr e rest) at told d = Fault types e at told d
-        ⊎ (ArgumentFault types f e at told d
-        ⊎ ArgumentsFault types here (after_argument here f e) rest at told d)
+    ArgumentsFault types here f NoExpr at reported d = ⊥
+    ArgumentsFault types here f (AnExpr e rest) at reported d = Fault types e at reported d
+        ⊎ (ArgumentFault types f e at reported d
+        ⊎ ArgumentsFault types here (after_argument here f e) rest at reported d)
 
     -- of the operators after what stands before, in a chain that begins here
     pub TailsFault : Types → (here : ℕ) → (first : Expr) → Tails → (at : ℕ) → Rule → Thing → Type 0
-    TailsFault types here first NoTail at told d = ⊥
-    TailsFault types here first (ATail tail rest) at told d = TailFault types first tail at told d
-        ⊎ TailsFault types here (after_tail here first tail) rest at told d
+    TailsFault types here first NoTail at reported d = ⊥
+    TailsFault types here first (ATail tail rest) at reported d =
+        TailFault types first tail at reported d
+        ⊎ TailsFault types here (after_tail here first tail) rest at reported d
 
     pub TailFault : Types → (first : Expr) → Tail → (at : ℕ) → Rule → Thing → Type 0
-    TailFault types first (Operand is e) at told d =
-        (IsReachedAfter types is first × Fault types e at told d)
-        ⊎ OperatorFault types is first e at told d
-    TailFault types first (Without label) at told d =
-        Breaks types first (BuiltIn RECORD) rule.Record at told d
-    TailFault types first (Select label) at told d =
-        Breaks types first (HasFieldAt label) rule.Field at told d
+    TailFault types first (Operand is e) at reported d =
+        (IsReachedAfter types is first × Fault types e at reported d)
+        ⊎ OperatorFault types is first e at reported d
+    TailFault types first (Without label) at reported d =
+        Breaks types first (BuiltIn RECORD) rule.Record at reported d
+    TailFault types first (Select label) at reported d =
+        Breaks types first (HasFieldAt label) rule.Field at reported d
 
     -- of a branch that some element is the first to come to, or what its body owes
     pub BranchFault : Types → (before : List Tree) → (matched : Set) → Owed → Branches → (at : ℕ)
         → Rule → Thing → Type 0
-    BranchFault types before matched owed NoBranch at told d = ⊥
-    BranchFault types before matched owed (ABranch pattern body rest) at told d =
+    BranchFault types before matched owed NoBranch at reported d = ⊥
+    BranchFault types before matched owed (ABranch pattern body rest) at reported d =
         ((e : Thing) × (captures : Captures Name) × IsFirst scope before pattern matched e captures
         × (own : Types) × AreCaptured scope own before pattern matched
-        × (Fault (own ++ types) body at told d ⊎ owed (own ++ types) body at told d))
-        ⊎ BranchFault types (pattern ∷ before) matched owed rest at told d
+        × (Fault (own ++ types) body at reported d ⊎ owed (own ++ types) body at reported d))
+        ⊎ BranchFault types (pattern ∷ before) matched owed rest at reported d

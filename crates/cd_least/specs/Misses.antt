@@ -34,9 +34,9 @@ module _ (scope : Scope) where
     pub outside : needed d → ⊥
 
   -- no branch takes an element of what is matched by the form that begins here
-  pub record IsUncovered (here : ℕ) (branches : Branches) (matched : Set) (at : ℕ) (told : Rule)
+  pub record IsUncovered (here : ℕ) (branches : Branches) (matched : Set) (at : ℕ) (reported : Rule)
       (d : Thing) : Type 0 where
-    pub rule : told ≡ rule.NoBranch
+    pub rule : reported ≡ rule.NoBranch
     pub place : at ≡ here
     pub element : IsElement d
     pub in_set : matched d

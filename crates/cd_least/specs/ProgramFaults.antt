@@ -14,13 +14,16 @@ use Rattle.cd_least.specs.Faults.{FunctionFault}
 module _ (program : Program) where
   -- an arrow of `main` has a result that is no data; the place is that of the word `fun`
   abbrev pub MainFault : FunctionTree → (at : ℕ) → Rule → Thing → Type 0
-  MainFault (function here name name_at interface branches) at told d = (name ≡ Some (codes "main"))
-      × (told ≡ rule.MainResult) × (at ≡ here) × IsElement d × (BuiltIn DATA d → ⊥)
+  MainFault (function here name name_at interface branches) at reported d =
+      (name ≡ Some (codes "main"))
+      × (reported ≡ rule.MainResult) × (at ≡ here) × IsElement d × (BuiltIn DATA d → ⊥)
       × (arrows : List Arrow) × AreWritten (scope_of program) interface arrows
       × AnyOf (λ arrow. In arrow.result d) arrows
 
   -- of one of the functions, where each name that is declared has the type of its interface
   abbrev pub ProgramFault : (at : ℕ) → Rule → Thing → Type 0
-  ProgramFault at told d = (types : Types) × AreDeclared (scope_of program) program.functions types
-      × AnyOf (λ f. FunctionFault (scope_of program) types f at told d ⊎ MainFault f at told d)
+  ProgramFault at reported d = (types : Types)
+      × AreDeclared (scope_of program) program.functions types
+      × AnyOf
+      (λ f. FunctionFault (scope_of program) types f at reported d ⊎ MainFault f at reported d)
       program.functions

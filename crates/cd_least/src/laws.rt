@@ -15,10 +15,11 @@ ghost use Rattle.cd_least.specs.ProgramFaults.{ProgramFault};
 
 /// An expression with a fault has no type, and a program with a fault has no types.
 pub fn faults_are_refused()
-    ensures expression { (scope : Scope) (e : Expr) (types : Types) (at : ℕ) (told : Rule) (d : Thing)
-        → Fault scope types e at told d → (t : Typ) → Has scope types e t → ⊥ }
-    ensures program { (program : Program) (at : ℕ) (told : Rule) (d : Thing)
-        → ProgramFault program at told d → IsTyped program → ⊥ }
+    ensures expression { (scope : Scope) (e : Expr) (types : Types) (at : ℕ) (reported : Rule)
+        (d : Thing)
+        → Fault scope types e at reported d → (t : Typ) → Has scope types e t → ⊥ }
+    ensures program { (program : Program) (at : ℕ) (reported : Rule) (d : Thing)
+        → ProgramFault program at reported d → IsTyped program → ⊥ }
 {}
 
 /// `x x` is at fault where `x` may be something else than a function, and `10 div x` where it may be 0.

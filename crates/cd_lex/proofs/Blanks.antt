@@ -10,7 +10,7 @@ use Rattle.cd_syntax.specs.Tokens.{is_blank, bytes}
 use Rattle.cd_lex.specs.Inner.Prefixes.{after}
 use Rattle.cd_lex.specs.Inner.Reading.{IsReadTo}
 use Rattle.cd_lex.proofs.Wording.{taken_and_rest, taken_pass}
-use Rattle.cd_lex.proofs.Fronts.{blank_stands}
+use Rattle.cd_lex.proofs.PiecePrefixes.{blank_stands}
 use Rattle.cd_lex.proofs.TokenReading.{piece_ends, starts, drops, onward}
 
 -- whether what stands after blanks is joined

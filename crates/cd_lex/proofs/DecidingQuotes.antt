@@ -6,7 +6,7 @@ use Rattle.std.proofs.Math.Utf8.{scalar}
 use Rattle.std.proofs.lemmas.Bool.{cases_Bool, cases_eq, cases_lt}
 use Rattle.std.proofs.lemmas.List.{append_assoc, append-nil, length-append}
 use Rattle.cd_syntax.specs.Digits.{AreDigits, decimal_value, BeginsWithNoDigit}
-use Rattle.cd_syntax.specs.Quotes.{Quotes, IsEscapeLetter, line_feed, carriage_return, tab, backslash, apostrophe, IsCode, BreaksEscape, EndsHalf}
+use Rattle.cd_syntax.specs.Quotes.{Quotes, IsEscapeLetter, line_feed, carriage_return, tab, backslash, apostrophe, IsCode, BeginsNoEscape, EndsHalf}
 use Rattle.cd_syntax.specs.Quotes as quotes
 use Rattle.cd_lex.specs.Inner.Quoted.{Means, IsClosed, IsBroken, IsOpen}
 use Rattle.cd_lex.proofs.Wording.{digits_stand, taken_and_rest}
@@ -48,7 +48,7 @@ code_or digits are = by (cases_lt 7 (length digits)) (cases_Bool (scalar (decima
 data AfterBackslash (text : List ℕ) : Type 0 where
   means : (piece : List ℕ) (c : ℕ) (rest : List ℕ) → 92 ∷ text ≡ piece ++ rest → 0 < length piece
       → ((quote : ℕ) (written characters : List ℕ) → Quotes quote written characters → Quotes quote (piece ++ written) (c ∷ characters)) → AfterBackslash text
-  begins_none : BreaksEscape (92 ∷ text) → AfterBackslash text
+  begins_none : BeginsNoEscape (92 ∷ text) → AfterBackslash text
   ends_early : EndsHalf (92 ∷ text) → AfterBackslash text
 
 -- digits, and what follows them

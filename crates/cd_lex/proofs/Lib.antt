@@ -4,13 +4,13 @@ pub mod Prefixing
 pub mod Quoting
 pub mod Commenting
 pub mod Signing
-pub mod SignFronts
-pub mod Fronts
-pub mod WordFronts
+pub mod SignPrefixes
+pub mod PiecePrefixes
+pub mod WordPrefixes
 pub mod Spanning
 pub mod OneWay
 pub mod QuotesAreOne
-pub mod FrontsAreOne
+pub mod PrefixesAreOne
 pub mod ReadingIsOne
 pub mod DecidingQuotes
 pub mod Deciding

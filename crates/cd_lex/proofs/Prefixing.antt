@@ -10,10 +10,10 @@ use Rattle.cd_lex.proofs.Wording.{taken_first, taken_none}
 -- what is left after what passes
 pub after_one : (p : ℕ → Bool) (c : ℕ) (rest : List ℕ) → p c ≡ true
     → after p (c ∷ rest) ≡ after p rest
-after_one p c rest is = ap (λ front. drop (length front) (c ∷ rest)) (taken_first p c rest is)
+after_one p c rest is = ap (λ prefix. drop (length prefix) (c ∷ rest)) (taken_first p c rest is)
 
 pub after_none : (p : ℕ → Bool) (text : List ℕ) → take_while p text ≡ [] → after p text ≡ text
-after_none p text none = ap (λ front. drop (length front) text) none
+after_none p text none = ap (λ prefix. drop (length prefix) text) none
 
 no_digits_taken : (text : List ℕ) → BeginsWithNoDigit text → first_digits text ≡ []
 no_digits_taken [] ends = refl

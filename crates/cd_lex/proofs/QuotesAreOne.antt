@@ -7,7 +7,7 @@ use Rattle.std.proofs.Math.Seq.{drop-append_seam}
 use Rattle.std.proofs.lemmas.Bool.{and_parts, cond-true, cond-false, ne_eqb, eq-eqb}
 use Rattle.std.proofs.lemmas.List.{append_assoc}
 use Rattle.cd_syntax.specs.Digits.{AreDigits, decimal_value, BeginsWithNoDigit}
-use Rattle.cd_syntax.specs.Quotes.{Quotes, nothing, itself, letter, code, IsEscapeLetter, line_feed, carriage_return, tab, backslash, apostrophe, quote, IsCode, BreaksEscape, no_letter, no_code, no_semicolon, EndsHalf, alone}
+use Rattle.cd_syntax.specs.Quotes.{Quotes, nothing, itself, letter, code, IsEscapeLetter, line_feed, carriage_return, tab, backslash, apostrophe, quote, IsCode, BeginsNoEscape, no_letter, no_code, no_semicolon, EndsHalf, alone}
 use Rattle.cd_lex.proofs.Wording.{digits_taken}
 use Rattle.cd_lex.proofs.OneWay.{Outcome, Stop, More, Reads, stop, more, once, Decided, decided_once}
 
@@ -191,7 +191,7 @@ module _ (q : ℕ) (no_backslash : 92 ≢ q) where
   closes_read rest = stop (q ∷ rest) (Closed [] [] rest) (subst (λ mark. Marked q rest mark (Stop (Closed [] [] rest))) (sym (cond-true (q == q) _ _ (eq-eqb q q refl))) refl)
 
   -- a `\` that begins no escape
-  pub breaks_read : (text : List ℕ) → BreaksEscape text → ReadsQuote q text (Broken [])
+  pub breaks_read : (text : List ℕ) → BeginsNoEscape text → ReadsQuote q text (Broken [])
   breaks_read _ (no_letter c rest no_digit none) =
       stop (92 ∷ c ∷ rest) (Broken []) (escapes (c ∷ rest) (Stop (Broken []))
       (subst (λ digit. Escape c rest digit (Stop (Broken []))) (sym no_digit) (inr (none, refl))))

@@ -5,7 +5,7 @@ use Rattle.std.specs.List.{list_all}
 use Rattle.std.specs.Char.{IsScalar, is_ascii_digit}
 use Rattle.std.proofs.lemmas.Bool.{and_parts, and_from, eq-eqb, eqb-true, ne_eqb}
 use Rattle.std.proofs.Math.Utf8.{scalar, scalar_cases}
-use Rattle.cd_syntax.specs.Quotes.{Quotes, nothing, itself, letter, code, IsCode, IsEscapeLetter, BreaksEscape, no_letter, no_code, no_semicolon, EndsHalf, alone}
+use Rattle.cd_syntax.specs.Quotes.{Quotes, nothing, itself, letter, code, IsCode, IsEscapeLetter, BeginsNoEscape, no_letter, no_code, no_semicolon, EndsHalf, alone}
 use Rattle.cd_syntax.specs.Digits.{AreDigits, decimal_value, BeginsWithNoDigit}
 use Rattle.cd_lex.specs.Inner.Prefixes.{after, first_digits, after_digits}
 use Rattle.cd_lex.specs.Inner.Number.{number_after}
@@ -103,11 +103,11 @@ module _ (quote : ℕ) (text : List ℕ) where
   pub closed : (read left new : List ℕ) (c : ℕ) → Means quote text read left → left ≡ c ∷ new → c ≡ quote → IsClosed quote text read new
   closed read left new c so at is = subst (Means quote text read) (at ∙ ap (λ c. c ∷ new) is) so
 
-  pub broken : (read left ahead : List ℕ) (c : ℕ) → Means quote text read left → left ≡ c ∷ ahead → c ≡ 92 → BreaksEscape (92 ∷ ahead) → IsBroken quote text left
+  pub broken : (read left ahead : List ℕ) (c : ℕ) → Means quote text read left → left ≡ c ∷ ahead → c ≡ 92 → BeginsNoEscape (92 ∷ ahead) → IsBroken quote text left
   broken read left ahead c so at is breaks = record {
     characters = read;
     means = so;
-    breaks = subst BreaksEscape (sym (at ∙ ap (λ c. c ∷ ahead) is)) breaks;
+    breaks = subst BeginsNoEscape (sym (at ∙ ap (λ c. c ∷ ahead) is)) breaks;
   }
 
   pub half : (read left ahead : List ℕ) (c : ℕ) → Means quote text read left → left ≡ c ∷ ahead → c ≡ 92 → EndsHalf (92 ∷ ahead) → IsOpen quote text
@@ -125,8 +125,8 @@ module _ (quote : ℕ) (text : List ℕ) where
 pub means_letter : (text new : List ℕ) (first c : ℕ) → text ≡ first ∷ new → IsEscapeLetter first c → IsEscapeOf text c new
 means_letter text new first c at meant = record { written = first ∷ []; is = at; quotes = λ quote. letter first c [] [] meant nothing }
 
-pub breaks_no_letter : (text new : List ℕ) (first : ℕ) → text ≡ first ∷ new → is_ascii_digit first ≡ false → ((meant : ℕ) → IsEscapeLetter first meant → ⊥) → BreaksEscape (92 ∷ text)
-breaks_no_letter text new first at no_digit none = subst (λ text. BreaksEscape (92 ∷ text)) (sym at) (no_letter first new no_digit none)
+pub breaks_no_letter : (text new : List ℕ) (first : ℕ) → text ≡ first ∷ new → is_ascii_digit first ≡ false → ((meant : ℕ) → IsEscapeLetter first meant → ⊥) → BeginsNoEscape (92 ∷ text)
+breaks_no_letter text new first at no_digit none = subst (λ text. BeginsNoEscape (92 ∷ text)) (sym at) (no_letter first new no_digit none)
 
 pub ends_alone : (text : List ℕ) → text ≡ [] → EndsHalf (92 ∷ text)
 ends_alone text none = subst (λ text. EndsHalf (92 ∷ text)) (sym none) alone
@@ -145,8 +145,8 @@ module _ (c : ℕ) (left : List ℕ) (digit : is_ascii_digit c ≡ true) where
   code_is : (meant : ℕ) → Makes meant → IsCode digits
   code_is meant makes = record { digits = are.0; few = makes.0.0; scalar = makes.0.1 }
 
-  pub breaks_no_code : ((length digits ≤ 7) × IsScalar (decimal_value digits) → ⊥) → BreaksEscape (92 ∷ c ∷ left)
-  breaks_no_code none = subst (λ text. BreaksEscape (92 ∷ text)) (sym (taken_and_rest is_ascii_digit (c ∷ left)))
+  pub breaks_no_code : ((length digits ≤ 7) × IsScalar (decimal_value digits) → ⊥) → BeginsNoEscape (92 ∷ c ∷ left)
+  breaks_no_code none = subst (λ text. BeginsNoEscape (92 ∷ text)) (sym (taken_and_rest is_ascii_digit (c ∷ left)))
       (no_code digits (after_digits (c ∷ left)) are.0 are.1 (λ code. none (code.few, code.scalar)))
 
   -- a `;` follows, another character, or nothing
@@ -159,10 +159,10 @@ module _ (c : ℕ) (left : List ℕ) (digit : is_ascii_digit c ≡ true) where
     quotes = λ quote. subst (λ meant. Quotes quote (92 ∷ digits ++ 59 ∷ []) (meant ∷ [])) (sym makes.1) (code digits [] [] (code_is meant makes) nothing);
   }
 
-  pub breaks_no_semicolon : (meant next : ℕ) (rest new : List ℕ) → Makes meant → rest ≡ after_digits (c ∷ left) → rest ≡ next ∷ new → (next ≡ 59 → ⊥) → BreaksEscape (92 ∷ c ∷ left)
+  pub breaks_no_semicolon : (meant next : ℕ) (rest new : List ℕ) → Makes meant → rest ≡ after_digits (c ∷ left) → rest ≡ next ∷ new → (next ≡ 59 → ⊥) → BeginsNoEscape (92 ∷ c ∷ left)
   breaks_no_semicolon meant next rest new makes after at differs =
       let left_is : after_digits (c ∷ left) ≡ next ∷ new = sym after ∙ at in
-      subst (λ text. BreaksEscape (92 ∷ text)) (sym (taken_and_rest is_ascii_digit (c ∷ left) ∙ ap (λ rest. digits ++ rest) left_is))
+      subst (λ text. BeginsNoEscape (92 ∷ text)) (sym (taken_and_rest is_ascii_digit (c ∷ left) ∙ ap (λ rest. digits ++ rest) left_is))
       (no_semicolon digits next new are.0 (subst BeginsWithNoDigit left_is are.1) differs)
 
   pub ends_code : (meant : ℕ) (rest : List ℕ) → Makes meant → rest ≡ after_digits (c ∷ left) → rest ≡ [] → EndsHalf (92 ∷ c ∷ left)

@@ -140,10 +140,10 @@ module _ (p : ℕ → Bool) (beyond : (c d : ℕ) → 128 ≤ c → 128 ≤ d �
           → (take_while p (encode_utf8_all (c ∷ cs)) ≡ encode_utf8_all (take_while p (c ∷ cs)))
           × (after p (encode_utf8_all (c ∷ cs)) ≡ encode_utf8_all (after p (c ∷ cs)))
       by true is rest =
-          let front = passed (encode_utf8 c) (encode_utf8_all cs) (bytes_pass c is) in (
-            front.0 ∙ ap (λ bytes. encode_utf8 c ++ bytes) rest.0
+          let prefix = passed (encode_utf8 c) (encode_utf8_all cs) (bytes_pass c is) in (
+            prefix.0 ∙ ap (λ bytes. encode_utf8 c ++ bytes) rest.0
                 ∙ ap encode_utf8_all (sym (taken_first p c cs is)),
-            front.1 ∙ rest.1 ∙ ap encode_utf8_all (sym (after_one p c cs is)),
+            prefix.1 ∙ rest.1 ∙ ap encode_utf8_all (sym (after_one p c cs is)),
           )
       by false is rest =
           let none = byte_fails c (encode_utf8_all cs) is (encode_utf8_all (c ∷ cs)) refl in

@@ -21,20 +21,20 @@ so_begins : (text : List ℕ) (is : Sign) → BeginsWith text is → begins_with
 so_begins text is begins = (starts_is Decides-eqb text (characters is) (begins_with text is) refl).1 begins.0 begins.1
 
 -- what is found at the front, and past it
-at_front : (test : Sign → Bool) (s : Sign) (rest : List Sign) (is : Sign) → test s ≡ true → find test (s ∷ rest) ≡ Some is → s ≡ is
-at_front test s rest is passes found =
+at_prefix : (test : Sign → Bool) (s : Sign) (rest : List Sign) (is : Sign) → test s ≡ true → find test (s ∷ rest) ≡ Some is → s ≡ is
+at_prefix test s rest is passes found =
     let it : Some s ≡ Some is = sym (cond-true (test s) _ _ passes) ∙ found in
     cc
 
-past_front : (test : Sign → Bool) (s : Sign) (rest : List Sign) → test s ≡ false → find test rest ≡ find test (s ∷ rest)
-past_front test s rest fails = sym (cond-false (test s) _ _ fails)
+past_prefix : (test : Sign → Bool) (s : Sign) (rest : List Sign) → test s ≡ false → find test rest ≡ find test (s ∷ rest)
+past_prefix test s rest fails = sym (cond-false (test s) _ _ fails)
 
 -- what is found passes the test
 found_passes : (test : Sign → Bool) (list : List Sign) (is : Sign) → find test list ≡ Some is → test is ≡ true
 found_passes test [] is found = absurd cc
 found_passes test (s ∷ rest) is found = elim (cases_Bool (test s)) [
-  | inl passes ↦ ap test (sym (at_front test s rest is passes found)) ∙ passes
-  | inr fails ↦ found_passes test rest is (past_front test s rest fails ∙ found)
+  | inl passes ↦ ap test (sym (at_prefix test s rest is passes found)) ∙ passes
+  | inr fails ↦ found_passes test rest is (past_prefix test s rest fails ∙ found)
 ]
 
 -- what is in the list (another test finds it) passes a test that all pass
@@ -43,8 +43,8 @@ all_pass test mark [] other all marked = absurd cc
 all_pass test mark (s ∷ rest) other all marked =
     let parts = and_parts (test s) (list_all test rest) all in
     elim (cases_Bool (mark s)) [
-      | inl here ↦ ap test (sym (at_front mark s rest other here marked)) ∙ parts.0
-      | inr past ↦ all_pass test mark rest other parts.1 (past_front mark s rest past ∙ marked)
+      | inl here ↦ ap test (sym (at_prefix mark s rest other here marked)) ∙ parts.0
+      | inr past ↦ all_pass test mark rest other parts.1 (past_prefix mark s rest past ∙ marked)
     ]
 
 -- and fails a test by which none is found
@@ -53,8 +53,8 @@ none_passes test mark [] other none marked = absurd cc
 none_passes test mark (s ∷ rest) other none marked = elim (cases_Bool (test s)) [
   | inl passes ↦ let found : Some s ≡ None = sym (cond-true (test s) _ _ passes) ∙ none in absurd cc
   | inr fails ↦ elim (cases_Bool (mark s)) [
-    | inl here ↦ ap test (sym (at_front mark s rest other here marked)) ∙ fails
-    | inr past ↦ none_passes test mark rest other (past_front test s rest fails ∙ none) (past_front mark s rest past ∙ marked)
+    | inl here ↦ ap test (sym (at_prefix mark s rest other here marked)) ∙ fails
+    | inr past ↦ none_passes test mark rest other (past_prefix test s rest fails ∙ none) (past_prefix mark s rest past ∙ marked)
   ]
 ]
 
@@ -121,20 +121,20 @@ found_longest test mark (s ∷ rest) is other falling found marked passes =
     elim (cases_Bool (test s)) [
       | inl first ↦ elim (cases_Bool (mark s)) [
         | inl here ↦
-            let one = at_front test s rest is first found in
-            let another = at_front mark s rest other here marked in
+            let one = at_prefix test s rest is first found in
+            let another = at_prefix mark s rest other here marked in
             let same : length (characters other) ≡ length (characters is) = ap (λ s. length (characters s)) (sym another ∙ one) in
             omega arith
         | inr past ↦
-            let one = at_front test s rest is first found in
-            let bound = all_pass (no_longer s) mark rest other parts.0 (past_front mark s rest past ∙ marked) in
+            let one = at_prefix test s rest is first found in
+            let bound = all_pass (no_longer s) mark rest other parts.0 (past_prefix mark s rest past ∙ marked) in
             leb-true (length (characters other)) (length (characters is)) (ap (λ s. no_longer s other) (sym one) ∙ bound)
       ]
       | inr fails ↦ elim (cases_Bool (mark s)) [
         | inl here ↦
-            let another : test s ≡ test other = ap test (at_front mark s rest other here marked) in
+            let another : test s ≡ test other = ap test (at_prefix mark s rest other here marked) in
             absurd cc
-        | inr past ↦ found_longest test mark rest is other parts.1 (past_front test s rest fails ∙ found) (past_front mark s rest past ∙ marked) passes
+        | inr past ↦ found_longest test mark rest is other parts.1 (past_prefix test s rest fails ∙ found) (past_prefix mark s rest past ∙ marked) passes
       ]
     ]
 
@@ -162,8 +162,8 @@ first_stands text is found =
     (longest.stands.0, record { written = longest.stands.1; longest = longest })
 
 -- the characters of a sign that stands at the front
-front_is : (text : List ℕ) (is : Sign) → BeginsWith text is → take (length (characters is)) text ≡ characters is
-front_is text is begins = ap (take (length (characters is))) begins.1 ∙ take-append_seam (characters is) begins.0
+prefix_is : (text : List ℕ) (is : Sign) → BeginsWith text is → take (length (characters is)) text ≡ characters is
+prefix_is text is begins = ap (take (length (characters is))) begins.1 ∙ take-append_seam (characters is) begins.0
 
 -- the longest is found: two signs of one length that stand are one
 pub longest_is_first : (text : List ℕ) (is : Sign) → IsLongest is text → first_sign text ≡ Some is
@@ -177,5 +177,5 @@ longest_is_first text is longest = by_found (first_sign text) refl
         let is_no_longer = other_longest.longest is longest.stands in
         let same : length (characters other) ≡ length (characters is) = omega arith in
         let one : characters other ≡ characters is =
-        sym (front_is text other other_longest.stands) ∙ ap (λ n. take n text) same ∙ front_is text is longest.stands in
+        sym (prefix_is text other other_longest.stands) ∙ ap (λ n. take n text) same ∙ prefix_is text is longest.stands in
         found ∙ sym (itself other) ∙ ap first_sign one ∙ itself is

@@ -23,7 +23,7 @@ pushed : (old new view : List ℕ) (c : ℕ) → IsUtf8 old → IsUtf8 new → n
     → chars old ≡ view → chars new ≡ view ++ c ∷ []
 pushed old new view c before after is viewed = sym (chars_from_encodes (view ++ c ∷ []) new after
     (encodes-append view (c ∷ [])
-    ∙ ap (λ front. front ++ encode_utf8_all (c ∷ [])) (ap encode_utf8_all (sym viewed) ∙ encodes-chars old before)
+    ∙ ap (λ prefix. prefix ++ encode_utf8_all (c ∷ [])) (ap encode_utf8_all (sym viewed) ∙ encodes-chars old before)
     ∙ ap (λ last. old ++ last) (append-nil (encode_utf8 c))
     ∙ sym is))
 
@@ -33,7 +33,7 @@ pub extended : (old mid new part : List ℕ) (c : ℕ) → IsUtf8 old → IsUtf8
     → chars new ≡ chars old ++ (c ∷ chars part)
 extended old mid new part c before after mid_is is =
     ap chars is ∙ chars-append mid part after
-    ∙ ap (λ front. front ++ chars part) (pushed old mid (chars old) c before after mid_is refl)
+    ∙ ap (λ prefix. prefix ++ chars part) (pushed old mid (chars old) c before after mid_is refl)
     ∙ append_assoc (chars old) (c ∷ []) (chars part)
 
 -- a character of one byte stands first
@@ -42,7 +42,7 @@ pub stands_first : (text rest : List ℕ) (c : ℕ) → IsUtf8 text → c < 128 
 stands_first [] rest c utf8 ascii some is rest_is = absurd (omega arith)
 stands_first (b ∷ bytes) rest c utf8 ascii some is rest_is =
     let parts : b ∷ bytes ≡ encode_utf8 c ++ rest = ap (λ b. b ∷ bytes) is
-    ∙ ap (λ rest. c ∷ rest) (sym rest_is) ∙ ap (λ front. front ++ rest)
+    ∙ ap (λ rest. c ∷ rest) (sym rest_is) ∙ ap (λ prefix. prefix ++ rest)
     (sym (encode_ascii c ascii)) in
     chars_past_char (b ∷ bytes) rest c utf8 parts
 

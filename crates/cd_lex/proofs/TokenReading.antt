@@ -6,16 +6,16 @@ use Rattle.cd_syntax.specs.declared.tokens.Token.{Token}
 use Rattle.cd_syntax.specs.declared.tokens.TokenKind.{TokenKind}
 use Rattle.cd_syntax.specs.declared.tokens.LexError.{LexError}
 use Rattle.cd_syntax.specs.declared.tokens.LexError.TheVariants.{Memory}
-use Rattle.cd_syntax.specs.Tokens.{bytes, joins, token_at, Spells, Writes}
+use Rattle.cd_syntax.specs.Tokens.{bytes, joins, token_at, Lexes, IsLexemeOf}
 use Rattle.cd_syntax.specs.Tokens as tokens
-use Rattle.cd_syntax.specs.Faults.{Fails}
+use Rattle.cd_syntax.specs.Faults.{HasFirstFault}
 use Rattle.cd_syntax.specs.Faults as faults
 use Rattle.cd_lex.specs.declared.lexer.Kind.{Kind}
 use Rattle.cd_lex.specs.declared.lexer.Lexer.{Lexer}
-use Rattle.cd_lex.specs.Lexing.{IsToken, SpellsOn, FailsOn, with_characters, token_with, IsSoundKind}
-use Rattle.cd_lex.specs.Inner.Standing.{IsDroppedTo, IsTokenTo, FaultAtFront}
-use Rattle.cd_lex.specs.Inner.Reading.{SpellsUpTo, FailsUpTo, IsReadTo, IsTokenRead, HasRead}
-use Rattle.cd_lex.proofs.Fronts.{bytes_append}
+use Rattle.cd_lex.specs.Lexing.{IsToken, LexesOn, FailsOn, with_characters, token_with, IsSoundKind}
+use Rattle.cd_lex.specs.Inner.Standing.{IsDroppedTo, IsTokenTo, IsErrorHere}
+use Rattle.cd_lex.specs.Inner.Reading.{LexesUpTo, FailsUpTo, IsReadTo, IsTokenRead, HasRead}
+use Rattle.cd_lex.proofs.PiecePrefixes.{bytes_append}
 
 -- where a piece ends
 pub piece_ends : (end : ℕ) (text written new : List ℕ) → bytes text ≤ end
@@ -30,7 +30,7 @@ shorter text written new is = ap length is ∙ length-append written new
 
 -- the token is sound
 writes_sound : (joined : Bool) (written text : List ℕ) (kind : TokenKind)
-    → Writes joined written text kind → IsSoundKind kind
+    → IsLexemeOf joined written text kind → IsSoundKind kind
 writes_sound joined _ _ _ (tokens.word name text is ends) = is
 writes_sound joined _ _ _ (tokens.number digits text are begins fits) = tt
 writes_sound joined _ _ _ (tokens.negative digits text apart are begins fits) = tt
@@ -41,7 +41,7 @@ writes_sound joined _ _ _ (tokens.sign is text longest no_comment no_number) = t
 
 module _ (end : ℕ) (joined : Bool) (text : List ℕ) where
   pub starts : bytes text ≤ end → IsReadTo end joined text [] joined text
-  starts fits = record { spells = λ more spells. spells; fails = λ fault fails. fails; fits = fits; within = omega arith }
+  starts fits = record { lexes = λ more lexes. lexes; fails = λ fault fails. fails; fits = fits; within = omega arith }
 
   -- one part after the other
   pub onward : (now next : Bool) (left new : List ℕ) → IsReadTo end joined text [] now left
@@ -50,7 +50,7 @@ module _ (end : ℕ) (joined : Bool) (text : List ℕ) where
       let within = so.within in
       let within_left = more.within in
       record {
-        spells = λ list spells. so.spells list (more.spells list spells);
+        lexes = λ list lexes. so.lexes list (more.lexes list lexes);
         fails = λ fault fails. so.fails fault (more.fails fault fails);
         fits = more.fits;
         within = omega arith;
@@ -63,10 +63,10 @@ module _ (end : ℕ) (joined : Bool) (text : List ℕ) where
       let size = shorter left is.written new is.is in
       let within = so.within in
       record {
-        spells = λ more spells. so.spells more (subst (λ text. Spells now (end - bytes left) text more) (sym is.is)
-            (tokens.dropped now (end - bytes left) is.written new more is.dropped (subst (λ at. Spells false at new more) (sym ends.0) spells)));
-        fails = λ fault fails. so.fails fault (subst (λ text. Fails now (end - bytes left) text fault) (sym is.is)
-            (faults.after_dropped now (end - bytes left) is.written new fault is.dropped (subst (λ at. Fails false at new fault) (sym ends.0) fails)));
+        lexes = λ more lexes. so.lexes more (subst (λ text. Lexes now (end - bytes left) text more) (sym is.is)
+            (tokens.dropped now (end - bytes left) is.written new more is.dropped (subst (λ at. Lexes false at new more) (sym ends.0) lexes)));
+        fails = λ fault fails. so.fails fault (subst (λ text. HasFirstFault now (end - bytes left) text fault) (sym is.is)
+            (faults.after_dropped now (end - bytes left) is.written new fault is.dropped (subst (λ at. HasFirstFault false at new fault) (sym ends.0) fails)));
         fits = ends.1;
         within = omega arith;
       }
@@ -81,13 +81,13 @@ module _ (end : ℕ) (joined : Bool) (text : List ℕ) where
       let some = is.some in
       let whole : to ≡ end - bytes left + bytes is.written = to_is ∙ sym ends.0 in (
         record {
-          spells = λ more spells. so.spells (record { kind = kind; span = record { from = from; to = to } } ∷ more)
-              (subst (λ from. Spells now (end - bytes left) left (record { kind = kind; span = record { from = from; to = to } } ∷ more)) (sym from_is)
-              (subst (λ to. Spells now (end - bytes left) left (record { kind = kind; span = record { from = end - bytes left; to = to } } ∷ more)) (sym whole)
-              (subst (λ text. Spells now (end - bytes left) text (token_at (end - bytes left) is.written kind ∷ more)) (sym is.is)
-              (tokens.token now (end - bytes left) is.written new kind more is.writes (subst (λ at. Spells (joins kind) at new more) (sym ends.0) spells)))));
-          fails = λ fault fails. so.fails fault (subst (λ text. Fails now (end - bytes left) text fault) (sym is.is)
-              (faults.after_token now (end - bytes left) is.written new kind fault is.writes (subst (λ at. Fails (joins kind) at new fault) (sym ends.0) fails)));
+          lexes = λ more lexes. so.lexes (record { kind = kind; span = record { from = from; to = to } } ∷ more)
+              (subst (λ from. Lexes now (end - bytes left) left (record { kind = kind; span = record { from = from; to = to } } ∷ more)) (sym from_is)
+              (subst (λ to. Lexes now (end - bytes left) left (record { kind = kind; span = record { from = end - bytes left; to = to } } ∷ more)) (sym whole)
+              (subst (λ text. Lexes now (end - bytes left) text (token_at (end - bytes left) is.written kind ∷ more)) (sym is.is)
+              (tokens.token now (end - bytes left) is.written new kind more is.writes (subst (λ at. Lexes (joins kind) at new more) (sym ends.0) lexes)))));
+          fails = λ fault fails. so.fails fault (subst (λ text. HasFirstFault now (end - bytes left) text fault) (sym is.is)
+              (faults.after_token now (end - bytes left) is.written new kind fault is.writes (subst (λ at. HasFirstFault (joins kind) at new fault) (sym ends.0) fails)));
           fits = ends.1;
           within = omega arith;
         },
@@ -95,42 +95,42 @@ module _ (end : ℕ) (joined : Bool) (text : List ℕ) where
         writes_sound now is.written new kind is.writes,
       )
 
-  pub faulty : (now : Bool) (left : List ℕ) (at : ℕ) (fault : LexError) → IsReadTo end joined text [] now left → at ≡ end - bytes left → FaultAtFront now at left fault
+  pub faulty : (now : Bool) (left : List ℕ) (at : ℕ) (fault : LexError) → IsReadTo end joined text [] now left → at ≡ end - bytes left → IsErrorHere now at left fault
       → (fault ≡ Memory) ⊎ FailsUpTo end joined text fault
   faulty now left at fault so at_is (inl memory) = inl memory
-  faulty now left at fault so at_is (inr breaks) = inr (so.fails fault (subst (λ at. Fails now at left fault) at_is (faults.here now at left fault breaks)))
+  faulty now left at fault so at_is (inr breaks) = inr (so.fails fault (subst (λ at. HasFirstFault now at left fault) at_is (faults.here now at left fault breaks)))
 
   -- the same of a text whose first character was taken off
-  module _ (now : Bool) (left front : List ℕ) (so : IsReadTo end joined text [] now left) (same : left ≡ front) where
-    pub drops_at : (new : List ℕ) → IsDroppedTo front new → IsReadTo end joined text [] false new
+  module _ (now : Bool) (left prefix : List ℕ) (so : IsReadTo end joined text [] now left) (same : left ≡ prefix) where
+    pub drops_at : (new : List ℕ) → IsDroppedTo prefix new → IsReadTo end joined text [] false new
     drops_at new is = drops now left new so (subst (λ text. IsDroppedTo text new) (sym same) is)
 
-    pub reads_at : (new : List ℕ) (kind : TokenKind) (from to : ℕ) → IsTokenTo now front kind new → from ≡ end - bytes left → to ≡ end - bytes new
+    pub reads_at : (new : List ℕ) (kind : TokenKind) (from to : ℕ) → IsTokenTo now prefix kind new → from ≡ end - bytes left → to ≡ end - bytes new
         → IsTokenRead end joined text (record { kind = kind; span = record { from = from; to = to } }) new
     reads_at new kind from to is = reads now left new kind from to so (subst (λ text. IsTokenTo now text kind new) (sym same) is)
 
-    pub token_fits : (new : List ℕ) (kind : TokenKind) → IsTokenTo now front kind new → bytes new ≤ end
+    pub token_fits : (new : List ℕ) (kind : TokenKind) → IsTokenTo now prefix kind new → bytes new ≤ end
     token_fits new kind is = (piece_ends end left is.written new so.fits (same ∙ is.is)).1
 
-    pub faulty_at : (at : ℕ) (fault : LexError) → at ≡ end - bytes left → FaultAtFront now at front fault → (fault ≡ Memory) ⊎ FailsUpTo end joined text fault
-    faulty_at at fault at_is breaks = faulty now left at fault so at_is (subst (λ text. FaultAtFront now at text fault) (sym same) breaks)
+    pub faulty_at : (at : ℕ) (fault : LexError) → at ≡ end - bytes left → IsErrorHere now at prefix fault → (fault ≡ Memory) ⊎ FailsUpTo end joined text fault
+    faulty_at at fault at_is breaks = faulty now left at fault so at_is (subst (λ text. IsErrorHere now at text fault) (sym same) breaks)
 
-  pub ends : (now : Bool) (left : List ℕ) → IsReadTo end joined text [] now left → left ≡ [] → SpellsUpTo end joined text []
-  ends now left so none = so.spells [] (subst (λ text. Spells now (end - bytes left) text []) (sym none) (tokens.nothing now (end - bytes left)))
+  pub ends : (now : Bool) (left : List ℕ) → IsReadTo end joined text [] now left → left ≡ [] → LexesUpTo end joined text []
+  ends now left so none = so.lexes [] (subst (λ text. Lexes now (end - bytes left) text []) (sym none) (tokens.nothing now (end - bytes left)))
 
 -- a token more is read
 pub token_read : (text : List ℕ) (read read_then : List Token) (old new : Lexer) (next : Token) → HasRead text read old → IsToken old new next → read_then ≡ read ++ next ∷ []
     → HasRead text read_then new
 token_read text read read_then old new next so is pushed = record {
-  spells = λ more spells. subst (Spells false 0 text) (sym (ap (λ read. read ++ more) pushed ∙ append_assoc read (next ∷ []) more)) (so.spells (next ∷ more) (is.spells more spells));
+  lexes = λ more lexes. subst (Lexes false 0 text) (sym (ap (λ read. read ++ more) pushed ∙ append_assoc read (next ∷ []) more)) (so.lexes (next ∷ more) (is.lexes more lexes));
   fails = λ fault fails. so.fails fault (is.fails fault fails);
 }
 
-pub all_read : (text : List ℕ) (read : List Token) (lexer : Lexer) → HasRead text read lexer → SpellsOn lexer [] → Spells false 0 text read
-all_read text read lexer so spells = subst (Spells false 0 text) (append-nil read) (so.spells [] spells)
+pub all_read : (text : List ℕ) (read : List Token) (lexer : Lexer) → HasRead text read lexer → LexesOn lexer [] → Lexes false 0 text read
+all_read text read lexer so lexes = subst (Lexes false 0 text) (append-nil read) (so.lexes [] lexes)
 
 pub fault_read : (text : List ℕ) (read : List Token) (lexer : Lexer) (fault : LexError) → HasRead text read lexer → (fault ≡ Memory) ⊎ FailsOn lexer fault
-    → (fault ≡ Memory) ⊎ Fails false 0 text fault
+    → (fault ≡ Memory) ⊎ HasFirstFault false 0 text fault
 fault_read text read lexer fault so (inl memory) = inl memory
 fault_read text read lexer fault so (inr fails) = inr (so.fails fault fails)
 
@@ -138,10 +138,10 @@ fault_read text read lexer fault so (inr fails) = inr (so.fails fault fails)
 pub token_taken : (old new : Lexer) (is : Kind) (span : Span) → IsTokenRead old.end old.joined old.cursor (token_with is span new.buffer) new.cursor → new.end ≡ old.end
     → new.joined ≡ joins (with_characters is new.buffer) → IsToken old new (token_with is span new.buffer)
 token_taken old new is span read same joined = record {
-  spells = λ more spells. read.0.spells more (subst (λ end. Spells (joins (with_characters is new.buffer)) (end - bytes new.cursor) new.cursor more) same
-      (subst (λ joined. Spells joined (new.end - bytes new.cursor) new.cursor more) joined spells));
-  fails = λ fault fails. read.0.fails fault (subst (λ end. Fails (joins (with_characters is new.buffer)) (end - bytes new.cursor) new.cursor fault) same
-      (subst (λ joined. Fails joined (new.end - bytes new.cursor) new.cursor fault) joined fails));
+  lexes = λ more lexes. read.0.lexes more (subst (λ end. Lexes (joins (with_characters is new.buffer)) (end - bytes new.cursor) new.cursor more) same
+      (subst (λ joined. Lexes joined (new.end - bytes new.cursor) new.cursor more) joined lexes));
+  fails = λ fault fails. read.0.fails fault (subst (λ end. HasFirstFault (joins (with_characters is new.buffer)) (end - bytes new.cursor) new.cursor fault) same
+      (subst (λ joined. HasFirstFault joined (new.end - bytes new.cursor) new.cursor fault) joined fails));
   shorter = read.1;
   sound = read.2;
 }

@@ -7,8 +7,8 @@ use Rattle.cd_syntax.specs.declared.tokens.TokenKind.TheVariants as token
 use Rattle.cd_syntax.specs.declared.tokens.LexError.{LexError}
 use Rattle.cd_syntax.specs.declared.tokens.LexError.TheVariants.{Memory}
 use Rattle.cd_syntax.specs.Name.{Name, IsLabel, is_word}
-use Rattle.cd_syntax.specs.Tokens.{Spells, bytes}
-use Rattle.cd_syntax.specs.Faults.{Fails}
+use Rattle.cd_syntax.specs.Tokens.{Lexes, bytes}
+use Rattle.cd_syntax.specs.Faults.{HasFirstFault}
 use Rattle.cd_lex.specs.declared.lexer.Kind.{Kind}
 use Rattle.cd_lex.specs.declared.lexer.Kind.TheVariants as kind
 use Rattle.cd_lex.specs.declared.lexer.Lexeme.{Lexeme}
@@ -31,11 +31,11 @@ abbrev pub spelled : Lexer → List ℕ
 spelled lexer = lexer.buffer
 
 -- what is left spells these tokens, and has this first fault
-abbrev pub SpellsOn : Lexer → List Token → Type 0
-SpellsOn lexer tokens = Spells (is_joined lexer) (place lexer) (left lexer) tokens
+abbrev pub LexesOn : Lexer → List Token → Type 0
+LexesOn lexer tokens = Lexes (is_joined lexer) (place lexer) (left lexer) tokens
 
 abbrev pub FailsOn : Lexer → LexError → Type 0
-FailsOn lexer fault = Fails (is_joined lexer) (place lexer) (left lexer) fault
+FailsOn lexer fault = HasFirstFault (is_joined lexer) (place lexer) (left lexer) fault
 
 -- a token of this kind with these characters
 abbrev pub with_characters : Kind → Name → TokenKind
@@ -57,12 +57,12 @@ IsSoundKind _ = Unit {0}
 
 -- the token stands before what is left now
 pub record IsToken (old new : Lexer) (next : Token) : Type 0 where
-  pub spells : (more : List Token) → SpellsOn new more → SpellsOn old (next ∷ more)
+  pub lexes : (more : List Token) → LexesOn new more → LexesOn old (next ∷ more)
   pub fails : (fault : LexError) → FailsOn new fault → FailsOn old fault
   pub shorter : length (left new) < length (left old)
   pub sound : IsSoundKind next.kind
 
 abbrev pub IsNext : (old : Lexer) → Lexeme → (new : Lexer) → Type 0
 IsNext old (AToken is span) new = IsToken old new (token_with is span (spelled new))
-IsNext old End new = SpellsOn old []
+IsNext old End new = LexesOn old []
 IsNext old (Fault fault) new = (fault ≡ Memory) ⊎ FailsOn old fault

@@ -97,9 +97,9 @@ impl<'t> Cursor<'t> {
         ensures rest { self.new ≡ after (belongs run) self.old }
         ensures ends { EndsRun run self.new }
     {
-        let (front, rest) = split(self.rest, run);
+        let (prefix, rest) = split(self.rest, run);
         self.rest = rest;
-        front
+        prefix
     }
 }
 
@@ -136,7 +136,7 @@ fn without<'t>(text: &'t str, c: char) -> Option<&'t str>
 #[inline(always)]
 fn split<'t>(text: &'t str, run: Run) -> (&'t str, &'t str)
     requires { HasAsciiQuote run }
-    ensures front { chars result.0.now ≡ take_while (belongs run) (chars text.now) }
+    ensures prefix { chars result.0.now ≡ take_while (belongs run) (chars text.now) }
     ensures rest { chars result.1.now ≡ after (belongs run) (chars text.now) }
 {
     text.split_at(run.length(text.as_bytes()))

@@ -2,32 +2,32 @@
 ghost use Rattle.std.specs.Prelude.{◌≡◌, ◌⊎◌, ℕ, List, false};
 ghost use Rattle.cd_syntax.specs.declared.tokens.Token.{Token};
 ghost use Rattle.cd_syntax.specs.declared.tokens.LexError.{LexError};
-ghost use Rattle.cd_syntax.specs.Tokens.{Spells};
-ghost use Rattle.cd_syntax.specs.Faults.{Fails};
+ghost use Rattle.cd_syntax.specs.Tokens.{Lexes};
+ghost use Rattle.cd_syntax.specs.Faults.{HasFirstFault};
 ghost use Rattle.cd_lex.specs.Spans.{AreInOrder, AreSlices};
 
 /// A text spells one list of tokens at most and has one first fault at most, and never both.
 pub fn reading_is_one()
-    ensures tokens { (text : List ℕ) (first second : List Token) → Spells false 0 text first
-        → Spells false 0 text second → first ≡ second }
-    ensures fault { (text : List ℕ) (first second : LexError) → Fails false 0 text first
-        → Fails false 0 text second → first ≡ second }
+    ensures tokens { (text : List ℕ) (first second : List Token) → Lexes false 0 text first
+        → Lexes false 0 text second → first ≡ second }
+    ensures fault { (text : List ℕ) (first second : LexError) → HasFirstFault false 0 text first
+        → HasFirstFault false 0 text second → first ≡ second }
     ensures not_both { (text : List ℕ) (tokens : List Token) (fault : LexError)
-        → Spells false 0 text tokens → Fails false 0 text fault → ⊥ }
+        → Lexes false 0 text tokens → HasFirstFault false 0 text fault → ⊥ }
 {}
 
 /// Each text spells tokens or has a first fault.
 pub fn reading_is_decided()
     ensures { (text : List ℕ)
-        → ((tokens : List Token) × Spells false 0 text tokens)
-        ⊎ ((fault : LexError) × Fails false 0 text fault) }
+        → ((tokens : List Token) × Lexes false 0 text tokens)
+        ⊎ ((fault : LexError) × HasFirstFault false 0 text fault) }
 {}
 
 /// The tokens of a text stand in it in their order, and each is what the characters of its span
 /// write.
 pub fn tokens_stand_in_order()
-    ensures order { (text : List ℕ) (tokens : List Token) → Spells false 0 text tokens
+    ensures order { (text : List ℕ) (tokens : List Token) → Lexes false 0 text tokens
         → AreInOrder 0 tokens }
-    ensures slices { (text : List ℕ) (tokens : List Token) → Spells false 0 text tokens
+    ensures slices { (text : List ℕ) (tokens : List Token) → Lexes false 0 text tokens
         → AreSlices text tokens }
 {}

@@ -1,7 +1,7 @@
 ghost use Rattle.std.specs.Prelude.{◌≡◌, false, ◌⊎◌, [], ◌∷◌, ◌++◌, IfOk, IfErr, OnOk};
 ghost use Rattle.std.specs.Str.{chars};
-ghost use Rattle.cd_syntax.specs.Tokens.{Spells};
-ghost use Rattle.cd_syntax.specs.Faults.{Fails};
+ghost use Rattle.cd_syntax.specs.Tokens.{Lexes};
+ghost use Rattle.cd_syntax.specs.Faults.{HasFirstFault};
 ghost use Rattle.cd_syntax.specs.declared.tokens.LexError.TheVariants.{Memory};
 ghost use Rattle.cd_lex.specs.Lexing.{with_characters};
 
@@ -16,9 +16,9 @@ use std::alloc::{AllocError, Global};
 ///
 /// The first fault of the text, or want of memory.
 pub fn lex(alloc: Global, text: &str) -> Result<Vec<Token>, LexError>
-    ensures tokens { IfOk result (λ tokens. Spells false 0 (chars text.now) tokens.items) }
+    ensures tokens { IfOk result (λ tokens. Lexes false 0 (chars text.now) tokens.items) }
     ensures fault { IfErr result
-        (λ error. (error ≡ Memory) ⊎ Fails false 0 (chars text.now) error) }
+        (λ error. (error ≡ Memory) ⊎ HasFirstFault false 0 (chars text.now) error) }
 {
     let mut lexer = Lexer::new(alloc, text);
     let mut tokens = Vec::new(alloc);

@@ -9,7 +9,7 @@ use crate::buffer::Buffer;
 use crate::cursor::Cursor;
 use crate::lexer::{Kind, Lexeme};
 use crate::number::take_small;
-use crate::piece::{Piece, front};
+use crate::piece::{Piece, prefix};
 use crate::quoted::take_plain;
 use crate::run::Run;
 use crate::signs::{closes, take_sign};
@@ -59,7 +59,7 @@ pub(crate) fn read_lexeme<'t>(
         let Some(c) = cursor.take() else {
             return Lexeme::End;
         };
-        let piece = match front(cursor, buffer, joined, c, from, end) {
+        let piece = match prefix(cursor, buffer, joined, c, from, end) {
             Ok(piece) => piece,
             Err(error) => return Lexeme::Fault(error),
         };

@@ -4,7 +4,7 @@ ghost use Rattle.std.specs.Char.{is_ascii_digit};
 ghost use Rattle.cd_syntax.specs.Name.{begins_word};
 ghost use Rattle.cd_syntax.specs.Tokens.{is_blank, bytes as bytes_of};
 ghost use Rattle.cd_syntax.specs.Faults.{is_other};
-ghost use Rattle.cd_lex.specs.Inner.Standing.{BeginsWithNoSign, Stands, FaultAtFront};
+ghost use Rattle.cd_lex.specs.Inner.Standing.{BeginsWithNoSign, Stands, IsErrorHere};
 ghost use Rattle.cd_lex.specs.declared.lexer.Kind.TheVariants.{Text, Chars};
 
 use crate::buffer::Buffer;
@@ -31,7 +31,7 @@ pub(crate) enum Piece {
 /// blank, no word, and no sign but one that begins with `(` or `-`. The text begins at this byte of
 /// one that ends at that byte. It is joined where the token before it ends right here and keeps a
 /// `-` from being the sign of a number.
-pub(crate) fn front<'t>(
+pub(crate) fn prefix<'t>(
     cursor: &mut Cursor<'t>,
     buffer: &mut Buffer<'t>,
     joined: bool,
@@ -46,7 +46,7 @@ pub(crate) fn front<'t>(
     requires fits { bytes_of (c ∷ cursor.old) ≤ end }
     ensures piece { IfOk result
         (λ piece. Stands joined (c ∷ cursor.old) piece cursor.new buffer.new) }
-    ensures fault { IfErr result (λ error. FaultAtFront joined at (c ∷ cursor.old) error) }
+    ensures fault { IfErr result (λ error. IsErrorHere joined at (c ∷ cursor.old) error) }
 {
     match c {
         _ if c.is_ascii_digit() => number(cursor, false, c, at),
@@ -66,8 +66,8 @@ fn number(cursor: &mut Cursor<'_>, negative: bool, c: char, at: usize) -> Result
         → Stands joined (c ∷ cursor.old) piece cursor.new characters)
         × (negative ≡ true → Stands false (45 ∷ c ∷ cursor.old) piece cursor.new characters)) }
     ensures fault { IfErr result (λ error.
-        ((joined : Bool) → negative ≡ false → FaultAtFront joined at (c ∷ cursor.old) error)
-        × (negative ≡ true → FaultAtFront false at (45 ∷ c ∷ cursor.old) error)) }
+        ((joined : Bool) → negative ≡ false → IsErrorHere joined at (c ∷ cursor.old) error)
+        × (negative ≡ true → IsErrorHere false at (45 ∷ c ∷ cursor.old) error)) }
 {
     match read_number(cursor, negative, c) {
         Some(value) => Ok(Piece::Token(Kind::Int(value))),
@@ -89,7 +89,7 @@ fn quoted<'t>(
     ensures piece { IfOk result (λ piece. (joined : Bool)
         → Stands joined (quote ∷ cursor.old) piece cursor.new buffer.new) }
     ensures fault { IfErr result
-        (λ error. (joined : Bool) → FaultAtFront joined at (quote ∷ cursor.old) error) }
+        (λ error. (joined : Bool) → IsErrorHere joined at (quote ∷ cursor.old) error) }
 {
     match read_quoted(cursor, buffer, quote)? {
         Quoted::Closed => Ok(Piece::Token(quoted_kind(quote))),
@@ -114,7 +114,7 @@ fn atom<'t>(cursor: &mut Cursor<'t>, buffer: &mut Buffer<'t>, at: usize) -> Resu
     ensures piece { IfOk result (λ piece. (joined : Bool)
         → Stands joined (96 ∷ cursor.old) piece cursor.new buffer.new) }
     ensures fault { IfErr result
-        (λ error. (joined : Bool) → FaultAtFront joined at (96 ∷ cursor.old) error) }
+        (λ error. (joined : Bool) → IsErrorHere joined at (96 ∷ cursor.old) error) }
 {
     match take_word(cursor) {
         Some(word) if !is_underscore(word) => {
@@ -130,7 +130,7 @@ fn parenthesis(cursor: &mut Cursor<'_>, at: usize) -> Result<Piece, LexError>
     ensures piece { IfOk result (λ piece. (joined : Bool) (characters : List ℕ)
         → Stands joined (40 ∷ cursor.old) piece cursor.new characters) }
     ensures fault { IfErr result
-        (λ error. (joined : Bool) → FaultAtFront joined at (40 ∷ cursor.old) error) }
+        (λ error. (joined : Bool) → IsErrorHere joined at (40 ∷ cursor.old) error) }
 {
     if !cursor.take_this('*') {
         return Ok(Piece::Token(Kind::Sign(Sign::OpenParenthesis)));
@@ -145,7 +145,7 @@ fn parenthesis(cursor: &mut Cursor<'_>, at: usize) -> Result<Piece, LexError>
 fn minus(cursor: &mut Cursor<'_>, joined: bool, at: usize) -> Result<Piece, LexError>
     ensures piece { IfOk result (λ piece. (characters : List ℕ)
         → Stands joined (45 ∷ cursor.old) piece cursor.new characters) }
-    ensures fault { IfErr result (λ error. FaultAtFront joined at (45 ∷ cursor.old) error) }
+    ensures fault { IfErr result (λ error. IsErrorHere joined at (45 ∷ cursor.old) error) }
 {
     if joined {
         return Ok(Piece::Token(Kind::Sign(after_minus(cursor))));
@@ -163,7 +163,7 @@ fn no_token(cursor: &Cursor<'_>, c: char, at: usize) -> LexError
     requires parenthesis { c ≡ 40 → ⊥ }
     requires minus { c ≡ 45 → ⊥ }
     requires sign { BeginsWithNoSign (c ∷ cursor.now) }
-    ensures { (joined : Bool) → FaultAtFront joined at (c ∷ cursor.now) result }
+    ensures { (joined : Bool) → IsErrorHere joined at (c ∷ cursor.now) result }
 {
     LexError::BadChar(at)
 }

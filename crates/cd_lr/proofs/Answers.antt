@@ -15,8 +15,8 @@ use Rattle.cd_lr.proofs.Faults as faults
 record Place {Token : Type 0} (tokens read : List Token) (t : Token) (index : ℕ) : Type 0 where
   number : length read ≡ index
   small : index < length tokens
-  front : take index tokens ≡ read
-  front_with : take (suc index) tokens ≡ read ++ t ∷ []
+  prefix : take index tokens ≡ read
+  prefix_with : take (suc index) tokens ≡ read ++ t ∷ []
 
 place_of : {Token : Type 0} (tokens read rest : List Token) (t : Token) (later : List Token) (index : ℕ)
     → tokens ≡ read ++ rest → rest ≡ t ∷ later → rest ≡ drop index tokens → Place tokens read t index
@@ -30,9 +30,9 @@ place_of {Token = Token} tokens read rest t later index all last place =
     record {
       number = number;
       small = omega (arith, one, number);
-      front = ap (λ n. take n tokens) (sym number) ∙ ap (take (length read)) same
+      prefix = ap (λ n. take n tokens) (sym number) ∙ ap (take (length read)) same
           ∙ take-append_seam read (t ∷ later);
-      front_with = ap (λ n. take n tokens) next ∙ ap (take (length read + 1)) same
+      prefix_with = ap (λ n. take n tokens) next ∙ ap (take (length read + 1)) same
           ∙ take-append-add read (t ∷ later) 1;
     }
 
@@ -62,8 +62,8 @@ module _ {Token Value : Type 0} (g : Grammar Token Value) (m : Automaton) (Has S
           (faults.unfinished g m Sure First full most tokens c comes is last)
       by (t ∷ later) last read all begins =
           let there = place_of tokens read c.rest t later index all last place in
-          wrong index there.small (subst (Begin g most most) (sym there.front) begins)
-          (λ depth. subst (BeginNone g most depth) (sym there.front_with)
+          wrong index there.small (subst (Begin g most most) (sym there.prefix) begins)
+          (λ depth. subst (BeginNone g most depth) (sym there.prefix_with)
           (faults.wrong g m Sure First full most tokens read later t c comes is last all depth))
 
   -- where there is no room, a token was to be shifted
@@ -95,7 +95,7 @@ module _ {Token Value : Type 0} (g : Grammar Token Value) (m : Automaton) (Has S
       let (depth, begins) =
       faults.deeper_begins g m Has rank safe most c.stack right.read right.stands t opens next shifts in
       too_deep index there.small
-      (subst (Begin g most most) (sym there.front) (begun g m Has rank safe most c.stack right.read right.stands))
-      (depth, subst (Begin g most depth) (sym there.front_with) begins)
-      (subst (BeginNone g most most) (sym there.front_with)
+      (subst (Begin g most most) (sym there.prefix) (begun g m Has rank safe most c.stack right.read right.stands))
+      (depth, subst (Begin g most depth) (sym there.prefix_with) begins)
+      (subst (BeginNone g most most) (sym there.prefix_with)
       (faults.too_deep g m Sure First full most tokens right.read later t c comes is last right.all))

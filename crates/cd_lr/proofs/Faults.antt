@@ -40,7 +40,7 @@ module _ {Token Value : Type 0} (g : Grammar Token Value) (m : Automaton) (Sure 
       (both_begin t later others) (begin g m most tokens) c (begin g m depth ((read ++ t ∷ []) ++ others)) run.end v
       record {
         stacks = empty;
-        front = read;
+        prefix = read;
         left = all ∙ ap (λ rest. read ++ rest) last;
         right = append_assoc read (t ∷ []) others;
       }
@@ -57,7 +57,7 @@ module _ {Token Value : Type 0} (g : Grammar Token Value) (m : Automaton) (Sure 
       (begin g m most tokens) c (begin g m most ((read ++ t ∷ []) ++ others)) run.end v
       record {
         stacks = empty;
-        front = read;
+        prefix = read;
         left = all ∙ ap (λ rest. read ++ rest) last;
         right = append_assoc read (t ∷ []) others;
       }
@@ -70,5 +70,5 @@ module _ {Token Value : Type 0} (g : Grammar Token Value) (m : Automaton) (Sure 
       let run = complete g m Sure First full depth tokens v whole in
       none_past_wrong g m (λ room other. Unit {0}) (λ room other opens fit. tt) most depth tt [] [] both_end
       (begin g m most tokens) c (begin g m depth tokens) run.end v
-      record { stacks = empty; front = tokens; left = sym (append-nil tokens); right = sym (append-nil tokens) }
+      record { stacks = empty; prefix = tokens; left = sym (append-nil tokens); right = sym (append-nil tokens) }
       comes last is run.comes run.ends

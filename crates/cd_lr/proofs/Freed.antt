@@ -13,21 +13,21 @@ pub data Each {Token : Type 0} (Is : Token → Token → Type 0) : List Token �
 module _ {Token : Type 0} (Is : Token → Token → Type 0) where
   -- a list that is related to two lists, one after the other, is in two parts
   pub record Parted (first second us : List Token) : Type 0 where
-    pub front : List Token
+    pub prefix : List Token
     pub back : List Token
-    pub same : us ≡ front ++ back
-    pub of_first : Each Is first front
+    pub same : us ≡ prefix ++ back
+    pub of_first : Each Is first prefix
     pub of_second : Each Is second back
 
   pub parted : (first second us : List Token) → Each Is (first ++ second) us → Parted first second us
-  parted [] second us each = record { front = []; back = us; same = refl; of_first = none; of_second = each }
+  parted [] second us each = record { prefix = []; back = us; same = refl; of_first = none; of_second = each }
   parted (t ∷ first) second _ (more _ u _ us is each) =
       let on = parted first second us each in
       record {
-        front = u ∷ on.front;
+        prefix = u ∷ on.prefix;
         back = on.back;
         same = ap (λ all. u ∷ all) on.same;
-        of_first = more t u first on.front is on.of_first;
+        of_first = more t u first on.prefix is on.of_first;
         of_second = on.of_second;
       }
 
@@ -80,7 +80,7 @@ module _ {Token Value : Type 0} (g : Grammar Token Value) where
     freed_row _ _ _ us _ (next depth x rest a b v vs is row) each =
         let parts = parted Freer a b us each in
         subst (λ all. Row g depth (x ∷ rest) all (v ∷ vs)) (sym parts.same)
-        (next depth x rest parts.front parts.back v vs (freed depth x a parts.front v is parts.of_first)
+        (next depth x rest parts.prefix parts.back v vs (freed depth x a parts.prefix v is parts.of_first)
         (freed_row (within g depth x) rest b parts.back vs row parts.of_second))
 
   -- a symbol derives the tokens from some depth on
@@ -111,11 +111,11 @@ module _ {Token Value : Type 0} (g : Grammar Token Value) where
     deep_row _ _ _ _ _ (nothing depth) none = record { least = zero; derives = λ depth less. nothing depth }
     deep_row _ _ _ us _ (next depth x rest a b v vs is row) each =
         let parts = parted Alike a b us each in
-        let first = deep depth x a parts.front v is parts.of_first in
+        let first = deep depth x a parts.prefix v is parts.of_first in
         let others = deep_row (within g depth x) rest b parts.back vs row parts.of_second in
         record {
           least = first.least + (others.least + levels x);
           derives = λ depth less. subst (λ all. Row g depth (x ∷ rest) all (v ∷ vs)) (sym parts.same)
-              (next depth x rest parts.front parts.back v vs (first.derives depth (omega (arith, less)))
+              (next depth x rest parts.prefix parts.back v vs (first.derives depth (omega (arith, less)))
               (others.derives (within g depth x) (room_within g others.least depth x (omega (arith, less)))));
         }

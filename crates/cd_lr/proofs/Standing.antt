@@ -15,10 +15,10 @@ module _ {Token Value : Type 0} (g : Grammar Token Value) (m : Automaton) (Has :
   -- the parts of a rule that stand on the stack
   pub record Popped (p : ℕ) (all : List Symbol) (tokens : List Token)
       (found : List Value × List (Cell Value)) : Type 0 where
-    pub front : List Token
+    pub prefix : List Token
     pub back : List Token
-    pub same : tokens ≡ front ++ back
-    pub stands : Stands found.1 front
+    pub same : tokens ≡ prefix ++ back
+    pub stands : Stands found.1 prefix
     pub row : Row g (room_of most found.1) all back found.0
     pub terminal : ℕ
     pub has : Has (state_of found.1) p [] all terminal
@@ -28,7 +28,7 @@ module _ {Token Value : Type 0} (g : Grammar Token Value) (m : Automaton) (Has :
       → (more : List Token) (values : List Value) → Row g (room_of most stack) after more values
       → Popped p (both before after) (tokens ++ more) (popped (length before) values stack)
   pops [] after p a stack tokens stands has more values row =
-      record { front = tokens; back = more; same = refl; stands = stands; row = row; terminal = a; has = has }
+      record { prefix = tokens; back = more; same = refl; stands = stands; row = row; terminal = a; has = has }
   pops (x ∷ before) after p a _ _ bottom has more values row = absurd (safe.first_state p x before after a has)
   pops (x ∷ before) after p a _ _ (above stack tokens read y state v stands leads is) has more values row =
       let was = safe.back (state_of stack) state p x y before after a leads has in
@@ -69,5 +69,5 @@ module _ {Token Value : Type 0} (g : Grammar Token Value) (m : Automaton) (Has :
       with_parts p q is found tokens parts =
           let goes = wanted (state_of found.1) p q is (g.right p) parts.terminal parts.has in
           subst (Stands (pushed g m most p found)) (sym parts.same)
-          (above found.1 parts.front parts.back (Nonterminal (g.left p)) (m.goto (state_of found.1) (g.left p))
+          (above found.1 parts.prefix parts.back (Nonterminal (g.left p)) (m.goto (state_of found.1) (g.left p))
           (g.build p found.0) parts.stands (refl, goes) (made (room_of most found.1) p parts.back found.0 parts.row))

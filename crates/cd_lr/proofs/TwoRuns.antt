@@ -147,9 +147,9 @@ module _ {Token Value : Type 0} (g : Grammar Token Value) (m : Automaton) (Fit :
     -- the configurations before so many tokens, and then these
     pub record Same (c d : Config Token Value) : Type 0 where
       pub stacks : Alike Fit c.stack d.stack
-      pub front : List Token
-      pub left : c.rest ≡ front ++ later
-      pub right : d.rest ≡ front ++ others
+      pub prefix : List Token
+      pub left : c.rest ≡ prefix ++ later
+      pub right : d.rest ≡ prefix ++ others
 
     -- the other run goes on alike, unless it has no room
     abbrev Follows : Config Token Value → Next Token Value → Type 0
@@ -158,67 +158,67 @@ module _ {Token Value : Type 0} (g : Grammar Token Value) (m : Automaton) (Fit :
     Follows c _ = ⊥
 
     follow_shifted : (fit fit' : Bool) (opens state : ℕ) (one : Token) (stack stack' : List (Cell Value))
-        (front : List Token) (d : Config Token Value) → Alike Fit stack stack'
-        → shifted g m most fit opens state one stack (front ++ later) ≡ On d
-        → Follows d (shifted g m other fit' opens state one stack' (front ++ others))
-    follow_shifted true true opens state one stack stack' front d alike is =
+        (prefix : List Token) (d : Config Token Value) → Alike Fit stack stack'
+        → shifted g m most fit opens state one stack (prefix ++ later) ≡ On d
+        → Follows d (shifted g m other fit' opens state one stack' (prefix ++ others))
+    follow_shifted true true opens state one stack stack' prefix d alike is =
         let top : Cell Value = record { state = state; room = room_of most stack - opens; value = g.value one } in
-        let same : record { stack = top ∷ stack; rest = front ++ later } ≡ d = cc in
-        subst (λ c. Follows c (shifted g m other true opens state one stack' (front ++ others))) same record {
+        let same : record { stack = top ∷ stack; rest = prefix ++ later } ≡ d = cc in
+        subst (λ c. Follows c (shifted g m other true opens state one stack' (prefix ++ others))) same record {
           stacks = both_have state (room_of most stack - opens) (room_of other stack' - opens) (g.value one) stack
               stack' (kept_fit (room_of most stack) (room_of other stack') opens (rooms_fit stack stack' alike)) alike;
-          front = front;
+          prefix = prefix;
           left = refl;
           right = refl;
         }
-    follow_shifted true false opens state one stack stack' front d alike is = tt
-    follow_shifted false fit' opens state one stack stack' front d alike is = absurd cc
+    follow_shifted true false opens state one stack stack' prefix d alike is = tt
+    follow_shifted false fit' opens state one stack stack' prefix d alike is = absurd cc
 
-    follow_act : (action : Action) (stack stack' : List (Cell Value)) (front : List Token) (d : Config Token Value)
-        → Alike Fit stack stack' → act g m most action stack (front ++ later) ≡ On d → length later ≤ length d.rest
-        → Follows d (act g m other action stack' (front ++ others))
+    follow_act : (action : Action) (stack stack' : List (Cell Value)) (prefix : List Token) (d : Config Token Value)
+        → Alike Fit stack stack' → act g m most action stack (prefix ++ later) ≡ On d → length later ≤ length d.rest
+        → Follows d (act g m other action stack' (prefix ++ others))
     follow_act (Shift opens state) stack stack' [] d alike is long =
         let less = after_shift opens state stack later d is in absurd (omega (arith, less, long))
-    follow_act (Shift opens state) stack stack' (one ∷ front) d alike is long =
+    follow_act (Shift opens state) stack stack' (one ∷ prefix) d alike is long =
         follow_shifted (fits (g.free one) opens (room_of most stack)) (fits (g.free one) opens (room_of other stack'))
-        opens state one stack stack' front d alike is
-    follow_act (Reduce p) stack stack' front d alike is long =
+        opens state one stack stack' prefix d alike is
+    follow_act (Reduce p) stack stack' prefix d alike is long =
         let found = popped (length (g.right p)) [] stack in
         let found' = popped (length (g.right p)) [] stack' in
-        let same : record { stack = pushed g m most p found; rest = front ++ later } ≡ d = cc in
+        let same : record { stack = pushed g m most p found; rest = prefix ++ later } ≡ d = cc in
         let both = popped_alike Fit (length (g.right p)) [] stack stack' alike in
-        subst (λ c. Follows c (act g m other (Reduce p) stack' (front ++ others))) same record {
+        subst (λ c. Follows c (act g m other (Reduce p) stack' (prefix ++ others))) same record {
           stacks = pushed_alike p found found' both.0 both.1;
-          front = front;
+          prefix = prefix;
           left = refl;
           right = refl;
         }
-    follow_act Accept stack stack' front d alike is long = absurd (done_goes_not_on stack d is)
-    follow_act Refuse stack stack' front d alike is long = absurd cc
+    follow_act Accept stack stack' prefix d alike is long = absurd (done_goes_not_on stack d is)
+    follow_act Refuse stack stack' prefix d alike is long = absurd cc
 
-    heads_after : (front : List Token) → SameHeads (front ++ later) (front ++ others)
+    heads_after : (prefix : List Token) → SameHeads (prefix ++ later) (prefix ++ others)
     heads_after [] = heads
-    heads_after (one ∷ front) = both_begin one (front ++ later) (front ++ others)
+    heads_after (one ∷ prefix) = both_begin one (prefix ++ later) (prefix ++ others)
 
     abbrev action_of : Config Token Value → Action
     action_of c = m.action (state_of c.stack) (look g m most c.rest)
 
     -- what the other run does is what it does with the action of this one
     as_here : (c d : Config Token Value) (same : Same c d)
-        → step g m other d ≡ act g m other (action_of c) d.stack (same.front ++ others)
+        → step g m other d ≡ act g m other (action_of c) d.stack (same.prefix ++ others)
     as_here c d same =
-        let heads = heads_after same.front in
+        let heads = heads_after same.prefix in
         ap (λ rest. act g m other (m.action (state_of d.stack) (look g m other rest)) d.stack rest) same.right
-        ∙ ap (λ k. act g m other (m.action (state_of d.stack) k) d.stack (same.front ++ others))
-        (sym (ap (look g m most) same.left ∙ same_look (same.front ++ later) (same.front ++ others) heads))
-        ∙ ap (λ state. act g m other (m.action state (look g m most c.rest)) d.stack (same.front ++ others))
+        ∙ ap (λ k. act g m other (m.action (state_of d.stack) k) d.stack (same.prefix ++ others))
+        (sym (ap (look g m most) same.left ∙ same_look (same.prefix ++ later) (same.prefix ++ others) heads))
+        ∙ ap (λ state. act g m other (m.action state (look g m most c.rest)) d.stack (same.prefix ++ others))
         (sym (same_state Fit c.stack d.stack same.stacks))
 
     follow : (c d e : Config Token Value) → Same c d → step g m most c ≡ On e → length later ≤ length e.rest
         → Follows e (step g m other d)
     follow c d e same is long =
         subst (Follows e) (sym (as_here c d same))
-        (follow_act (action_of c) c.stack d.stack same.front e same.stacks
+        (follow_act (action_of c) c.stack d.stack same.prefix e same.stacks
         (ap (act g m most (action_of c) c.stack) (sym same.left) ∙ is) long)
 
     -- it neither goes on nor ends
@@ -249,18 +249,18 @@ module _ {Token Value : Type 0} (g : Grammar Token Value) (m : Automaton) (Fit :
         goes _ f (on d d' f' is' more') ends follows again = again d' f (subst (Follows c') is' follows) more' ends
 
     -- with no token before these
-    no_front : (front : List Token) → front ++ later ≡ later → front ≡ []
-    no_front [] is = refl
-    no_front (one ∷ front) is =
-        let lengths : length (one ∷ front ++ later) ≡ length later = ap length is in
-        let parts = length-append front later in
+    no_prefix : (prefix : List Token) → prefix ++ later ≡ later → prefix ≡ []
+    no_prefix [] is = refl
+    no_prefix (one ∷ prefix) is =
+        let lengths : length (one ∷ prefix ++ later) ≡ length later = ap length is in
+        let parts = length-append prefix later in
         absurd (omega (arith, lengths, parts))
 
     at_stop : (e d : Config Token Value) → Same e d → e.rest ≡ later
         → step g m other d ≡ act g m other (action_of e) d.stack others
     at_stop e d same last =
-        let none = no_front same.front (sym same.left ∙ last) in
-        as_here e d same ∙ ap (λ front. act g m other (action_of e) d.stack (front ++ others)) none
+        let none = no_prefix same.prefix (sym same.left ∙ last) in
+        as_here e d same ∙ ap (λ prefix. act g m other (action_of e) d.stack (prefix ++ others)) none
 
     stops_here : (e : Config Token Value) → e.rest ≡ later → (next : Next Token Value) → step g m most e ≡ next
         → act g m most (action_of e) e.stack later ≡ next

@@ -11,7 +11,7 @@ use Rattle.cd_model.specs.AllOf.{AllOf}
 use Rattle.cd_model.specs.Thing as thing
 use Rattle.cd_model.specs.Thing.{Thing}
 use Rattle.cd_matching.specs.Captures.{Captures, just, or_else, both}
-use Rattle.cd_matching.specs.Naming.{IsNamed, AreNamedApart, AreNamedSame, AreNamedAs}
+use Rattle.cd_matching.specs.Naming.{IsNamed, AreNamedDisjoint, AreNamedSame, AreNamedAs}
 use Rattle.cd_matching.specs.Naming.{AreNamedFields, IsNamedRegular, AreNamedInTurn}
 use Rattle.cd_matching.specs.Naming.{AreNamedEither, AreNamedLike}
 use Rattle.cd_matching.specs.Pattern as pattern
@@ -275,7 +275,7 @@ module _ (name : Name) where
       has_all (pattern.Sequence r) named h d = has_items (is_gathered r) (is_plain r name)
           (ways T test r) (gathered_or_plain r name h) (all_plain r named.2) (items d)
 
-      both_have : (all : Patterns T) → AreNamedApart all → all_bind all name ≡ true
+      both_have : (all : Patterns T) → AreNamedDisjoint all → all_bind all name ≡ true
           → HasAll (take_all T test all)
       both_have NoPattern named h d = absurd (true≢false (sym h))
       both_have (APattern p all) named h d = has_both (binds p name) (all_bind all name)

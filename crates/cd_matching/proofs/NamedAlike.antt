@@ -3,8 +3,8 @@ use Rattle.std.proofs.Common.{Bool, ◌||◌, List, [], ◌∷◌, sym, ap, subs
 use Rattle.std.specs.List.{list_any}
 use Rattle.std.specs.Prelude.{bytes_eq}
 use Rattle.cd_syntax.specs.Name.{Name}
-use Rattle.cd_matching.specs.Naming.{AreApart, AreSame, GathersApart, GatherApart, FieldsApart}
-use Rattle.cd_matching.specs.Naming.{LabelsDiffer, IsNamed, AreNamedApart, AreNamedSame, AreNamedAs}
+use Rattle.cd_matching.specs.Naming.{AreDisjointNames, AreSame, GathersDisjoint, GatherDisjoint, FieldsDisjoint}
+use Rattle.cd_matching.specs.Naming.{LabelsDiffer, IsNamed, AreNamedDisjoint, AreNamedSame, AreNamedAs}
 use Rattle.cd_matching.specs.Naming.{AreNamedFields, IsNamedRegular, AreNamedInTurn}
 use Rattle.cd_matching.specs.Naming.{AreNamedEither, AreNamedLike}
 use Rattle.cd_matching.specs.Pattern as pattern
@@ -18,7 +18,7 @@ use Rattle.cd_matching.proofs.VariablesAlike.{either_of, bind_alike, all_alike, 
 use Rattle.cd_matching.proofs.VariablesAlike.{gathered_alike, plain_alike, plains_alike}
 use Rattle.cd_matching.proofs.VariablesAlike.{labels_alike}
 
-apart_same : (a b c d : Name → Bool) → AreSame a b → AreSame c d → AreApart b d → AreApart a c
+apart_same : (a b c d : Name → Bool) → AreSame a b → AreSame c d → AreDisjointNames b d → AreDisjointNames a c
 apart_same a b c d one other apart name h = other name ∙ apart name (sym (one name) ∙ h)
 
 same_same : (a b c d : Name → Bool) → AreSame a b → AreSame c d → AreSame b d → AreSame a c
@@ -27,7 +27,7 @@ same_same a b c d one other same name = one name ∙ same name ∙ sym (other na
 module _ {T U : Type 0} (Are : T → U → Type 0) where
   mutual
     around_alike : (around : List Name) (is : Regular T) (other : Regular U)
-        → AlikeRegular Are is other → GathersApart around other → GathersApart around is
+        → AlikeRegular Are is other → GathersDisjoint around other → GathersDisjoint around is
     around_alike around pattern.Nothing pattern.Nothing h apart = tt
     around_alike around (pattern.Item a) (pattern.Item b) h apart = tt
     around_alike around (pattern.Seq a) (pattern.Seq b) h apart = arounds_alike around a b h apart
@@ -37,12 +37,12 @@ module _ {T U : Type 0} (Are : T → U → Type 0) where
     around_alike around (pattern.Capture n a) (pattern.Capture m b) h apart = (
       ap (λ (k : Name). list_any (bytes_eq k) around) h.0 ∙ apart.0,
       around_alike (n ∷ around) a b h.1
-          (subst (λ (k : Name). GathersApart (k ∷ around) b) (sym h.0) apart.1),
+          (subst (λ (k : Name). GathersDisjoint (k ∷ around) b) (sym h.0) apart.1),
     )
     around_alike around _ _ h apart = absurd h
 
     arounds_alike : (around : List Name) (is : Regulars T) (other : Regulars U)
-        → AlikeRegulars Are is other → GatherApart around other → GatherApart around is
+        → AlikeRegulars Are is other → GatherDisjoint around other → GatherDisjoint around is
     arounds_alike around NoRegular NoRegular h apart = tt
     arounds_alike around (ARegular a b) (ARegular c d) h apart =
         (around_alike around a c h.0 apart.0, arounds_alike around b d h.1 apart.1)
@@ -63,8 +63,8 @@ module _ {T U : Type 0} (Are : T → U → Type 0) where
   )
   differ_alike _ _ h differ = absurd h
 
-  apart_alike : (is : Fields T) (other : Fields U) → AlikeFields Are is other → FieldsApart other
-      → FieldsApart is
+  apart_alike : (is : Fields T) (other : Fields U) → AlikeFields Are is other → FieldsDisjoint other
+      → FieldsDisjoint is
   apart_alike NoField NoField h apart = tt
   apart_alike (Present l a b) (Present m c d) h apart = (
     apart_same (binds a) (binds c) (fields_bind b) (fields_bind d) (bind_alike Are a c h.1)
@@ -110,7 +110,7 @@ module _ {T U : Type 0} (Are : T → U → Type 0) where
     named_alike _ _ h fine = absurd h
 
     both_named : (is : Patterns T) (other : Patterns U) → AlikeAll Are is other
-        → AreNamedApart other → AreNamedApart is
+        → AreNamedDisjoint other → AreNamedDisjoint is
     both_named NoPattern NoPattern h fine = tt
     both_named (APattern a b) (APattern c d) h fine = (
       apart_same (binds a) (binds c) (all_bind b) (all_bind d) (bind_alike Are a c h.0)

@@ -9,7 +9,7 @@ use Rattle.cd_model.specs.AllOf.{AllOf, AnyOf}
 use Rattle.cd_model.proofs.ByNumber.{all_got}
 use Rattle.cd_matching.specs.Examples.{Test, IsTest, greedy_kernel}
 use Rattle.cd_matching.specs.Kernel.{KernelNode, Put, leads_to, parts_of, variables_of, Ends, Binds}
-use Rattle.cd_matching.specs.Kernel.{itself, further, BindApart, IsSound}
+use Rattle.cd_matching.specs.Kernel.{itself, further, BindDisjoint, IsSound}
 use Rattle.cd_matching.proofs.NilIsElement.{nil_is_element}
 
 -- a fact of each number below the length of a list
@@ -179,7 +179,7 @@ two first second one other = (one, (other, tt))
 
 apart_of_two : (first second : ℕ)
     → ((variable : ℕ) → Binds nodes variable first → Binds nodes variable second → ⊥)
-    → BindApart nodes (first ∷ second ∷ [])
+    → BindDisjoint nodes (first ∷ second ∷ [])
 apart_of_two first second apart =
     (λ variable binds. (apart variable binds, tt), (λ variable binds. tt, tt))
 

@@ -82,11 +82,11 @@ pub data Binds {T : Type 0} (nodes : List (KernelNode T)) (variable : ℕ) : ℕ
       → Binds nodes variable next → Binds nodes variable number
 
 -- no variable is bound by two of these nodes
-abbrev pub BindApart : {T : Type 0} → List (KernelNode T) → List ℕ → Type 0
-BindApart nodes [] = Unit {0}
-BindApart nodes (number ∷ rest) =
+abbrev pub BindDisjoint : {T : Type 0} → List (KernelNode T) → List ℕ → Type 0
+BindDisjoint nodes [] = Unit {0}
+BindDisjoint nodes (number ∷ rest) =
     ((variable : ℕ) → Binds nodes variable number
-    → AllOf (λ other. Binds nodes variable other → ⊥) rest) × BindApart nodes rest
+    → AllOf (λ other. Binds nodes variable other → ⊥) rest) × BindDisjoint nodes rest
 
 -- what is asked of a node of a kernel with so many variables, whose types are such
 abbrev pub IsSoundNode : {T : Type 0} → List (KernelNode T) → (variables : ℕ) → (T → Type 0)
@@ -95,16 +95,16 @@ IsSoundNode nodes variables IsType (Test type) = IsType type
 IsSoundNode nodes variables IsType (Bind variable) = variable < variables
 IsSoundNode nodes variables IsType (Put variable constant) = (variable < variables)
     × IsElement (thing_of constant)
-IsSoundNode nodes variables IsType (Pair first second) = BindApart nodes (first ∷ second ∷ [])
+IsSoundNode nodes variables IsType (Pair first second) = BindDisjoint nodes (first ∷ second ∷ [])
 IsSoundNode nodes variables IsType (Xml tag attributes content) =
-    BindApart nodes (tag ∷ attributes ∷ content ∷ [])
+    BindDisjoint nodes (tag ∷ attributes ∷ content ∷ [])
 IsSoundNode nodes variables IsType (Record fields more) = AreRisingLabels None fields
-    × BindApart nodes (field_nodes fields) × AllOf IsType (optional_types fields)
-IsSoundNode nodes variables IsType (Both first second) = BindApart nodes (first ∷ second ∷ [])
+    × BindDisjoint nodes (field_nodes fields) × AllOf IsType (optional_types fields)
+IsSoundNode nodes variables IsType (Both first second) = BindDisjoint nodes (first ∷ second ∷ [])
 IsSoundNode nodes variables IsType (First first second) = (variable : ℕ)
     → Binds nodes variable first ↔ Binds nodes variable second
 IsSoundNode nodes variables IsType (Gather variable first second) = (variable < variables)
-    × BindApart nodes (first ∷ second ∷ []) × (Binds nodes variable first → ⊥)
+    × BindDisjoint nodes (first ∷ second ∷ []) × (Binds nodes variable first → ⊥)
     × Binds nodes variable second
 
 -- Each circle of nodes goes through Pair, Xml, Record or Gather: a way through Both and First alone

@@ -9,33 +9,34 @@ use Rattle.cd_matching.specs.Pattern.{Present, Optional, Regular, Regulars, NoRe
 use Rattle.cd_matching.specs.Variables.{binds, all_bind, fields_bind, is_gathered, is_plain}
 use Rattle.cd_matching.specs.Variables.{one_is_plain, names_label}
 
-abbrev pub AreApart : (one other : Name → Bool) → Type 0
-AreApart one other = (name : Name) → one name ≡ true → other name ≡ false
+abbrev pub AreDisjointNames : (one other : Name → Bool) → Type 0
+AreDisjointNames one other = (name : Name) → one name ≡ true → other name ≡ false
 
 abbrev pub AreSame : (one other : Name → Bool) → Type 0
 AreSame one other = (name : Name) → one name ≡ other name
 
 -- no variable gathers items inside of a part that it gathers
 abbrev mutual
-  pub GathersApart : {T : Type 0} → List Name → Regular T → Type 0
-  GathersApart around pattern.Nothing = Unit {0}
-  GathersApart around (pattern.Item is) = Unit {0}
-  GathersApart around (pattern.Seq all) = GatherApart around all
-  GathersApart around (pattern.Alt all) = GatherApart around all
-  GathersApart around (pattern.Repeat is post) = GathersApart around is
-  GathersApart around (pattern.Capture name is) = (list_any (bytes_eq name) around ≡ false)
-      × GathersApart (name ∷ around) is
+  pub GathersDisjoint : {T : Type 0} → List Name → Regular T → Type 0
+  GathersDisjoint around pattern.Nothing = Unit {0}
+  GathersDisjoint around (pattern.Item is) = Unit {0}
+  GathersDisjoint around (pattern.Seq all) = GatherDisjoint around all
+  GathersDisjoint around (pattern.Alt all) = GatherDisjoint around all
+  GathersDisjoint around (pattern.Repeat is post) = GathersDisjoint around is
+  GathersDisjoint around (pattern.Capture name is) = (list_any (bytes_eq name) around ≡ false)
+      × GathersDisjoint (name ∷ around) is
 
-  pub GatherApart : {T : Type 0} → List Name → Regulars T → Type 0
-  GatherApart around NoRegular = Unit {0}
-  GatherApart around (ARegular first rest) = GathersApart around first
-      × GatherApart around rest
+  pub GatherDisjoint : {T : Type 0} → List Name → Regulars T → Type 0
+  GatherDisjoint around NoRegular = Unit {0}
+  GatherDisjoint around (ARegular first rest) = GathersDisjoint around first
+      × GatherDisjoint around rest
 
 -- no variable stands in two fields
-abbrev pub FieldsApart : {T : Type 0} → Fields T → Type 0
-FieldsApart NoField = Unit {0}
-FieldsApart (Present label is rest) = AreApart (binds is) (fields_bind rest) × FieldsApart rest
-FieldsApart (Optional label type rest) = FieldsApart rest
+abbrev pub FieldsDisjoint : {T : Type 0} → Fields T → Type 0
+FieldsDisjoint NoField = Unit {0}
+FieldsDisjoint (Present label is rest) = AreDisjointNames (binds is) (fields_bind rest)
+    × FieldsDisjoint rest
+FieldsDisjoint (Optional label type rest) = FieldsDisjoint rest
 
 -- no label stands twice
 abbrev pub LabelsDiffer : {T : Type 0} → Fields T → Type 0
@@ -48,23 +49,26 @@ abbrev mutual
   IsNamed (pattern.OfType type) = Unit {0}
   IsNamed (pattern.Bind variable) = Unit {0}
   IsNamed (pattern.Default variable constant) = Unit {0}
-  IsNamed (pattern.Pair first second) = AreApart (binds first) (binds second) × IsNamed first
+  IsNamed (pattern.Pair first second) = AreDisjointNames (binds first) (binds second)
+      × IsNamed first
       × IsNamed second
   IsNamed (pattern.Xml tag attributes content) =
-      AreApart (binds tag) (λ name. binds attributes name || binds content name)
-      × AreApart (binds attributes) (binds content) × IsNamed tag × IsNamed attributes
+      AreDisjointNames (binds tag) (λ name. binds attributes name || binds content name)
+      × AreDisjointNames (binds attributes) (binds content) × IsNamed tag × IsNamed attributes
       × IsNamed content
-  IsNamed (pattern.Record fields more) = LabelsDiffer fields × FieldsApart fields
+  IsNamed (pattern.Record fields more) = LabelsDiffer fields × FieldsDisjoint fields
       × AreNamedFields fields
-  IsNamed (pattern.Both all) = AreNamedApart all
+  IsNamed (pattern.Both all) = AreNamedDisjoint all
   IsNamed (pattern.First all) = AreNamedSame all
-  IsNamed (pattern.Sequence r) = GathersApart [] r × AreApart (is_gathered r) (is_plain r)
+  IsNamed (pattern.Sequence r) = GathersDisjoint [] r
+      × AreDisjointNames (is_gathered r) (is_plain r)
       × IsNamedRegular r
 
-  pub AreNamedApart : {T : Type 0} → Patterns T → Type 0
-  AreNamedApart NoPattern = Unit {0}
-  AreNamedApart (APattern first rest) = AreApart (binds first) (all_bind rest) × IsNamed first
-      × AreNamedApart rest
+  pub AreNamedDisjoint : {T : Type 0} → Patterns T → Type 0
+  AreNamedDisjoint NoPattern = Unit {0}
+  AreNamedDisjoint (APattern first rest) = AreDisjointNames (binds first) (all_bind rest)
+      × IsNamed first
+      × AreNamedDisjoint rest
 
   -- each as the first one
   pub AreNamedSame : {T : Type 0} → Patterns T → Type 0
@@ -92,7 +96,7 @@ abbrev mutual
 
   pub AreNamedInTurn : {T : Type 0} → Regulars T → Type 0
   AreNamedInTurn NoRegular = Unit {0}
-  AreNamedInTurn (ARegular first rest) = AreApart (is_plain first) (one_is_plain rest)
+  AreNamedInTurn (ARegular first rest) = AreDisjointNames (is_plain first) (one_is_plain rest)
       × IsNamedRegular first × AreNamedInTurn rest
 
   pub AreNamedEither : {T : Type 0} → Regulars T → Type 0

@@ -16,7 +16,7 @@ use Rattle.cd_replies.specs.Disk.{Disk, HasText, refused}
 use Rattle.cd_replies.specs.Message.{reply_of}
 use Rattle.cd_replies.specs.Reply.{Reply, says, refusal}
 use Rattle.cd_replies.specs.declared.message.Message.{Message}
-use Rattle.cd_replies.specs.Texts.{Against}
+use Rattle.cd_replies.specs.Texts.{TextFault}
 use Rattle.cd_replies.proofs.Messages.{replies}
 use Rattle.cd_replies.specs.Documents.{RefusesDocument}
 use Rattle.cd_member.specs.MemberAnswer.{DocumentAnswer, document_refused, yes, no}
@@ -28,7 +28,7 @@ module _ (document text : Bytes) (graph : Graph) (id : NodeId) where
       → DocumentAnswer disk document type reply
 
   -- so it is refused
-  pub document_is_refused : (found : Against) → RefusesDocument text found → (r : Result Message AllocError)
+  pub document_is_refused : (found : TextFault) → RefusesDocument text found → (r : Result Message AllocError)
       → IfOk r (λ message. reply_of message ≡ refusal document text found) → IfOk r (λ message. Answers (reply_of message))
   document_is_refused found stands r said =
       replies r (refusal document text found) Answers said

@@ -6,7 +6,7 @@ use Rattle.cd_model.specs.Thing.{Thing}
 use Rattle.cd_model.specs.Written.{Written}
 use Rattle.cd_replies.specs.Bytes.{Bytes}
 use Rattle.cd_replies.specs.Reply.{Reply, says, refusal}
-use Rattle.cd_replies.specs.Texts.{Against, ReadsAs, Declares, RefusesType, RefusesDeclarations}
+use Rattle.cd_replies.specs.Texts.{TextFault, ReadsAs, Declares, RefusesType, RefusesDeclarations}
 use Rattle.cd_replies.specs.Disk.{Disk, HasText, FileRefusal}
 use Rattle.cd_replies.specs.Documents.{RefusesDocument, FileWrites, IsValueIn, IsValueOutside}
 
@@ -32,9 +32,10 @@ pub data DocumentAnswer (disk : Disk) (document : Bytes) (type : Written) : Repl
 pub data MemberAnswer (disk : Disk) (file document text : Bytes) : Reply → Type 0 where
   file_refused : (reply : Reply) → FileRefusal RefusesDeclarations disk file reply
       → MemberAnswer disk file document text reply
-  type_refused : (declared : Declarations) → FileDeclares disk file declared → (against : Against)
-      → RefusesType declared text against
-      → MemberAnswer disk file document text (refusal (codes "T") text against)
+  type_refused : (declared : Declarations) → FileDeclares disk file declared
+      → (text_fault : TextFault)
+      → RefusesType declared text text_fault
+      → MemberAnswer disk file document text (refusal (codes "T") text text_fault)
   on_document : (declared : Declarations) → FileDeclares disk file declared → (type : Written)
       → ReadsAs declared text type
       → (reply : Reply) → DocumentAnswer disk document type reply

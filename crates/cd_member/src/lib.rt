@@ -43,7 +43,7 @@ pub fn member<F: Files>(
 ) -> Result<Message, AllocError>
     ensures answer { IsAnswer (λ disk. MemberAnswer disk file.now document.now text.now)
         (F.state files.old) (F.state files.new) result }
-    ensures told { (F.state files.new).told ≡ (F.state files.old).told }
+    ensures known { (F.state files.new).known ≡ (F.state files.old).known }
     ensures read { ReadsAmong (F.state files.old) (F.state files.new)
         (file.now ∷ document.now ∷ []) }
 {

@@ -4,7 +4,7 @@ ghost use Rattle.cd_syntax.specs.PlainTree.{plain_declarations};
 ghost use Rattle.cd_syntax.specs.WellMade.{AreWellMadeDeclarations};
 ghost use Rattle.cd_graph.specs.Nodes.{nodes};
 ghost use Rattle.cd_resolve.specs.Named.{AreNamed, plain_names, declared_by};
-ghost use Rattle.cd_replies.specs.Message.{against};
+ghost use Rattle.cd_replies.specs.Message.{text_fault};
 ghost use Rattle.cd_replies.specs.Naming.{AreNamedWell, RefusesNames, StandsForText};
 ghost use Rattle.cd_replies.specs.Texts.{RefusesType};
 
@@ -26,7 +26,7 @@ pub(crate) fn declare<'t>(
     requires { AreWellMadeDeclarations (plain_declarations declared.now) }
     ensures named { IfOk result (λ named. MatchResult named
         (λ names. AreNamedWell (plain_declarations declared.now))
-        (λ refusal. RefusesNames (plain_declarations declared.now) (against refusal))) }
+        (λ refusal. RefusesNames (plain_declarations declared.now) (text_fault refusal))) }
     ensures list { IfOk result
         (λ named. IfOk named (λ names. declared_by names ≡ plain_declarations declared.now)) }
     ensures stand { IfOk result
@@ -53,7 +53,7 @@ pub(crate) fn node(
     requires named { AreNamed (nodes graph.old) (plain_names names.now) }
     ensures { IfOk result (λ read. MatchResult read
         (λ id. StandsForText (nodes graph.new) id (declared_by names.now) text.now)
-        (λ refusal. RefusesType (declared_by names.now) text.now (against refusal))) }
+        (λ refusal. RefusesType (declared_by names.now) text.now (text_fault refusal))) }
 {
     match read_type(alloc, graph, names, text)? {
         Ok(batch) => {

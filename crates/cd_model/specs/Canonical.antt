@@ -81,14 +81,14 @@ row_text parts (Some end) =
 
 -- how an element is written: by itself, as a first part, along the right, and as the fields between
 -- braces
-pub record Written : Type 0 where
+pub record Printed : Type 0 where
   pub text : Text
   pub part : Part
   pub row : Row
   pub fields : List Text
 
 -- what is no pair and no record
-abbrev pub plainly : Text → Written
+abbrev pub plainly : Text → Printed
 plainly text = record {
   text = text;
   part = Other text;
@@ -96,8 +96,8 @@ plainly text = record {
   fields = [];
 }
 
-abbrev pub letter_written : ℕ → Written
-letter_written c =
+abbrev pub letter_printed : ℕ → Printed
+letter_printed c =
     let text = single_quoted (c ∷ []) in
     record {
       text = text;
@@ -107,19 +107,19 @@ letter_written c =
     }
 
 -- the atom `nil` is the empty sequence
-abbrev pub nil_written : Written
-nil_written = record {
+abbrev pub nil_printed : Printed
+nil_printed = record {
   text = codes "[]";
   part = Other (codes "[]");
   row = record { parts = []; end = None };
   fields = [];
 }
 
-abbrev pub atom_written : Name → Written
-atom_written name = if bytes_eq name (codes "nil") then nil_written else plainly (codes "`" ++ name)
+abbrev pub atom_printed : Name → Printed
+atom_printed name = if bytes_eq name (codes "nil") then nil_printed else plainly (codes "`" ++ name)
 
-abbrev pub pair_written : Written → Written → Written
-pair_written first second =
+abbrev pub pair_printed : Printed → Printed → Printed
+pair_printed first second =
     let parts = first.part ∷ second.row.parts in
     let text = row_text parts second.row.end in
     record {
@@ -129,8 +129,8 @@ pair_written first second =
       fields = [];
     }
 
-abbrev pub record_written : List Text → Written
-record_written fields =
+abbrev pub record_printed : List Text → Printed
+record_printed fields =
     let text = codes "{" ++ joined (codes "; ") fields ++ codes "}" in
     record {
       text = text;
@@ -139,8 +139,8 @@ record_written fields =
       fields = fields;
     }
 
-abbrev pub xml_written : Name → Written → Written → Written
-xml_written tag attributes content =
+abbrev pub xml_printed : Name → Printed → Printed → Printed
+xml_printed tag attributes content =
     plainly (codes "<" ++ joined (codes " ") (tag ∷ attributes.fields) ++ codes ">" ++ content.text)
 
 -- the name of a tag; what is no atom is none
@@ -149,31 +149,31 @@ tag_name (Atom name) = name
 tag_name _ = []
 
 abbrev mutual
-  pub written : Thing → Written
-  written (Integer n) = plainly (signed_decimal n)
-  written (Character c) = letter_written c
-  written (Atom name) = atom_written name
-  written (Pair first second) = pair_written (written first) (written second)
-  written (Xml tag attributes content) =
-      xml_written (tag_name tag) (written attributes) (written content)
-  written (Record fields) = record_written (field_texts fields)
-  written (Function pairs) =
+  pub printed : Thing → Printed
+  printed (Integer n) = plainly (signed_decimal n)
+  printed (Character c) = letter_printed c
+  printed (Atom name) = atom_printed name
+  printed (Pair first second) = pair_printed (printed first) (printed second)
+  printed (Xml tag attributes content) =
+      xml_printed (tag_name tag) (printed attributes) (printed content)
+  printed (Record fields) = record_printed (field_texts fields)
+  printed (Function pairs) =
       plainly (codes "fun{" ++ joined (codes "; ") (pair_texts pairs) ++ codes "}")
   -- what is printed of a closure says nothing of it
-  written (Closure function environment) = plainly (codes "<fun>")
+  printed (Closure function environment) = plainly (codes "<fun>")
 
   pub field_texts : Fields → List Text
   field_texts NoField = []
-  field_texts (Field label value rest) = (label ++ codes "=" ++ (written value).text)
+  field_texts (Field label value rest) = (label ++ codes "=" ++ (printed value).text)
       ∷ field_texts rest
 
   -- a pair that fails has a question mark in the place of the result
   pub pair_texts : Pairs → List Text
   pair_texts NoPair = []
   pair_texts (Maps argument result rest) =
-      ((written argument).text ++ codes " => " ++ (written result).text) ∷ pair_texts rest
-  pair_texts (Fails argument rest) = ((written argument).text ++ codes " => ?") ∷ pair_texts rest
+      ((printed argument).text ++ codes " => " ++ (printed result).text) ∷ pair_texts rest
+  pair_texts (Fails argument rest) = ((printed argument).text ++ codes " => ?") ∷ pair_texts rest
 
 -- the canonical text
 abbrev pub canonical : Thing → Text
-canonical element = (written element).text
+canonical element = (printed element).text

@@ -10,10 +10,10 @@ use Rattle.cd_syntax.specs.declared.type_tree.Tree.{Tree as CodeTree}
 use Rattle.cd_model.specs.AllOf.{AllOf, AnyOf}
 use Rattle.cd_resolve.specs.Faults.{IsFaultOfType}
 use Rattle.cd_resolve.specs.declared.error.NameError.{NameError}
-use Rattle.cd_names.specs.Inner.Faults.{IsFaultOfOne, Tells}
+use Rattle.cd_names.specs.Inner.Faults.{IsFaultOfOne, Reports}
 use Rattle.cd_resolve.specs.Least.{first_of}
 use Rattle.cd_names.specs.Inner.PlainFound.{plain_trees}
-use Rattle.cd_names.proofs.FirstTold.{both_told, tells_same}
+use Rattle.cd_names.proofs.FirstReported.{both_reported, reports_same}
 
 pub tree_made : (trees : List (Bor CodeTree)) (index : ℕ) (item : Bor CodeTree)
     → item ≡ get_or trees index item
@@ -54,19 +54,19 @@ pub one_more : (types : Declarations) (trees : List (Bor CodeTree)) (index : ℕ
     (item : Bor CodeTree)
     → item ≡ get_or trees index item → index < length trees
     → (one other : Result (Unit {0}) NameError)
-    → Tells (IsFaultOfOne types (plain_trees (take index trees))) one
-    → Tells (IsFaultOfType types (plain item.now)) other
-    → Tells (IsFaultOfOne types (plain_trees (take (index + 1) trees))) (first_of one other)
-one_more types trees index item is within one other told told_too =
-    subst (λ all. Tells (IsFaultOfOne types all) (first_of one other)) (sym all)
-    (tells_same _ (IsFaultOfOne types (before ++ plain item.now ∷ []))
+    → Reports (IsFaultOfOne types (plain_trees (take index trees))) one
+    → Reports (IsFaultOfType types (plain item.now)) other
+    → Reports (IsFaultOfOne types (plain_trees (take (index + 1) trees))) (first_of one other)
+one_more types trees index item is within one other reported reported_too =
+    subst (λ all. Reports (IsFaultOfOne types all) (first_of one other)) (sym all)
+    (reports_same _ (IsFaultOfOne types (before ++ plain item.now ∷ []))
     (λ f. (
       one_or_last (λ t. IsFaultOfType types t f) before (plain item.now),
       one_of_more (λ t. IsFaultOfType types t f) before (plain item.now),
     ))
     (first_of one other)
-    (both_told (IsFaultOfOne types before) (IsFaultOfType types (plain item.now)) one other told
-    told_too))
+    (both_reported (IsFaultOfOne types before) (IsFaultOfType types (plain item.now)) one other reported
+    reported_too))
   where
     before : List Tree
     before = plain_trees (take index trees)
@@ -83,9 +83,9 @@ all_taken (one ∷ all) (suc count) end = ap (λ rest. one ∷ rest) (all_taken 
 
 pub all_checked : (types : Declarations) (trees : List (Bor CodeTree)) (index : ℕ)
     → length trees ≤ index
-    → (told : Result (Unit {0}) NameError)
-    → Tells (IsFaultOfOne types (plain_trees (take index trees))) told
-    → Tells (IsFaultOfOne types (plain_trees trees)) told
-all_checked types trees index end told tells =
-    subst (λ all. Tells (IsFaultOfOne types (plain_trees all)) told) (all_taken trees index end)
-    tells
+    → (reported : Result (Unit {0}) NameError)
+    → Reports (IsFaultOfOne types (plain_trees (take index trees))) reported
+    → Reports (IsFaultOfOne types (plain_trees trees)) reported
+all_checked types trees index end reported reports =
+    subst (λ all. Reports (IsFaultOfOne types (plain_trees all)) reported) (all_taken trees index end)
+    reports

@@ -17,8 +17,8 @@ use Rattle.cd_variables.specs.Occurrences.{Occurrence}
 use Rattle.cd_variables.specs.VariableFaults.{IsOneIn, IsVariableFault}
 use Rattle.cd_names.specs.ProgramFaults.{IsFaultOfPattern, DeclaredAgain, arrow_types, is_seen}
 use Rattle.cd_variables.specs.FindingVariables.{variable_faults}
-use Rattle.cd_names.specs.Inner.FindingInPrograms.{Found, told, with_tree, with_pattern, with_types}
-use Rattle.cd_names.specs.Inner.FindingInPrograms.{met, told_if}
+use Rattle.cd_names.specs.Inner.FindingInPrograms.{Found, reported, with_tree, with_pattern, with_types}
+use Rattle.cd_names.specs.Inner.FindingInPrograms.{met, reported_if}
 use Rattle.cd_names.specs.Inner.FindingInPrograms.{again}
 
 -- of all members, and of each
@@ -112,10 +112,10 @@ among_last one last (first ∷ all) =
     from (inr same) on = inr (on.1 (inr same))
 
 module _ (types : Declarations) (P : Fault → Type 0) where
-  pub covers_told : (fault : NameFault) (name : Name) (at : ℕ) (s : Found)
-      → Covers types P (told fault name at s)
+  pub covers_reported : (fault : NameFault) (name : Name) (at : ℕ) (s : Found)
+      → Covers types P (reported fault name at s)
       ↔ (Covers types P s × P (record { fault = fault; name = name; at = at }))
-  covers_told fault name at s = (
+  covers_reported fault name at s = (
     λ h. (
       record {
         faults = λ f is. h.faults f ((among_last f _ s.faults).1 (inl is));
@@ -181,14 +181,14 @@ module _ (types : Declarations) (P : Fault → Type 0) where
       → Covers types P (met seen name at s)
       ↔ (Covers types P s × (seen ≡ false → P (record { fault = Unknown; name = name; at = at })))
   covers_met true name at s = (λ h. (h, λ never. absurd (true≢false never)), λ h. h.0)
-  covers_met false name at s = other_same (covers_told Unknown name at s)
+  covers_met false name at s = other_same (covers_reported Unknown name at s)
       (λ is never. is, λ is. is refl)
 
-  covers_told_if : (before : Bool) (name : Name) (at : ℕ) (s : Found)
-      → Covers types P (told_if before name at s)
+  covers_reported_if : (before : Bool) (name : Name) (at : ℕ) (s : Found)
+      → Covers types P (reported_if before name at s)
       ↔ (Covers types P s × (before ≡ true → P (record { fault = Twice; name = name; at = at })))
-  covers_told_if false name at s = (λ h. (h, λ never. absurd (true≢false (sym never))), λ h. h.0)
-  covers_told_if true name at s = other_same (covers_told Twice name at s)
+  covers_reported_if false name at s = (λ h. (h, λ never. absurd (true≢false (sym never))), λ h. h.0)
+  covers_reported_if true name at s = other_same (covers_reported Twice name at s)
       (λ is never. is, λ is. is refl)
 
 -- it stands among these after such a name, or after one of them with its name
@@ -247,21 +247,21 @@ later_stands before first rest o (inl (is, there)) = by ((one_before before firs
 later_stands before first rest o (inr on) = inr (inr on)
 
 module _ (types : Declarations) (P : Fault → Type 0) where
-  abbrev Told : Occurrence → Type 0
-  Told o = P (record { fault = Twice; name = o.name; at = o.at })
+  abbrev Reported : Occurrence → Type 0
+  Reported o = P (record { fault = Twice; name = o.name; at = o.at })
 
   covers_after : (all : List Occurrence) (before : List Name) (s : Found)
       → Covers types P (again before all s)
-      ↔ (Covers types P s × ((o : Occurrence) → StandsAfter before all o → Told o))
+      ↔ (Covers types P s × ((o : Occurrence) → StandsAfter before all o → Reported o))
   covers_after [] before s = (λ h. (h, λ o is. none o is), λ h. h.0)
     where
-      none : (o : Occurrence) → StandsAfter before [] o → Told o
+      none : (o : Occurrence) → StandsAfter before [] o → Reported o
       none o (inl (is, there)) = elim there [ ]
       none o (inr is) = elim is [ ]
   covers_after (first ∷ rest) before s = other_same
       (then (covers_after rest (before ++ first.name ∷ [])
-      (told_if (is_seen before first.name) first.name first.at s))
-      (covers_told_if types P (is_seen before first.name) first.name first.at s)) (
+      (reported_if (is_seen before first.name) first.name first.at s))
+      (covers_reported_if types P (is_seen before first.name) first.name first.at s)) (
         λ h o is. to h o (first_or_later before first rest o is),
         λ h. (
           λ is. h first (inl (is, inl refl)),
@@ -269,11 +269,11 @@ module _ (types : Declarations) (P : Fault → Type 0) where
         ),
       )
     where
-      to : ((is_seen before first.name ≡ true) → Told first)
-          × ((o : Occurrence) → StandsAfter (before ++ first.name ∷ []) rest o → Told o)
+      to : ((is_seen before first.name ≡ true) → Reported first)
+          × ((o : Occurrence) → StandsAfter (before ++ first.name ∷ []) rest o → Reported o)
           → (o : Occurrence) → ((is_seen before first.name ≡ true) × (first ≡ o))
-          ⊎ StandsAfter (before ++ first.name ∷ []) rest o → Told o
-      to h o (inl (is, same)) = subst Told same (h.0 is)
+          ⊎ StandsAfter (before ++ first.name ∷ []) rest o → Reported o
+      to h o (inl (is, same)) = subst Reported same (h.0 is)
       to h o (inr is) = h.1 o is
 
   pub covers_again : (all : List Occurrence) (s : Found) → Covers types P (again [] all s)
@@ -282,7 +282,7 @@ module _ (types : Declarations) (P : Fault → Type 0) where
   covers_again all s = other_same (covers_after all [] s)
       (λ h o is. h o (inr is), λ h o is. by h o is)
     where
-      by : ((o : Occurrence) → DeclaredAgain o all → Told o) → (o : Occurrence)
-          → StandsAfter [] all o → Told o
+      by : ((o : Occurrence) → DeclaredAgain o all → Reported o) → (o : Occurrence)
+          → StandsAfter [] all o → Reported o
       by h o (inl (never, there)) = absurd (true≢false (sym never))
       by h o (inr is) = h o is

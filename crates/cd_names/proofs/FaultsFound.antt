@@ -37,7 +37,7 @@ use Rattle.cd_names.specs.Inner.FindingInPrograms.{found_in_functions}
 use Rattle.cd_names.specs.Inner.FindingInPrograms.{found_in_program}
 use Rattle.cd_names.proofs.Covering.{each_member, then, value_first, three_parts, other_same}
 use Rattle.cd_names.proofs.Covering.{nothing_more, Covers, VariablesFound, covers_pattern}
-use Rattle.cd_names.proofs.Covering.{covers_types, covers_met, covers_again, covers_told}
+use Rattle.cd_names.proofs.Covering.{covers_types, covers_met, covers_again, covers_reported}
 
 -- a label stands at a place, and stands there again
 abbrev Stands : Name → ℕ → Fields → Type 0
@@ -108,19 +108,19 @@ module _ (types : Declarations) (variables : VariablesFound) (P : Fault → Type
     of_patterns : AllOf OfPattern (patterns_in kind)
     of_parts : AllOf OfPart (parts seen kind)
 
-  names_told : (seen : Seen) (span : Span) (kind : Kind) → OfPart (part seen (expr span kind))
+  names_reported : (seen : Seen) (span : Span) (kind : Kind) → OfPart (part seen (expr span kind))
       → OfNames seen span.from kind
-  names_told seen span (form.Variable name) h = λ not. h _ (faults.unknown seen span name not)
-  names_told seen span (form.Record fields) h =
+  names_reported seen span (form.Variable name) h = λ not. h _ (faults.unknown seen span name not)
+  names_reported seen span (form.Record fields) h =
       λ label at is. h _ (faults.label_twice seen span fields label at is)
-  names_told seen span kind h = tt
+  names_reported seen span kind h = tt
 
   of_kind : (seen : Seen) (span : Span) (kind : Kind) → OfKind seen span.from kind
       ↔ OfPart (part seen (expr span kind))
   of_kind seen span kind = (
     λ h f is. to kind h f is,
     λ h. record {
-      of_names = names_told seen span kind h;
+      of_names = names_reported seen span kind h;
       of_types = (each_member OfType (types_in kind)).1
           (λ t there f is. h f (faults.in_type seen span kind t f there is));
       of_patterns = (each_member OfPattern (patterns_in kind)).1
@@ -319,7 +319,7 @@ module _ (types : Declarations) (variables : VariablesFound) (P : Fault → Type
   covers_main : (seen : Bool) (end : ℕ) (s : Found) → Covers types P (main_found seen end s)
       ↔ (Covers types P s × (seen ≡ false → P (record { fault = NoMain; name = []; at = end })))
   covers_main true end s = (λ h. (h, λ never. absurd (true≢false never)), λ h. h.0)
-  covers_main false end s = other_same (covers_told types P NoMain [] end s)
+  covers_main false end s = other_same (covers_reported types P NoMain [] end s)
       (λ is never. is, λ is. is refl)
 
   nothing_covers : Covers types P nothing

@@ -22,7 +22,7 @@ use Rattle.cd_variables.specs.Occurrences.{Occurrence}
 use Rattle.cd_names.specs.ProgramFaults.{Seen, is_seen, names_of, with_name, all_functions}
 use Rattle.cd_names.specs.ProgramFaults.{declared_names}
 use Rattle.cd_names.specs.Inner.FindingInPrograms.{Found, nothing, with_tree, with_pattern}
-use Rattle.cd_names.specs.Inner.FindingInPrograms.{with_types, met, told_if}
+use Rattle.cd_names.specs.Inner.FindingInPrograms.{with_types, met, reported_if}
 use Rattle.cd_names.specs.Inner.FindingInPrograms.{labels_of, again, main_found, found_in_expr}
 use Rattle.cd_names.specs.Inner.FindingInPrograms.{found_in_kind}
 use Rattle.cd_names.specs.Inner.FindingInPrograms.{found_in_exprs, found_in_items}
@@ -53,17 +53,17 @@ made_met : (seen : Bool) (name : List ℕ) (at : ℕ) (s : Found) → AreMade s
 made_met true name at s made = made
 made_met false name at s made = made
 
-made_told_if : (before : Bool) (name : List ℕ) (at : ℕ) (s : Found) → AreMade s
-    → AreMade (told_if before name at s)
-made_told_if true name at s made = made
-made_told_if false name at s made = made
+made_reported_if : (before : Bool) (name : List ℕ) (at : ℕ) (s : Found) → AreMade s
+    → AreMade (reported_if before name at s)
+made_reported_if true name at s made = made
+made_reported_if false name at s made = made
 
 made_again : (all : List Occurrence) (before : List (List ℕ)) (s : Found) → AreMade s
     → AreMade (again before all s)
 made_again [] before s made = made
 made_again (o ∷ rest) before s made = made_again rest (before ++ o.name ∷ [])
-    (told_if (is_seen before o.name) o.name o.at s)
-    (made_told_if (is_seen before o.name) o.name o.at s made)
+    (reported_if (is_seen before o.name) o.name o.at s)
+    (made_reported_if (is_seen before o.name) o.name o.at s made)
 
 mutual
   made_expr : (seen : Seen) (e : Expr) (s : Found) → IsWellMadeExpr e → AreMade s

@@ -1,17 +1,17 @@
 mod LocalNames
 pub mod ExprSizes
-mod FirstTold
+mod FirstReported
 mod CheckedTrees
 mod Covering
 mod FaultsFound
 mod FoundMade
-mod ProgramTold
+mod ProgramReported
 mod OccurrenceNames
 mod NoVariables
 mod SoundParts
 mod RegularVariables
 mod PatternVariables
-mod GatheredApart
+mod GatheredDisjoint
 mod LabelsOnce
 mod NamedPatterns
 pub mod FreeOfFaults

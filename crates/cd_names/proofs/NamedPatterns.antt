@@ -13,7 +13,7 @@ use Rattle.cd_syntax.specs.declared.tokens.Span.{Span}
 use Rattle.cd_model.specs.Guarded as guarded
 use Rattle.cd_model.specs.Guarded.{IsOneOf, IsSigned}
 use Rattle.cd_model.specs.Scope.{Scope}
-use Rattle.cd_matching.specs.Naming.{AreApart, IsNamed, FieldsApart, AreNamedApart}
+use Rattle.cd_matching.specs.Naming.{AreDisjointNames, IsNamed, FieldsDisjoint, AreNamedDisjoint}
 use Rattle.cd_matching.specs.Naming.{AreNamedAs, AreNamedFields, IsNamedRegular, AreNamedInTurn}
 use Rattle.cd_matching.specs.Naming.{AreNamedLike}
 use Rattle.cd_matching.specs.Pattern as pattern
@@ -32,10 +32,10 @@ use Rattle.cd_variables.specs.Occurrences.{gathered}
 use Rattle.cd_variables.specs.VariableFaults.{IsOneIn, StandsAgain, all_trees, all_regulars}
 use Rattle.cd_variables.specs.VariableFaults.{kept_trees, side_trees, present_trees, binding_parts}
 use Rattle.cd_variables.specs.VariableFaults.{twice, differs, begins, alternative_differs, stands_again}
-use Rattle.cd_names.proofs.GatheredApart.{AreOnce, sequence_once, later_once, plain_later}
-use Rattle.cd_names.proofs.GatheredApart.{alternative_same, not_repeated, not_plain, gathers_apart}
+use Rattle.cd_names.proofs.GatheredDisjoint.{AreOnce, sequence_once, later_once, plain_later}
+use Rattle.cd_names.proofs.GatheredDisjoint.{alternative_same, not_repeated, not_plain, gathers_disjoint}
 use Rattle.cd_names.proofs.LabelsOnce.{labels_once}
-use Rattle.cd_names.proofs.OccurrenceNames.{has_both, nothing_among, same_names, joined, row_apart}
+use Rattle.cd_names.proofs.OccurrenceNames.{has_both, nothing_among, same_names, joined, row_disjoint}
 use Rattle.cd_names.proofs.NoVariables.{no_variable}
 use Rattle.cd_names.proofs.PatternVariables.{two_lists, kept_are_sound, sides_are_bare}
 use Rattle.cd_names.proofs.PatternVariables.{first_is_sound, first_is_bare, signs_are_sound}
@@ -81,7 +81,7 @@ fields_joined (AField label at false t rest) =
 -- tests of names that no name passes both
 apart : (one other : Name → Bool) (ones others : List Occurrence)
     → ((name : Name) → one name ≡ has ones name) → ((name : Name) → other name ≡ has others name)
-    → ((name : Name) → has ones name ≡ true → has others name ≡ false) → AreApart one other
+    → ((name : Name) → has ones name ≡ true → has others name ≡ false) → AreDisjointNames one other
 apart one other ones others same alike none name h =
     alike name ∙ none name (sym (same name) ∙ h)
 
@@ -94,7 +94,7 @@ module _ (t : Tree) (trees : List Tree) where
       → joined (map bound trees) ≡ others → (name : Name) → has (bound t) name ≡ true
       → has others name ≡ false
   rest_apart once others is name h = ap (λ (all : List Occurrence). has all name) (sym is)
-      ∙ row_apart (bound t) (map bound trees) once name h
+      ∙ row_disjoint (bound t) (map bound trees) once name h
 
   rest_disjoint : (b : Bool) → AreDisjoint (if b then trees else t ∷ trees) → AreDisjoint trees
   rest_disjoint true once = once
@@ -135,27 +135,27 @@ module _ (scope outer seen : Scope) where
   one_named true t sound bare on = type_named t (bare refl)
   one_named false t sound bare on = on (sound refl)
 
-  one_apart : (b : Bool) (t : Tree) (rest : Signs) → (b ≡ false → IsSound t)
+  one_disjoint : (b : Bool) (t : Tree) (rest : Signs) → (b ≡ false → IsSound t)
       → (b ≡ true → IsBare t) → AreSound (kept_trees rest) → AreBare (side_trees rest)
       → AreDisjoint (if b then kept_trees rest else t ∷ kept_trees rest)
-      → AreApart (binds (pattern_of scope t)) (all_bind (signed_patterns scope rest))
-  one_apart true t rest sound bare kept sides once =
+      → AreDisjointNames (binds (pattern_of scope t)) (all_bind (signed_patterns scope rest))
+  one_disjoint true t rest sound bare kept sides once =
       λ name h. absurd (true≢false (sym h ∙ type_binds scope t (bare refl) name))
-  one_apart false t rest sound bare kept sides once = apart (binds (pattern_of scope t))
+  one_disjoint false t rest sound bare kept sides once = apart (binds (pattern_of scope t))
       (all_bind (signed_patterns scope rest)) (bound t) (bound_by_signs rest)
       (tree_binds scope t (sound refl)) (signs_bind scope rest kept sides)
       (rest_apart t (kept_trees rest) once (bound_by_signs rest) (signs_joined rest))
 
-  fields_apart : (fields : Fields) → AreSound (present_trees fields)
-      → AreDisjoint (present_trees fields) → FieldsApart (field_patterns scope fields)
-  fields_apart NoField sound once = tt
-  fields_apart (AField label at true t rest) sound once = fields_apart rest sound once
-  fields_apart (AField label at false t rest) sound once = (
+  fields_disjoint : (fields : Fields) → AreSound (present_trees fields)
+      → AreDisjoint (present_trees fields) → FieldsDisjoint (field_patterns scope fields)
+  fields_disjoint NoField sound once = tt
+  fields_disjoint (AField label at true t rest) sound once = fields_disjoint rest sound once
+  fields_disjoint (AField label at false t rest) sound once = (
     apart (binds (pattern_of scope t)) (fields_bind (field_patterns scope rest)) (bound t)
         (bound_by_fields rest) (tree_binds scope t (sound t (inl refl)))
         (fields_bound scope rest (λ other among. sound other (inr among)))
         (rest_apart t (present_trees rest) once (bound_by_fields rest) (fields_joined rest)),
-    fields_apart rest (λ other among. sound other (inr among))
+    fields_disjoint rest (λ other among. sound other (inr among))
         (later_disjoint t (present_trees rest) once),
   )
 
@@ -170,9 +170,9 @@ module _ (scope outer seen : Scope) where
     content_binds name = with_nothing (binds (pattern_of scope content) name) (bound content) name
         (tree_binds scope content (sound content (inr (inr (inl refl)))) name)
 
-    tag_apart : AreApart (binds (pattern_of scope tag)) (λ name. binds (pattern_of scope attributes)
+    tag_disjoint : AreDisjointNames (binds (pattern_of scope tag)) (λ name. binds (pattern_of scope attributes)
         name || binds (pattern_of scope content) name)
-    tag_apart = apart (binds (pattern_of scope tag)) (λ name. binds (pattern_of scope attributes)
+    tag_disjoint = apart (binds (pattern_of scope tag)) (λ name. binds (pattern_of scope attributes)
         name || binds (pattern_of scope content) name) (bound tag)
         (bound attributes ++ (bound content ++ []))
         (tree_binds scope tag (sound tag (inl refl)))
@@ -182,9 +182,9 @@ module _ (scope outer seen : Scope) where
         (rest_apart tag (attributes ∷ content ∷ []) once
         (bound attributes ++ (bound content ++ [])) refl)
 
-    attributes_apart : AreApart (binds (pattern_of scope attributes))
+    attributes_disjoint : AreDisjointNames (binds (pattern_of scope attributes))
         (binds (pattern_of scope content))
-    attributes_apart = apart (binds (pattern_of scope attributes))
+    attributes_disjoint = apart (binds (pattern_of scope attributes))
         (binds (pattern_of scope content)) (bound attributes) (bound content ++ [])
         attributes_bind content_binds (rest_apart attributes (content ∷ [])
         (later_disjoint tag (attributes ∷ content ∷ []) once) (bound content ++ []) refl)
@@ -231,7 +231,7 @@ module _ (scope outer seen : Scope) where
         let types = part_typed span (Meet first signs) typed in
         let once = front_disjoint first (kept_trees signs) (takes_away signs)
         (parts_disjoint span (Meet first signs) sound) in (
-          one_apart (takes_away signs) first signs fine bare kept sides once,
+          one_disjoint (takes_away signs) first signs fine bare kept sides once,
           one_named (takes_away signs) first fine bare
               (λ h. tree_named first h (types first (faults.IsPart.in_first seen first signs))),
           signs_named signs kept sides
@@ -240,7 +240,7 @@ module _ (scope outer seen : Scope) where
         )
     kind_named span (Sequence r) sound typed =
         let fine = sequence_is_sound span r sound in (
-          gathers_apart scope r [] fine (λ name h. absurd (true≢false (sym h))),
+          gathers_disjoint scope r [] fine (λ name h. absurd (true≢false (sym h))),
           apart (is_gathered (regular_pattern scope r)) (is_plain (regular_pattern scope r))
               (gathered r) (plain r) (gathers scope r) (plain_binds scope r fine)
               (λ name h. not_plain name r fine h),
@@ -252,7 +252,7 @@ module _ (scope outer seen : Scope) where
           labels_once scope fields (λ label at again. typed
               (record { fault = Twice; name = label; at = at })
               (faults.IsFault.label_twice outer seen span fields more label at again)),
-          fields_apart fields fine (parts_disjoint span (Record fields more) sound),
+          fields_disjoint fields fine (parts_disjoint span (Record fields more) sound),
           fields_named fields fine (λ label at t field. part_typed span (Record fields more) typed t
               (faults.IsPart.in_record seen label at t fields more field)),
         )
@@ -260,8 +260,8 @@ module _ (scope outer seen : Scope) where
         let fine = parts_are_sound span (Xml tag attributes content) sound in
         let types = part_typed span (Xml tag attributes content) typed in
         let once = parts_disjoint span (Xml tag attributes content) sound in (
-          tag_apart tag attributes content fine once,
-          attributes_apart tag attributes content fine once,
+          tag_disjoint tag attributes content fine once,
+          attributes_disjoint tag attributes content fine once,
           tree_named tag (fine tag (inl refl))
               (types tag (faults.IsPart.in_tag seen tag attributes content)),
           tree_named attributes (fine attributes (inr (inl refl)))
@@ -309,7 +309,7 @@ module _ (scope outer seen : Scope) where
 
     signs_named : (signs : Signs) → AreSound (kept_trees signs) → AreBare (side_trees signs)
         → AreDisjoint (kept_trees signs) → ((t : Tree) → IsSigned t signs → IsTyped t)
-        → AreNamedApart (signed_patterns scope signs)
+        → AreNamedDisjoint (signed_patterns scope signs)
     signs_named NoSign sound bare once typed = tt
     signs_named (ASign false t rest) sound bare once typed = (
       λ name h. absurd (true≢false (sym h)),
@@ -319,7 +319,7 @@ module _ (scope outer seen : Scope) where
           (λ other among. typed other (guarded.IsSigned.later false other t rest among)),
     )
     signs_named (ASign true t rest) sound bare once typed = (
-      one_apart (takes_away rest) t rest
+      one_disjoint (takes_away rest) t rest
           (λ h. sound t (one_unless (takes_away rest) t (kept_trees rest) h))
           (λ h. bare t (one_if (takes_away rest) t (side_trees rest) h))
           (kept_are_sound true t rest sound) (sides_are_bare true t rest bare) once,

@@ -82,8 +82,8 @@ in_row (first ∷ rest) o h = elim (among_both first (joined rest) o h) [
   | inr later ↦ inr (in_row rest o later)
 ]
 
-pub row_apart : (first : List Occurrence) (rest : List (List Occurrence))
+pub row_disjoint : (first : List Occurrence) (rest : List (List Occurrence))
     → ((o : Occurrence) → StandsAgain o (first ∷ rest) → ⊥) → (name : Name)
     → has first name ≡ true → has (joined rest) name ≡ false
-row_apart first rest once name here = not_among (joined rest) name (λ o among is.
+row_disjoint first rest once name here = not_among (joined rest) name (λ o among is.
     once o (inl (ap (has first) is ∙ here, in_row rest o among)))

@@ -2,11 +2,12 @@
 ghost use Rattle.std.specs.Prelude.{◌≡◌, IfOk, []};
 ghost use Rattle.cd_syntax.specs.PlainTree.{plain as plain_tree};
 ghost use Rattle.cd_resolve.specs.declared.fault.NameFault.TheVariants.{NoMain};
-ghost use Rattle.cd_names.specs.Inner.FindingInPrograms.{nothing, told, told_if, met, with_tree};
+ghost use Rattle.cd_names.specs.Inner.FindingInPrograms.{nothing, reported, reported_if, met};
+ghost use Rattle.cd_names.specs.Inner.FindingInPrograms.{with_tree};
 ghost use Rattle.cd_names.specs.Inner.PlainFound.{plain_found};
 
 use cd_resolve::fault::NameFault;
-use cd_resolve::told::Told;
+use cd_resolve::reported::Reported;
 use cd_syntax::name::Name;
 use cd_syntax::type_tree::Tree;
 use std::alloc::{AllocError, Global};
@@ -14,7 +15,7 @@ use std::alloc::{AllocError, Global};
 /// The faults of names and variables, and the trees whose types are to be looked at.
 #[derive(Drop)]
 pub(crate) struct Found<'t> {
-    pub(crate) faults: Vec<Told<'t>>,
+    pub(crate) faults: Vec<Reported<'t>>,
     pub(crate) trees: Vec<&'t Tree>,
 }
 
@@ -30,16 +31,16 @@ impl<'t> Found<'t> {
     }
 
     /// Tells a fault of a name.
-    pub(crate) fn tell(
+    pub(crate) fn report(
         &mut self,
         fault: NameFault,
         name: &'t Name,
         at: usize,
     ) -> Result<(), AllocError>
         ensures { IfOk result (λ _.
-            plain_found self.new ≡ told fault name.now at (plain_found self.old)) }
+            plain_found self.new ≡ reported fault name.now at (plain_found self.old)) }
     {
-        self.faults.push(Told {
+        self.faults.push(Reported {
             fault,
             name: Some(name),
             at,
@@ -48,17 +49,17 @@ impl<'t> Found<'t> {
     }
 
     /// Tells of a name that stands again, if it does.
-    pub(crate) fn tell_twice(
+    pub(crate) fn report_twice(
         &mut self,
         again: bool,
         name: &'t Name,
         at: usize,
     ) -> Result<(), AllocError>
         ensures { IfOk result (λ _.
-            plain_found self.new ≡ told_if again name.now at (plain_found self.old)) }
+            plain_found self.new ≡ reported_if again name.now at (plain_found self.old)) }
     {
         if again {
-            return self.tell(NameFault::Twice, name, at);
+            return self.report(NameFault::Twice, name, at);
         }
         Ok(())
     }
@@ -71,15 +72,15 @@ impl<'t> Found<'t> {
         if seen {
             return Ok(());
         }
-        self.tell(NameFault::Unknown, name, at)
+        self.report(NameFault::Unknown, name, at)
     }
 
     /// Tells that no function `main` is declared.
-    pub(crate) fn tell_no_main(&mut self, at: usize) -> Result<(), AllocError>
+    pub(crate) fn report_no_main(&mut self, at: usize) -> Result<(), AllocError>
         ensures { IfOk result (λ _.
-            plain_found self.new ≡ told NoMain [] at (plain_found self.old)) }
+            plain_found self.new ≡ reported NoMain [] at (plain_found self.old)) }
     {
-        self.faults.push(Told {
+        self.faults.push(Reported {
             fault: NameFault::NoMain,
             name: None,
             at,

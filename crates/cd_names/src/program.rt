@@ -3,7 +3,7 @@ ghost use Rattle.std.specs.Prelude.{◌≡◌, ◌++◌, [], ◌∷◌, map, IfO
 ghost use Rattle.cd_program.specs.PlainExpr.{plain_function};
 ghost use Rattle.cd_program.specs.PlainProgram.{plain_program, plain_functions};
 ghost use Rattle.cd_program.specs.WellMade.{IsWellMadeProgram};
-ghost use Rattle.cd_resolve.specs.Errors.{IsToldError};
+ghost use Rattle.cd_resolve.specs.Errors.{IsReportedError};
 ghost use Rattle.cd_resolve.specs.Faults.{Fault};
 ghost use Rattle.cd_names.specs.ProgramFaults.{IsFaultOfProgram, declared_names, is_seen};
 ghost use Rattle.cd_names.specs.Inner.FindingInPrograms.{found_in_program, found_in_functions};
@@ -18,7 +18,7 @@ use crate::trees::check_trees;
 use cd_program::expr::FunctionTree;
 use cd_program::program::{FunctionTrees, Program};
 use cd_resolve::error::NameError;
-use cd_resolve::least::{first_of, tell_least};
+use cd_resolve::least::{first_of, report_least};
 use cd_resolve::{NameIndex, check_declarations, names_of};
 use cd_syntax::name::Name;
 use std::alloc::{AllocError, Global};
@@ -34,13 +34,13 @@ pub fn check_program(alloc: Global, program: &Program) -> Result<(), NameError>
     ensures sound { OnOk result ((fault : Fault)
         → IsFaultOfProgram (plain_program program.now) fault → ⊥) }
     ensures fault { IfErr result
-        (λ error. IsToldError (IsFaultOfProgram (plain_program program.now)) error) }
+        (λ error. IsReportedError (IsFaultOfProgram (plain_program program.now)) error) }
 {
     let found = walk_program(alloc, program)?;
     let names = names_of(alloc, &program.types)?;
     let declared = check_declarations(alloc, &program.types);
-    let told = first_of(declared, tell_least(alloc, found.faults.as_slice()));
-    first_of(told, check_trees(alloc, &names, found.trees.as_slice()))
+    let reported = first_of(declared, report_least(alloc, found.faults.as_slice()));
+    first_of(reported, check_trees(alloc, &names, found.trees.as_slice()))
 }
 
 // What a walk over a program finds.
@@ -93,7 +93,7 @@ fn declare<'t>(
         return Ok(());
     };
     let again = functions.add(name)?;
-    found.tell_twice(again, name, function.name_at)
+    found.report_twice(again, name, function.name_at)
 }
 
 // Tells where no function `main` is declared, at the end of the program.
@@ -110,7 +110,7 @@ fn look_for_main<'t>(
     if functions.find(&name).is_some() {
         return Ok(());
     }
-    found.tell_no_main(end)
+    found.report_no_main(end)
 }
 
 // Walks over functions in turn.

@@ -26,7 +26,7 @@ pub(crate) fn walk_record<'t>(
         ≡ found_in_fields (locals.old ++ base.now.functions.now) (plain_fields fields.now)
         (again [] (labels_of (plain_fields fields.now)) (plain_found found.old))) }
 {
-    tell_labels(base.alloc, fields, found)?;
+    report_labels(base.alloc, fields, found)?;
     walk_fields(base, fields, locals, found)
 }
 
@@ -64,7 +64,7 @@ fn walk_field<'t>(
 }
 
 // Tells the labels that stand twice.
-fn tell_labels<'t>(
+fn report_labels<'t>(
     alloc: Global,
     fields: &'t FieldExprs,
     found: &mut Found<'t>,
@@ -74,13 +74,13 @@ fn tell_labels<'t>(
 {
     let mut labels = NameIndex::new(alloc);
     for field in fields.items() {
-        tell_label(field, &mut labels, found)?;
+        report_label(field, &mut labels, found)?;
     }
     Ok(())
 }
 
 // Tells of a label that is one of these, and adds it to them.
-fn tell_label<'t>(
+fn report_label<'t>(
     field: &'t FieldExpr,
     labels: &mut NameIndex<'t>,
     found: &mut Found<'t>,
@@ -91,5 +91,5 @@ fn tell_label<'t>(
         (plain_found found.old)) }
 {
     let again = labels.add(&field.label)?;
-    found.tell_twice(again, &field.label, field.at)
+    found.report_twice(again, &field.label, field.at)
 }

@@ -3,7 +3,7 @@ ghost use Rattle.std.specs.Prelude.{OnOk, IfErr, map};
 ghost use Rattle.cd_syntax.specs.PlainTree.{plain};
 ghost use Rattle.cd_syntax.specs.WellMadePattern.{IsWellMadePattern};
 ghost use Rattle.cd_model.specs.AllOf.{AllOf};
-ghost use Rattle.cd_resolve.specs.Errors.{IsToldError};
+ghost use Rattle.cd_resolve.specs.Errors.{IsReportedError};
 ghost use Rattle.cd_resolve.specs.Faults.{Fault};
 ghost use Rattle.cd_resolve.specs.Named.{declared_by};
 ghost use Rattle.cd_names.specs.Inner.PlainFound.{plain_trees};
@@ -25,11 +25,11 @@ pub(crate) fn check_trees(
     ensures sound { OnOk result ((fault : Fault)
         → IsFaultOfOne (declared_by names.now) (plain_trees trees.now) fault → ⊥) }
     ensures fault { IfErr result (λ error.
-        IsToldError (IsFaultOfOne (declared_by names.now) (plain_trees trees.now)) error) }
+        IsReportedError (IsFaultOfOne (declared_by names.now) (plain_trees trees.now)) error) }
 {
-    let mut told = Ok(());
+    let mut reported = Ok(());
     for tree in trees {
-        told = first_of(told, check_tree(alloc, names, tree));
+        reported = first_of(reported, check_tree(alloc, names, tree));
     }
-    told
+    reported
 }

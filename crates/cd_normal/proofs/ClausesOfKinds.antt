@@ -5,12 +5,12 @@ use Rattle.cd_model.specs.AllOf.{AllOf, AnyOf}
 use Rattle.cd_model.specs.Formula.{Formula, Graph}
 use Rattle.cd_model.specs.Kinds.{APair, AnXml, ARecord, AFunction}
 use Rattle.cd_rules.specs.BasicSets.{IsBasic}
-use Rattle.cd_rules.specs.Choices.{Choice}
+use Rattle.cd_rules.specs.Dnf.{Conjunct}
 use Rattle.cd_rules.specs.Clauses as rules
 use Rattle.cd_rules.specs.Clauses.{Triple, RecordType, Clause, Ints, Chars, Atoms, Pairs, Xmls, Records, Arrows, IsClauseOfQuestion}
 use Rattle.cd_rules.specs.Clauses.{parts_in, pair_of, xml_of, record_of, arrow_of}
-use Rattle.cd_rules.specs.KindChoices.{kind_choices_of}
-use Rattle.cd_rules.specs.PartialChoices.{clause_by}
+use Rattle.cd_rules.specs.KindDnf.{kind_dnf_of}
+use Rattle.cd_rules.specs.PartialConjuncts.{clause_by}
 use Rattle.cd_rules.proofs.Among.{each_of_its}
 use Rattle.cd_rules.proofs.Answered.{map_of_each}
 use Rattle.cd_rules.proofs.Asking.{each_of_map}
@@ -25,30 +25,30 @@ use Rattle.cd_normal.specs.Inner.ClausesOfKinds.{clauses_of_kind, clauses_of_kin
 
 module _ (graph : Graph) (question : Question) where
   -- what a choice of a kind says of it is a clause of the question
-  same_parts : {X : Type 0} (parts_of : Formula → Option X) (all : List Choice) (choice : Choice) → AnyOf (λ other. other ≡ choice) all
-      → AnyOf (HasParts parts_of (parts_in parts_of true choice) (parts_in parts_of false choice)) all
-  same_parts parts_of all choice = one_weaker (λ other. other ≡ choice)
-      (HasParts parts_of (parts_in parts_of true choice) (parts_in parts_of false choice))
+  same_parts : {X : Type 0} (parts_of : Formula → Option X) (all : List Conjunct) (conjunct : Conjunct) → AnyOf (λ other. other ≡ conjunct) all
+      → AnyOf (HasParts parts_of (parts_in parts_of true conjunct) (parts_in parts_of false conjunct)) all
+  same_parts parts_of all conjunct = one_weaker (λ other. other ≡ conjunct)
+      (HasParts parts_of (parts_in parts_of true conjunct) (parts_in parts_of false conjunct))
       (λ other same. (ap (parts_in parts_of true) (sym same), ap (parts_in parts_of false) (sym same))) all
 
-  clause_in : (kind : Kind) (choice : Choice) → AnyOf (λ other. other ≡ choice) (kind_choices_of (plain_kind kind) graph question)
-      → IsClauseOfQuestion graph question (clause_by (plain_kind kind) choice)
-  clause_in Pair choice there = (pairs_of_kind graph question (parts_in pair_of true choice) (parts_in pair_of false choice)).1
-      (same_parts pair_of (kind_choices_of (plain_kind Pair) graph question) choice there)
-  clause_in Xml choice there = (xmls_of_kind graph question (parts_in xml_of true choice) (parts_in xml_of false choice)).1
-      (same_parts xml_of (kind_choices_of (plain_kind Xml) graph question) choice there)
-  clause_in Record choice there = (records_of_kind graph question (parts_in record_of true choice) (parts_in record_of false choice)).1
-      (same_parts record_of (kind_choices_of (plain_kind Record) graph question) choice there)
-  clause_in Function choice there = (arrows_of_kind graph question (parts_in arrow_of true choice) (parts_in arrow_of false choice)).1
-      (same_parts arrow_of (kind_choices_of (plain_kind Function) graph question) choice there)
+  clause_in : (kind : Kind) (conjunct : Conjunct) → AnyOf (λ other. other ≡ conjunct) (kind_dnf_of (plain_kind kind) graph question)
+      → IsClauseOfQuestion graph question (clause_by (plain_kind kind) conjunct)
+  clause_in Pair conjunct there = (pairs_of_kind graph question (parts_in pair_of true conjunct) (parts_in pair_of false conjunct)).1
+      (same_parts pair_of (kind_dnf_of (plain_kind Pair) graph question) conjunct there)
+  clause_in Xml conjunct there = (xmls_of_kind graph question (parts_in xml_of true conjunct) (parts_in xml_of false conjunct)).1
+      (same_parts xml_of (kind_dnf_of (plain_kind Xml) graph question) conjunct there)
+  clause_in Record conjunct there = (records_of_kind graph question (parts_in record_of true conjunct) (parts_in record_of false conjunct)).1
+      (same_parts record_of (kind_dnf_of (plain_kind Record) graph question) conjunct there)
+  clause_in Function conjunct there = (arrows_of_kind graph question (parts_in arrow_of true conjunct) (parts_in arrow_of false conjunct)).1
+      (same_parts arrow_of (kind_dnf_of (plain_kind Function) graph question) conjunct there)
 
   all_in : (some : List Kind) → AllOf (IsClauseOfQuestion graph question) (clauses_of_kinds graph question some)
   all_in [] = tt
   all_in (kind ∷ some) =
-      let choices = kind_choices_of (plain_kind kind) graph question in
+      let conjuncts = kind_dnf_of (plain_kind kind) graph question in
       let Is = IsClauseOfQuestion graph question in
       each_of_lists Is (clauses_of_kind graph question kind) (clauses_of_kinds graph question some)
-      (each_of_map (clause_by (plain_kind kind)) Is choices (each_of_its (λ choice. Is (clause_by (plain_kind kind) choice)) choices (clause_in kind)))
+      (each_of_map (clause_by (plain_kind kind)) Is conjuncts (each_of_its (λ conjunct. Is (clause_by (plain_kind kind) conjunct)) conjuncts (clause_in kind)))
       (all_in some)
 
   -- and each clause of a kind is what one of its choices says
@@ -58,33 +58,33 @@ module _ (graph : Graph) (question : Question) where
   pairs_among : (wanted refused : List rules.Pair) → IsClauseOfQuestion graph question (Pairs wanted refused)
       → Among (clauses_of_kind graph question Pair) (Pairs wanted refused)
   pairs_among wanted refused of =
-      one_of_map (clause_by APair) (λ one. one ≡ Pairs wanted refused) (kind_choices_of (plain_kind Pair) graph question)
-      (one_weaker (HasParts pair_of wanted refused) (λ choice. clause_by APair choice ≡ Pairs wanted refused)
-      (λ choice parts. ap₂ Pairs (sym parts.0) (sym parts.1)) (kind_choices_of (plain_kind Pair) graph question)
+      one_of_map (clause_by APair) (λ one. one ≡ Pairs wanted refused) (kind_dnf_of (plain_kind Pair) graph question)
+      (one_weaker (HasParts pair_of wanted refused) (λ conjunct. clause_by APair conjunct ≡ Pairs wanted refused)
+      (λ conjunct parts. ap₂ Pairs (sym parts.0) (sym parts.1)) (kind_dnf_of (plain_kind Pair) graph question)
       ((pairs_of_kind graph question wanted refused).0 of))
 
   xmls_among : (wanted refused : List Triple) → IsClauseOfQuestion graph question (Xmls wanted refused)
       → Among (clauses_of_kind graph question Xml) (Xmls wanted refused)
   xmls_among wanted refused of =
-      one_of_map (clause_by AnXml) (λ one. one ≡ Xmls wanted refused) (kind_choices_of (plain_kind Xml) graph question)
-      (one_weaker (HasParts xml_of wanted refused) (λ choice. clause_by AnXml choice ≡ Xmls wanted refused)
-      (λ choice parts. ap₂ Xmls (sym parts.0) (sym parts.1)) (kind_choices_of (plain_kind Xml) graph question)
+      one_of_map (clause_by AnXml) (λ one. one ≡ Xmls wanted refused) (kind_dnf_of (plain_kind Xml) graph question)
+      (one_weaker (HasParts xml_of wanted refused) (λ conjunct. clause_by AnXml conjunct ≡ Xmls wanted refused)
+      (λ conjunct parts. ap₂ Xmls (sym parts.0) (sym parts.1)) (kind_dnf_of (plain_kind Xml) graph question)
       ((xmls_of_kind graph question wanted refused).0 of))
 
   records_among : (wanted refused : List RecordType) → IsClauseOfQuestion graph question (Records wanted refused)
       → Among (clauses_of_kind graph question Record) (Records wanted refused)
   records_among wanted refused of =
-      one_of_map (clause_by ARecord) (λ one. one ≡ Records wanted refused) (kind_choices_of (plain_kind Record) graph question)
-      (one_weaker (HasParts record_of wanted refused) (λ choice. clause_by ARecord choice ≡ Records wanted refused)
-      (λ choice parts. ap₂ Records (sym parts.0) (sym parts.1)) (kind_choices_of (plain_kind Record) graph question)
+      one_of_map (clause_by ARecord) (λ one. one ≡ Records wanted refused) (kind_dnf_of (plain_kind Record) graph question)
+      (one_weaker (HasParts record_of wanted refused) (λ conjunct. clause_by ARecord conjunct ≡ Records wanted refused)
+      (λ conjunct parts. ap₂ Records (sym parts.0) (sym parts.1)) (kind_dnf_of (plain_kind Record) graph question)
       ((records_of_kind graph question wanted refused).0 of))
 
   arrows_among : (wanted refused : List rules.Pair) → IsClauseOfQuestion graph question (Arrows wanted refused)
       → Among (clauses_of_kind graph question Function) (Arrows wanted refused)
   arrows_among wanted refused of =
-      one_of_map (clause_by AFunction) (λ one. one ≡ Arrows wanted refused) (kind_choices_of (plain_kind Function) graph question)
-      (one_weaker (HasParts arrow_of wanted refused) (λ choice. clause_by AFunction choice ≡ Arrows wanted refused)
-      (λ choice parts. ap₂ Arrows (sym parts.0) (sym parts.1)) (kind_choices_of (plain_kind Function) graph question)
+      one_of_map (clause_by AFunction) (λ one. one ≡ Arrows wanted refused) (kind_dnf_of (plain_kind Function) graph question)
+      (one_weaker (HasParts arrow_of wanted refused) (λ conjunct. clause_by AFunction conjunct ≡ Arrows wanted refused)
+      (λ conjunct parts. ap₂ Arrows (sym parts.0) (sym parts.1)) (kind_dnf_of (plain_kind Function) graph question)
       ((arrows_of_kind graph question wanted refused).0 of))
 
   -- a clause of one of some kinds is among those of all

@@ -3,11 +3,11 @@ mod Lists
 mod Stacks
 mod ExactSets
 mod Nothing
-mod ChoicesJoined
+mod ConjunctsJoined
 pub mod BasicsOfQuestions
 mod ClausesOfKinds
 mod Refusals
-mod NextChoices
-mod ChoicesOfNodes
-mod NeedsOfChoices
+mod NextConjuncts
+mod ConjunctsOfNodes
+mod NeedsOfConjuncts
 mod FieldNeeds

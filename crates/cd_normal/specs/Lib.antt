@@ -1,5 +1,5 @@
 pub mod PlainClause
 pub mod HoldNothing
 pub mod Partials
-pub mod ChoicesGoOn
+pub mod ConjunctsGoOn
 pub mod Inner

@@ -1,7 +1,7 @@
 //! Choices joined with others.
 ghost use Rattle.std.specs.Prelude.{◌≡◌, ◌++◌, map, IfOk, OnOk};
-ghost use Rattle.cd_rules.specs.Choices.{joined as joined_choices};
-ghost use Rattle.cd_normal.specs.Inner.PlainChoice.{plain_choice, plain_choices};
+ghost use Rattle.cd_rules.specs.Dnf.{joined as joined_conjuncts};
+ghost use Rattle.cd_normal.specs.Inner.PlainConjunct.{plain_conjunct, plain_conjuncts};
 
 use crate::literal::Literal;
 use std::alloc::{AllocError, Global};
@@ -9,16 +9,16 @@ use std::alloc::{AllocError, Global};
 /// Each of these choices with each of the others.
 pub(crate) fn joined<'g>(
     alloc: Global,
-    choices: &[Vec<Literal<'g>>],
+    conjuncts: &[Vec<Literal<'g>>],
     others: &[Vec<Literal<'g>>],
 ) -> Result<Vec<Vec<Literal<'g>>>, AllocError>
     ensures { IfOk result (λ all.
-        plain_choices all.items ≡ joined_choices (plain_choices choices.now)
-        (plain_choices others.now)) }
+        plain_conjuncts all.items ≡ joined_conjuncts (plain_conjuncts conjuncts.now)
+        (plain_conjuncts others.now)) }
 {
     let mut all = Vec::new(alloc);
-    for choice in choices {
-        add_joined(&mut all, choice.as_slice(), others)?;
+    for conjunct in conjuncts {
+        add_joined(&mut all, conjunct.as_slice(), others)?;
     }
     Ok(all)
 }
@@ -26,15 +26,15 @@ pub(crate) fn joined<'g>(
 // Adds the choice with each of the others.
 fn add_joined<'g>(
     all: &mut Vec<Vec<Literal<'g>>>,
-    choice: &[Literal<'g>],
+    conjunct: &[Literal<'g>],
     others: &[Vec<Literal<'g>>],
 ) -> Result<(), AllocError>
-    ensures { OnOk result (plain_choices all.new.items
-        ≡ plain_choices all.old.items
-        ++ map (λ other. plain_choice choice.now ++ other) (plain_choices others.now)) }
+    ensures { OnOk result (plain_conjuncts all.new.items
+        ≡ plain_conjuncts all.old.items
+        ++ map (λ other. plain_conjunct conjunct.now ++ other) (plain_conjuncts others.now)) }
 {
     for other in others {
-        all.push(both(*all.allocator(), choice, other.as_slice())?)?;
+        all.push(both(*all.allocator(), conjunct, other.as_slice())?)?;
     }
     Ok(())
 }
@@ -42,13 +42,13 @@ fn add_joined<'g>(
 // The literals of both choices.
 fn both<'g>(
     alloc: Global,
-    choice: &[Literal<'g>],
+    conjunct: &[Literal<'g>],
     other: &[Literal<'g>],
 ) -> Result<Vec<Literal<'g>>, AllocError>
     ensures { IfOk result (λ both.
-        plain_choice both.items ≡ plain_choice choice.now ++ plain_choice other.now) }
+        plain_conjunct both.items ≡ plain_conjunct conjunct.now ++ plain_conjunct other.now) }
 {
-    let mut both = Vec::from_slice(alloc, choice)?;
+    let mut both = Vec::from_slice(alloc, conjunct)?;
     both.extend_from_slice(other)?;
     Ok(both)
 }

@@ -1,7 +1,7 @@
 //! The kinds of things that have parts, and the formulas of each.
 ghost use Rattle.std.specs.Prelude.{◌≡◌};
 ghost use Rattle.cd_graph.specs.PlainFormula.{plain};
-ghost use Rattle.cd_rules.specs.KindChoices.{is_of as is_of_kind};
+ghost use Rattle.cd_rules.specs.KindDnf.{is_of as is_of_kind};
 ghost use Rattle.cd_normal.specs.Inner.PlainKind.{plain_kind, kinds as all_kinds};
 
 use crate::part::{arrow, pair, record, xml};

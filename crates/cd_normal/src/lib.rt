@@ -3,9 +3,9 @@
 
 pub mod advance;
 pub mod basic_sets;
-mod choice;
-pub mod choices;
 pub mod clause;
+mod conjunct;
+pub mod conjuncts;
 mod going_on;
 mod holding;
 mod joining;
@@ -13,7 +13,7 @@ mod kind;
 mod literal;
 mod needs;
 mod normal;
-mod of_choice;
+mod of_conjunct;
 mod part;
 mod partial;
 mod side;

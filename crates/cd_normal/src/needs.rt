@@ -7,7 +7,7 @@ ghost use Rattle.cd_needs.specs.RecordType.{record_types};
 ghost use Rattle.cd_rules.specs.Needs.{question};
 ghost use Rattle.cd_rules.specs.Rows.{field_at};
 ghost use Rattle.cd_normal.specs.Inner.IsNeed.{IsNeed, IsFieldNeed};
-ghost use Rattle.cd_normal.specs.Inner.PlainChoice.{plain_choice};
+ghost use Rattle.cd_normal.specs.Inner.PlainConjunct.{plain_conjunct};
 ghost use Rattle.cd_normal.specs.Inner.PlainKind.{plain_kind};
 
 use crate::kind::Kind;
@@ -26,48 +26,48 @@ use std::alloc::{AllocError, Global};
 pub(crate) fn needs_of(
     alloc: Global,
     kind: Kind,
-    choice: &[Literal<'_>],
+    conjunct: &[Literal<'_>],
 ) -> Result<Vec<Question>, AllocError>
     ensures { IfOk result
-        (λ needs. AllOf (IsNeed (plain_kind kind) (plain_choice choice.now)) needs.items) }
+        (λ needs. AllOf (IsNeed (plain_kind kind) (plain_conjunct conjunct.now)) needs.items) }
 {
     match kind {
-        Kind::Pair => needs_of_pairs(alloc, choice),
-        Kind::Xml => needs_of_xmls(alloc, choice),
-        Kind::Record => needs_of_records(alloc, choice),
-        Kind::Function => needs_of_arrows(alloc, choice),
+        Kind::Pair => needs_of_pairs(alloc, conjunct),
+        Kind::Xml => needs_of_xmls(alloc, conjunct),
+        Kind::Record => needs_of_records(alloc, conjunct),
+        Kind::Function => needs_of_arrows(alloc, conjunct),
     }
 }
 
-fn needs_of_pairs(alloc: Global, choice: &[Literal<'_>]) -> Result<Vec<Question>, AllocError>
+fn needs_of_pairs(alloc: Global, conjunct: &[Literal<'_>]) -> Result<Vec<Question>, AllocError>
     ensures { IfOk result
-        (λ needs. AllOf (IsNeed APair (plain_choice choice.now)) needs.items) }
+        (λ needs. AllOf (IsNeed APair (plain_conjunct conjunct.now)) needs.items) }
 {
-    let wanted = pairs(alloc, true, choice)?;
+    let wanted = pairs(alloc, true, conjunct)?;
     pair_questions(alloc, wanted.as_slice(), &[], &[])
 }
 
-fn needs_of_xmls(alloc: Global, choice: &[Literal<'_>]) -> Result<Vec<Question>, AllocError>
+fn needs_of_xmls(alloc: Global, conjunct: &[Literal<'_>]) -> Result<Vec<Question>, AllocError>
     ensures { IfOk result
-        (λ needs. AllOf (IsNeed AnXml (plain_choice choice.now)) needs.items) }
+        (λ needs. AllOf (IsNeed AnXml (plain_conjunct conjunct.now)) needs.items) }
 {
-    let wanted = wanted_xmls(alloc, choice)?;
+    let wanted = wanted_xmls(alloc, conjunct)?;
     xml_questions(alloc, wanted.as_slice(), &[], &[], &[])
 }
 
-fn needs_of_records(alloc: Global, choice: &[Literal<'_>]) -> Result<Vec<Question>, AllocError>
+fn needs_of_records(alloc: Global, conjunct: &[Literal<'_>]) -> Result<Vec<Question>, AllocError>
     ensures { IfOk result
-        (λ needs. AllOf (IsNeed ARecord (plain_choice choice.now)) needs.items) }
+        (λ needs. AllOf (IsNeed ARecord (plain_conjunct conjunct.now)) needs.items) }
 {
-    let wanted = records(alloc, true, choice)?;
+    let wanted = records(alloc, true, conjunct)?;
     field_needs(alloc, wanted.as_slice())
 }
 
-fn needs_of_arrows(alloc: Global, choice: &[Literal<'_>]) -> Result<Vec<Question>, AllocError>
+fn needs_of_arrows(alloc: Global, conjunct: &[Literal<'_>]) -> Result<Vec<Question>, AllocError>
     ensures { IfOk result
-        (λ needs. AllOf (IsNeed AFunction (plain_choice choice.now)) needs.items) }
+        (λ needs. AllOf (IsNeed AFunction (plain_conjunct conjunct.now)) needs.items) }
 {
-    let refused = arrows(alloc, false, choice)?;
+    let refused = arrows(alloc, false, conjunct)?;
     argument_needs(alloc, refused.as_slice())
 }
 

@@ -7,10 +7,10 @@ ghost use Rattle.cd_rules.specs.Clauses.{Clause as PlainClause, IsClauseOfQuesti
 ghost use Rattle.cd_normal.specs.PlainClause.{plain_clause};
 ghost use Rattle.cd_normal.specs.Inner.ClausesOfKinds.{clauses_of_kind, clauses_of_all};
 
-use crate::choice::choices_of;
 use crate::clause::Clause;
+use crate::conjunct::dnf_of;
 use crate::kind::{Kind, kinds};
-use crate::of_choice::clause_of;
+use crate::of_conjunct::clause_of;
 use cd_graph::Graph;
 use cd_sets::question::Question;
 use std::alloc::{AllocError, Global};
@@ -68,9 +68,9 @@ fn add_clauses<'g>(
         ++ clauses_of_kind (nodes graph.now) question.now kind) }
 {
     let alloc = *found.allocator();
-    let choices = choices_of(alloc, graph, kind, question)?;
-    for choice in choices.as_slice() {
-        found.push(clause_of(alloc, kind, choice.as_slice())?)?;
+    let conjuncts = dnf_of(alloc, graph, kind, question)?;
+    for conjunct in conjuncts.as_slice() {
+        found.push(clause_of(alloc, kind, conjunct.as_slice())?)?;
     }
     Ok(())
 }

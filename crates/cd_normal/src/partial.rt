@@ -2,10 +2,10 @@
 ghost use Rattle.std.specs.Prelude.{◌≡◌, [], ◌∷◌, ◌++◌, true, false, IfOk, OnOk};
 ghost use Rattle.std.specs.Prelude.{if◌then◌else◌};
 ghost use Rattle.cd_graph.specs.PlainFormula.{plain, plain_formulas};
-ghost use Rattle.cd_rules.specs.KindChoices.{is_of as is_of_kind};
-ghost use Rattle.cd_rules.specs.PartialChoices.{partial, each_signed};
-ghost use Rattle.cd_normal.specs.Inner.NextChoices.{with_left, refused_in, refused_of};
-ghost use Rattle.cd_normal.specs.Inner.PlainChoice.{plain_literal, plain_choice};
+ghost use Rattle.cd_rules.specs.KindDnf.{is_of as is_of_kind};
+ghost use Rattle.cd_rules.specs.PartialConjuncts.{partial, each_signed};
+ghost use Rattle.cd_normal.specs.Inner.NextConjuncts.{with_left, refused_in, refused_of};
+ghost use Rattle.cd_normal.specs.Inner.PlainConjunct.{plain_literal, plain_conjunct};
 ghost use Rattle.cd_normal.specs.Inner.PlainKind.{plain_kind};
 ghost use Rattle.cd_normal.specs.Inner.PlainPartial.{signed, plain_left, plain_partial};
 
@@ -16,41 +16,41 @@ use std::alloc::{AllocError, Global};
 
 /// A choice in the making. The next one of the formulas that are left is the last of their list.
 #[derive(Drop)]
-pub(crate) struct PartialChoice<'g> {
+pub(crate) struct PartialConjunct<'g> {
     pub(crate) kind: Kind,
-    pub(crate) choice: Vec<Literal<'g>>,
+    pub(crate) conjunct: Vec<Literal<'g>>,
     pub(crate) left: Vec<Literal<'g>>,
     /// Whether something was chosen since the choice was looked at.
     pub(crate) changed: bool,
 }
 
-impl<'g> PartialChoice<'g> {
+impl<'g> PartialConjunct<'g> {
     /// A choice of which nothing is chosen yet.
-    pub(crate) fn of(kind: Kind, left: Vec<Literal<'g>>) -> PartialChoice<'g>
+    pub(crate) fn of(kind: Kind, left: Vec<Literal<'g>>) -> PartialConjunct<'g>
         ensures { plain_partial result
             ≡ partial (plain_kind kind) [] (plain_left left.entry.items) }
     {
-        PartialChoice {
+        PartialConjunct {
             kind,
-            choice: Vec::new(*left.allocator()),
+            conjunct: Vec::new(*left.allocator()),
             left,
             changed: false,
         }
     }
 
     /// The same choice, with this formula before those that are left.
-    pub(crate) fn copy_with(&self, next: Literal<'g>) -> Result<PartialChoice<'g>, AllocError>
+    pub(crate) fn copy_with(&self, next: Literal<'g>) -> Result<PartialConjunct<'g>, AllocError>
         ensures { IfOk result (λ copy. plain_partial copy
             ≡ with_left (signed next.entry ∷ []) (plain_partial self.now)) }
     {
         let alloc = *self.left.allocator();
-        let choice = Vec::from_slice(alloc, self.choice.as_slice())?;
+        let conjunct = Vec::from_slice(alloc, self.conjunct.as_slice())?;
         let mut left = Vec::with_capacity(alloc, self.left.len() + 1)?;
         left.extend_from_slice(self.left.as_slice())?;
         left.push(next)?;
-        Ok(PartialChoice {
+        Ok(PartialConjunct {
             kind: self.kind,
-            choice,
+            conjunct,
             left,
             changed: self.changed,
         })
@@ -60,23 +60,23 @@ impl<'g> PartialChoice<'g> {
     pub(crate) fn copy_choosing(
         &self,
         formula: &'g Formula,
-    ) -> Result<PartialChoice<'g>, AllocError>
+    ) -> Result<PartialConjunct<'g>, AllocError>
         ensures { IfOk result (λ copy. plain_partial copy
             ≡ partial (plain_partial self.now).kind
-            ((plain_partial self.now).choice
+            ((plain_partial self.now).conjunct
             ++ record { wanted = true; is = plain formula.now } ∷ [])
             (plain_partial self.now).left) }
     {
         let alloc = *self.left.allocator();
-        let mut choice = Vec::with_capacity(alloc, self.choice.len() + 1)?;
-        choice.extend_from_slice(self.choice.as_slice())?;
-        choice.push(Literal {
+        let mut conjunct = Vec::with_capacity(alloc, self.conjunct.len() + 1)?;
+        conjunct.extend_from_slice(self.conjunct.as_slice())?;
+        conjunct.push(Literal {
             wanted: true,
             formula,
         })?;
-        Ok(PartialChoice {
+        Ok(PartialConjunct {
             kind: self.kind,
-            choice,
+            conjunct,
             left: Vec::from_slice(alloc, self.left.as_slice())?,
             changed: true,
         })
@@ -86,10 +86,10 @@ impl<'g> PartialChoice<'g> {
     pub(crate) fn choose(&mut self, literal: Literal<'g>) -> Result<(), AllocError>
         ensures { OnOk result (plain_partial self.new
             ≡ partial (plain_partial self.old).kind
-            ((plain_partial self.old).choice ++ plain_literal literal.entry ∷ [])
+            ((plain_partial self.old).conjunct ++ plain_literal literal.entry ∷ [])
             (plain_partial self.old).left) }
     {
-        self.choice.push(literal)?;
+        self.conjunct.push(literal)?;
         self.changed = self.changed || is_looked_at(self.kind, literal.wanted);
         Ok(())
     }
@@ -98,11 +98,11 @@ impl<'g> PartialChoice<'g> {
     pub(crate) fn refuse_each(&mut self, formulas: &'g Formulas) -> Result<(), AllocError>
         ensures { OnOk result (plain_partial self.new
             ≡ partial (plain_partial self.old).kind
-            ((plain_partial self.old).choice
+            ((plain_partial self.old).conjunct
             ++ refused_of (plain_partial self.old).kind (plain_formulas formulas.now))
             (plain_partial self.old).left) }
     {
-        add_refused(&mut self.choice, self.kind, formulas)?;
+        add_refused(&mut self.conjunct, self.kind, formulas)?;
         self.changed = self.changed || is_looked_at(self.kind, false);
         Ok(())
     }
@@ -141,17 +141,17 @@ fn is_looked_at(kind: Kind, wanted: bool) -> bool {
 // Adds the literals of a kind in these, which are refused.
 #[cycle(add_refused)]
 fn add_refused<'g>(
-    choice: &mut Vec<Literal<'g>>,
+    conjunct: &mut Vec<Literal<'g>>,
     kind: Kind,
     formulas: &'g Formulas,
 ) -> Result<(), AllocError>
-    ensures { OnOk result (plain_choice choice.new.items ≡ plain_choice choice.old.items
+    ensures { OnOk result (plain_conjunct conjunct.new.items ≡ plain_conjunct conjunct.old.items
         ++ refused_of (plain_kind kind) (plain_formulas formulas.now)) }
 {
     let formulas = formulas.items();
-    choice.reserve(formulas.len())?;
+    conjunct.reserve(formulas.len())?;
     for formula in formulas {
-        add_refused_in(choice, kind, formula)?;
+        add_refused_in(conjunct, kind, formula)?;
     }
     Ok(())
 }
@@ -159,15 +159,15 @@ fn add_refused<'g>(
 // The same for the literals in one formula.
 #[cycle(add_refused)]
 fn add_refused_in<'g>(
-    choice: &mut Vec<Literal<'g>>,
+    conjunct: &mut Vec<Literal<'g>>,
     kind: Kind,
     formula: &'g Formula,
 ) -> Result<(), AllocError>
-    ensures { OnOk result (plain_choice choice.new.items ≡ plain_choice choice.old.items
+    ensures { OnOk result (plain_conjunct conjunct.new.items ≡ plain_conjunct conjunct.old.items
         ++ refused_in (plain_kind kind) (plain formula.now)) }
 {
     match formula {
-        Formula::Or(formulas) => add_refused(choice, kind, formulas),
+        Formula::Or(formulas) => add_refused(conjunct, kind, formulas),
         Formula::None
         | Formula::All
         | Formula::And(_)
@@ -178,22 +178,22 @@ fn add_refused_in<'g>(
         | Formula::Pair(_, _)
         | Formula::Xml(_, _, _)
         | Formula::Record(_)
-        | Formula::Arrow(_, _) => add_one_refused(choice, kind, formula),
+        | Formula::Arrow(_, _) => add_one_refused(conjunct, kind, formula),
     }
 }
 
 // Adds a literal, which is refused, if it is of the kind.
 fn add_one_refused<'g>(
-    choice: &mut Vec<Literal<'g>>,
+    conjunct: &mut Vec<Literal<'g>>,
     kind: Kind,
     formula: &'g Formula,
 ) -> Result<(), AllocError>
-    ensures { OnOk result (plain_choice choice.new.items ≡ plain_choice choice.old.items
+    ensures { OnOk result (plain_conjunct conjunct.new.items ≡ plain_conjunct conjunct.old.items
         ++ (if is_of_kind (plain_kind kind) (plain formula.now)
         then record { wanted = false; is = plain formula.now } ∷ [] else [])) }
 {
     if is_of(kind, formula) {
-        choice.push(Literal {
+        conjunct.push(Literal {
             wanted: false,
             formula,
         })?;

@@ -3,7 +3,7 @@ ghost use Rattle.std.specs.Prelude.{◌≡◌, ◌++◌, [], true, false, IfOk, 
 ghost use Rattle.std.specs.Option.{option_map};
 ghost use Rattle.cd_needs.specs.RecordType.{record_type, record_types};
 ghost use Rattle.cd_rules.specs.Clauses.{one_more, parts_in, pair_of, xml_of, record_of, arrow_of};
-ghost use Rattle.cd_normal.specs.Inner.PlainChoice.{plain_choice};
+ghost use Rattle.cd_normal.specs.Inner.PlainConjunct.{plain_conjunct};
 
 use crate::literal::Literal;
 use crate::part::{arrow, pair, record, xml};
@@ -16,13 +16,13 @@ use std::alloc::{AllocError, Global};
 pub(crate) fn pairs(
     alloc: Global,
     wanted: bool,
-    choice: &[Literal<'_>],
+    conjunct: &[Literal<'_>],
 ) -> Result<Vec<(NodeId, NodeId)>, AllocError>
     ensures { IfOk result (λ parts.
-        parts.items ≡ parts_in pair_of wanted (plain_choice choice.now)) }
+        parts.items ≡ parts_in pair_of wanted (plain_conjunct conjunct.now)) }
 {
-    let mut parts = Vec::with_capacity(alloc, choice.len())?;
-    for literal in choice {
+    let mut parts = Vec::with_capacity(alloc, conjunct.len())?;
+    for literal in conjunct {
         add(&mut parts, wanted, literal.wanted, pair(literal.formula))?;
     }
     Ok(parts)
@@ -32,12 +32,13 @@ pub(crate) fn pairs(
 #[tactic(auto, using(crate::proofs::Lists::one_more_before))]
 pub(crate) fn wanted_xmls(
     alloc: Global,
-    choice: &[Literal<'_>],
+    conjunct: &[Literal<'_>],
 ) -> Result<Vec<(NodeId, NodeId, NodeId)>, AllocError>
-    ensures { IfOk result (λ parts. parts.items ≡ parts_in xml_of true (plain_choice choice.now)) }
+    ensures { IfOk result
+        (λ parts. parts.items ≡ parts_in xml_of true (plain_conjunct conjunct.now)) }
 {
     let mut parts = Vec::new(alloc);
-    for literal in choice {
+    for literal in conjunct {
         add(&mut parts, true, literal.wanted, xml(literal.formula))?;
     }
     Ok(parts)
@@ -47,17 +48,17 @@ pub(crate) fn wanted_xmls(
 #[tactic(auto, using(crate::proofs::Lists::one_more_before))]
 pub(crate) fn xmls(
     alloc: Global,
-    choice: &[Literal<'_>],
+    conjunct: &[Literal<'_>],
 ) -> Result<(Vec<(NodeId, NodeId, NodeId)>, Vec<(NodeId, NodeId, NodeId)>), AllocError>
     ensures wanted { IfOk result (λ parts.
-        parts.0.items ≡ parts_in xml_of true (plain_choice choice.now)) }
+        parts.0.items ≡ parts_in xml_of true (plain_conjunct conjunct.now)) }
     ensures refused { IfOk result (λ parts.
-        parts.1.items ≡ parts_in xml_of false (plain_choice choice.now)) }
+        parts.1.items ≡ parts_in xml_of false (plain_conjunct conjunct.now)) }
 {
     // Most of them are refused.
     let mut wanted = Vec::new(alloc);
-    let mut refused = Vec::with_capacity(alloc, choice.len())?;
-    for literal in choice {
+    let mut refused = Vec::with_capacity(alloc, conjunct.len())?;
+    for literal in conjunct {
         let part = xml(literal.formula);
         add(&mut wanted, true, literal.wanted, part)?;
         add(&mut refused, false, literal.wanted, part)?;
@@ -70,13 +71,13 @@ pub(crate) fn xmls(
 pub(crate) fn records<'g>(
     alloc: Global,
     wanted: bool,
-    choice: &[Literal<'g>],
+    conjunct: &[Literal<'g>],
 ) -> Result<Vec<&'g Fields>, AllocError>
     ensures { IfOk result (λ parts.
-        record_types parts.items ≡ parts_in record_of wanted (plain_choice choice.now)) }
+        record_types parts.items ≡ parts_in record_of wanted (plain_conjunct conjunct.now)) }
 {
-    let mut parts = Vec::with_capacity(alloc, choice.len())?;
-    for literal in choice {
+    let mut parts = Vec::with_capacity(alloc, conjunct.len())?;
+    for literal in conjunct {
         add_fields(&mut parts, wanted, literal.wanted, record(literal.formula))?;
     }
     Ok(parts)
@@ -87,13 +88,13 @@ pub(crate) fn records<'g>(
 pub(crate) fn arrows(
     alloc: Global,
     wanted: bool,
-    choice: &[Literal<'_>],
+    conjunct: &[Literal<'_>],
 ) -> Result<Vec<(NodeId, NodeId)>, AllocError>
     ensures { IfOk result (λ parts.
-        parts.items ≡ parts_in arrow_of wanted (plain_choice choice.now)) }
+        parts.items ≡ parts_in arrow_of wanted (plain_conjunct conjunct.now)) }
 {
-    let mut parts = Vec::with_capacity(alloc, choice.len())?;
-    for literal in choice {
+    let mut parts = Vec::with_capacity(alloc, conjunct.len())?;
+    for literal in conjunct {
         add(&mut parts, wanted, literal.wanted, arrow(literal.formula))?;
     }
     Ok(parts)

@@ -9,8 +9,8 @@ use Rattle.cd_syntax.specs.declared.tokens.Token.{Token}
 use Rattle.cd_syntax.specs.declared.tokens.LexError.{LexError}
 use Rattle.cd_syntax.specs.declared.tokens.LexError.TheVariants as lex
 use Rattle.cd_syntax.specs.Name.{Name}
-use Rattle.cd_syntax.specs.Tokens.{Spells, bytes}
-use Rattle.cd_syntax.specs.Faults.{Fails}
+use Rattle.cd_syntax.specs.Tokens.{Lexes, bytes}
+use Rattle.cd_syntax.specs.Faults.{HasFirstFault}
 use Rattle.cd_model.specs.Thing.{Thing}
 use Rattle.cd_documents.specs.Terminal.{terminal}
 use Rattle.cd_documents.specs.Machine as machine
@@ -26,7 +26,7 @@ use Rattle.cd_cells.specs.Cells.{thing_at}
 use Rattle.cd_cells.specs.Table.{table}
 use Rattle.cd_lex.specs.declared.lexer.Kind.{Kind}
 use Rattle.cd_lex.specs.declared.lexer.Lexer.{Lexer}
-use Rattle.cd_lex.specs.Lexing.{left, place, is_joined, SpellsOn, FailsOn, with_characters, token_with, IsToken}
+use Rattle.cd_lex.specs.Lexing.{left, place, is_joined, LexesOn, FailsOn, with_characters, token_with, IsToken}
 use Rattle.cd_notation.specs.declared.form.Expecting.{Expecting}
 use Rattle.cd_notation.specs.declared.form.Expecting.TheVariants as expecting
 use Rattle.cd_notation.specs.declared.read.NotationError.{NotationError}
@@ -58,10 +58,10 @@ module _ (text : List ℕ) (lexer new_lexer : Lexer) (values new_values : Values
   abbrev going_on : List Token → Result State machine.Fault → Result (Option Thing) machine.Fault
   going_on rest made = ended (and_then made (λ after. reach most_open after rest))
 
-  makes_on : (rest : List Token) → SpellsOn new_lexer rest → (all : List Token) × Spells false 0 text all × (run most_open start all ≡ going_on rest stepped)
-  makes_on rest spells =
-      let made = going.makes (one ∷ rest) (token_is.spells rest spells) in
-      (made.all, made.spells, made.runs ∙ ap (going_on rest) same_step)
+  makes_on : (rest : List Token) → LexesOn new_lexer rest → (all : List Token) × Lexes false 0 text all × (run most_open start all ≡ going_on rest stepped)
+  makes_on rest lexes =
+      let made = going.makes (one ∷ rest) (token_is.lexes rest lexes) in
+      (made.all, made.lexes, made.runs ∙ ap (going_on rest) same_step)
 
   pub goes_on : (after : Expecting) → IsStep span.from stepped new_values (made_step.Next after) new_reader → Going text new_lexer new_values after new_reader
   goes_on after led = by stepped refl led
@@ -70,9 +70,9 @@ module _ (text : List ℕ) (lexer new_lexer : Lexer) (values new_values : Values
       by (Ok now) is led = record {
         now = now;
         stands = led;
-        makes = λ rest spells.
-            let made = makes_on rest spells in
-            record { all = made.0; spells = made.1; runs = made.2 ∙ ap (going_on rest) is };
+        makes = λ rest lexes.
+            let made = makes_on rest lexes in
+            record { all = made.0; lexes = made.1; runs = made.2 ∙ ap (going_on rest) is };
         fails = λ fault fails. going.fails fault (token_is.fails fault fails);
       }
       by (Err (machine.Syntax at)) is led = absurd led
@@ -81,15 +81,15 @@ module _ (text : List ℕ) (lexer new_lexer : Lexer) (values new_values : Values
   -- the token can't stand there
   pub is_wrong : IsStep span.from stepped new_values made_step.Wrong new_reader → (error : NotationError) → IsRefusal new_lexer (Syntax span.from) error
       → IsFaultOf text error
-  is_wrong led error (inl (is, tokens, spells)) = subst (IsFaultOf text) (sym is) (by stepped refl led)
+  is_wrong led error (inl (is, tokens, lexes)) = subst (IsFaultOf text) (sym is) (by stepped refl led)
     where
       by : (made : Result State machine.Fault) → stepped ≡ made → IsStep span.from made new_values made_step.Wrong new_reader → IsWrongText text span.from
       by (Ok now) is led = absurd led
       by (Err (machine.Syntax at)) is led =
-          let made = makes_on tokens spells in
+          let made = makes_on tokens lexes in
           record {
             tokens = made.0;
-            spells = made.1;
+            lexes = made.1;
             wrong = wrong_document most_open made.0 (bytes text) span.from
                 (made.2 ∙ ap (going_on tokens) is ∙ ap (λ (from : ℕ). Err (machine.Syntax from)) led);
           }
@@ -99,16 +99,16 @@ module _ (text : List ℕ) (lexer new_lexer : Lexer) (values new_values : Values
 
   pub is_too_deep : IsStep span.from stepped new_values made_step.TooDeep new_reader → (error : NotationError) → IsRefusal new_lexer (TooDeep span.from) error
       → IsFaultOf text error
-  is_too_deep led error (inl (is, tokens, spells)) = subst (IsFaultOf text) (sym is) (by stepped refl led)
+  is_too_deep led error (inl (is, tokens, lexes)) = subst (IsFaultOf text) (sym is) (by stepped refl led)
     where
       by : (made : Result State machine.Fault) → stepped ≡ made → IsStep span.from made new_values made_step.TooDeep new_reader → IsTooDeepText text span.from
       by (Ok now) is led = absurd led
       by (Err (machine.Syntax at)) is led = absurd led
       by (Err (machine.TooDeep at)) is led =
-          let made = makes_on tokens spells in
+          let made = makes_on tokens lexes in
           record {
             tokens = made.0;
-            spells = made.1;
+            lexes = made.1;
             deep = too_deep most_open made.0 (bytes text) span.from
                 (made.2 ∙ ap (going_on tokens) is ∙ ap (λ (from : ℕ). Err (machine.TooDeep from)) led);
           }
@@ -117,22 +117,22 @@ module _ (text : List ℕ) (lexer new_lexer : Lexer) (values new_values : Values
 
 -- at the end of the text
 module _ (text : List ℕ) (lexer : Lexer) (values : Values) (reader : Reader) where
-  pub whole : (id : ValueId) → Going text lexer values (expecting.Nothing id) reader → SpellsOn lexer [] → WritesValue text (thing_at (table values) id.0)
-  whole id going spells =
-      let made = going.makes [] spells in
+  pub whole : (id : ValueId) → Going text lexer values (expecting.Nothing id) reader → LexesOn lexer [] → WritesValue text (thing_at (table values) id.0)
+  whole id going lexes =
+      let made = going.makes [] lexes in
       record {
         tokens = made.all;
-        spells = made.spells;
+        lexes = made.lexes;
         document = derived most_open made.all (thing_at (table values) id.0) (made.runs ∙ ap (λ (now : State). Ok (machine.value_at now.place)) going.stands.is);
       }
 
-  pub not_whole : (next : Expecting) → (end : ℕ) → end ≡ bytes text → Going text lexer values next reader → ((id : ValueId) → next ≡ expecting.Nothing id → ⊥) → SpellsOn lexer []
+  pub not_whole : (next : Expecting) → (end : ℕ) → end ≡ bytes text → Going text lexer values next reader → ((id : ValueId) → next ≡ expecting.Nothing id → ⊥) → LexesOn lexer []
       → IsWrongText text end
-  not_whole next end is_end going other spells =
-      let made = going.makes [] spells in
+  not_whole next end is_end going other lexes =
+      let made = going.makes [] lexes in
       record {
         tokens = made.all;
-        spells = made.spells;
+        lexes = made.lexes;
         wrong = subst (λ (at : ℕ). IsWrongDocument most_open made.all (bytes text) at) (sym is_end)
             (unfinished_document most_open made.all (bytes text) (made.runs ∙ ap (λ (now : State). Ok (machine.value_at now.place)) going.stands.is ∙ ap Ok (no_value next other)));
       }
@@ -150,7 +150,7 @@ module _ (text : List ℕ) (lexer : Lexer) (values : Values) (reader : Reader) w
       no_value (expecting.Nothing id) other = absurd (other id refl)
 
 -- the lexer has a fault
-pub is_fault : (text : List ℕ) (fault : LexError) → (fault ≡ lex.Memory) ⊎ Fails false 0 text fault → IsFaultOf text (of_lexer fault)
+pub is_fault : (text : List ℕ) (fault : LexError) → (fault ≡ lex.Memory) ⊎ HasFirstFault false 0 text fault → IsFaultOf text (of_lexer fault)
 is_fault text fault (inl is) = subst (λ (fault : LexError). IsFaultOf text (of_lexer fault)) (sym is) tt
 is_fault text (lex.BadChar at) (inr fails) = fails
 is_fault text (lex.OpenText at) (inr fails) = fails
@@ -169,12 +169,12 @@ going_starts lexer values reader no_forms no_items no_labels at joined = record 
     is = refl;
     within = tt;
   };
-  makes = λ rest spells. record {
+  makes = λ rest lexes. record {
     all = rest;
-    spells = subst (λ (joined : Bool). Spells joined 0 (left lexer) rest) joined (subst (λ (at : ℕ). Spells (is_joined lexer) at (left lexer) rest) at spells);
+    lexes = subst (λ (joined : Bool). Lexes joined 0 (left lexer) rest) joined (subst (λ (at : ℕ). Lexes (is_joined lexer) at (left lexer) rest) at lexes);
     runs = refl;
   };
-  fails = λ fault fails. subst (λ (joined : Bool). Fails joined 0 (left lexer) fault) joined (subst (λ (at : ℕ). Fails (is_joined lexer) at (left lexer) fault) at fails);
+  fails = λ fault fails. subst (λ (joined : Bool). HasFirstFault joined 0 (left lexer) fault) joined (subst (λ (at : ℕ). HasFirstFault (is_joined lexer) at (left lexer) fault) at fails);
 }
 
 -- what is answered at the end
@@ -184,14 +184,14 @@ pub record IsEnd (text : List ℕ) (values : Values) (result : Result ValueId No
   pub fault : IfErr result (IsFaultOf text)
 
 pub at_end : (text : List ℕ) (lexer : Lexer) (values : Values) (reader : Reader) (next : Expecting) (end : ℕ) (result : Result ValueId NotationError)
-    → result ≡ ended_of next end → end ≡ bytes text → Going text lexer values next reader → SpellsOn lexer [] → IsEnd text values result
-at_end text lexer values reader next end result is is_end going spells = subst (IsEnd text values) (sym is) (by next going)
+    → result ≡ ended_of next end → end ≡ bytes text → Going text lexer values next reader → LexesOn lexer [] → IsEnd text values result
+at_end text lexer values reader next end result is is_end going lexes = subst (IsEnd text values) (sym is) (by next going)
   where
     unfinished : (next : Expecting) → Going text lexer values next reader → ((id : ValueId) → next ≡ expecting.Nothing id → ⊥) → IsEnd text values (Err (Syntax end))
-    unfinished next going other = record { within = tt; value = tt; fault = not_whole text lexer values reader next end is_end going other spells }
+    unfinished next going other = record { within = tt; value = tt; fault = not_whole text lexer values reader next end is_end going other lexes }
 
     by : (next : Expecting) → Going text lexer values next reader → IsEnd text values (ended_of next end)
-    by (expecting.Nothing id) going = record { within = going.stands.within; value = whole text lexer values reader id going spells; fault = tt }
+    by (expecting.Nothing id) going = record { within = going.stands.within; value = whole text lexer values reader id going lexes; fault = tt }
     by expecting.Value going = unfinished expecting.Value going (λ id is. absurd (cc is))
     by expecting.Item going = unfinished expecting.Item going (λ id is. absurd (cc is))
     by expecting.AfterPart going = unfinished expecting.AfterPart going (λ id is. absurd (cc is))

@@ -14,7 +14,7 @@ use Rattle.cd_cells.specs.declared.cell.ValueId.{ValueId}
 use Rattle.cd_cells.specs.Cells.{thing_at, name_at, IsPart, HasEachOnce}
 use Rattle.cd_notation.specs.Open.{is_label_of, names_of, values_of, fields_read, LabelsDiffer}
 use Rattle.cd_notation.specs.Inner.Open as the
-use Rattle.cd_notation.specs.Inner.Open.{AreAt, IsLabelAt, AreLabelsAt, AreApart}
+use Rattle.cd_notation.specs.Inner.Open.{AreAt, IsLabelAt, AreLabelsAt, AreDistinct}
 use Rattle.cd_notation.specs.Inner.Leading.{parts_of}
 
 or_left : (b c : Bool) → (b || c) ≡ false → b ≡ false
@@ -57,7 +57,7 @@ module _ (names : List Name) (table : List Thing) where
           let labels_same : label ≡ one = sym is.is ∙ ap (name_at names) numbers_same ∙ at.is in
           absurd (true≢false (sym ((bytes_eq-Decides label one).1 labels_same) ∙ or_left (bytes_eq label one) (is_among label labels) apart))
 
-  pub labels_differ : (numbers : List ℕ) (ids : List ValueId) (labels : List Name) → AreLabelsAt names numbers labels → AreApart labels → LabelsDiffer (parts_of numbers ids)
+  pub labels_differ : (numbers : List ℕ) (ids : List ValueId) (labels : List Name) → AreLabelsAt names numbers labels → AreDistinct labels → LabelsDiffer (parts_of numbers ids)
   labels_differ _ ids _ the.AreLabelsAt.none apart = tt
   labels_differ _ [] _ (the.AreLabelsAt.one number label numbers labels is are) apart = tt
   labels_differ _ (id ∷ ids) _ (the.AreLabelsAt.one number label numbers labels is are) apart =

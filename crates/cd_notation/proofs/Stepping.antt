@@ -20,7 +20,7 @@ use Rattle.cd_notation.specs.declared.form.Expecting.{Expecting}
 use Rattle.cd_notation.specs.declared.form.Expecting.TheVariants as expecting
 use Rattle.cd_notation.specs.declared.reader.Reader.{Reader}
 use Rattle.cd_notation.specs.Inner.Open as the
-use Rattle.cd_notation.specs.Inner.Open.{AreAt, IsLabelAt, AreLabelsAt, AreApart, IsTop, HasItems, HasLabels, IsOpen}
+use Rattle.cd_notation.specs.Inner.Open.{AreAt, IsLabelAt, AreLabelsAt, AreDistinct, IsTop, HasItems, HasLabels, IsOpen}
 use Rattle.cd_notation.specs.Inner.Leading.{Stands, Leads, HasLetters, labels_from, frames_at}
 use Rattle.cd_cells.proofs.GrownTables.{at_grown}
 use Rattle.cd_notation.proofs.Growth.{items_grown, all_labels_grown, open_grown}

@@ -16,7 +16,7 @@ use Rattle.cd_cells.proofs.GrownTables.{at_grown, itself, further}
 pub record IsPaired (old : Values) (end : ℕ) (text : List ℕ) (now : Values) (made : ℕ)
     (rest : List ℕ) : Type 0 where
   pub done : List ℕ
-  pub spells : text ≡ rest ++ encodes done
+  pub lexes : text ≡ rest ++ encodes done
   pub is : (last : Thing) → IsAt (table old) end last
       → IsAt (table now) made (characters_before done last)
   pub grows : Grows old now
@@ -25,7 +25,7 @@ pub paired_start : (values : Values) (end : ℕ) (text rest : List ℕ) → rest
     → IsPaired values end text values end rest
 paired_start values end text rest is = record {
   done = [];
-  spells = sym is ∙ sym (append-nil rest);
+  lexes = sym is ∙ sym (append-nil rest);
   is = λ last at. at;
   grows = itself values;
 }
@@ -47,7 +47,7 @@ pub paired_on : (old one two three : Values) (end before letter id : ℕ) (text 
 paired_on old one two three end before letter id text rest later c now is grows at then added last =
     record {
       done = c ∷ now.done;
-      spells = now.spells ∙ ap (λ (bytes : List ℕ). bytes ++ encodes now.done) is
+      lexes = now.lexes ∙ ap (λ (bytes : List ℕ). bytes ++ encodes now.done) is
           ∙ append_assoc later (encode_utf8 c) (encodes now.done);
       is = λ final end_at.
           let after = characters_before now.done final in
@@ -62,7 +62,7 @@ pub paired_end : (old now : Values) (end made : ℕ) (text rest : List ℕ) → 
     → IsAt (table now) made (characters_before (chars text) last)
 paired_end old now end made text [] utf8 all none last at =
     subst (λ (cs : List ℕ). IsAt (table now) made (characters_before cs last))
-    (chars_from_encodes all.done text utf8 (sym all.spells)) (all.is last at)
+    (chars_from_encodes all.done text utf8 (sym all.lexes)) (all.is last at)
 paired_end old now end made text (byte ∷ rest) utf8 all none last at = absurd (omega (arith, none))
 
 -- the pairs so far have a number

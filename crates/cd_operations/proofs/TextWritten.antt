@@ -13,7 +13,7 @@ use Rattle.cd_cells.proofs.GrownTables.{at_grown, further}
 -- these bytes are left, and the characters after them are pairs
 pub record IsWritten (old : Values) (text : List ℕ) (now : Values) (made : ℕ) (rest : List ℕ) : Type 0 where
   pub done : List ℕ
-  pub spells : text ≡ rest ++ encodes done
+  pub lexes : text ≡ rest ++ encodes done
   pub is : IsAt (table now) made (text_of done)
   pub grows : Grows old now
 
@@ -23,7 +23,7 @@ pub written_on : (old one two three : Values) (before letter id : ℕ) (text res
     → IsWritten old text three id later
 written_on old one two three before letter id text rest later c now is grows at then added = record {
   done = c ∷ now.done;
-  spells = now.spells ∙ ap (λ (bytes : List ℕ). bytes ++ encodes now.done) is ∙ append_assoc later (encode_utf8 c) (encodes now.done);
+  lexes = now.lexes ∙ ap (λ (bytes : List ℕ). bytes ++ encodes now.done) is ∙ append_assoc later (encode_utf8 c) (encodes now.done);
   is =
       let after = at_grown one two grows before (text_of now.done) now.is in
       let pair : Pair (thing_at (table two) letter) (thing_at (table two) before) ≡ text_of (c ∷ now.done) = cc (at.is, after.is) in
@@ -34,5 +34,5 @@ written_on old one two three before letter id text rest later c now is grows at 
 pub written_end : (old now : Values) (made : ℕ) (text rest : List ℕ) → IsUtf8 text → IsWritten old text now made rest → length rest ≡ 0
     → IsAt (table now) made (text_of (chars text))
 written_end old now made text [] utf8 all none =
-    subst (λ (cs : List ℕ). IsAt (table now) made (text_of cs)) (chars_from_encodes all.done text utf8 (sym all.spells)) all.is
+    subst (λ (cs : List ℕ). IsAt (table now) made (text_of cs)) (chars_from_encodes all.done text utf8 (sym all.lexes)) all.is
 written_end old now made text (byte ∷ rest) utf8 all none = absurd (omega (arith, none))

@@ -2,7 +2,7 @@
 use Rattle.std.proofs.Common.{arith, ◌≡◌, sym, ap, subst, refl, ℕ, suc, ◌<◌, false, List, ◌∷◌, map}
 use Rattle.std.specs.Prelude.{flat_map}
 use Rattle.cd_syntax.specs.declared.tokens.Token.{Token}
-use Rattle.cd_syntax.specs.Tokens.{Spells}
+use Rattle.cd_syntax.specs.Tokens.{Lexes}
 use Rattle.cd_program.specs.Expr.{Expr, FunctionTree, Program}
 use Rattle.cd_evaluation.specs.ProgramFunctions.{all_functions, PlacesDiffer}
 use Rattle.cd_placed.specs.Patterns.{all_patterns, StartsDiffer}
@@ -76,24 +76,24 @@ module _ (E : Expr → List ℕ) (F : FunctionTree → List ℕ) (walk : IsWalk 
       (longer 0 to (suc to) (all_held E F (parts_of values)) (omega arith) are.rise))
 
   -- the places of the functions of a program, in the order of the text
-  program_rises : (text : List ℕ) (tokens : List Token) (depth : ℕ) (program : Program) → Spells false 0 text tokens
+  program_rises : (text : List ℕ) (tokens : List Token) (depth : ℕ) (program : Program) → Lexes false 0 text tokens
       → IsProgram depth tokens program → (to : ℕ) × Rises 0 (flat_map F program.functions) to
-  program_rises text tokens depth program spells (types, same, written) =
-      let (to, stand) = tokens_in_order false 0 text tokens spells in (
+  program_rises text tokens depth program lexes (types, same, written) =
+      let (to, stand) = tokens_in_order false 0 text tokens lexes in (
         suc to,
         whole_rises goal.ProgramText depth (map Read tokens) (written.0, AProgram types program.functions) written.1 to stand,
       )
 
 pub functions_stand_apart : (text : List ℕ) (tokens : List Token) (depth : ℕ) (program : Program)
-    → Spells false 0 text tokens → IsProgram depth tokens program → PlacesDiffer (all_functions program)
-functions_stand_apart text tokens depth program spells written =
+    → Lexes false 0 text tokens → IsProgram depth tokens program → PlacesDiffer (all_functions program)
+functions_stand_apart text tokens depth program lexes written =
     let (to, rises) =
-    program_rises function_places places_of_function functions_walk text tokens depth program spells written in
+    program_rises function_places places_of_function functions_walk text tokens depth program lexes written in
     functions_differ 0 to program.functions rises
 
 pub patterns_begin_apart : (text : List ℕ) (tokens : List Token) (depth : ℕ) (program : Program)
-    → Spells false 0 text tokens → IsProgram depth tokens program → StartsDiffer (all_patterns program)
-patterns_begin_apart text tokens depth program spells written =
+    → Lexes false 0 text tokens → IsProgram depth tokens program → StartsDiffer (all_patterns program)
+patterns_begin_apart text tokens depth program lexes written =
     let (to, rises) =
-    program_rises pattern_starts starts_of_function patterns_walk text tokens depth program spells written in
+    program_rises pattern_starts starts_of_function patterns_walk text tokens depth program lexes written in
     patterns_differ 0 to program.functions rises

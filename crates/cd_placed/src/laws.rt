@@ -1,7 +1,7 @@
 //! Laws of places. Each is the contract of a function that does nothing.
 ghost use Rattle.std.specs.Prelude.{ℕ, false, List};
 ghost use Rattle.cd_syntax.specs.declared.tokens.Token.{Token};
-ghost use Rattle.cd_syntax.specs.Tokens.{Spells};
+ghost use Rattle.cd_syntax.specs.Tokens.{Lexes};
 ghost use Rattle.cd_program.specs.Expr.{Program};
 ghost use Rattle.cd_grammar.specs.Language.{IsProgram};
 ghost use Rattle.cd_evaluation.specs.ProgramFunctions.{all_functions, PlacesDiffer};
@@ -11,9 +11,9 @@ ghost use Rattle.cd_placed.specs.Patterns.{all_patterns, StartsDiffer};
 /// branches and of its `let` begin at one.
 pub fn places_differ()
     ensures functions { (text : List ℕ) (tokens : List Token) (depth : ℕ) (program : Program)
-        → Spells false 0 text tokens → IsProgram depth tokens program
+        → Lexes false 0 text tokens → IsProgram depth tokens program
         → PlacesDiffer (all_functions program) }
     ensures patterns { (text : List ℕ) (tokens : List Token) (depth : ℕ) (program : Program)
-        → Spells false 0 text tokens → IsProgram depth tokens program
+        → Lexes false 0 text tokens → IsProgram depth tokens program
         → StartsDiffer (all_patterns program) }
 {}

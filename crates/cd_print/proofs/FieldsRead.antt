@@ -6,7 +6,7 @@ use Rattle.std.proofs.lemmas.Bool.{and_parts}
 use Rattle.std.proofs.lemmas.Bool.Decides.{nat_tests}
 use Rattle.cd_syntax.specs.Name.{Name, IsLabel, is_word, begins_word, goes_on_word}
 use Rattle.cd_syntax.specs.Tokens as tokens
-use Rattle.cd_syntax.specs.Tokens.{EndsWord, Spells}
+use Rattle.cd_syntax.specs.Tokens.{EndsWord, Lexes}
 use Rattle.cd_syntax.specs.Tokens.{at}
 use Rattle.cd_syntax.specs.declared.sign.Sign.TheVariants as sign
 use Rattle.cd_syntax.specs.declared.tokens.Span.{Span}
@@ -17,9 +17,9 @@ use Rattle.cd_model.specs.Thing.{Thing, Fields, NoField, Field, Record, Xml, Ato
 use Rattle.cd_documents.specs.Document as document
 use Rattle.cd_documents.specs.Document.{IsDocument, AreFields, AreMoreFields, AreAttributes, is_among, with_field}
 use Rattle.cd_print.proofs.OneSign.{IsAlone, open_brace, close_brace, equal, semicolon, less, greater}
-use Rattle.cd_print.proofs.ReadsOn.{Reads, WrittenAs, weaker, token_then, sign_then, blank_then, value_then}
+use Rattle.cd_print.proofs.ReadsOn.{Reads, PrintedAs, weaker, token_then, sign_then, blank_then, value_then}
 use Rattle.cd_print.proofs.TextsJoined.{after, joined_after}
-use Rattle.cd_print.proofs.RowsRead.{Split, Only, only, Written}
+use Rattle.cd_print.proofs.RowsRead.{Split, Only, only, Printed}
 
 -- the texts of fields
 abbrev pub field_text : Name → Text → Text
@@ -31,7 +31,7 @@ module _ (depth : ℕ) where
     no_text : (before : List Name) → FieldsAre before [] NoField
     field_text_is : (before : List Name) (label : Name) (text : Text) (texts : List Text) (value : Thing) (others : Fields)
         → IsLabel label → is_among label before ≡ false → with_field label value others ≡ Field label value others
-        → Written depth text value → FieldsAre (label ∷ before) texts others
+        → Printed depth text value → FieldsAre (label ∷ before) texts others
         → FieldsAre before (field_text label text ∷ texts) (Field label value others)
 
   module _ (more : ℕ → List Token) (tail : List Token → Type 0) where
@@ -61,7 +61,7 @@ module _ (depth : ℕ) where
       then_is : then rest
 
     field_on : (joined : Bool) (label : Name) (written : Text) (value : Thing) (text : List ℕ) (then : List Token → Type 0)
-        → IsLabel label → Written depth written value → EndsWord text → ((from : ℕ) → Reads true from text more then)
+        → IsLabel label → Printed depth written value → EndsWord text → ((from : ℕ) → Reads true from text more then)
         → (from : ℕ) → Reads joined from (field_text label written ++ text) more (AField label value then)
     field_on joined label written value text then named is ends on from =
         subst (λ all. Reads joined from all more (AField label value then)) (sym text_is)
@@ -192,17 +192,17 @@ module _ (depth : ℕ) where
           (attributes_on (label ∷ before) texts others fields) from)) from
 
   pub record_back : (texts : List Text) (fields : Fields) → FieldsAre [] texts fields
-      → WrittenAs (codes "{" ++ joined (codes "; ") texts ++ codes "}") (λ tokens. IsDocument (suc depth) tokens (Record fields))
+      → PrintedAs (codes "{" ++ joined (codes "; ") texts ++ codes "}") (λ tokens. IsDocument (suc depth) tokens (Record fields))
   record_back texts fields are = record {
     starts = λ rest. record { no_equal = refl; no_question = refl; no_star = refl };
-    reads = λ rest more ends spells from.
+    reads = λ rest more ends lexes from.
         subst (λ text. Reads false from text more (λ tokens. IsDocument (suc depth) tokens (Record fields)))
         (ap (λ text. 123 ∷ text) (sym (append_assoc (joined (codes "; ") texts) (125 ∷ []) rest)))
         (sign_then more false sign.OpenBrace (joined (codes "; ") texts ++ 125 ∷ rest)
         (Split (λ tokens. AreFields depth [] tokens fields) (Only sign.CloseBrace)) (λ tokens. IsDocument (suc depth) tokens (Record fields))
         (open_brace _)
-        (fields_on more (Only sign.CloseBrace) (125 ∷ rest) refl (only true sign.CloseBrace rest more refl (close_brace rest) spells) texts fields are
-        (only false sign.CloseBrace rest more refl (close_brace rest) spells))
+        (fields_on more (Only sign.CloseBrace) (125 ∷ rest) refl (only true sign.CloseBrace rest more refl (close_brace rest) lexes) texts fields are
+        (only false sign.CloseBrace rest more refl (close_brace rest) lexes))
         (λ span tokens split.
         subst (λ all. IsDocument (suc depth) (at (token.Sign sign.OpenBrace) span ∷ all) (Record fields))
         (sym (split.is ∙ ap (λ all. split.first ++ all) split.tail.one))
@@ -235,14 +235,14 @@ module _ (depth : ℕ) where
       by_test false test = test
 
   pub xml_back : (tag : Name) (texts : List Text) (attributes : Fields) (text : Text) (value : Thing)
-      → IsLabel tag → FieldsAre [] texts attributes → Written depth text value
-      → WrittenAs (codes "<" ++ joined (codes " ") (tag ∷ texts) ++ codes ">" ++ text) (λ tokens. IsDocument (suc depth) tokens (Xml (Atom tag) (Record attributes) value))
+      → IsLabel tag → FieldsAre [] texts attributes → Printed depth text value
+      → PrintedAs (codes "<" ++ joined (codes " ") (tag ∷ texts) ++ codes ">" ++ text) (λ tokens. IsDocument (suc depth) tokens (Xml (Atom tag) (Record attributes) value))
   xml_back tag texts attributes text value named are written = record {
     starts = λ rest. record { no_equal = refl; no_question = refl; no_star = refl };
-    reads = λ rest more ends spells from.
+    reads = λ rest more ends lexes from.
         let on : (from : ℕ) → Reads true from (62 ∷ text ++ rest) more (Content value) =
         sign_then more true sign.Greater (text ++ rest) (λ tokens. IsDocument depth tokens value) (Content value)
-        (greater (text ++ rest) (written.starts rest)) (written.reads rest more ends spells)
+        (greater (text ++ rest) (written.starts rest)) (written.reads rest more ends lexes)
         (λ span tokens document. record { span = span; content = tokens; is = refl; document = document }) in
         subst (λ all. Reads false from all more (λ tokens. IsDocument (suc depth) tokens (Xml (Atom tag) (Record attributes) value)))
         (ap (λ all. 60 ∷ all) (sym (text_is rest)))

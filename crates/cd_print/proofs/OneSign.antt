@@ -3,7 +3,7 @@ use Rattle.std.proofs.Common.{◌≡◌, ℕ, ◌≤◌, ◌==◌, Bool, false, 
 use Rattle.std.specs.List.{list_any}
 use Rattle.cd_syntax.specs.Signs.{characters}
 use Rattle.cd_syntax.specs.Comments.{begins_pair}
-use Rattle.cd_syntax.specs.Tokens.{Writes, begins_negative}
+use Rattle.cd_syntax.specs.Tokens.{IsLexemeOf, begins_negative}
 use Rattle.cd_syntax.specs.Tokens as tokens
 use Rattle.cd_syntax.specs.declared.sign.Sign.{Sign as ASign}
 use Rattle.cd_syntax.specs.declared.sign.Sign.TheVariants as sign
@@ -63,7 +63,7 @@ pub record IsAlone (is : ASign) (text : List ℕ) : Type 0 where
   pub comment : begins_pair 40 42 (characters is ++ text) ≡ false
   pub number : begins_negative (characters is ++ text) ≡ false
 
-pub sign_written : (joined : Bool) (is : ASign) (text : List ℕ) → IsAlone is text → Writes joined (characters is) text (token.Sign is)
+pub sign_written : (joined : Bool) (is : ASign) (text : List ℕ) → IsAlone is text → IsLexemeOf joined (characters is) text (token.Sign is)
 sign_written joined is text alone =
     tokens.sign is text
     (record {

@@ -13,7 +13,7 @@ use Rattle.cd_syntax.specs.Integer.{IsInteger}
 use Rattle.cd_syntax.specs.Name.{Name, IsLabel}
 use Rattle.cd_syntax.specs.Quotes as quotes
 use Rattle.cd_syntax.specs.Tokens as tokens
-use Rattle.cd_syntax.specs.Tokens.{EndsWord, Writes}
+use Rattle.cd_syntax.specs.Tokens.{EndsWord, IsLexemeOf}
 use Rattle.cd_syntax.specs.Tokens.{at}
 use Rattle.cd_syntax.specs.declared.tokens.Span.{Span}
 use Rattle.cd_syntax.specs.declared.tokens.Token.{Token}
@@ -27,7 +27,7 @@ use Rattle.cd_documents.specs.Document.{IsDocument, the_nil, characters_before}
 use Rattle.cd_print.proofs.Decimals.{decimal_is, are_digits}
 use Rattle.cd_print.proofs.OneSign.{Starts}
 use Rattle.cd_print.proofs.QuotedBack.{quoted_back}
-use Rattle.cd_print.proofs.ReadsOn.{Reads, WrittenAs, token_then, nothing_more}
+use Rattle.cd_print.proofs.ReadsOn.{Reads, PrintedAs, token_then, nothing_more}
 
 -- what ends a word is no digit
 no_digit : (rest : List ℕ) → EndsWord rest → BeginsWithNoDigit rest
@@ -41,13 +41,13 @@ no_digit (c ∷ rest) ends = by_test (is_in_range 48 57 c) refl (is_in_range 65 
 module _ (fact : List Token → Type 0) where
   -- one token is the text
   one_token : (kind : TokenKind) (written : List ℕ) → ((rest : List ℕ) → Starts (written ++ rest))
-      → ((rest : List ℕ) → EndsWord rest → Writes false written rest kind) → tokens.joins kind ≡ true
-      → ((span : Span) → fact (at kind span ∷ [])) → WrittenAs written fact
+      → ((rest : List ℕ) → EndsWord rest → IsLexemeOf false written rest kind) → tokens.joins kind ≡ true
+      → ((span : Span) → fact (at kind span ∷ [])) → PrintedAs written fact
   one_token kind written starts writes joins is = record {
     starts = starts;
-    reads = λ rest more ends spells from.
+    reads = λ rest more ends lexes from.
         token_then more false kind written rest (λ tokens. tokens ≡ []) fact (writes rest ends)
-        (λ at. subst (λ joined. Reads joined at rest more (λ tokens. tokens ≡ [])) (sym joins) (nothing_more more rest (λ tokens. tokens ≡ []) spells refl at))
+        (λ at. subst (λ joined. Reads joined at rest more (λ tokens. tokens ≡ [])) (sym joins) (nothing_more more rest (λ tokens. tokens ≡ []) lexes refl at))
         (λ span tokens none. subst (λ all. fact (at kind span ∷ all)) (sym none) (is span)) from;
   }
 
@@ -58,13 +58,13 @@ first_digit (c ∷ digits) are rest =
     record { no_equal = grind (arith, nat_tests); no_question = grind (arith, nat_tests); no_star = grind (arith, nat_tests) }
 
 module _ (depth : ℕ) where
-  pub integer_back : (n : ℤ) → IsInteger n → WrittenAs (signed_decimal n) (λ tokens. IsDocument depth tokens (Integer n))
+  pub integer_back : (n : ℤ) → IsInteger n → PrintedAs (signed_decimal n) (λ tokens. IsDocument depth tokens (Integer n))
   integer_back (pos n) is =
       let small : n < 10 ^ 64 = omega (arith, ints) in
       let value = decimal_is n small in
       one_token (λ tokens. IsDocument depth tokens (Integer (pos n))) (token.Int (pos n)) (decimal n)
       (first_digit (decimal n) (are_digits n small))
-      (λ rest ends. subst (λ m. Writes false (decimal n) rest (token.Int (pos m))) value
+      (λ rest ends. subst (λ m. IsLexemeOf false (decimal n) rest (token.Int (pos m))) value
       (tokens.number (decimal n) rest (are_digits n small) (no_digit rest ends) (subst (λ m. IsInteger (pos m)) (sym value) is)))
       refl (λ span. document.number depth (pos n) span)
   integer_back (negsuc n) is =
@@ -72,25 +72,25 @@ module _ (depth : ℕ) where
       let value = decimal_is (suc n) small in
       one_token (λ tokens. IsDocument depth tokens (Integer (negsuc n))) (token.Int (negsuc n)) (45 ∷ decimal (suc n))
       (λ rest. record { no_equal = refl; no_question = refl; no_star = refl })
-      (λ rest ends. subst (λ m. Writes false (45 ∷ decimal (suc n)) rest (token.Int (neg_ℤ (pos m)))) value
+      (λ rest ends. subst (λ m. IsLexemeOf false (45 ∷ decimal (suc n)) rest (token.Int (neg_ℤ (pos m)))) value
       (tokens.negative (decimal (suc n)) rest refl (are_digits (suc n) small) (no_digit rest ends) (subst (λ m. IsInteger (neg_ℤ (pos m))) (sym value) is)))
       refl (λ span. document.number depth (negsuc n) span)
 
-  pub character_back : (c : ℕ) → IsScalar c → WrittenAs (single_quoted (c ∷ [])) (λ tokens. IsDocument depth tokens (Character c))
+  pub character_back : (c : ℕ) → IsScalar c → PrintedAs (single_quoted (c ∷ [])) (λ tokens. IsDocument depth tokens (Character c))
   character_back c is =
       one_token (λ tokens. IsDocument depth tokens (Character c)) (token.Chars (c ∷ [])) (single_quoted (c ∷ []))
       (λ rest. record { no_equal = refl; no_question = refl; no_star = refl })
       (λ rest ends. tokens.chars _ (c ∷ []) rest (quoted_back 39 quotes.apostrophe (c ∷ []) (is, tt)))
       refl (λ span. document.character depth c span)
 
-  pub characters_back : (cs : List ℕ) → AllOf IsScalar cs → WrittenAs (double_quoted cs) (λ tokens. IsDocument depth tokens (characters_before cs the_nil))
+  pub characters_back : (cs : List ℕ) → AllOf IsScalar cs → PrintedAs (double_quoted cs) (λ tokens. IsDocument depth tokens (characters_before cs the_nil))
   characters_back cs all =
       one_token (λ tokens. IsDocument depth tokens (characters_before cs the_nil)) (token.Text cs) (double_quoted cs)
       (λ rest. record { no_equal = refl; no_question = refl; no_star = refl })
       (λ rest ends. tokens.text _ cs rest (quoted_back 34 quotes.quote cs all))
       refl (λ span. document.text depth cs span)
 
-  pub atom_back : (name : Name) → IsLabel name → WrittenAs (codes "`" ++ name) (λ tokens. IsDocument depth tokens (Atom name))
+  pub atom_back : (name : Name) → IsLabel name → PrintedAs (codes "`" ++ name) (λ tokens. IsDocument depth tokens (Atom name))
   atom_back name is =
       one_token (λ tokens. IsDocument depth tokens (Atom name)) (token.Atom name) (96 ∷ name)
       (λ rest. record { no_equal = refl; no_question = refl; no_star = refl })

@@ -15,7 +15,7 @@ use Rattle.cd_syntax.specs.Tokens.{at}
 use Rattle.cd_syntax.specs.declared.sign.Sign.TheVariants as sign
 use Rattle.cd_syntax.specs.declared.tokens.TokenKind.TheVariants as token
 use Rattle.cd_model.specs.AllOf.{AllOf}
-use Rattle.cd_model.specs.Canonical.{Letter, Row, atom_written, nil_written, plainly, xml_written, tag_name, row_text, written, field_texts, canonical}
+use Rattle.cd_model.specs.Canonical.{Letter, Row, atom_printed, nil_printed, plainly, xml_printed, tag_name, row_text, printed, field_texts, canonical}
 use Rattle.cd_model.specs.Thing.{Thing, Integer, Character, Atom, Pair, Xml, Record, Function, Closure, Fields, NoField, Field}
 use Rattle.cd_model.specs.Thing.{IsValue, AreValues, IsData, AreData, IsAtom, IsRecord, LabelsRise}
 use Rattle.cd_documents.specs.Document as document
@@ -25,7 +25,7 @@ use Rattle.cd_print.specs.Brackets.{brackets, along, within, of_fields, is_text}
 use Rattle.cd_print.proofs.OneSign.{open_bracket, close_bracket}
 use Rattle.cd_print.proofs.ReadsOn.{sign_then}
 use Rattle.cd_print.proofs.PlainRead.{integer_back, character_back, atom_back}
-use Rattle.cd_print.proofs.RowsRead.{Only, only, Written, PartIs, RowIs, letter, stands, nil_end, value_end, before, row_back, letters_back}
+use Rattle.cd_print.proofs.RowsRead.{Only, only, Printed, PartIs, RowIs, letter, stands, nil_end, value_end, before, row_back, letters_back}
 use Rattle.cd_print.proofs.FieldsRead.{FieldsAre, no_text, field_text_is, record_back, xml_back}
 
 left_le : (a b most : ℕ) → max a b ≤ most → a ≤ most
@@ -35,12 +35,12 @@ right_le : (a b most : ℕ) → max a b ≤ most → b ≤ most
 right_le a b most le = omega (arith, le-max_right a b)
 
 -- `nil` is `[]`
-nil_back : (depth : ℕ) → Written (suc depth) (codes "[]") the_nil
+nil_back : (depth : ℕ) → Printed (suc depth) (codes "[]") the_nil
 nil_back depth = record {
   starts = λ rest. record { no_equal = refl; no_question = refl; no_star = refl };
-  reads = λ rest more ends spells from.
+  reads = λ rest more ends lexes from.
       sign_then more false sign.OpenBracket (93 ∷ rest) (Only sign.CloseBracket) (λ tokens. IsDocument (suc depth) tokens the_nil)
-      (open_bracket (93 ∷ rest)) (only false sign.CloseBracket rest more refl (close_bracket rest) spells)
+      (open_bracket (93 ∷ rest)) (only false sign.CloseBracket rest more refl (close_bracket rest) lexes)
       (λ span tokens last. subst (λ all. IsDocument (suc depth) (at (token.Sign sign.OpenBracket) span ∷ all) the_nil) (sym last.one)
       (document.sequence depth span last.span [] the_nil (document.no_item depth))) from;
 }
@@ -48,41 +48,41 @@ nil_back depth = record {
 is_nil : (name : Name) → bytes_eq name (codes "nil") ≡ true → the_nil ≡ Atom name
 is_nil name test = ap Atom (sym ((bytes_eq-Decides name (codes "nil")).0 test))
 
-nil_deep : (depth : ℕ) → 1 ≤ depth → Written depth (codes "[]") the_nil
+nil_deep : (depth : ℕ) → 1 ≤ depth → Printed depth (codes "[]") the_nil
 nil_deep zero le = absurd (omega arith)
 nil_deep (suc depth) le = nil_back depth
 
-atom_text : (name : Name) (depth : ℕ) → brackets (Atom name) ≤ depth → IsLabel name → Written depth (atom_written name).text (Atom name)
+atom_text : (name : Name) (depth : ℕ) → brackets (Atom name) ≤ depth → IsLabel name → Printed depth (atom_printed name).text (Atom name)
 atom_text name depth le is = by_test (bytes_eq name (codes "nil")) refl le
   where
     by_test : (test : Bool) → bytes_eq name (codes "nil") ≡ test → (if test then 1 else 0) ≤ depth
-        → Written depth (if test then nil_written else plainly (codes "`" ++ name)).text (Atom name)
-    by_test true test le = subst (Written depth (codes "[]")) (is_nil name test) (nil_deep depth le)
+        → Printed depth (if test then nil_printed else plainly (codes "`" ++ name)).text (Atom name)
+    by_test true test le = subst (Printed depth (codes "[]")) (is_nil name test) (nil_deep depth le)
     by_test false test le = atom_back depth name is
 
-atom_row : (name : Name) (depth : ℕ) → IsLabel name → RowIs depth (atom_written name).row.parts (atom_written name).row.end (Atom name)
+atom_row : (name : Name) (depth : ℕ) → IsLabel name → RowIs depth (atom_printed name).row.parts (atom_printed name).row.end (Atom name)
 atom_row name depth is = by_test (bytes_eq name (codes "nil")) refl
   where
     by_test : (test : Bool) → bytes_eq name (codes "nil") ≡ test
-        → RowIs depth (if test then nil_written else plainly (codes "`" ++ name)).row.parts (if test then nil_written else plainly (codes "`" ++ name)).row.end (Atom name)
+        → RowIs depth (if test then nil_printed else plainly (codes "`" ++ name)).row.parts (if test then nil_printed else plainly (codes "`" ++ name)).row.end (Atom name)
     by_test true test = subst (RowIs depth [] None) (is_nil name test) nil_end
     by_test false test = value_end (codes "`" ++ name) (Atom name) (atom_back depth name is)
 
-atom_part : (name : Name) (depth : ℕ) → Written depth (atom_written name).text (Atom name) → PartIs depth (atom_written name).part (Atom name)
+atom_part : (name : Name) (depth : ℕ) → Printed depth (atom_printed name).text (Atom name) → PartIs depth (atom_printed name).part (Atom name)
 atom_part name depth back = by_test (bytes_eq name (codes "nil")) back
   where
-    by_test : (test : Bool) → Written depth (if test then nil_written else plainly (codes "`" ++ name)).text (Atom name)
-        → PartIs depth (if test then nil_written else plainly (codes "`" ++ name)).part (Atom name)
+    by_test : (test : Bool) → Printed depth (if test then nil_printed else plainly (codes "`" ++ name)).text (Atom name)
+        → PartIs depth (if test then nil_printed else plainly (codes "`" ++ name)).part (Atom name)
     by_test true back = stands (codes "[]") (Atom name) back
     by_test false back = stands (codes "`" ++ name) (Atom name) back
 
-part_of : (v : Thing) (depth : ℕ) → IsValue v → Written depth (written v).text v → PartIs depth (written v).part v
-part_of (Integer n) depth is back = stands (written (Integer n)).text (Integer n) back
+part_of : (v : Thing) (depth : ℕ) → IsValue v → Printed depth (printed v).text v → PartIs depth (printed v).part v
+part_of (Integer n) depth is back = stands (printed (Integer n)).text (Integer n) back
 part_of (Character c) depth is back = letter c is
 part_of (Atom name) depth is back = atom_part name depth back
-part_of (Pair first second) depth is back = stands (written (Pair first second)).text (Pair first second) back
-part_of (Xml tag attributes content) depth is back = stands (written (Xml tag attributes content)).text (Xml tag attributes content) back
-part_of (Record fields) depth is back = stands (written (Record fields)).text (Record fields) back
+part_of (Pair first second) depth is back = stands (printed (Pair first second)).text (Pair first second) back
+part_of (Xml tag attributes content) depth is back = stands (printed (Xml tag attributes content)).text (Xml tag attributes content) back
+part_of (Record fields) depth is back = stands (printed (Record fields)).text (Record fields) back
 part_of (Function pairs) depth is back = absurd is
 part_of (Closure function environment) depth is back = stands (codes "<fun>") (Closure function environment) back
 
@@ -91,7 +91,7 @@ record IsLetters (v : Thing) : Type 0 where
   cs : List ℕ
   all : AllOf IsScalar cs
   value : v ≡ characters_before cs the_nil
-  row : (written v).row ≡ record { parts = map Letter cs; end = None }
+  row : (printed v).row ≡ record { parts = map Letter cs; end = None }
 
 letters_of : (v : Thing) → IsValue v → is_text v ≡ true → IsLetters v
 letters_of (Atom name) is test = record {
@@ -101,7 +101,7 @@ letters_of (Atom name) is test = record {
   row = by_test (bytes_eq name (codes "nil")) test;
 }
   where
-    by_test : (test : Bool) → test ≡ true → (if test then nil_written else plainly (codes "`" ++ name)).row ≡ record { parts = []; end = None }
+    by_test : (test : Bool) → test ≡ true → (if test then nil_printed else plainly (codes "`" ++ name)).row ≡ record { parts = []; end = None }
     by_test true same = refl
     by_test false same = absurd (true≢false (sym same))
 letters_of (Pair (Character c) rest) is test =
@@ -127,37 +127,37 @@ letters_of (Function pairs) is test = absurd (true≢false (sym test))
 letters_of (Closure function environment) is test = absurd (true≢false (sym test))
 
 text_pair : (first second : Thing) (depth : ℕ) → IsValue (Pair first second) → is_text (Pair first second) ≡ true
-    → Written depth (written (Pair first second)).text (Pair first second)
+    → Printed depth (printed (Pair first second)).text (Pair first second)
 text_pair first second depth is test =
     by_letters (letters_of (Pair first second) is test)
   where
     by_row : (row : Row) (c : ℕ) (cs : List ℕ) → AllOf IsScalar (c ∷ cs) → row ≡ record { parts = map Letter (c ∷ cs); end = None }
-        → Written depth (row_text row.parts row.end) (characters_before (c ∷ cs) the_nil)
+        → Printed depth (row_text row.parts row.end) (characters_before (c ∷ cs) the_nil)
     by_row row c cs all is =
-        subst (λ (row : Row). Written depth (row_text row.parts row.end) (characters_before (c ∷ cs) the_nil)) (sym is) (letters_back depth c cs all)
+        subst (λ (row : Row). Printed depth (row_text row.parts row.end) (characters_before (c ∷ cs) the_nil)) (sym is) (letters_back depth c cs all)
 
-    by_letters : IsLetters (Pair first second) → Written depth (written (Pair first second)).text (Pair first second)
+    by_letters : IsLetters (Pair first second) → Printed depth (printed (Pair first second)).text (Pair first second)
     by_letters letters = by_list letters.cs letters.all letters.value letters.row
       where
         by_list : (cs : List ℕ) → AllOf IsScalar cs → Pair first second ≡ characters_before cs the_nil
-            → (written (Pair first second)).row ≡ record { parts = map Letter cs; end = None }
-            → Written depth (written (Pair first second)).text (Pair first second)
+            → (printed (Pair first second)).row ≡ record { parts = map Letter cs; end = None }
+            → Printed depth (printed (Pair first second)).text (Pair first second)
         by_list [] all value row = absurd cc
-        by_list (c ∷ cs) all value row = subst (Written depth (written (Pair first second)).text) (sym value) (by_row (written (Pair first second)).row c cs all row)
+        by_list (c ∷ cs) all value row = subst (Printed depth (printed (Pair first second)).text) (sym value) (by_row (printed (Pair first second)).row c cs all row)
 
 pair_text : (first second : Thing) (depth : ℕ) → brackets (Pair first second) ≤ depth → IsValue (Pair first second)
-    → ((depth : ℕ) → brackets first ≤ depth → Written depth (written first).text first)
-    → ((depth : ℕ) → along second ≤ depth → RowIs depth (written second).row.parts (written second).row.end second)
-    → Written depth (written (Pair first second)).text (Pair first second)
+    → ((depth : ℕ) → brackets first ≤ depth → Printed depth (printed first).text first)
+    → ((depth : ℕ) → along second ≤ depth → RowIs depth (printed second).row.parts (printed second).row.end second)
+    → Printed depth (printed (Pair first second)).text (Pair first second)
 pair_text first second depth le is first_back second_back = by_test (is_text (Pair first second)) refl depth le
   where
     by_test : (test : Bool) → is_text (Pair first second) ≡ test → (depth : ℕ) → (if test then 0 else suc (max (brackets first) (along second))) ≤ depth
-        → Written depth (written (Pair first second)).text (Pair first second)
+        → Printed depth (printed (Pair first second)).text (Pair first second)
     by_test true test depth le = text_pair first second depth is test
     by_test false test zero le = absurd (omega arith)
     by_test false test (suc depth) le =
         let most : max (brackets first) (along second) ≤ depth = omega arith in
-        row_back depth (written first).part (written second).row.parts (written second).row.end first second
+        row_back depth (printed first).part (printed second).row.parts (printed second).row.end first second
         (part_of first depth is.0 (first_back depth (left_le (brackets first) (along second) depth most)))
         (second_back depth (right_le (brackets first) (along second) depth most))
 
@@ -165,7 +165,7 @@ pair_text first second depth le is first_back second_back = by_test (is_text (Pa
 record HasFields (depth : ℕ) (v : Thing) : Type 0 where
   fields : Fields
   is : v ≡ Record fields
-  are : FieldsAre depth [] (written v).fields fields
+  are : FieldsAre depth [] (printed v).fields fields
 
 is_tag : (tag : Thing) → IsAtom tag → (name : Name) × (tag ≡ Atom name)
 is_tag (Atom name) is = (name, refl)
@@ -179,21 +179,21 @@ is_tag (Closure function environment) is = absurd is
 
 xml_text : (tag attributes content : Thing) (depth : ℕ) → brackets (Xml tag attributes content) ≤ depth → IsValue (Xml tag attributes content)
     → ((depth : ℕ) → within attributes ≤ depth → HasFields depth attributes)
-    → ((depth : ℕ) → brackets content ≤ depth → Written depth (written content).text content)
-    → Written depth (written (Xml tag attributes content)).text (Xml tag attributes content)
+    → ((depth : ℕ) → brackets content ≤ depth → Printed depth (printed content).text content)
+    → Printed depth (printed (Xml tag attributes content)).text (Xml tag attributes content)
 xml_text tag attributes content zero le is fields_back content_back = absurd (omega arith)
 xml_text tag attributes content (suc depth) le is fields_back content_back =
     let most : max (within attributes) (brackets content) ≤ depth = omega arith in
     let named = is_tag tag is.0 in
     let has = fields_back depth (left_le (within attributes) (brackets content) depth most) in
-    subst (λ one. Written (suc depth) (xml_written (tag_name one) (written attributes) (written content)).text (Xml one attributes content)) (sym named.1)
-    (subst (λ record_of. Written (suc depth) (xml_written named.0 (written attributes) (written content)).text (Xml (Atom named.0) record_of content)) (sym has.is)
-    (xml_back depth named.0 (written attributes).fields has.fields (written content).text content
+    subst (λ one. Printed (suc depth) (xml_printed (tag_name one) (printed attributes) (printed content)).text (Xml one attributes content)) (sym named.1)
+    (subst (λ record_of. Printed (suc depth) (xml_printed named.0 (printed attributes) (printed content)).text (Xml (Atom named.0) record_of content)) (sym has.is)
+    (xml_back depth named.0 (printed attributes).fields has.fields (printed content).text content
     (subst IsValue named.1 is.2) has.are (content_back depth (right_le (within attributes) (brackets content) depth most))))
 
 record_text : (fields : Fields) (depth : ℕ) → brackets (Record fields) ≤ depth
     → ((depth : ℕ) → of_fields fields ≤ depth → FieldsAre depth [] (field_texts fields) fields)
-    → Written depth (written (Record fields)).text (Record fields)
+    → Printed depth (printed (Record fields)).text (Record fields)
 record_text fields zero le back = absurd (omega arith)
 record_text fields (suc depth) le back = record_back depth (field_texts fields) fields (back depth (omega arith))
 
@@ -217,7 +217,7 @@ first_field label value NoField rise = refl
 first_field label value (Field other one rest) rise = rw rise.0 refl
 
 mutual
-  text_back : (v : Thing) (depth : ℕ) → brackets v ≤ depth → IsValue v → IsData v → Written depth (written v).text v
+  text_back : (v : Thing) (depth : ℕ) → brackets v ≤ depth → IsValue v → IsData v → Printed depth (printed v).text v
   text_back (Integer n) depth le is data_is = integer_back depth n is
   text_back (Character c) depth le is data_is = character_back depth c is
   text_back (Atom name) depth le is data_is = atom_text name depth le is
@@ -232,21 +232,21 @@ mutual
   text_back (Function pairs) depth le is data_is = absurd is
   text_back (Closure function environment) depth le is data_is = absurd data_is
 
-  row_of : (v : Thing) (depth : ℕ) → along v ≤ depth → IsValue v → IsData v → RowIs depth (written v).row.parts (written v).row.end v
-  row_of (Integer n) depth le is data_is = value_end (written (Integer n)).text (Integer n) (integer_back depth n is)
-  row_of (Character c) depth le is data_is = value_end (written (Character c)).text (Character c) (character_back depth c is)
+  row_of : (v : Thing) (depth : ℕ) → along v ≤ depth → IsValue v → IsData v → RowIs depth (printed v).row.parts (printed v).row.end v
+  row_of (Integer n) depth le is data_is = value_end (printed (Integer n)).text (Integer n) (integer_back depth n is)
+  row_of (Character c) depth le is data_is = value_end (printed (Character c)).text (Character c) (character_back depth c is)
   row_of (Atom name) depth le is data_is = atom_row name depth is
   row_of (Pair first second) depth le is data_is =
-      before (written first).part (written second).row.parts (written second).row.end first second
+      before (printed first).part (printed second).row.parts (printed second).row.end first second
       (part_of first depth is.0 (text_back first depth (left_le (brackets first) (along second) depth le) is.0 data_is.0))
       (row_of second depth (right_le (brackets first) (along second) depth le) is.1 data_is.1)
   row_of (Xml tag attributes content) depth le is data_is =
-      value_end (written (Xml tag attributes content)).text (Xml tag attributes content)
+      value_end (printed (Xml tag attributes content)).text (Xml tag attributes content)
       (xml_text tag attributes content depth le is
       (λ deep le. fields_of attributes deep le is.1 is.3 data_is.1)
       (λ deep le. text_back content deep le is.4 data_is.2))
   row_of (Record fields) depth le is data_is =
-      value_end (written (Record fields)).text (Record fields)
+      value_end (printed (Record fields)).text (Record fields)
       (record_text fields depth le (λ deep le. each_back fields deep None [] le (λ label above. refl) is.0 is.1 data_is))
   row_of (Function pairs) depth le is data_is = absurd is
   row_of (Closure function environment) depth le is data_is = absurd data_is
@@ -266,7 +266,7 @@ mutual
       → AreValues fields → AreData fields → FieldsAre depth labels (field_texts fields) fields
   each_back NoField depth last labels le passed rise are data_are = no_text labels
   each_back (Field label value rest) depth last labels le passed rise are data_are =
-      field_text_is labels label (written value).text (field_texts rest) value rest are.0 (passed label rise.0) (first_field label value rest rise.1)
+      field_text_is labels label (printed value).text (field_texts rest) value rest are.0 (passed label rise.0) (first_field label value rest rise.1)
       (text_back value depth (left_le (brackets value) (of_fields rest) depth le) are.1 data_are.0)
       (each_back rest depth (Some label) (label ∷ labels) (right_le (brackets value) (of_fields rest) depth le)
       (pass last labels label passed rise.0) rise.1 are.2 data_are.1)
@@ -276,7 +276,7 @@ read_back value is data_is le =
     let reads = (text_back value most_open le is data_is).reads [] (λ from. []) tt (λ from. tokens.nothing true from) 0 in
     record {
       tokens = reads.tokens;
-      spells = subst (λ all. tokens.Spells false 0 (canonical value) all) (append-nil reads.tokens)
-          (subst (λ text. tokens.Spells false 0 text (reads.tokens ++ [])) (append-nil (canonical value)) reads.spells);
+      lexes = subst (λ all. tokens.Lexes false 0 (canonical value) all) (append-nil reads.tokens)
+          (subst (λ text. tokens.Lexes false 0 text (reads.tokens ++ [])) (append-nil (canonical value)) reads.lexes);
       document = reads.is;
     }

@@ -5,7 +5,7 @@ use Rattle.std.specs.Char.{IsScalar}
 use Rattle.cd_syntax.specs.Quotes as quotes
 use Rattle.cd_syntax.specs.Signs.{characters, closes}
 use Rattle.cd_syntax.specs.Tokens as tokens
-use Rattle.cd_syntax.specs.Tokens.{EndsWord, Spells}
+use Rattle.cd_syntax.specs.Tokens.{EndsWord, Lexes}
 use Rattle.cd_syntax.specs.Tokens.{at}
 use Rattle.cd_syntax.specs.declared.sign.Sign.{Sign as ASign}
 use Rattle.cd_syntax.specs.declared.sign.Sign.TheVariants as sign
@@ -20,7 +20,7 @@ use Rattle.cd_documents.specs.Document as document
 use Rattle.cd_documents.specs.Document.{IsDocument, AreParts, AreItems, the_nil, characters_before}
 use Rattle.cd_print.proofs.OneSign.{IsAlone, open_parenthesis, close_parenthesis, open_bracket, close_bracket, comma}
 use Rattle.cd_print.proofs.QuotedBack.{quoted_back}
-use Rattle.cd_print.proofs.ReadsOn.{Reads, WrittenAs, weaker, nothing_more, token_then, sign_then, blank_then, value_then}
+use Rattle.cd_print.proofs.ReadsOn.{Reads, PrintedAs, weaker, nothing_more, token_then, sign_then, blank_then, value_then}
 use Rattle.cd_print.proofs.TextsJoined.{after, joined_after}
 use Rattle.cd_print.proofs.PlainRead.{character_back, characters_back}
 
@@ -38,32 +38,32 @@ pub record Only (is : ASign) (tokens : List Token) : Type 0 where
   pub one : tokens ≡ at (token.Sign is) span ∷ []
 
 pub only : (joined : Bool) (is : ASign) (rest : List ℕ) (more : ℕ → List Token) → closes is ≡ true → IsAlone is rest
-    → ((from : ℕ) → Spells true from rest (more from))
+    → ((from : ℕ) → Lexes true from rest (more from))
     → (from : ℕ) → Reads joined from (characters is ++ rest) more (Only is)
-only joined is rest more closing alone spells from =
+only joined is rest more closing alone lexes from =
     sign_then more joined is rest (λ tokens. tokens ≡ []) (Only is) alone
-    (λ at. subst (λ joined. Reads joined at rest more (λ tokens. tokens ≡ [])) (sym closing) (nothing_more more rest (λ tokens. tokens ≡ []) spells refl at))
+    (λ at. subst (λ joined. Reads joined at rest more (λ tokens. tokens ≡ [])) (sym closing) (nothing_more more rest (λ tokens. tokens ≡ []) lexes refl at))
     (λ span tokens none. record { span = span; one = ap (λ all. at (token.Sign is) span ∷ all) none }) from
 
 module _ (depth : ℕ) where
-  abbrev pub Written : Text → Thing → Type 0
-  Written text value = WrittenAs text (λ tokens. IsDocument depth tokens value)
+  abbrev pub Printed : Text → Thing → Type 0
+  Printed text value = PrintedAs text (λ tokens. IsDocument depth tokens value)
 
   -- what a part, or a row of parts and its end, stands for
   pub data PartIs : Part → Thing → Type 0 where
     letter : (c : ℕ) → IsScalar c → PartIs (Letter c) (Character c)
-    stands : (text : Text) (value : Thing) → Written text value → PartIs (Other text) value
+    stands : (text : Text) (value : Thing) → Printed text value → PartIs (Other text) value
 
   pub data RowIs : List Part → Option Text → Thing → Type 0 where
     nil_end : RowIs [] None the_nil
-    value_end : (text : Text) (value : Thing) → Written text value → RowIs [] (Some text) value
+    value_end : (text : Text) (value : Thing) → Printed text value → RowIs [] (Some text) value
     before : (part : Part) (parts : List Part) (end : Option Text) (value others : Thing)
         → PartIs part value → RowIs parts end others → RowIs (part ∷ parts) end (Pair value others)
 
   -- what pieces stand for
   data PieceIs : Piece → (others value : Thing) → Type 0 where
     run : (cs : List ℕ) (others : Thing) → AllOf IsScalar cs → PieceIs (Run cs) others (characters_before cs others)
-    alone : (text : Text) (value others : Thing) → Written text value → PieceIs (Alone text) others (Pair value others)
+    alone : (text : Text) (value others : Thing) → Printed text value → PieceIs (Alone text) others (Pair value others)
 
   data ArePieces : List Piece → Thing → Type 0 where
     no_piece : ArePieces [] the_nil
@@ -88,7 +88,7 @@ module _ (depth : ℕ) where
   pieces_are _ _ nil_end = no_piece
   pieces_are _ _ (before part parts _ value others is row) = with_part part (pieces_of parts) value others is (pieces_are parts others row)
 
-  part_back : (part : Part) (value : Thing) → PartIs part value → Written (part_text part) value
+  part_back : (part : Part) (value : Thing) → PartIs part value → Printed (part_text part) value
   part_back _ _ (letter c is) = character_back depth c is
   part_back _ _ (stands text value written) = written
 
@@ -143,16 +143,16 @@ module _ (depth : ℕ) where
 
   -- a sequence in brackets
   bracketed : (one : Piece) (pieces : List Piece) (others value : Thing) → PieceIs one others value → ArePieces pieces others
-      → WrittenAs (codes "[" ++ joined (codes " ") (map piece_text (one ∷ pieces)) ++ codes "]") (λ tokens. IsDocument (suc depth) tokens value)
+      → PrintedAs (codes "[" ++ joined (codes " ") (map piece_text (one ∷ pieces)) ++ codes "]") (λ tokens. IsDocument (suc depth) tokens value)
   bracketed one pieces others value is are = record {
     starts = λ rest. record { no_equal = refl; no_question = refl; no_star = refl };
-    reads = λ rest more ends spells from.
+    reads = λ rest more ends lexes from.
         subst (λ text. Reads false from text more (λ tokens. IsDocument (suc depth) tokens value))
         (ap (λ text. 91 ∷ text) (sym (append_assoc (joined (codes " ") (map piece_text (one ∷ pieces))) (93 ∷ []) rest)))
         (sign_then more false sign.OpenBracket (joined (codes " ") (map piece_text (one ∷ pieces)) ++ 93 ∷ rest)
         (Items more (Only sign.CloseBracket) (93 ∷ rest) value) (λ tokens. IsDocument (suc depth) tokens value)
         (open_bracket _)
-        (pieces_back more (Only sign.CloseBracket) (93 ∷ rest) refl (only true sign.CloseBracket rest more refl (close_bracket rest) spells) one pieces others value is are)
+        (pieces_back more (Only sign.CloseBracket) (93 ∷ rest) refl (only true sign.CloseBracket rest more refl (close_bracket rest) lexes) one pieces others value is are)
         (λ span tokens split.
         subst (λ all. IsDocument (suc depth) (at (token.Sign sign.OpenBracket) span ∷ all) value)
         (sym (split.is ∙ ap (λ all. split.first ++ all) split.tail.one))
@@ -162,7 +162,7 @@ module _ (depth : ℕ) where
 
   -- a text, or a sequence in brackets
   sequence_back : (one : Piece) (pieces : List Piece) (others value : Thing) → PieceIs one others value → ArePieces pieces others
-      → WrittenAs (sequence_text (one ∷ pieces)) (λ tokens. IsDocument (suc depth) tokens value)
+      → PrintedAs (sequence_text (one ∷ pieces)) (λ tokens. IsDocument (suc depth) tokens value)
   sequence_back _ _ _ _ (run cs _ all) no_piece = characters_back (suc depth) cs all
   sequence_back _ _ others value (run cs _ all) (piece two pieces rest _ is are) =
       bracketed (Run cs) (two ∷ pieces) others value (run cs others all) (piece two pieces rest others is are)
@@ -216,7 +216,7 @@ module _ (depth : ℕ) where
       after_parts _ _ value same (value_end text _ written) from =
           comma_on (end ++ rest) value
           (value_then more end rest (λ tokens. IsDocument depth tokens value) tail (Split (λ tokens. AreParts depth tokens value) tail)
-          (subst (λ t. Written t value) (some_is text end same) written) ends on
+          (subst (λ t. Printed t value) (some_is text end same) written) ends on
           (λ one after_it document_of is. record { first = one; last = after_it; is = refl; form = document.last_part depth one value document_of; tail = is }))
           from
         where
@@ -228,20 +228,20 @@ module _ (depth : ℕ) where
           (after_parts parts which others same row)) from
 
   tuple_back : (part : Part) (parts : List Part) (end : Text) (value others : Thing) → PartIs part value → RowIs parts (Some end) others
-      → WrittenAs (row_text (part ∷ parts) (Some end)) (λ tokens. IsDocument (suc depth) tokens (Pair value others))
+      → PrintedAs (row_text (part ∷ parts) (Some end)) (λ tokens. IsDocument (suc depth) tokens (Pair value others))
   tuple_back part parts end value others is row = record {
     starts = λ rest. record { no_equal = refl; no_question = refl; no_star = refl };
-    reads = λ rest more ends spells from.
+    reads = λ rest more ends lexes from.
         let later = after (codes ", ") (map part_text parts) (codes ", " ++ end ++ 41 ∷ rest) in
         let on = after_parts more (Only sign.CloseParenthesis) end (41 ∷ rest) refl
-        (only true sign.CloseParenthesis rest more refl (close_parenthesis rest) spells) parts (Some end) others refl row in
+        (only true sign.CloseParenthesis rest more refl (close_parenthesis rest) lexes) parts (Some end) others refl row in
         subst (λ text. Reads false from text more (λ tokens. IsDocument (suc depth) tokens (Pair value others)))
         (ap (λ text. 40 ∷ text) (sym (text_is rest)))
         (sign_then more false sign.OpenParenthesis (part_text part ++ later)
         (Split (λ tokens. AreParts depth tokens (Pair value others)) (Only sign.CloseParenthesis)) (λ tokens. IsDocument (suc depth) tokens (Pair value others))
         (open_parenthesis _ ((part_back part value is).starts later))
         (part_on more (Only sign.CloseParenthesis) part value others later is
-        (commas_end more (Only sign.CloseParenthesis) end (41 ∷ rest) refl (only true sign.CloseParenthesis rest more refl (close_parenthesis rest) spells) (map part_text parts)) on)
+        (commas_end more (Only sign.CloseParenthesis) end (41 ∷ rest) refl (only true sign.CloseParenthesis rest more refl (close_parenthesis rest) lexes) (map part_text parts)) on)
         (λ span tokens split.
         subst (λ all. IsDocument (suc depth) (at (token.Sign sign.OpenParenthesis) span ∷ all) (Pair value others))
         (sym (split.is ∙ ap (λ all. split.first ++ all) split.tail.one))
@@ -261,11 +261,11 @@ module _ (depth : ℕ) where
 
   -- a row of one part or more
   pub row_back : (part : Part) (parts : List Part) (end : Option Text) (value others : Thing) → PartIs part value → RowIs parts end others
-      → WrittenAs (row_text (part ∷ parts) end) (λ tokens. IsDocument (suc depth) tokens (Pair value others))
+      → PrintedAs (row_text (part ∷ parts) end) (λ tokens. IsDocument (suc depth) tokens (Pair value others))
   row_back part parts None value others is row = by_pieces (pieces_of (part ∷ parts)) (pieces_are (part ∷ parts) (Pair value others) (before part parts None value others is row))
     where
       by_pieces : (pieces : List Piece) → ArePieces pieces (Pair value others)
-          → WrittenAs (sequence_text pieces) (λ tokens. IsDocument (suc depth) tokens (Pair value others))
+          → PrintedAs (sequence_text pieces) (λ tokens. IsDocument (suc depth) tokens (Pair value others))
       by_pieces _ (piece one pieces rest _ what are) = sequence_back one pieces rest (Pair value others) what are
   row_back part parts (Some end) value others is row = tuple_back part parts end value others is row
 
@@ -275,7 +275,7 @@ pieces_of_letters c [] = refl
 pieces_of_letters c (d ∷ cs) = ap (pieces_with (Letter c)) (pieces_of_letters d cs)
 
 pub letters_back : (depth c : ℕ) (cs : List ℕ) → AllOf IsScalar (c ∷ cs)
-    → WrittenAs (row_text (map Letter (c ∷ cs)) None) (λ tokens. IsDocument depth tokens (characters_before (c ∷ cs) the_nil))
+    → PrintedAs (row_text (map Letter (c ∷ cs)) None) (λ tokens. IsDocument depth tokens (characters_before (c ∷ cs) the_nil))
 letters_back depth c cs all =
-    subst (λ pieces. WrittenAs (sequence_text pieces) (λ tokens. IsDocument depth tokens (characters_before (c ∷ cs) the_nil)))
+    subst (λ pieces. PrintedAs (sequence_text pieces) (λ tokens. IsDocument depth tokens (characters_before (c ∷ cs) the_nil)))
     (sym (pieces_of_letters c cs)) (characters_back depth (c ∷ cs) all)

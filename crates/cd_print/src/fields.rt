@@ -1,6 +1,6 @@
 //! The fields of records and of XML values.
 ghost use Rattle.std.specs.Prelude.{◌<◌, ◌++◌, length, OnOk};
-ghost use Rattle.cd_model.specs.Canonical.{record_written, canonical};
+ghost use Rattle.cd_model.specs.Canonical.{record_printed, canonical};
 ghost use Rattle.cd_model.specs.Thing.{Xml as AnXml};
 ghost use Rattle.cd_cells.specs.Cells.{thing_at};
 ghost use Rattle.cd_cells.specs.Table.{table};
@@ -22,7 +22,7 @@ pub(crate) fn write_record<'v>(
     output: &mut Output,
 ) -> Result<(), AllocError>
     ensures text { OnOk result (Writes values.now
-        (record_written (field_texts_at values.now parts.now)).text
+        (record_printed (field_texts_at values.now parts.now)).text
         output.old tasks.old output.new tasks.new) }
     ensures longer { OnOk result (length output.old < length output.new) }
 {

@@ -2,7 +2,7 @@
 ghost use Rattle.std.specs.Prelude.{◌≡◌, [], MatchOption, bytes_eq, codes};
 ghost use Rattle.std.specs.Str.{chars};
 ghost use Rattle.cd_model.specs.Thing.{Atom};
-ghost use Rattle.cd_model.specs.Canonical.{written, tag_name};
+ghost use Rattle.cd_model.specs.Canonical.{printed, tag_name};
 ghost use Rattle.cd_cells.specs.Cells.{thing_at, name_at};
 ghost use Rattle.cd_cells.specs.Looked.{looked, ArePartsBelow};
 ghost use Rattle.cd_cells.specs.Table.{table, names};
@@ -81,7 +81,7 @@ pub(crate) fn tag_at<'v>(values: &'v Values, id: ValueId) -> &'v str
 
 /// The fields of a record. What is no record has none.
 pub(crate) fn fields_at<'v>(values: &'v Values, id: ValueId) -> &'v [Part]
-    ensures { (written (thing_at (table values.now) id.0)).fields
+    ensures { (printed (thing_at (table values.now) id.0)).fields
         ≡ field_texts_at values.now result.now }
 {
     match look_at(values, id) {

@@ -1,6 +1,6 @@
 //! A piece of a text, or its beginning.
 ghost use Rattle.std.specs.Prelude.{◌≡◌, ◌<◌, ◌++◌, length, OnOk, codes};
-ghost use Rattle.cd_model.specs.Canonical.{atom_written};
+ghost use Rattle.cd_model.specs.Canonical.{atom_printed};
 ghost use Rattle.cd_cells.specs.Cells.{name_at};
 ghost use Rattle.cd_cells.specs.Table.{names};
 ghost use Rattle.cd_print.specs.Inner.Texts.{text_at};
@@ -67,7 +67,7 @@ fn write_value<'v>(
 // Writes the atom of this name.
 fn write_atom(values: &Values, name: u32, output: &mut Output) -> Result<(), AllocError>
     ensures text { OnOk result
-        (output.new ≡ output.old ++ (atom_written (name_at (names values.now) name)).text) }
+        (output.new ≡ output.old ++ (atom_printed (name_at (names values.now) name)).text) }
     ensures longer { OnOk result (length output.old < length output.new) }
 {
     if is_nil(values, name) {

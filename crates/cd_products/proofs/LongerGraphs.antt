@@ -7,25 +7,25 @@ use Rattle.cd_model.specs.AllOf.{AllOf, AnyOf}
 use Rattle.cd_model.specs.Formula.{Graph, IsGraph}
 use Rattle.cd_model.specs.Membership.{answers}
 use Rattle.cd_model.proofs.Extending.{kept_elements}
-use Rattle.cd_rules.specs.Choices.{Choice, choices}
+use Rattle.cd_rules.specs.Dnf.{Conjunct, dnf}
 use Rattle.cd_rules.specs.Clauses.{Clause, IsClauseOf}
 use Rattle.cd_rules.specs.Family.{AsksNodes}
 use Rattle.cd_rules.specs.Members.{HasElement}
 use Rattle.cd_model.proofs.Ones.{each_of_two}
 use Rattle.cd_products.specs.Inner.ClauseBoxes.{AreClauses}
 use Rattle.cd_products.specs.Inner.Tests.{IsTested, IsTest}
-use Rattle.cd_rules.proofs.ClosedStays.{choices_kept}
+use Rattle.cd_rules.proofs.ClosedStays.{conjuncts_kept}
 
 -- all clauses by the conjuncts
-abbrev AreAll : List Clause → List Choice → Type 0
-AreAll all choices = AllOf (λ is. AnyOf (λ choice. IsClauseOf choice is) choices) all
+abbrev AreAll : List Clause → List Conjunct → Type 0
+AreAll all dnf = AllOf (λ is. AnyOf (λ conjunct. IsClauseOf conjunct is) dnf) all
 
 pub clauses_kept : (graph more : Graph) (question : Question) → AsksNodes (length graph) question
     → (all : List Clause) → AreClauses graph question all → AreClauses (graph ++ more) question all
 clauses_kept graph more question below all are = (
-  subst (AreAll all) (choices_kept graph more question below) are.0,
-  λ is of. are.1 is (subst (AnyOf (λ choice. IsClauseOf choice is))
-      (sym (choices_kept graph more question below)) of),
+  subst (AreAll all) (conjuncts_kept graph more question below) are.0,
+  λ is of. are.1 is (subst (AnyOf (λ conjunct. IsClauseOf conjunct is))
+      (sym (conjuncts_kept graph more question below)) of),
 )
 
 module _ (graph more : Graph) (sound : IsGraph graph) where

@@ -10,7 +10,7 @@ use Rattle.cd_rules.specs.Family.{AsksNodes}
 use Rattle.cd_rules.specs.Rows.{Cell, Row}
 use Rattle.cd_rules.proofs.Asking.{each_of_map, each_of_set}
 use Rattle.cd_model.proofs.Ones.{each_of_lists, each_weaker}
-use Rattle.cd_rows.specs.RecordRows.{IsLivingRow, RowAsksNodes, asked_at, cell_in}
+use Rattle.cd_rows.specs.RecordRows.{RowHasWitnesses, RowAsksNodes, asked_at, cell_in}
 use Rattle.cd_rows.specs.RecordRows.{may_lack}
 use Rattle.cd_records.specs.Inner.Entries.{Entry}
 use Rattle.cd_records.specs.Inner.Labels.{labels_in}
@@ -172,9 +172,9 @@ module _ (graph : Graph) where
       (some_ask (length graph) row asks) ((asks.every, tt), tt) are)))
 
   -- the labels of a living row
-  pub row_has_labels : (row : Row) → IsLivingRow (in_node graph) IsElement row
+  pub row_has_labels : (row : Row) → RowHasWitnesses (in_node graph) IsElement row
       → AllOf IsLabel (labels_in row.cells)
-  row_has_labels row living = each_of_map (λ cell. cell.0) IsLabel row.cells living.labels
+  row_has_labels row witnesses = each_of_map (λ cell. cell.0) IsLabel row.cells witnesses.labels
 
   pub rests_are_in : (label : Name) (rows : List Row) (rests : List Rest) → AreRowsIn graph rows
       → AreRests graph label rows rests → AllOf (RestIsIn graph) rests
@@ -187,7 +187,7 @@ module _ (graph : Graph) where
       (λ left asks. record {
         row = are.asks.0;
         left = asks;
-        labels = row_has_labels row are.living.0;
+        labels = row_has_labels row are.witnesses.0;
       }) lefts (lefts_ask row label lefts are.asks.0 lefts_are)))
       (rests_are_in label rows later
-      (record { asks = are.asks.1; living = are.living.1 }) further))
+      (record { asks = are.asks.1; witnesses = are.witnesses.1 }) further))

@@ -13,7 +13,7 @@ use Rattle.cd_rules.specs.Rows.{Row}
 use Rattle.cd_rules.proofs.Answered.{each_of_asked}
 use Rattle.cd_rules.proofs.Asking.{asked_of_each}
 use Rattle.cd_model.proofs.Ones.{each_weaker, each_of_lists, one_on_left, one_on_right}
-use Rattle.cd_rows.proofs.LivingRows.{IsOfSort}
+use Rattle.cd_rows.proofs.RowsWithWitnesses.{IsOfSort}
 use Rattle.cd_records.specs.Inner.Leaving.{Choice, both_questions, take, leave, IsStep, AreSteps}
 use Rattle.cd_records.specs.Inner.Leaving.{AreChoices, first_choice}
 use Rattle.cd_records.proofs.Lookups.{same_name}
@@ -167,20 +167,20 @@ module _ (graph : Graph) where
   module _ (row : Row) (label : Name) (at : Name → Option Thing)
       (sorted : IsOfSort IsElement (at label)) where
     -- a question has its value at another label
-    abbrev pub IsElsewhere : Question → Type 0
-    IsElsewhere question = (name : Name) × IsOfNoCell row name × (bytes_eq label name ≡ false)
+    abbrev pub IsOutsideOtherKinds : Question → Type 0
+    IsOutsideOtherKinds question = (name : Name) × IsOfNoCell row name × (bytes_eq label name ≡ false)
         × IsInCell (in_node graph) (at name) (record { absent = false; value = question })
 
     pub record Fits (choice : Choice) : Type 0 where
       pub taken : IsInCell (in_node graph) (at label)
           (record { absent = true; value = choice.taken })
-      pub left : AllOf IsElsewhere choice.left
+      pub left : AllOf IsOutsideOtherKinds choice.left
 
-    leave_fits : (question : Question) (choice : Choice) → IsElsewhere question → Fits choice
+    leave_fits : (question : Question) (choice : Choice) → IsOutsideOtherKinds question → Fits choice
         → Fits (leave question choice)
     leave_fits question choice other fits = record {
       taken = fits.taken;
-      left = each_of_lists IsElsewhere choice.left (question ∷ []) fits.left (other, tt);
+      left = each_of_lists IsOutsideOtherKinds choice.left (question ∷ []) fits.left (other, tt);
     }
 
     -- the value at the label is one of the question

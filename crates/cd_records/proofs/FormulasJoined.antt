@@ -22,7 +22,7 @@ use Rattle.cd_model.proofs.Sorts as sort
 use Rattle.cd_model.proofs.FormulasAmongMore.{formula_among_more}
 use Rattle.cd_rules.specs.InRow.{thing_at, IsInCell}
 use Rattle.cd_rules.proofs.InCells.{Says}
-use Rattle.cd_rows.proofs.LivingRows.{IsOfSort, at_labels}
+use Rattle.cd_rows.proofs.RowsWithWitnesses.{IsOfSort, at_labels}
 use Rattle.cd_products.specs.Keeping.{IsFormulaOfQuestion}
 use Rattle.cd_records.specs.Inner.Entries.{Entry, InOneQuestion}
 use Rattle.cd_records.specs.Inner.Rests.{HoldsRest, IsOfRests, Rest}

@@ -10,8 +10,8 @@ use Rattle.cd_rules.specs.InRow.{thing_at, IsInCell, HasElsewhere, IsInRow}
 use Rattle.cd_rules.specs.Rows.{Cell, Row}
 use Rattle.cd_model.proofs.Ones.{each_weaker}
 use Rattle.cd_products.specs.QuestionBoxes.{InQuestion, IsInhabited}
-use Rattle.cd_rows.specs.RecordRows.{HaveOwnLabels, InRecordRow, IsLivingRow, cell_in}
-use Rattle.cd_rows.proofs.LivingRows.{IsOfSort}
+use Rattle.cd_rows.specs.RecordRows.{HaveOwnLabels, InRecordRow, RowHasWitnesses, cell_in}
+use Rattle.cd_rows.proofs.RowsWithWitnesses.{IsOfSort}
 use Rattle.cd_rows.proofs.RecordsOfRows.{has_record, has_picked}
 use Rattle.cd_records.proofs.Lookups.{name_itself, names_differ, same_name, not_same}
 use Rattle.cd_records.proofs.Lookups.{in_cell_at, in_row_by_names}
@@ -125,19 +125,19 @@ module _ (answers : Thing → Answers) (nothing : Question)
     some = row.some;
   }
 
-  lacking_lives : (row : Row) → IsLivingRow answers IsElement row
-      → IsLivingRow answers IsElement (lacking row)
-  lacking_lives row living = record {
+  lacking_lives : (row : Row) → RowHasWitnesses answers IsElement row
+      → RowHasWitnesses answers IsElement (lacking row)
+  lacking_lives row witnesses = record {
     cells = (
       inl refl,
       each_other label
           (λ cell. (cell.1.absent ≡ true) ⊎ IsInhabited answers IsElement cell.1.value) row.cells
-          living.cells,
+          witnesses.cells,
     );
-    some = living.some;
-    within = living.within;
-    labels = (is_label, each_other label (λ cell. IsLabel cell.0) row.cells living.labels);
-    once = (none_there label row.cells, others_own label row.cells living.once);
+    some = witnesses.some;
+    within = witnesses.within;
+    labels = (is_label, each_other label (λ cell. IsLabel cell.0) row.cells witnesses.labels);
+    once = (none_there label row.cells, others_own label row.cells witnesses.once);
   }
 
   module _ (row : Row) (at : Name → Option Thing) (in_row : IsInRow answers at (lacking row)) where
@@ -186,17 +186,17 @@ module _ (answers : Thing → Answers) (nothing : Question)
   Has row what = (fields : Fields) × IsElement (Record fields) × InRecordRow answers fields row
       × (thing_at fields label ≡ what)
 
-  pub row_has : (row : Row) → IsLivingRow answers IsElement row → (what : Option Thing)
+  pub row_has : (row : Row) → RowHasWitnesses answers IsElement row → (what : Option Thing)
       → IsOfSort IsElement what → IsInCell answers what (cell_in row.cells row.every label)
       → Has row what
-  row_has row living None sort may =
-      let made = has_record answers (lacking row) (lacking_lives row living) in (
+  row_has row witnesses None sort may =
+      let made = has_record answers (lacking row) (lacking_lives row witnesses) in (
         made.0,
         made.1,
-        in_whole_row row (thing_at made.0) made.2 living.once may,
+        in_whole_row row (thing_at made.0) made.2 witnesses.once may,
         lacks row (thing_at made.0) made.2,
       )
-  row_has row living (Some d) sort inside = has_picked answers row living label d is_label sort inside
+  row_has row witnesses (Some d) sort inside = has_picked answers row witnesses label d is_label sort inside
 
   pub has_in_row : (row : Row) (what : Option Thing) → Has row what
       → IsInCell answers what (cell_in row.cells row.every label)

@@ -16,7 +16,7 @@ use Rattle.cd_rules.specs.InRow.{thing_at}
 use Rattle.cd_rules.specs.Rows.{Row}
 use Rattle.cd_model.proofs.Ones.{one_of_map, map_of_one}
 use Rattle.cd_rows.specs.RecordRows.{asked_at, may_lack}
-use Rattle.cd_rows.proofs.LivingRows.{IsOfSort}
+use Rattle.cd_rows.proofs.RowsWithWitnesses.{IsOfSort}
 use Rattle.cd_meaning.specs.Records.{HasRecord, IsMergedAt, merged_at}
 use Rattle.cd_meaning.specs.Sets.{elements_of}
 use Rattle.cd_records.specs.Inner.Entries.{IsInEntry, InOneQuestion}

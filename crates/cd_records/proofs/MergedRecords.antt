@@ -19,8 +19,8 @@ use Rattle.cd_rules.specs.Rows.{Cell, Row}
 use Rattle.cd_rules.proofs.FreshLabels.{row_of_a, row_is_label}
 use Rattle.cd_model.proofs.Ones.{each_weaker, one_of_map}
 use Rattle.cd_model.proofs.ReadHeads.{nothing_in_empty}
-use Rattle.cd_rows.specs.RecordRows.{InRecordRow, IsLivingRow, may_lack}
-use Rattle.cd_rows.proofs.LivingRows.{at_labels}
+use Rattle.cd_rows.specs.RecordRows.{InRecordRow, RowHasWitnesses, may_lack}
+use Rattle.cd_rows.proofs.RowsWithWitnesses.{at_labels}
 use Rattle.cd_meaning.specs.Records.{IsMergedAt, IsMergeOf}
 use Rattle.cd_meaning.specs.Sets.{elements_of}
 use Rattle.cd_records.specs.Inner.Entries.{Entry, IsInEntry, entry_in}
@@ -132,12 +132,12 @@ no_cells (row ∷ rows) name none = (
 )
 
 -- labels of living rows
-pub living_labels : (graph : Graph) (rows : List Row)
-    → AllOf (IsLivingRow (in_node graph) IsElement) rows
+pub labels_with_witnesses : (graph : Graph) (rows : List Row)
+    → AllOf (RowHasWitnesses (in_node graph) IsElement) rows
     → AllOf (λ row. AllOf IsLabel (labels_in row.cells)) rows
-living_labels graph rows living = each_weaker (IsLivingRow (in_node graph) IsElement)
+labels_with_witnesses graph rows witnesses = each_weaker (RowHasWitnesses (in_node graph) IsElement)
     (λ row. AllOf IsLabel (labels_in row.cells)) (λ row is. of_cells row.cells is.labels) rows
-    living
+    witnesses
   where
     of_cells : (cells : List (Name × Cell)) → AllOf (λ cell. IsLabel cell.0) cells
         → AllOf IsLabel (labels_in cells)
@@ -145,12 +145,12 @@ living_labels graph rows living = each_weaker (IsLivingRow (in_node graph) IsEle
     of_cells (cell ∷ cells) each = (each.0, of_cells cells each.1)
 
 pub labels_rise : (graph : Graph) (first second : List Row)
-    → AllOf (IsLivingRow (in_node graph) IsElement) first
-    → AllOf (IsLivingRow (in_node graph) IsElement) second
+    → AllOf (RowHasWitnesses (in_node graph) IsElement) first
+    → AllOf (RowHasWitnesses (in_node graph) IsElement) second
     → AreRising None (merged_labels first second)
-labels_rise graph first second living living_too =
-    rows_rise second (row_labels first []) (living_labels graph second living_too)
-    (rows_rise first [] (living_labels graph first living) tt)
+labels_rise graph first second witnesses witnesses_too =
+    rows_rise second (row_labels first []) (labels_with_witnesses graph second witnesses_too)
+    (rows_rise first [] (labels_with_witnesses graph first witnesses) tt)
 
 module _ (graph before : Graph) (begins : graph ≡ built_ins ++ before) (a b : NodeId)
     (first second : List Row) (are_a : AreRowsOf graph a first) (are_b : AreRowsOf graph b second)
@@ -216,7 +216,7 @@ module _ (graph before : Graph) (begins : graph ≡ built_ins ++ before) (a b : 
             → IsInEntry (in_node graph) (thing_at fields name) (entry_in entries every name)
         by_what name what there (inl one) =
             at_label name (rising_is None labels
-            (labels_rise graph first second are_a.living are_b.living) name one)
+            (labels_rise graph first second are_a.witnesses are_b.witnesses) name one)
         by_what name None there (inr none) = subst
             (λ (what : Option Thing). IsInEntry (in_node graph) what (entry_in entries every name))
             (sym there)

@@ -20,7 +20,7 @@ use Rattle.cd_model.proofs.BothWays.{itself, through, turned}
 use Rattle.cd_model.proofs.Sorts as sort
 use Rattle.cd_rules.specs.InRow.{thing_at, IsInCell}
 use Rattle.cd_rules.proofs.InCells.{Says}
-use Rattle.cd_rows.proofs.LivingRows.{IsOfSort, at_labels}
+use Rattle.cd_rows.proofs.RowsWithWitnesses.{IsOfSort, at_labels}
 use Rattle.cd_records.specs.Inner.Entries.{Entry, IsInEntry, entry_in}
 use Rattle.cd_records.specs.Inner.Standing.{HoldsUnion, HoldsOutside, IsFieldOf, AreFieldsOf}
 use Rattle.cd_records.specs.Inner.Standing.{HoldsRecords, IsAsSaid, HasOther, longer}

@@ -10,7 +10,7 @@ use Rattle.cd_model.specs.Thing.{Thing, Fields, IsElement, IsRecord}
 use Rattle.cd_rules.specs.Rows.{Row}
 use Rattle.cd_model.proofs.Ones.{one_of_map, map_of_one, one_on_left, one_on_right, one_on_a_side}
 use Rattle.cd_model.proofs.ReadHeads.{nothing_in_empty}
-use Rattle.cd_rows.specs.RecordRows.{InRecordRow, IsLivingRow}
+use Rattle.cd_rows.specs.RecordRows.{InRecordRow, RowHasWitnesses}
 use Rattle.cd_meaning.specs.Records.{HasRecord, IsRestOf, IsWithout}
 use Rattle.cd_meaning.specs.Sets.{elements_of}
 use Rattle.cd_records.specs.Inner.Rests.{AreRests, IsOfRest, IsOfRests, IsRestNode, Rest}
@@ -44,15 +44,15 @@ module _ (graph : Graph) (label : Name) where
 
   -- and back
   from_rests : IsLabel label → (rows : List Row) (rests : List Rest)
-      → AllOf (IsLivingRow (in_node graph) IsElement) rows → AreRests graph label rows rests
+      → AllOf (RowHasWitnesses (in_node graph) IsElement) rows → AreRests graph label rows rests
       → (others : Fields) → IsElement (thing.Record others)
       → IsOfRests graph label rests others
       → (fields : Fields) × IsElement (thing.Record fields)
       × AnyOf (InRecordRow (in_node graph) fields) rows × IsWithout label fields others
-  from_rests is_label [] rests living same others is one =
+  from_rests is_label [] rests witnesses same others is one =
       absurd (subst (λ (rests : List Rest). IsOfRests graph label rests others) same one)
-  from_rests is_label (row ∷ rows) rests living (lefts, later, are, further, same) others is one =
-      by_side (from_rests is_label rows later living.1 further others is)
+  from_rests is_label (row ∷ rows) rests witnesses (lefts, later, are, further, same) others is one =
+      by_side (from_rests is_label rows later witnesses.1 further others is)
       (one_on_a_side Fact (map (λ left. (row, left)) lefts) later
       (subst (λ (rests : List Rest). IsOfRests graph label rests others) same one))
     where
@@ -65,7 +65,7 @@ module _ (graph : Graph) (label : Name) where
           → (fields : Fields) × IsElement (thing.Record fields)
           × AnyOf (InRecordRow (in_node graph) fields) (row ∷ rows) × IsWithout label fields others
       by_side on (inl one) =
-          let found = rest_to_row graph row label living.0 is_label others is lefts are
+          let found = rest_to_row graph row label witnesses.0 is_label others is lefts are
           (map_of_one (λ left. (row, left)) Fact lefts one) in
           (found.0, found.1, inl found.2, found.3)
       by_side on (inr one) =
@@ -94,7 +94,7 @@ module _ (graph before : Graph) (begins : graph ≡ built_ins ++ before) (label 
       only_rest : (a : NodeId) → AreRowsOf graph a rows → (d : Thing) → IsRecord d → IsElement d
           → in_node new d id true → IsRestOf label (elements_of graph a) d
       only_rest a rows_are (thing.Record others) record_is is inside =
-          let found = from_rests graph label is_label rows rests rows_are.living are others is
+          let found = from_rests graph label is_label rows rests rows_are.witnesses are others is
           ((is_node.exact others is).1 inside) in (
             found.0,
             others,

@@ -16,15 +16,15 @@ use Rattle.cd_rules.proofs.MembersFields.{found, put, found_there, found_elsewhe
 use Rattle.cd_rules.proofs.MembersFields.{put_fields}
 use Rattle.cd_model.proofs.Ones.{each_weaker, map_of_one, one_of_map, one_weaker, picked}
 use Rattle.cd_model.proofs.Ones.{one_with_each}
-use Rattle.cd_rows.specs.RecordRows.{InRecordRow, IsLivingRow, asked_at, may_lack, cell_in}
-use Rattle.cd_rows.proofs.LivingRows.{IsOfSort, at_labels}
+use Rattle.cd_rows.specs.RecordRows.{InRecordRow, RowHasWitnesses, asked_at, may_lack, cell_in}
+use Rattle.cd_rows.proofs.RowsWithWitnesses.{IsOfSort, at_labels}
 use Rattle.cd_meaning.specs.Records.{IsWithout}
 use Rattle.cd_records.specs.Inner.Entries.{Entry, IsInEntry, entry_in}
 use Rattle.cd_records.specs.Inner.Labels.{labels_in, row_labels}
 use Rattle.cd_records.specs.Inner.Leaving.{Choice, AreChoices, AreLefts, first_choice, rest_entries}
 use Rattle.cd_records.specs.Inner.Leaving.{rest_entry, rest_labels, some_of}
 use Rattle.cd_records.specs.Inner.Standing.{HasOther, IsRest}
-use Rattle.cd_records.proofs.ChoicesMade.{Fits, IsElsewhere, IsRight, choice_fits, choices_right}
+use Rattle.cd_records.proofs.ChoicesMade.{Fits, IsOutsideOtherKinds, IsRight, choice_fits, choices_right}
 use Rattle.cd_records.proofs.LabelsRise.{has_inserted, still_has, rows_have, no_others}
 use Rattle.cd_records.proofs.LabelsRise.{among_either}
 use Rattle.cd_records.proofs.Lookups.{in_cell_at, in_row_by_names, name_itself, names_differ}
@@ -236,7 +236,7 @@ module _ (graph : Graph) (row : Row) (label : Name) where
         (λ choice. IsRestOfRow choice.left others)
         (λ choice fits. (
           said,
-          each_weaker (IsElsewhere graph row label (thing_at fields) sorted)
+          each_weaker (IsOutsideOtherKinds graph row label (thing_at fields) sorted)
               (HasOther graph entries others)
               (λ question has. other question has.0 has.1 has.2 has.3) choice.left fits.left,
         )) choices
@@ -271,7 +271,7 @@ module _ (graph : Graph) (row : Row) (label : Name) where
         ⊎ (NoCell × IsInCell (in_node graph) what (record { absent = false; value = question })))
         row.some
 
-  module _ (living : IsLivingRow (in_node graph) IsElement row) (is_label : IsLabel label)
+  module _ (witnesses : RowHasWitnesses (in_node graph) IsElement row) (is_label : IsLabel label)
       (others : Fields) (is : IsElement (thing.Record others)) where
     abbrev pub Rests : Type 0
     Rests = (fields : Fields) × IsElement (thing.Record fields)
@@ -337,7 +337,7 @@ module _ (graph : Graph) (row : Row) (label : Name) where
       put_back = (
         fields,
         with_it_is label others back.what is_label back.sort is,
-        in_row_by_names (in_node graph) (thing_at fields) row living.once at_names
+        in_row_by_names (in_node graph) (thing_at fields) row witnesses.once at_names
             (each_weaker (λ question. AnyOf (λ other. other ≡ question) left
             ⊎ (NoCell × IsInCell (in_node graph) back.what
             (record { absent = false; value = question })))
@@ -372,7 +372,7 @@ module _ (graph : Graph) (row : Row) (label : Name) where
         by_name false differ live (inr later) further = further later
 
     cell_back : AnyOf (λ cell. cell.0 ≡ label) row.cells → Back (some_of row)
-    cell_back has_cell = let found = from_cell row.cells has_cell living.cells in
+    cell_back has_cell = let found = from_cell row.cells has_cell witnesses.cells in
         record {
           what = found.0;
           sort = found.1;

@@ -12,8 +12,8 @@ use Rattle.cd_rules.specs.Rows.{Row}
 use Rattle.cd_model.proofs.Ones.{one_weaker, one_with_each, picked}
 use Rattle.cd_model.proofs.ReadHeads.{nothing_in_empty}
 use Rattle.cd_products.specs.QuestionBoxes.{InQuestion}
-use Rattle.cd_rows.specs.RecordRows.{InRecordRow, IsLivingRow, cell_in}
-use Rattle.cd_rows.proofs.LivingRows.{IsOfSort}
+use Rattle.cd_rows.specs.RecordRows.{InRecordRow, RowHasWitnesses, cell_in}
+use Rattle.cd_rows.proofs.RowsWithWitnesses.{IsOfSort}
 use Rattle.cd_rows.proofs.RecordsOfRows.{has_record}
 use Rattle.cd_meaning.specs.Records.{HasRecord}
 use Rattle.cd_meaning.specs.Sets.{elements_of}
@@ -49,9 +49,9 @@ module _ (graph more : Graph) (begins : graph ≡ built_ins ++ more) (a : NodeId
   -- some record of the node, if it has a row
   pub some_record : AnyOf (λ (row : Row). Unit {0}) rows → (fields : Fields) × HasIt fields
   some_record one =
-      let at = picked (λ row. Unit {0} × IsLivingRow (in_node graph) IsElement row) rows
-      (one_with_each (λ row. Unit {0}) (IsLivingRow (in_node graph) IsElement) rows one
-      are.living) in
+      let at = picked (λ row. Unit {0} × RowHasWitnesses (in_node graph) IsElement row) rows
+      (one_with_each (λ row. Unit {0}) (RowHasWitnesses (in_node graph) IsElement) rows one
+      are.witnesses) in
       let made = has_record (in_node graph) at.0 at.2.1 in
       (made.0, record_of_row made.0 made.1 at.0 at.1 made.2)
 
@@ -75,10 +75,10 @@ module _ (graph more : Graph) (begins : graph ≡ built_ins ++ more) (a : NodeId
     pub said_is_had : IsOfSort IsElement what → IsSaid graph rows label what → IsHad label what
     said_is_had sort said =
         let at = picked (λ row. IsInCell (in_node graph) what (cell_in row.cells row.every label)
-        × IsLivingRow (in_node graph) IsElement row) rows
+        × RowHasWitnesses (in_node graph) IsElement row) rows
         (one_with_each (λ row. IsInCell (in_node graph) what
-        (cell_in row.cells row.every label)) (IsLivingRow (in_node graph) IsElement) rows said
-        are.living) in
+        (cell_in row.cells row.every label)) (RowHasWitnesses (in_node graph) IsElement) rows said
+        are.witnesses) in
         let has : HasThere at.0 = row_has (in_node graph) (question (EMPTY ∷ []) []) nothing label
         is_label at.0 at.2.1 what sort at.2.0 in
         (has.0, record_of_row has.0 has.1 at.0 at.1 has.2, has.3)

@@ -15,7 +15,7 @@ use Rattle.cd_notation.specs.declared.read.NotationError.{NotationError}
 use Rattle.cd_notation.specs.declared.read.NotationError.TheVariants as error
 use Rattle.cd_replies.specs.Bytes.{Bytes}
 use Rattle.cd_replies.specs.Documents.{RefusesDocument, lexical, syntax, too_deep}
-use Rattle.cd_replies.specs.Message.{against}
+use Rattle.cd_replies.specs.Message.{text_fault}
 use Rattle.cd_replies.specs.declared.refusal.Refusal.{Refusal}
 use Rattle.cd_replies.specs.declared.refusal.Refusal.TheVariants as refusal
 use Rattle.cd_replies.specs.Inner.DocumentErrors.{IsOfDocument}
@@ -32,18 +32,18 @@ each_scalar (c ∷ cs) is =
 
 pub writes_value : (text : Bytes) (v : Thing) → IsUtf8 text → WritesValue (chars text) v → IsValue v
 writes_value text v utf8 writes =
-    spelled_value most_open (chars text) writes.tokens v (each_scalar (chars text) (scalars-chars text utf8)) writes.spells writes.document
+    spelled_value most_open (chars text) writes.tokens v (each_scalar (chars text) (scalars-chars text utf8)) writes.lexes writes.document
 
 -- the fault of a document stands against its text
-pub stands_against : (text : Bytes) (fault : NotationError) → IsFaultOf (chars text) fault → (found : Refusal) → IsOfDocument fault (Ok found)
-    → RefusesDocument text (against found)
-stands_against text (error.Lex fault) is found means =
+pub has_text_fault : (text : Bytes) (fault : NotationError) → IsFaultOf (chars text) fault → (found : Refusal) → IsOfDocument fault (Ok found)
+    → RefusesDocument text (text_fault found)
+has_text_fault text (error.Lex fault) is found means =
     let same : found ≡ refusal.Lexical fault = cc in
-    subst (λ found. RefusesDocument text (against found)) (sym same) (lexical fault is)
-stands_against text (error.Syntax place) is found means =
+    subst (λ found. RefusesDocument text (text_fault found)) (sym same) (lexical fault is)
+has_text_fault text (error.Syntax place) is found means =
     let same : found ≡ refusal.Syntax place = cc in
-    subst (λ found. RefusesDocument text (against found)) (sym same) (syntax place is)
-stands_against text (error.TooDeep place) is found means =
+    subst (λ found. RefusesDocument text (text_fault found)) (sym same) (syntax place is)
+has_text_fault text (error.TooDeep place) is found means =
     let same : found ≡ refusal.TooDeep place = cc in
-    subst (λ found. RefusesDocument text (against found)) (sym same) (too_deep place is)
-stands_against text error.Memory is found means = absurd (false≢true means)
+    subst (λ found. RefusesDocument text (text_fault found)) (sym same) (too_deep place is)
+has_text_fault text error.Memory is found means = absurd (false≢true means)

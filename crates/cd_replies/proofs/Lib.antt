@@ -1,6 +1,6 @@
 mod Positions
 pub mod Messages
-pub mod FilesMet
+pub mod FilesEncountered
 pub mod TwoFiles
 pub mod Replies
 pub mod TextReading

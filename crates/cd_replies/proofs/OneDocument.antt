@@ -2,7 +2,7 @@
 use Rattle.std.proofs.Common.{◌≡◌, ℕ, List, [], inl, inr, ◌⊎◌, false, Some, None, Result, Ok, Err, Option, refl, ap, subst}
 use Rattle.std.specs.Str.{chars}
 use Rattle.cd_syntax.specs.declared.tokens.Token.{Token}
-use Rattle.cd_syntax.specs.Tokens.{Spells, bytes}
+use Rattle.cd_syntax.specs.Tokens.{Lexes, bytes}
 use Rattle.cd_model.specs.Interfaces.{OfNodes, admits}
 use Rattle.cd_model.specs.Thing.{Thing}
 use Rattle.cd_model.specs.Written.{Written, written, number_of_names, type_of}
@@ -19,7 +19,7 @@ use Rattle.cd_documents.proofs.OneValue.{one_value}
 use Rattle.cd_documents.proofs.Refusing.{wrong_refused, deep_refused}
 use Rattle.cd_replies.specs.Bytes.{Bytes}
 use Rattle.cd_replies.specs.Reply.{refusal}
-use Rattle.cd_replies.specs.Texts.{Against, Lexical}
+use Rattle.cd_replies.specs.Texts.{TextFault, Lexical}
 use Rattle.cd_replies.specs.Documents.{RefusesDocument, lexical, syntax, too_deep, IsValueIn, IsValueOutside}
 
 -- what the machine makes of the tokens of a text
@@ -49,39 +49,39 @@ written_or_deep tokens end p v document deep =
 
 -- a text has one list of tokens
 module _ (text : Bytes) where
-  same_tokens : (first second : List Token) → Spells false 0 (chars text) first → Spells false 0 (chars text) second → second ≡ first
+  same_tokens : (first second : List Token) → Lexes false 0 (chars text) first → Lexes false 0 (chars text) second → second ≡ first
   same_tokens first second spelled other = one_list (chars text) second first other spelled
 
   pub writes_one : (first second : Thing) → WritesValue (chars text) first → WritesValue (chars text) second → first ≡ second
   writes_one first second one other =
       one_value most_open one.tokens first second one.document
-      (subst (λ ts. IsDocument most_open ts second) (same_tokens one.tokens other.tokens one.spells other.spells) other.document)
+      (subst (λ ts. IsDocument most_open ts second) (same_tokens one.tokens other.tokens one.lexes other.lexes) other.document)
 
-  pub writes_unrefused : (v : Thing) → WritesValue (chars text) v → (against : Against) → RefusesDocument text against → ⊥
-  writes_unrefused v writes _ (lexical fault fails) = spelled_or_not (chars text) writes.tokens fault writes.spells fails
+  pub writes_unrefused : (v : Thing) → WritesValue (chars text) v → (text_fault : TextFault) → RefusesDocument text text_fault → ⊥
+  writes_unrefused v writes _ (lexical fault fails) = spelled_or_not (chars text) writes.tokens fault writes.lexes fails
   writes_unrefused v writes _ (syntax place is) =
       written_or_wrong writes.tokens (bytes (chars text)) place v writes.document
-      (subst (λ ts. IsWrongDocument most_open ts (bytes (chars text)) place) (same_tokens writes.tokens is.tokens writes.spells is.spells) is.wrong)
+      (subst (λ ts. IsWrongDocument most_open ts (bytes (chars text)) place) (same_tokens writes.tokens is.tokens writes.lexes is.lexes) is.wrong)
   writes_unrefused v writes _ (too_deep place is) =
       written_or_deep writes.tokens (bytes (chars text)) place v writes.document
-      (subst (λ ts. IsTooDeepDocument most_open ts (bytes (chars text)) place) (same_tokens writes.tokens is.tokens writes.spells is.spells) is.deep)
+      (subst (λ ts. IsTooDeepDocument most_open ts (bytes (chars text)) place) (same_tokens writes.tokens is.tokens writes.lexes is.lexes) is.deep)
 
   unlike : (p q : ℕ) → IsWrongText (chars text) p → IsTooDeepText (chars text) q → ⊥
   unlike p q wrong deep =
       wrong_or_deep wrong.tokens (bytes (chars text)) p q wrong.wrong
-      (subst (λ ts. IsTooDeepDocument most_open ts (bytes (chars text)) q) (same_tokens wrong.tokens deep.tokens wrong.spells deep.spells) deep.deep)
+      (subst (λ ts. IsTooDeepDocument most_open ts (bytes (chars text)) q) (same_tokens wrong.tokens deep.tokens wrong.lexes deep.lexes) deep.deep)
 
   -- what is said of what stands against it has one status
-  pub one_document_refusal : (origin : Bytes) (a b : Against) → RefusesDocument text a → RefusesDocument text b
+  pub one_document_refusal : (origin : Bytes) (a b : TextFault) → RefusesDocument text a → RefusesDocument text b
       → (refusal origin text a).status ≡ (refusal origin text b).status
   one_document_refusal origin _ _ (lexical a fails) (lexical b fails') =
       ap (λ fault. (refusal origin text (Lexical fault)).status) (one_fault (chars text) a b fails fails')
-  one_document_refusal origin _ _ (lexical a fails) (syntax place is) = absurd (spelled_or_not (chars text) is.tokens a is.spells fails)
-  one_document_refusal origin _ _ (lexical a fails) (too_deep place is) = absurd (spelled_or_not (chars text) is.tokens a is.spells fails)
-  one_document_refusal origin _ _ (syntax place is) (lexical b fails) = absurd (spelled_or_not (chars text) is.tokens b is.spells fails)
+  one_document_refusal origin _ _ (lexical a fails) (syntax place is) = absurd (spelled_or_not (chars text) is.tokens a is.lexes fails)
+  one_document_refusal origin _ _ (lexical a fails) (too_deep place is) = absurd (spelled_or_not (chars text) is.tokens a is.lexes fails)
+  one_document_refusal origin _ _ (syntax place is) (lexical b fails) = absurd (spelled_or_not (chars text) is.tokens b is.lexes fails)
   one_document_refusal origin _ _ (syntax p is) (syntax q is') = refl
   one_document_refusal origin _ _ (syntax p is) (too_deep q is') = absurd (unlike p q is is')
-  one_document_refusal origin _ _ (too_deep place is) (lexical b fails) = absurd (spelled_or_not (chars text) is.tokens b is.spells fails)
+  one_document_refusal origin _ _ (too_deep place is) (lexical b fails) = absurd (spelled_or_not (chars text) is.tokens b is.lexes fails)
   one_document_refusal origin _ _ (too_deep p is) (syntax q is') = absurd (unlike q p is' is)
   one_document_refusal origin _ _ (too_deep p is) (too_deep q is') = refl
 

@@ -15,34 +15,34 @@ use Rattle.cd_names.specs.ProgramFaults.{IsFaultOfProgram}
 use Rattle.cd_lex.proofs.ReadingIsOne.{one_list, one_fault, not_both as spelled_or_not}
 use Rattle.cd_replies.specs.Bytes.{Bytes}
 use Rattle.cd_replies.specs.Reply.{refusal}
-use Rattle.cd_replies.specs.Texts.{Against, Lexical, Syntax, TooDeep, Naming, HasTokens, Refuses, lexical, syntax, too_deep, naming}
-use Rattle.cd_replies.specs.Texts.{ReadsAs, Declares, RefusesType, RefusesDeclarations, IsToldOfType, IsToldOfDeclarations, type_of}
-use Rattle.cd_replies.specs.Texts.{ReadsAsProgram, RefusesProgram, IsToldOfProgram}
+use Rattle.cd_replies.specs.Texts.{TextFault, Lexical, Syntax, TooDeep, Naming, HasTokens, Refuses, lexical, syntax, too_deep, naming}
+use Rattle.cd_replies.specs.Texts.{ReadsAs, Declares, RefusesType, RefusesDeclarations, IsReportedOfType, IsReportedOfDeclarations, type_of}
+use Rattle.cd_replies.specs.Texts.{ReadsAsProgram, RefusesProgram, IsReportedOfProgram}
 use Rattle.cd_replies.proofs.OneFault.{syntax_one, depth_one, not_both, written_no_syntax, written_no_depth}
 
 -- the same thing stands against a text, or a naming fault in each case
-data IsAlike : (a b : Against) → Type 0 where
-  same : (a b : Against) → a ≡ b → IsAlike a b
+data IsAlike : (a b : TextFault) → Type 0 where
+  same : (a b : TextFault) → a ≡ b → IsAlike a b
   both_naming : (a b : Fault) → IsAlike (Naming a) (Naming b)
 
-one_status : (origin text : Bytes) (a b : Against) → IsAlike a b → (refusal origin text a).status ≡ (refusal origin text b).status
-one_status origin text a b (same _ _ is) = ap (λ against. (refusal origin text against).status) is
+one_status : (origin text : Bytes) (a b : TextFault) → IsAlike a b → (refusal origin text a).status ≡ (refusal origin text b).status
+one_status origin text a b (same _ _ is) = ap (λ text_fault. (refusal origin text text_fault).status) is
 one_status origin text _ _ (both_naming a b) = refl
 
-module _ (form : Form) (law : IsForm form) (told : List Token → Fault → Type 0)
-    (writes : (tokens : List Token) (fault : Fault) → told tokens fault → form.Writes 1000 tokens) (text : Bytes) where
+module _ (form : Form) (law : IsForm form) (reported : List Token → Fault → Type 0)
+    (writes : (tokens : List Token) (fault : Fault) → reported tokens fault → form.Writes 1000 tokens) (text : Bytes) where
   -- the text is spelled by the same tokens
   same_tokens : (first second : List Token) → HasTokens text first → HasTokens text second → second ≡ first
   same_tokens first second spelled other = one_list (chars text) second first other spelled
 
-  one_refusal : (a b : Against) → Refuses form told text a → Refuses form told text b → IsAlike a b
+  one_refusal : (a b : TextFault) → Refuses form reported text a → Refuses form reported text b → IsAlike a b
   one_refusal _ _ (lexical a_f a_fails) (lexical b_f b_fails) =
       same _ _ (ap Lexical (one_fault (chars text) a_f b_f a_fails b_fails))
   one_refusal _ _ (lexical a_f a_fails) (syntax b_ts b_spelled b_p b_fault) =
       absurd (spelled_or_not (chars text) b_ts a_f b_spelled a_fails)
   one_refusal _ _ (lexical a_f a_fails) (too_deep b_ts b_spelled b_p b_fault) =
       absurd (spelled_or_not (chars text) b_ts a_f b_spelled a_fails)
-  one_refusal _ _ (lexical a_f a_fails) (naming b_ts b_spelled b_fault b_told) =
+  one_refusal _ _ (lexical a_f a_fails) (naming b_ts b_spelled b_fault b_reported) =
       absurd (spelled_or_not (chars text) b_ts a_f b_spelled a_fails)
   one_refusal _ _ (syntax a_ts a_spelled a_p a_fault) (lexical b_f b_fails) =
       absurd (spelled_or_not (chars text) a_ts b_f a_spelled b_fails)
@@ -52,9 +52,9 @@ module _ (form : Form) (law : IsForm form) (told : List Token → Fault → Type
   one_refusal _ _ (syntax a_ts a_spelled a_p a_fault) (too_deep b_ts b_spelled b_p b_fault) =
       absurd (not_both form law 1000 a_ts (length text) a_p b_p a_fault
       (subst (λ ts. IsDepthFault form 1000 ts (length text) b_p) (same_tokens a_ts b_ts a_spelled b_spelled) b_fault))
-  one_refusal _ _ (syntax a_ts a_spelled a_p a_fault) (naming b_ts b_spelled b_fault b_told) =
+  one_refusal _ _ (syntax a_ts a_spelled a_p a_fault) (naming b_ts b_spelled b_fault b_reported) =
       absurd (written_no_syntax form law 1000 a_ts (length text) a_p
-      (subst (form.Writes 1000) (same_tokens a_ts b_ts a_spelled b_spelled) (writes b_ts b_fault b_told)) a_fault)
+      (subst (form.Writes 1000) (same_tokens a_ts b_ts a_spelled b_spelled) (writes b_ts b_fault b_reported)) a_fault)
   one_refusal _ _ (too_deep a_ts a_spelled a_p a_fault) (lexical b_f b_fails) =
       absurd (spelled_or_not (chars text) a_ts b_f a_spelled b_fails)
   one_refusal _ _ (too_deep a_ts a_spelled a_p a_fault) (syntax b_ts b_spelled b_p b_fault) =
@@ -63,23 +63,23 @@ module _ (form : Form) (law : IsForm form) (told : List Token → Fault → Type
   one_refusal _ _ (too_deep a_ts a_spelled a_p a_fault) (too_deep b_ts b_spelled b_p b_fault) =
       same _ _ (ap TooDeep (depth_one form law 1000 a_ts (length text) a_p b_p a_fault
       (subst (λ ts. IsDepthFault form 1000 ts (length text) b_p) (same_tokens a_ts b_ts a_spelled b_spelled) b_fault)))
-  one_refusal _ _ (too_deep a_ts a_spelled a_p a_fault) (naming b_ts b_spelled b_fault b_told) =
+  one_refusal _ _ (too_deep a_ts a_spelled a_p a_fault) (naming b_ts b_spelled b_fault b_reported) =
       absurd (written_no_depth form law 1000 a_ts (length text) a_p
-      (subst (form.Writes 1000) (same_tokens a_ts b_ts a_spelled b_spelled) (writes b_ts b_fault b_told)) a_fault)
-  one_refusal _ _ (naming a_ts a_spelled a_fault a_told) (lexical b_f b_fails) =
+      (subst (form.Writes 1000) (same_tokens a_ts b_ts a_spelled b_spelled) (writes b_ts b_fault b_reported)) a_fault)
+  one_refusal _ _ (naming a_ts a_spelled a_fault a_reported) (lexical b_f b_fails) =
       absurd (spelled_or_not (chars text) a_ts b_f a_spelled b_fails)
-  one_refusal _ _ (naming a_ts a_spelled a_fault a_told) (syntax b_ts b_spelled b_p b_fault) =
-      absurd (written_no_syntax form law 1000 a_ts (length text) b_p (writes a_ts a_fault a_told)
+  one_refusal _ _ (naming a_ts a_spelled a_fault a_reported) (syntax b_ts b_spelled b_p b_fault) =
+      absurd (written_no_syntax form law 1000 a_ts (length text) b_p (writes a_ts a_fault a_reported)
       (subst (λ ts. IsSyntaxFault form 1000 ts (length text) b_p) (same_tokens a_ts b_ts a_spelled b_spelled) b_fault))
-  one_refusal _ _ (naming a_ts a_spelled a_fault a_told) (too_deep b_ts b_spelled b_p b_fault) =
-      absurd (written_no_depth form law 1000 a_ts (length text) b_p (writes a_ts a_fault a_told)
+  one_refusal _ _ (naming a_ts a_spelled a_fault a_reported) (too_deep b_ts b_spelled b_p b_fault) =
+      absurd (written_no_depth form law 1000 a_ts (length text) b_p (writes a_ts a_fault a_reported)
       (subst (λ ts. IsDepthFault form 1000 ts (length text) b_p) (same_tokens a_ts b_ts a_spelled b_spelled) b_fault))
-  one_refusal _ _ (naming a_ts a_spelled a_fault a_told) (naming b_ts b_spelled b_fault b_told) =
+  one_refusal _ _ (naming a_ts a_spelled a_fault a_reported) (naming b_ts b_spelled b_fault b_reported) =
       both_naming a_fault b_fault
 
   -- nothing stands against tokens that are of the form, where no naming fault is told of what they write
-  stands_not : (tokens : List Token) → HasTokens text tokens → form.Writes 1000 tokens → ((fault : Fault) → told tokens fault → ⊥)
-      → (against : Against) → Refuses form told text against → ⊥
+  stands_not : (tokens : List Token) → HasTokens text tokens → form.Writes 1000 tokens → ((fault : Fault) → reported tokens fault → ⊥)
+      → (text_fault : TextFault) → Refuses form reported text text_fault → ⊥
   stands_not tokens spelled written sound _ (lexical f fails) = spelled_or_not (chars text) tokens f spelled fails
   stands_not tokens spelled written sound _ (syntax ts other p fault) =
       written_no_syntax form law 1000 tokens (length text) p written
@@ -88,15 +88,15 @@ module _ (form : Form) (law : IsForm form) (told : List Token → Fault → Type
       written_no_depth form law 1000 tokens (length text) p written
       (subst (λ ts. IsDepthFault form 1000 ts (length text) p) (same_tokens tokens ts spelled other) fault)
   stands_not tokens spelled written sound _ (naming ts other fault is) =
-      sound fault (subst (λ ts. told ts fault) (same_tokens tokens ts spelled other) is)
+      sound fault (subst (λ ts. reported ts fault) (same_tokens tokens ts spelled other) is)
 
-writes_type : (declared : Declarations) (tokens : List Token) (fault : Fault) → IsToldOfType declared tokens fault → AType.Writes 1000 tokens
+writes_type : (declared : Declarations) (tokens : List Token) (fault : Fault) → IsReportedOfType declared tokens fault → AType.Writes 1000 tokens
 writes_type declared tokens fault is = (is.0, is.1)
 
-writes_declarations : (tokens : List Token) (fault : Fault) → IsToldOfDeclarations tokens fault → SomeDeclarations.Writes 1000 tokens
+writes_declarations : (tokens : List Token) (fault : Fault) → IsReportedOfDeclarations tokens fault → SomeDeclarations.Writes 1000 tokens
 writes_declarations tokens fault is = (is.0, is.1)
 
-writes_program : (end : ℕ) (tokens : List Token) (fault : Fault) → IsToldOfProgram end tokens fault → AProgram.Writes 1000 tokens
+writes_program : (end : ℕ) (tokens : List Token) (fault : Fault) → IsReportedOfProgram end tokens fault → AProgram.Writes 1000 tokens
 writes_program end tokens fault is = (is.0, is.1)
 
 -- tokens write one program, whose text ends there
@@ -118,50 +118,50 @@ reads_one_program text first second one other =
     same_program one.tokens first second one.written (subst (λ ts. IsProgram 1000 ts second) same other.written) (one.ends ∙ sym other.ends)
 
 -- what is said of what stands against a text has one status
-pub one_type_refusal : (declared : Declarations) (origin text : Bytes) (a b : Against) → RefusesType declared text a → RefusesType declared text b
+pub one_type_refusal : (declared : Declarations) (origin text : Bytes) (a b : TextFault) → RefusesType declared text a → RefusesType declared text b
     → (refusal origin text a).status ≡ (refusal origin text b).status
 one_type_refusal declared origin text a b first second = one_status origin text a b
-    (one_refusal AType type_form (IsToldOfType declared) (writes_type declared) text a b first second)
+    (one_refusal AType type_form (IsReportedOfType declared) (writes_type declared) text a b first second)
 
-pub one_declarations_refusal : (origin text : Bytes) (a b : Against) → RefusesDeclarations text a → RefusesDeclarations text b
+pub one_declarations_refusal : (origin text : Bytes) (a b : TextFault) → RefusesDeclarations text a → RefusesDeclarations text b
     → (refusal origin text a).status ≡ (refusal origin text b).status
 one_declarations_refusal origin text a b first second = one_status origin text a b
-    (one_refusal SomeDeclarations declarations_form IsToldOfDeclarations writes_declarations text a b first second)
+    (one_refusal SomeDeclarations declarations_form IsReportedOfDeclarations writes_declarations text a b first second)
 
-pub one_program_refusal : (origin text : Bytes) (a b : Against) → RefusesProgram text a → RefusesProgram text b
+pub one_program_refusal : (origin text : Bytes) (a b : TextFault) → RefusesProgram text a → RefusesProgram text b
     → (refusal origin text a).status ≡ (refusal origin text b).status
 one_program_refusal origin text a b first second = one_status origin text a b
-    (one_refusal AProgram program_form (IsToldOfProgram (length text)) (writes_program (length text)) text a b first second)
+    (one_refusal AProgram program_form (IsReportedOfProgram (length text)) (writes_program (length text)) text a b first second)
 
 -- a text that reads as a type is not refused, nor is one that reads as declarations, nor one that reads as a
 -- program
 pub reads_unrefused : (declared : Declarations) (text : Bytes) (is : Written) → ReadsAs declared text is
-    → (against : Against) → RefusesType declared text against → ⊥
-reads_unrefused declared text is reads against refuses =
-    stands_not AType type_form (IsToldOfType declared) (writes_type declared) text reads.tokens reads.spelled (reads.tree, reads.written)
-    (λ fault told.
-    let same = one_tree 1000 1000 reads.tokens told.0 reads.tree told.1 reads.written in
-    reads.sound fault (subst (λ tree. IsFaultOfType declared tree fault) same told.2.is))
-    against refuses
+    → (text_fault : TextFault) → RefusesType declared text text_fault → ⊥
+reads_unrefused declared text is reads text_fault refuses =
+    stands_not AType type_form (IsReportedOfType declared) (writes_type declared) text reads.tokens reads.spelled (reads.tree, reads.written)
+    (λ fault reported.
+    let same = one_tree 1000 1000 reads.tokens reported.0 reads.tree reported.1 reads.written in
+    reads.sound fault (subst (λ tree. IsFaultOfType declared tree fault) same reported.2.is))
+    text_fault refuses
 
 pub declares_unrefused : (text : Bytes) (declared : Declarations) → Declares text declared
-    → (against : Against) → RefusesDeclarations text against → ⊥
-declares_unrefused text declared declares against refuses =
-    stands_not SomeDeclarations declarations_form IsToldOfDeclarations writes_declarations text declares.tokens declares.spelled (declared, declares.written)
-    (λ fault told.
-    let same = one_declared 1000 1000 declares.tokens told.0 declared told.1 declares.written in
-    declares.sound fault (subst (λ list. IsFaultOfDeclarations list fault) same told.2.is))
-    against refuses
+    → (text_fault : TextFault) → RefusesDeclarations text text_fault → ⊥
+declares_unrefused text declared declares text_fault refuses =
+    stands_not SomeDeclarations declarations_form IsReportedOfDeclarations writes_declarations text declares.tokens declares.spelled (declared, declares.written)
+    (λ fault reported.
+    let same = one_declared 1000 1000 declares.tokens reported.0 declared reported.1 declares.written in
+    declares.sound fault (subst (λ list. IsFaultOfDeclarations list fault) same reported.2.is))
+    text_fault refuses
 
 pub program_unrefused : (text : Bytes) (program : Program) → ReadsAsProgram text program
-    → (against : Against) → RefusesProgram text against → ⊥
-program_unrefused text program reads against refuses =
-    stands_not AProgram program_form (IsToldOfProgram (length text)) (writes_program (length text)) text reads.tokens reads.spelled
+    → (text_fault : TextFault) → RefusesProgram text text_fault → ⊥
+program_unrefused text program reads text_fault refuses =
+    stands_not AProgram program_form (IsReportedOfProgram (length text)) (writes_program (length text)) text reads.tokens reads.spelled
     (program, reads.written)
-    (λ fault told.
-    let same = same_program reads.tokens told.0 program told.1 reads.written (told.2 ∙ sym reads.ends) in
-    reads.sound fault (subst (λ is. IsFaultOfProgram is fault) same told.3.is))
-    against refuses
+    (λ fault reported.
+    let same = same_program reads.tokens reported.0 program reported.1 reads.written (reported.2 ∙ sym reads.ends) in
+    reads.sound fault (subst (λ is. IsFaultOfProgram is fault) same reported.3.is))
+    text_fault refuses
 
 -- a text reads as one type at most, and as one list of declarations
 pub reads_one : (declared : Declarations) (text : Bytes) (first second : Written) → ReadsAs declared text first → ReadsAs declared text second

@@ -4,51 +4,51 @@ use Rattle.std.proofs.lemmas.Bool.{false≢true}
 use Rattle.cd_syntax.specs.declared.tokens.Token.{Token}
 use Rattle.cd_syntax.specs.SyntaxFaults.{Form}
 use Rattle.cd_syntax.specs.TypeTree.{Declarations, NoDeclaration}
-use Rattle.cd_resolve.specs.Errors.{IsToldError}
-use Rattle.cd_resolve.specs.Faults.{Fault, IsTold, IsFaultOfDeclarations, twice, built_in, unguarded, in_declared}
+use Rattle.cd_resolve.specs.Errors.{IsReportedError}
+use Rattle.cd_resolve.specs.Faults.{Fault, IsReported, IsFaultOfDeclarations, twice, built_in, unguarded, in_declared}
 use Rattle.cd_resolve.specs.declared.error.NameError.{NameError}
 use Rattle.cd_resolve.specs.declared.error.NameError.TheVariants as name_fault
 use Rattle.cd_parser.specs.Parsed.{IsFault}
 use Rattle.cd_parser.specs.declared.error.ParseError.{ParseError}
 use Rattle.cd_parser.specs.declared.error.ParseError.TheVariants as fault
 use Rattle.cd_replies.specs.Bytes.{Bytes}
-use Rattle.cd_replies.specs.Texts.{Against, HasTokens, Declares, Refuses, RefusesDeclarations, syntax, too_deep, naming}
+use Rattle.cd_replies.specs.Texts.{TextFault, HasTokens, Declares, Refuses, RefusesDeclarations, syntax, too_deep, naming}
 use Rattle.cd_replies.specs.Naming.{Writes, AreNamedWell, RefusesNames}
 use Rattle.cd_replies.specs.Naming as names
-use Rattle.cd_replies.specs.Message.{against}
+use Rattle.cd_replies.specs.Message.{text_fault}
 use Rattle.cd_replies.specs.Inner.Refusal.{IsOfFault, IsOfNames}
 use Rattle.cd_replies.specs.declared.refusal.Refusal.{Refusal}
 use Rattle.cd_replies.specs.declared.refusal.Refusal.TheVariants as refusal
 
-module _ (form : Form) (told : List Token → Fault → Type 0) (text : Bytes) where
+module _ (form : Form) (reported : List Token → Fault → Type 0) (text : Bytes) where
   -- the first fault of the tokens stands against the text
   pub fault_refused : (tokens : List Token) → HasTokens text tokens → (error : ParseError) → IsFault form 1000 tokens (length text) error
-      → (found : Refusal) → IsOfFault error (Ok found) → Refuses form told text (against found)
+      → (found : Refusal) → IsOfFault error (Ok found) → Refuses form reported text (text_fault found)
   fault_refused tokens spelled (fault.Syntax place) is found means =
       let same : found ≡ refusal.Syntax place = cc in
-      subst (λ f. Refuses form told text (against f)) (sym same) (syntax tokens spelled place is)
+      subst (λ f. Refuses form reported text (text_fault f)) (sym same) (syntax tokens spelled place is)
   fault_refused tokens spelled (fault.TooDeep place) is found means =
       let same : found ≡ refusal.TooDeep place = cc in
-      subst (λ f. Refuses form told text (against f)) (sym same) (too_deep tokens spelled place is)
+      subst (λ f. Refuses form reported text (text_fault f)) (sym same) (too_deep tokens spelled place is)
   fault_refused tokens spelled fault.Memory is found means = absurd (false≢true means)
 
   -- and so does the naming fault that is told of what they write
   pub names_refused : (tokens : List Token) → HasTokens text tokens → (IsSuch : Fault → Type 0)
-      → ((fault : Fault) → IsTold IsSuch fault → told tokens fault) → (error : NameError) → IsToldError IsSuch error
-      → (found : Refusal) → IsOfNames error (Ok found) → Refuses form told text (against found)
-  names_refused tokens spelled IsSuch tells (name_fault.Fault fault name at) is found means =
+      → ((fault : Fault) → IsReported IsSuch fault → reported tokens fault) → (error : NameError) → IsReportedError IsSuch error
+      → (found : Refusal) → IsOfNames error (Ok found) → Refuses form reported text (text_fault found)
+  names_refused tokens spelled IsSuch held (name_fault.Fault fault name at) is found means =
       let same : found ≡ refusal.Naming fault name at = cc in
-      subst (λ f. Refuses form told text (against f)) (sym same)
-      (naming tokens spelled (record { fault = fault; name = name; at = at }) (tells (record { fault = fault; name = name; at = at }) is))
-  names_refused tokens spelled IsSuch tells name_fault.Memory is found means = absurd (false≢true means)
+      subst (λ f. Refuses form reported text (text_fault f)) (sym same)
+      (naming tokens spelled (record { fault = fault; name = name; at = at }) (held (record { fault = fault; name = name; at = at }) is))
+  names_refused tokens spelled IsSuch held name_fault.Memory is found means = absurd (false≢true means)
 
 -- the naming fault that is told of declarations is what is found
-pub names_told : (declared : Declarations) (error : NameError) → IsToldError (IsFaultOfDeclarations declared) error
-    → (found : Refusal) → IsOfNames error (Ok found) → RefusesNames declared (against found)
-names_told declared (name_fault.Fault fault name at) is found means =
+pub names_reported : (declared : Declarations) (error : NameError) → IsReportedError (IsFaultOfDeclarations declared) error
+    → (found : Refusal) → IsOfNames error (Ok found) → RefusesNames declared (text_fault found)
+names_reported declared (name_fault.Fault fault name at) is found means =
     let same : found ≡ refusal.Naming fault name at = cc in
-    subst (λ f. RefusesNames declared (against f)) (sym same) (names.naming (record { fault = fault; name = name; at = at }) is)
-names_told declared name_fault.Memory is found means = absurd (false≢true means)
+    subst (λ f. RefusesNames declared (text_fault f)) (sym same) (names.naming (record { fault = fault; name = name; at = at }) is)
+names_reported declared name_fault.Memory is found means = absurd (false≢true means)
 
 -- the text declares them where their names are sound, and else their naming fault stands against it
 pub writes_declares : (text : Bytes) (declared : Declarations) → Writes text declared → AreNamedWell declared → Declares text declared
@@ -59,14 +59,14 @@ writes_declares text declared writes sound = record {
   sound = sound;
 }
 
-pub writes_refused : (text : Bytes) (declared : Declarations) → Writes text declared → (against : Against) → RefusesNames declared against
-    → RefusesDeclarations text against
-writes_refused text declared writes _ (names.naming fault told) =
-    naming writes.tokens writes.spelled fault (declared, writes.written, told)
+pub writes_refused : (text : Bytes) (declared : Declarations) → Writes text declared → (text_fault : TextFault) → RefusesNames declared text_fault
+    → RefusesDeclarations text text_fault
+writes_refused text declared writes _ (names.naming fault reported) =
+    naming writes.tokens writes.spelled fault (declared, writes.written, reported)
 
 -- where nothing is declared, no naming fault is told
-pub none_refused : (against : Against) → RefusesNames NoDeclaration against → ⊥
-none_refused _ (names.naming fault told) = no_fault fault told.is
+pub none_refused : (text_fault : TextFault) → RefusesNames NoDeclaration text_fault → ⊥
+none_refused _ (names.naming fault reported) = no_fault fault reported.is
   where
     no_fault : (fault : Fault) → IsFaultOfDeclarations NoDeclaration fault → ⊥
     no_fault _ (twice _ _ _ name at again) = elim again [ ]

@@ -8,15 +8,15 @@ use Rattle.std.proofs.lemmas.Bool.{true≢false}
 use Rattle.std.proofs.lemmas.Slice.Eq.{bytes_eq-Decides}
 use Rattle.cd_base.specs.FilesState.{FilesState}
 use Rattle.cd_replies.specs.Bytes.{Bytes}
-use Rattle.cd_replies.specs.Disk.{Disk, HasText, marked, told_disk, marked_disk, FileRefusal, unread}
+use Rattle.cd_replies.specs.Disk.{Disk, HasText, unreadable, known_disk, unreadable_disk, FileRefusal, unread}
 use Rattle.cd_replies.specs.File.{IsFileRead, ReadsAmong, said_of}
 use Rattle.cd_replies.specs.Message.{IsAnswer, reply_of}
 use Rattle.cd_replies.specs.Reply.{Reply, cannot_read}
-use Rattle.cd_replies.specs.Texts.{Against}
+use Rattle.cd_replies.specs.Texts.{TextFault}
 use Rattle.cd_replies.specs.declared.file.FileFault.{FileFault}
 use Rattle.cd_replies.specs.declared.message.Message.{Message}
-use Rattle.cd_replies.proofs.FilesMet.{has_text, has_text_beside, met_same, FaultMet, fault_met}
-use Rattle.cd_replies.proofs.FilesMet as met
+use Rattle.cd_replies.proofs.FilesEncountered.{has_text, has_text_beside, encountered_same, FaultMet, fault_encountered}
+use Rattle.cd_replies.proofs.FilesEncountered as encountered
 use Rattle.cd_replies.proofs.Messages.{replies}
 use Rattle.cd_replies.specs.Documents.{RefusesDocument}
 use Rattle.cd_replies.specs.Finishing.{Finishes, granted, failed}
@@ -26,7 +26,7 @@ pub said_at_once : (answers : Disk → Reply → Type 0) (files : FilesState) (d
     → (r : Result Message AllocError) → IfOk r (λ message. reply_of message ≡ reply) → ((disk : Disk) → answers disk reply)
     → Finishes answers files files document r
 said_at_once answers files document reply r said is =
-    granted refl (replies r reply (answers (told_disk files)) said (is (told_disk files)))
+    granted refl (replies r reply (answers (known_disk files)) said (is (known_disk files)))
 
 -- other answers follow
 each_ok : (first second : Reply → Type 0) (r : Result Message AllocError) → ((reply : Reply) → first reply → second reply)
@@ -38,78 +38,78 @@ pub leads_to : (first second : Disk → Reply → Type 0) (old new : FilesState)
     → ((disk : Disk) (reply : Reply) → first disk reply → second disk reply) → Finishes first old new document r
     → Finishes second old new document r
 leads_to first second old new document r leads (granted same is) =
-    granted same (each_ok (first (told_disk old)) (second (told_disk old)) r (leads (told_disk old)) is)
+    granted same (each_ok (first (known_disk old)) (second (known_disk old)) r (leads (known_disk old)) is)
 leads_to first second old new document r leads (failed fails said is) =
-    failed fails said (each_ok (first (marked_disk old document)) (second (marked_disk old document)) r (leads (marked_disk old document)) is)
+    failed fails said (each_ok (first (unreadable_disk old document)) (second (unreadable_disk old document)) r (leads (unreadable_disk old document)) is)
 
 -- what is said of a document that has no text, and of one that has
 fault_finishes : (answers : Disk → Reply → Type 0) (old new : FilesState) (document : Bytes) (reply : Reply)
     → FaultMet RefusesDocument old new document reply → (r : Result Message AllocError) → IfOk r (λ message. reply_of message ≡ reply)
     → ((disk : Disk) (reply : Reply) → FileRefusal RefusesDocument disk document reply → answers disk reply) → Finishes answers old new document r
-fault_finishes answers old new document _ (met.failed fails refusal) r said is =
-    failed fails said (replies r (cannot_read document) (answers (marked_disk old document)) said (is (marked_disk old document) (cannot_read document) refusal))
-fault_finishes answers old new document _ (met.granted same reply refusal) r said is =
-    granted same (replies r reply (answers (told_disk old)) said (is (told_disk old) reply refusal))
+fault_finishes answers old new document _ (encountered.failed fails refusal) r said is =
+    failed fails said (replies r (cannot_read document) (answers (unreadable_disk old document)) said (is (unreadable_disk old document) (cannot_read document) refusal))
+fault_finishes answers old new document _ (encountered.granted same reply refusal) r said is =
+    granted same (replies r reply (answers (known_disk old)) said (is (known_disk old) reply refusal))
 
 pub no_document : (answers : Disk → Reply → Type 0) (old new : FilesState) (document : Bytes) (fault : FileFault)
     → IsFileRead old new document (Ok (Err fault)) → (r : Result Message AllocError) → IfOk r (λ message. reply_of message ≡ said_of document fault)
     → ((disk : Disk) (reply : Reply) → FileRefusal RefusesDocument disk document reply → answers disk reply) → Finishes answers old new document r
 no_document answers old new document fault is r said leads =
-    fault_finishes answers old new document (said_of document fault) (fault_met RefusesDocument old new document fault is) r said leads
+    fault_finishes answers old new document (said_of document fault) (fault_encountered RefusesDocument old new document fault is) r said leads
 
 -- the whole command, by what was read of its file: what refuses the file is an answer
-module _ (refuses : Bytes → Against → Type 0) (answers : (file : Bytes) → Disk → Reply → Type 0)
+module _ (refuses : Bytes → TextFault → Type 0) (answers : (file : Bytes) → Disk → Reply → Type 0)
     (file_refused : (file : Bytes) (disk : Disk) (reply : Reply) → FileRefusal refuses disk file reply → answers file disk reply)
     (file document : Bytes) where
   abbrev Answers : Disk → Reply → Type 0
   Answers = answers file
 
-  file_met : (old new : FilesState) (reply : Reply) → FaultMet refuses old new file reply
+  file_encountered : (old new : FilesState) (reply : Reply) → FaultMet refuses old new file reply
       → (r : Result Message AllocError) → IfOk r (λ message. reply_of message ≡ reply) → IsAnswer Answers old new r
-  file_met old new _ (met.failed fails refusal) r said = (
-    marked_disk old file,
-    marked file fails.rose fails.last,
-    replies r (cannot_read file) (Answers (marked_disk old file)) said (file_refused file (marked_disk old file) (cannot_read file) refusal),
+  file_encountered old new _ (encountered.failed fails refusal) r said = (
+    unreadable_disk old file,
+    unreadable file fails.rose fails.last,
+    replies r (cannot_read file) (Answers (unreadable_disk old file)) said (file_refused file (unreadable_disk old file) (cannot_read file) refusal),
   )
-  file_met old new _ (met.granted same reply refusal) r said = (
-    told_disk old,
-    met_same old new same,
-    replies r reply (Answers (told_disk old)) said (file_refused file (told_disk old) reply refusal),
+  file_encountered old new _ (encountered.granted same reply refusal) r said = (
+    known_disk old,
+    encountered_same old new same,
+    replies r reply (Answers (known_disk old)) said (file_refused file (known_disk old) reply refusal),
   )
 
   pub nothing_said : (old new : FilesState) (error : AllocError) → new ≡ old → IsAnswer Answers old new (Err error)
-  nothing_said old new error same = (told_disk old, met_same old new same, tt)
+  nothing_said old new error same = (known_disk old, encountered_same old new same, tt)
 
   pub no_file : (old new : FilesState) (fault : FileFault) → IsFileRead old new file (Ok (Err fault))
       → (r : Result Message AllocError) → IfOk r (λ message. reply_of message ≡ said_of file fault) → IsAnswer Answers old new r
-  no_file old new fault is r said = file_met old new (said_of file fault) (fault_met refuses old new file fault is) r said
+  no_file old new fault is r said = file_encountered old new (said_of file fault) (fault_encountered refuses old new file fault is) r said
 
   -- a document that can't be read: where it is the file, so is the file
   document_unread : (old new : FilesState) (types : String Global) → IsFileRead old old file (Ok (Ok types)) → (same : Bool)
       → bytes_eq document file ≡ same → (r : Result Message AllocError) → IfOk r (λ message. reply_of message ≡ cannot_read document)
-      → IfOk r (λ message. HasText (marked_disk old document) file (string_bytes types) → Answers (marked_disk old document) (reply_of message))
-      → IfOk r (λ message. Answers (marked_disk old document) (reply_of message))
+      → IfOk r (λ message. HasText (unreadable_disk old document) file (string_bytes types) → Answers (unreadable_disk old document) (reply_of message))
+      → IfOk r (λ message. Answers (unreadable_disk old document) (reply_of message))
   document_unread old new types read true is r said on_text =
       let same = (bytes_eq-Decides document file).0 is in
-      replies r (cannot_read document) (Answers (marked_disk old document)) said
-      (subst (λ name. answers name (marked_disk old document) (cannot_read document)) same
-      (file_refused document (marked_disk old document) (cannot_read document) (unread refl)))
+      replies r (cannot_read document) (Answers (unreadable_disk old document)) said
+      (subst (λ name. answers name (unreadable_disk old document) (cannot_read document)) same
+      (file_refused document (unreadable_disk old document) (cannot_read document) (unread refl)))
   document_unread old new types read false is r said on_text =
       let other = λ (same : document ≡ file). true≢false (sym ((bytes_eq-Decides document file).1 same) ∙ is) in
-      each_ok (λ reply. HasText (marked_disk old document) file (string_bytes types) → Answers (marked_disk old document) reply)
-      (Answers (marked_disk old document)) r (λ reply on. on (has_text_beside old old file document types other read)) on_text
+      each_ok (λ reply. HasText (unreadable_disk old document) file (string_bytes types) → Answers (unreadable_disk old document) reply)
+      (Answers (unreadable_disk old document)) r (λ reply on. on (has_text_beside old old file document types other read)) on_text
 
   whole : (old new : FilesState) (types : String Global) → IsFileRead old old file (Ok (Ok types)) → (r : Result Message AllocError)
       → Finishes (λ disk reply. HasText disk file (string_bytes types) → Answers disk reply) old new document r → IsAnswer Answers old new r
   whole old new types read r (granted same is) = (
-    told_disk old,
-    met_same old new same,
-    each_ok (λ reply. HasText (told_disk old) file (string_bytes types) → Answers (told_disk old) reply) (Answers (told_disk old)) r
+    known_disk old,
+    encountered_same old new same,
+    each_ok (λ reply. HasText (known_disk old) file (string_bytes types) → Answers (known_disk old) reply) (Answers (known_disk old)) r
         (λ reply on. on (has_text old old file types read)) is,
   )
   whole old new types read r (failed fails said is) = (
-    marked_disk old document,
-    marked document fails.rose fails.last,
+    unreadable_disk old document,
+    unreadable document fails.rose fails.last,
     document_unread old new types read (bytes_eq document file) refl r said is,
   )
 
@@ -120,10 +120,10 @@ module _ (refuses : Bytes → Against → Type 0) (answers : (file : Bytes) → 
       (subst (λ files. Finishes (λ disk reply. HasText disk file (string_bytes types) → Answers disk reply) files new document r) read.0 finishes)
 
 -- what is told of files stays
-pub stays_told : (answers : Disk → Reply → Type 0) (old new : FilesState) (document : Bytes) (r : Result Message AllocError)
-    → Finishes answers old new document r → new.told ≡ old.told
-stays_told answers old new document r (granted same is) = ap (λ files. files.told) same
-stays_told answers old new document r (failed fails said is) = fails.told
+pub stays_known : (answers : Disk → Reply → Type 0) (old new : FilesState) (document : Bytes) (r : Result Message AllocError)
+    → Finishes answers old new document r → new.known ≡ old.known
+stays_known answers old new document r (granted same is) = ap (λ files. files.known) same
+stays_known answers old new document r (failed fails said is) = fails.known
 
 -- no read but that of the document failed
 pub reads_on : (answers : Disk → Reply → Type 0) (old new : FilesState) (file document : Bytes) (r : Result Message AllocError)

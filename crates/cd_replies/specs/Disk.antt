@@ -6,25 +6,25 @@ use Rattle.cd_base.specs.Faults.{Rose}
 use Rattle.cd_base.specs.FilesState.{FilesState}
 use Rattle.cd_replies.specs.Bytes.{Bytes}
 use Rattle.cd_replies.specs.Reply.{Reply, cannot_read, too_large, not_utf8, refusal}
-use Rattle.cd_replies.specs.Texts.{Against}
+use Rattle.cd_replies.specs.Texts.{TextFault}
 
 -- the files that a call meets: the bytes of each name that are told, and the one name, if there is
 -- one, that can't be read
 pub record Disk : Type 0 where
-  pub told : Bytes → Option Bytes
-  pub marked : Option Bytes
+  pub known : Bytes → Option Bytes
+  pub unreadable : Option Bytes
 
 -- the files as they are told, without a marked name and with this one
-abbrev pub told_disk : FilesState → Disk
-told_disk files = record { told = files.told; marked = None }
+abbrev pub known_disk : FilesState → Disk
+known_disk files = record { known = files.known; unreadable = None }
 
-abbrev pub marked_disk : FilesState → Bytes → Disk
-marked_disk files name = record { told = files.told; marked = Some name }
+abbrev pub unreadable_disk : FilesState → Bytes → Disk
+unreadable_disk files name = record { known = files.known; unreadable = Some name }
 
 -- the file can be read and has these bytes, as far as it is told
 pub record Has (disk : Disk) (name bytes : Bytes) : Type 0 where
-  pub read : disk.marked ≡ Some name → ⊥
-  pub told : IfSome (disk.told name) (λ all. all ≡ bytes)
+  pub read : disk.unreadable ≡ Some name → ⊥
+  pub known : IfSome (disk.known name) (λ all. all ≡ bytes)
 
 -- how many bytes a file may have
 abbrev pub LARGEST : ℕ
@@ -37,22 +37,23 @@ pub record HasText (disk : Disk) (name text : Bytes) : Type 0 where
   pub encoded : IsUtf8 text
 
 -- the files that a call met, by what is known of them before and after it
-pub data Met (before after : FilesState) : Disk → Type 0 where
+pub data Encountered (before after : FilesState) : Disk → Type 0 where
   -- where the count of faults is as it was, no name is marked
-  unmarked : after.faults ≡ before.faults
-      → Met before after (told_disk before)
+  all_read : after.faults ≡ before.faults
+      → Encountered before after (known_disk before)
   -- where it rose, the name of the latest read that failed is marked
-  marked : (name : Bytes) → Rose before.faults after.faults → after.last ≡ Some name
-      → Met before after (marked_disk before name)
+  unreadable : (name : Bytes) → Rose before.faults after.faults → after.last ≡ Some name
+      → Encountered before after (unreadable_disk before name)
 
 -- the replies that refuse a file, by what stands against its text
-pub data FileRefusal (refuses : Bytes → Against → Type 0) (disk : Disk) (name : Bytes) : Reply
+pub data FileRefusal (refuses : Bytes → TextFault → Type 0) (disk : Disk) (name : Bytes) : Reply
     → Type 0 where
-  unread : disk.marked ≡ Some name → FileRefusal refuses disk name (cannot_read name)
+  unread : disk.unreadable ≡ Some name → FileRefusal refuses disk name (cannot_read name)
   large : (bytes : Bytes) → Has disk name bytes → LARGEST < length bytes
       → FileRefusal refuses disk name (too_large name)
   -- the byte that is told is the length of the longest front that is UTF-8
   encoding : (bytes : Bytes) → Has disk name bytes → length bytes ≤ LARGEST → (IsUtf8 bytes → ⊥)
       → FileRefusal refuses disk name (not_utf8 name (utf8_valid_len bytes))
-  refused : (text : Bytes) → HasText disk name text → (against : Against) → refuses text against
-      → FileRefusal refuses disk name (refusal name text against)
+  refused : (text : Bytes) → HasText disk name text → (text_fault : TextFault)
+      → refuses text text_fault
+      → FileRefusal refuses disk name (refusal name text text_fault)

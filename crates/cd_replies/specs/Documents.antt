@@ -2,19 +2,19 @@
 use Rattle.std.specs.Prelude.{ℕ, true, false}
 use Rattle.std.specs.Str.{chars}
 use Rattle.cd_syntax.specs.declared.tokens.LexError.{LexError}
-use Rattle.cd_syntax.specs.Faults.{Fails}
+use Rattle.cd_syntax.specs.Faults.{HasFirstFault}
 use Rattle.cd_model.specs.Interfaces.{Interfaces, value_in_written}
 use Rattle.cd_model.specs.Thing.{Thing}
 use Rattle.cd_model.specs.Written.{Written}
 use Rattle.cd_documents.specs.Reading.{WritesValue, IsWrongText, IsTooDeepText}
 use Rattle.cd_replies.specs.Bytes.{Bytes}
 use Rattle.cd_replies.specs.Disk.{Disk, HasText}
-use Rattle.cd_replies.specs.Texts.{Against, Lexical, Syntax, TooDeep}
+use Rattle.cd_replies.specs.Texts.{TextFault, Lexical, Syntax, TooDeep}
 
 -- what stands against the text of a document: its first lexical fault, the place of its fault of
 -- syntax, or that of a bracket that is one too many
-pub data RefusesDocument (text : Bytes) : Against → Type 0 where
-  lexical : (fault : LexError) → Fails false 0 (chars text) fault
+pub data RefusesDocument (text : Bytes) : TextFault → Type 0 where
+  lexical : (fault : LexError) → HasFirstFault false 0 (chars text) fault
       → RefusesDocument text (Lexical fault)
   syntax : (place : ℕ) → IsWrongText (chars text) place → RefusesDocument text (Syntax place)
   too_deep : (place : ℕ) → IsTooDeepText (chars text) place → RefusesDocument text (TooDeep place)

@@ -14,29 +14,30 @@ use Rattle.cd_replies.specs.declared.file.FileFault.{FileFault}
 use Rattle.cd_replies.specs.declared.file.FileFault.TheVariants.{Unread, TooLarge, NotUtf8}
 
 -- the file has these bytes, as far as it is told
-abbrev pub Tells : FilesState → (name bytes : Bytes) → Type 0
-Tells files name bytes = IfSome (files.told name) (λ all. all ≡ bytes)
+abbrev pub HasBytes : FilesState → (name bytes : Bytes) → Type 0
+HasBytes files name bytes = IfSome (files.known name) (λ all. all ≡ bytes)
 
 abbrev pub IsFileRead : (old new : FilesState) → (name : Bytes)
     → Result (Result (String Global) FileFault) AllocError → Type 0
-IsFileRead old new name (Ok (Ok text)) = (new ≡ old) × Tells old name (string_bytes text)
+IsFileRead old new name (Ok (Ok text)) = (new ≡ old) × HasBytes old name (string_bytes text)
     × (length (string_bytes text) ≤ LARGEST) × IsUtf8 (string_bytes text)
 IsFileRead old new name (Ok (Err Unread)) = FailsToRead old new name
-IsFileRead old new name (Ok (Err TooLarge)) = (new ≡ old) × (bytes : Bytes) × Tells old name bytes
+IsFileRead old new name (Ok (Err TooLarge)) = (new ≡ old) × (bytes : Bytes)
+    × HasBytes old name bytes
     × (LARGEST < length bytes)
 IsFileRead old new name (Ok (Err (NotUtf8 valid))) =
-    (new ≡ old) × (bytes : Bytes) × Tells old name bytes × (length bytes ≤ LARGEST)
+    (new ≡ old) × (bytes : Bytes) × HasBytes old name bytes × (length bytes ≤ LARGEST)
     × (IsUtf8 bytes → ⊥) × (valid ≡ utf8_valid_len bytes)
 IsFileRead old new name (Err error) = new ≡ old
 
 -- what reading the bytes of a file gives, and what it leaves, where a file may have so many
 abbrev pub AreBytesRead : (most : ℕ) → (old new : FilesState) → (name : Bytes)
     → Result (Result (Vec ℕ Global) FileFault) AllocError → Type 0
-AreBytesRead most old new name (Ok (Ok bytes)) = (new ≡ old) × Tells old name bytes.items
+AreBytesRead most old new name (Ok (Ok bytes)) = (new ≡ old) × HasBytes old name bytes.items
     × (length bytes.items ≤ most)
 AreBytesRead most old new name (Ok (Err Unread)) = FailsToRead old new name
 AreBytesRead most old new name (Ok (Err TooLarge)) = (new ≡ old) × (bytes : Bytes)
-    × Tells old name bytes × (most < length bytes)
+    × HasBytes old name bytes × (most < length bytes)
 AreBytesRead most old new name (Ok (Err (NotUtf8 valid))) = ⊥
 AreBytesRead most old new name (Err error) = new ≡ old
 

@@ -8,9 +8,9 @@ use Rattle.cd_grammar.specs.Language.{AreDeclared}
 use Rattle.cd_model.specs.Formula.{Graph}
 use Rattle.cd_model.specs.StandsFor.{StandsFor}
 use Rattle.cd_model.specs.Written.{Written}
-use Rattle.cd_resolve.specs.Faults.{Fault, IsFaultOfDeclarations, IsTold}
+use Rattle.cd_resolve.specs.Faults.{Fault, IsFaultOfDeclarations, IsReported}
 use Rattle.cd_replies.specs.Bytes.{Bytes}
-use Rattle.cd_replies.specs.Texts.{Against, Naming, HasTokens, ReadsAs}
+use Rattle.cd_replies.specs.Texts.{TextFault, Naming, HasTokens, ReadsAs}
 
 -- the text is written as these type declarations, with whatever names
 pub record Writes (text : Bytes) (declared : Declarations) : Type 0 where
@@ -23,8 +23,8 @@ abbrev pub AreNamedWell : Declarations → Type 0
 AreNamedWell declared = (fault : Fault) → IsFaultOfDeclarations declared fault → ⊥
 
 -- the naming fault that is told of the declarations stands against them
-pub data RefusesNames (declared : Declarations) : Against → Type 0 where
-  naming : (fault : Fault) → IsTold (IsFaultOfDeclarations declared) fault
+pub data RefusesNames (declared : Declarations) : TextFault → Type 0 where
+  naming : (fault : Fault) → IsReported (IsFaultOfDeclarations declared) fault
       → RefusesNames declared (Naming fault)
 
 -- the node stands for the type that the text reads as, which sees these declarations

@@ -22,7 +22,7 @@ use Rattle.cd_resolve.specs.declared.fault.NameFault.TheVariants.{Unknown, Twice
 use Rattle.cd_resolve.specs.declared.fault.NameFault.TheVariants.{VariablesDiffer, VariableTwice}
 use Rattle.cd_resolve.specs.declared.fault.NameFault.TheVariants.{VariableRepeats}
 use Rattle.cd_resolve.specs.declared.fault.NameFault.TheVariants.{VariableMisplaced, NoMain}
-use Rattle.cd_replies.specs.Texts.{Against, Lexical, Syntax, TooDeep, Naming}
+use Rattle.cd_replies.specs.Texts.{TextFault, Lexical, Syntax, TooDeep, Naming}
 
 pub record Reply : Type 0 where
   pub status : Status
@@ -88,7 +88,7 @@ naming origin text fault =
 
 -- what is said of a text where this stands against it; its origin is the name of its file, or `T1`
 -- or `T2`
-abbrev pub refusal : (origin text : Bytes) → Against → Reply
+abbrev pub refusal : (origin text : Bytes) → TextFault → Reply
 refusal origin text (Lexical fault) = lexical origin text fault
 refusal origin text (Syntax place) = at_place IsSyntax origin text place (codes "syntax")
 refusal origin text (TooDeep place) = at_place IsTooDeep origin text place (codes "too deep")

@@ -4,21 +4,21 @@ use Rattle.std.specs.Prelude.{◌≡◌, ℕ, false, List, [], ◌∷◌, length
 use Rattle.std.specs.Str.{chars}
 use Rattle.cd_syntax.specs.declared.tokens.Token.{Token}
 use Rattle.cd_syntax.specs.declared.tokens.LexError.{LexError}
-use Rattle.cd_syntax.specs.Tokens.{Spells}
-use Rattle.cd_syntax.specs.Faults.{Fails}
+use Rattle.cd_syntax.specs.Tokens.{Lexes}
+use Rattle.cd_syntax.specs.Faults.{HasFirstFault}
 use Rattle.cd_syntax.specs.TypeTree.{Tree, Declarations}
 use Rattle.cd_syntax.specs.SyntaxFaults.{Form, IsSyntaxFault, IsDepthFault}
 use Rattle.cd_program.specs.Expr.{Program}
 use Rattle.cd_grammar.specs.Language.{IsTree, AreDeclared, IsProgram}
 use Rattle.cd_grammar.specs.Forms.{AType, SomeDeclarations, AProgram}
 use Rattle.cd_model.specs.Written.{Written}
-use Rattle.cd_resolve.specs.Faults.{Fault, IsFaultOfType, IsFaultOfDeclarations, IsTold}
+use Rattle.cd_resolve.specs.Faults.{Fault, IsFaultOfType, IsFaultOfDeclarations, IsReported}
 use Rattle.cd_names.specs.ProgramFaults.{IsFaultOfProgram}
 use Rattle.cd_replies.specs.Bytes.{Bytes}
 
 -- the text is spelled by these tokens
 abbrev pub HasTokens : Bytes → List Token → Type 0
-HasTokens text tokens = Spells false 0 (chars text) tokens
+HasTokens text tokens = Lexes false 0 (chars text) tokens
 
 -- the type that a tree is, which sees these declarations
 abbrev pub type_of : Declarations → Tree → Written
@@ -50,50 +50,53 @@ pub record ReadsAsProgram (text : Bytes) (program : Program) : Type 0 where
 
 -- what stands against a text, whose tokens are to be of a form: its first lexical fault, the place
 -- of its fault of syntax, or that of a form too deep, or the naming fault that is told of it
-pub data Against : Type 0 where
-  Lexical : LexError → Against
-  Syntax : (place : ℕ) → Against
-  TooDeep : (place : ℕ) → Against
-  Naming : Fault → Against
+pub data TextFault : Type 0 where
+  Lexical : LexError → TextFault
+  Syntax : (place : ℕ) → TextFault
+  TooDeep : (place : ℕ) → TextFault
+  Naming : Fault → TextFault
 
--- it stands against the text; `told` says of tokens that are of the form which naming fault is told
+-- it stands against the text; `reported` says of tokens that are of the form which naming fault is
+-- told
 -- of what they write
-pub data Refuses (form : Form) (told : List Token → Fault → Type 0) (text : Bytes) : Against
+pub data Refuses (form : Form) (reported : List Token → Fault → Type 0) (text : Bytes) : TextFault
     → Type 0 where
-  lexical : (fault : LexError) → Fails false 0 (chars text) fault
-      → Refuses form told text (Lexical fault)
+  lexical : (fault : LexError) → HasFirstFault false 0 (chars text) fault
+      → Refuses form reported text (Lexical fault)
   syntax : (tokens : List Token) → HasTokens text tokens → (place : ℕ)
       → IsSyntaxFault form 1000 tokens (length text) place
-      → Refuses form told text (Syntax place)
+      → Refuses form reported text (Syntax place)
   too_deep : (tokens : List Token) → HasTokens text tokens → (place : ℕ)
       → IsDepthFault form 1000 tokens (length text) place
-      → Refuses form told text (TooDeep place)
-  naming : (tokens : List Token) → HasTokens text tokens → (fault : Fault) → told tokens fault
-      → Refuses form told text (Naming fault)
+      → Refuses form reported text (TooDeep place)
+  naming : (tokens : List Token) → HasTokens text tokens → (fault : Fault) → reported tokens fault
+      → Refuses form reported text (Naming fault)
 
 -- the fault is told of the type that the tokens write, of the declarations, and of the program,
 -- whose text ends there
-abbrev pub IsToldOfType : Declarations → List Token → Fault → Type 0
-IsToldOfType declared tokens fault = (is : Tree) × IsTree 1000 tokens is
-    × IsTold (IsFaultOfType declared is) fault
+abbrev pub IsReportedOfType : Declarations → List Token → Fault → Type 0
+IsReportedOfType declared tokens fault = (is : Tree) × IsTree 1000 tokens is
+    × IsReported (IsFaultOfType declared is) fault
 
-abbrev pub IsToldOfDeclarations : List Token → Fault → Type 0
-IsToldOfDeclarations tokens fault =
+abbrev pub IsReportedOfDeclarations : List Token → Fault → Type 0
+IsReportedOfDeclarations tokens fault =
     (declared : Declarations) × AreDeclared 1000 tokens declared
-    × IsTold (IsFaultOfDeclarations declared) fault
+    × IsReported (IsFaultOfDeclarations declared) fault
 
-abbrev pub IsToldOfProgram : (end : ℕ) → List Token → Fault → Type 0
-IsToldOfProgram end tokens fault =
+abbrev pub IsReportedOfProgram : (end : ℕ) → List Token → Fault → Type 0
+IsReportedOfProgram end tokens fault =
     (program : Program) × IsProgram 1000 tokens program × (program.end ≡ end)
-    × IsTold (IsFaultOfProgram program) fault
+    × IsReported (IsFaultOfProgram program) fault
 
 -- what stands against a type text that sees these declarations, against a file of declarations, and
 -- against a program, its types aside
-abbrev pub RefusesType : Declarations → Bytes → Against → Type 0
-RefusesType declared text against = Refuses AType (IsToldOfType declared) text against
+abbrev pub RefusesType : Declarations → Bytes → TextFault → Type 0
+RefusesType declared text text_fault = Refuses AType (IsReportedOfType declared) text text_fault
 
-abbrev pub RefusesDeclarations : Bytes → Against → Type 0
-RefusesDeclarations text against = Refuses SomeDeclarations IsToldOfDeclarations text against
+abbrev pub RefusesDeclarations : Bytes → TextFault → Type 0
+RefusesDeclarations text text_fault =
+    Refuses SomeDeclarations IsReportedOfDeclarations text text_fault
 
-abbrev pub RefusesProgram : Bytes → Against → Type 0
-RefusesProgram text against = Refuses AProgram (IsToldOfProgram (length text)) text against
+abbrev pub RefusesProgram : Bytes → TextFault → Type 0
+RefusesProgram text text_fault =
+    Refuses AProgram (IsReportedOfProgram (length text)) text text_fault

@@ -5,7 +5,7 @@ ghost use Rattle.cd_documents.specs.Reading.{WritesValue};
 ghost use Rattle.cd_cells.specs.Cells.{thing_at};
 ghost use Rattle.cd_cells.specs.Table.{table, Grows};
 ghost use Rattle.cd_replies.specs.Documents.{RefusesDocument};
-ghost use Rattle.cd_replies.specs.Message.{against};
+ghost use Rattle.cd_replies.specs.Message.{text_fault};
 ghost use Rattle.cd_replies.specs.Inner.DocumentErrors.{IsOfDocument};
 
 use crate::refusal::Refusal;
@@ -27,7 +27,7 @@ pub fn read_document(
     ensures within { IfOk result (λ read. IfOk read (λ id. id.0 < length (table values.new))) }
     ensures read { IfOk result (λ read. MatchResult read
         (λ id. WritesValue (chars text.now) (thing_at (table values.new) id.0))
-        (λ refusal. RefusesDocument text.now (against refusal))) }
+        (λ refusal. RefusesDocument text.now (text_fault refusal))) }
     ensures grows { Grows values.old values.new }
 {
     match read_value(alloc, values, text) {

@@ -3,7 +3,7 @@ ghost use Rattle.std.specs.Prelude.{◌≡◌, [], ◌++◌, IfOk, codes, string
 ghost use Rattle.cd_base.specs.declared.status.Status.TheVariants.{Done as IsDone, No as IsNo};
 ghost use Rattle.cd_replies.specs.Reply as reply;
 ghost use Rattle.cd_replies.specs.Reply.{says};
-ghost use Rattle.cd_replies.specs.Message.{reply_of, against};
+ghost use Rattle.cd_replies.specs.Message.{reply_of, text_fault};
 ghost use Rattle.cd_replies.specs.File.{said_of};
 
 use crate::file::FileFault;
@@ -100,7 +100,7 @@ pub fn refused(
     refusal: Refusal,
 ) -> Result<Message, AllocError>
     ensures { IfOk result (λ message.
-        reply_of message ≡ reply.refusal origin.now text.now (against refusal)) }
+        reply_of message ≡ reply.refusal origin.now text.now (text_fault refusal)) }
 {
     match refusal {
         Refusal::Lexical(fault) => lexical(alloc, origin, text, fault),
@@ -166,12 +166,12 @@ fn at_place(
     at: usize,
     message: &str,
 ) -> Result<Message, AllocError>
-    ensures { IfOk result (λ told.
-        reply_of told ≡ reply.at_place status origin.now text.now at message.now) }
+    ensures { IfOk result (λ reported.
+        reply_of reported ≡ reply.at_place status origin.now text.now at message.now) }
 {
     let (line, column) = place(text, at);
-    let told = format!(in alloc; "{origin}:{line}:{column}: {message}\n")?;
-    Ok(complaint(status, told))
+    let reported = format!(in alloc; "{origin}:{line}:{column}: {message}\n")?;
+    Ok(complaint(status, reported))
 }
 
 /// What is said of a program that has no types: the place of what does not meet a rule, the rule, and

@@ -5,7 +5,7 @@ ghost use Rattle.cd_syntax.specs.WellMade.{AreWellMadeDeclarations};
 ghost use Rattle.cd_model.specs.Formula.{IsGraph};
 ghost use Rattle.cd_resolve.specs.Named.{AreNamed, plain_names, declared_by};
 ghost use Rattle.cd_empty.specs.Seen.{graph_of};
-ghost use Rattle.cd_replies.specs.Message.{against};
+ghost use Rattle.cd_replies.specs.Message.{text_fault};
 ghost use Rattle.cd_replies.specs.Naming.{AreNamedWell, RefusesNames};
 
 use crate::reader::name_declarations;
@@ -30,7 +30,7 @@ pub fn declare<'t>(
     ensures graph { IfOk result (λ _. IsGraph (graph_of world.new)) }
     ensures named { IfOk result (λ named. MatchResult named
         (λ names. AreNamedWell (plain_declarations declared.now))
-        (λ refusal. RefusesNames (plain_declarations declared.now) (against refusal))) }
+        (λ refusal. RefusesNames (plain_declarations declared.now) (text_fault refusal))) }
     ensures list { IfOk result
         (λ named. IfOk named (λ names. declared_by names ≡ plain_declarations declared.now)) }
     ensures stand { IfOk result

@@ -1,7 +1,7 @@
 //! What texts read as, and nodes for it.
 ghost use Rattle.std.specs.Prelude.{◌≡◌, ◌+◌, ◌≤◌, ◌++◌, false, length, IfOk, IfErr, MatchResult};
 ghost use Rattle.std.specs.Str.{chars};
-ghost use Rattle.cd_syntax.specs.Faults.{Fails};
+ghost use Rattle.cd_syntax.specs.Faults.{HasFirstFault};
 ghost use Rattle.cd_syntax.specs.PlainTree.{plain_declarations};
 ghost use Rattle.cd_syntax.specs.WellMade.{AreWellMadeDeclarations};
 ghost use Rattle.cd_program.specs.PlainProgram.{plain_program};
@@ -12,7 +12,7 @@ ghost use Rattle.cd_model.specs.Formula.{Graph as PlainGraph, IsFormula};
 ghost use Rattle.cd_graph.specs.Nodes.{nodes};
 ghost use Rattle.cd_graph.specs.PlainFormula.{plain_list};
 ghost use Rattle.cd_resolve.specs.Named.{AreNamed, plain_names, declared_by};
-ghost use Rattle.cd_replies.specs.Message.{against};
+ghost use Rattle.cd_replies.specs.Message.{text_fault};
 ghost use Rattle.cd_replies.specs.Naming.{Writes, AreNamedWell, RefusesNames, StandsForText};
 ghost use Rattle.cd_replies.specs.Inner.Refusal.{IsOfFault, IsOfNames};
 ghost use Rattle.cd_replies.specs.Texts.{HasTokens, RefusesType, RefusesDeclarations};
@@ -41,7 +41,7 @@ pub fn read_declarations(
 ) -> Result<Result<Declarations, Refusal>, AllocError>
     ensures read { IfOk result (λ read. MatchResult read
         (λ declared. Writes text.now (plain_declarations declared))
-        (λ refusal. RefusesDeclarations text.now (against refusal))) }
+        (λ refusal. RefusesDeclarations text.now (text_fault refusal))) }
     ensures well_made { IfOk result (λ read. IfOk read
         (λ declared. AreWellMadeDeclarations (plain_declarations declared))) }
 {
@@ -63,7 +63,7 @@ pub fn read_declarations(
 pub fn read_program(alloc: Global, text: &str) -> Result<Result<Program, Refusal>, AllocError>
     ensures read { IfOk result (λ read. MatchResult read
         (λ program. ReadsAsProgram text.now (plain_program program))
-        (λ refusal. RefusesProgram text.now (against refusal))) }
+        (λ refusal. RefusesProgram text.now (text_fault refusal))) }
     ensures well_made { IfOk result (λ read. IfOk read
         (λ program. IsWellMadeProgram (plain_program program))) }
 {
@@ -97,7 +97,7 @@ pub fn name_declarations<'t>(
     requires built_ins { 14 ≤ first }
     ensures named { IfOk result (λ named. MatchResult named
         (λ batch. AreNamedWell (plain_declarations declared.now))
-        (λ refusal. RefusesNames (plain_declarations declared.now) (against refusal))) }
+        (λ refusal. RefusesNames (plain_declarations declared.now) (text_fault refusal))) }
     ensures formulas { IfOk result (λ named. IfOk named
         (λ batch. AllOf (IsFormula (first + length (plain_list batch.formulas)))
         (plain_list batch.formulas))) }
@@ -132,7 +132,7 @@ pub fn read_type(
     ensures read { IfOk result (λ read. MatchResult read
         (λ batch. StandsForText (nodes graph.now ++ plain_list batch.formulas) batch.root
         (declared_by names.now) text.now)
-        (λ refusal. RefusesType (declared_by names.now) text.now (against refusal))) }
+        (λ refusal. RefusesType (declared_by names.now) text.now (text_fault refusal))) }
     ensures formulas { IfOk result (λ read. IfOk read (λ batch.
         AllOf (IsFormula (length (nodes graph.now) + length (plain_list batch.formulas)))
         (plain_list batch.formulas))) }
@@ -176,7 +176,7 @@ fn refusal_of_names(error: NameError) -> Result<Refusal, AllocError>
 fn tokens(alloc: Global, text: &str) -> Result<Result<Vec<Token>, LexError>, AllocError>
     ensures { IfOk result (λ read.
         MatchResult read (λ tokens. HasTokens text.now tokens.items)
-        (λ fault. Fails false 0 (chars text.now) fault)) }
+        (λ fault. HasFirstFault false 0 (chars text.now) fault)) }
 {
     match lex(alloc, text) {
         Ok(tokens) => Ok(Ok(tokens)),

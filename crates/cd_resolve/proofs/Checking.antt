@@ -5,7 +5,7 @@ use Rattle.std.specs.List.{slice_get as nth}
 use Rattle.std.proofs.lemmas.Option.{same_Some}
 use Rattle.cd_syntax.specs.TypeTree.{Tree, Declarations}
 use Rattle.cd_resolve.specs.Faults.{Fault, IsFault, IsFaultOfList}
-use Rattle.cd_resolve.specs.Errors.{IsToldError}
+use Rattle.cd_resolve.specs.Errors.{IsReportedError}
 use Rattle.cd_resolve.specs.Inner.Finding.{Frames, State, entered, found_in}
 use Rattle.cd_resolve.specs.Least.{least_from}
 use Rattle.cd_resolve.specs.Inner.Check.{found_in_type, found_in_declarations, all_faults}
@@ -20,7 +20,7 @@ use Rattle.cd_resolve.proofs.Complete.{complete, complete_list}
 use Rattle.cd_resolve.proofs.Paths.{New, new_then, new_entered, new_walked, new_declared}
 use Rattle.cd_resolve.proofs.FoundAreFaults.{IsSound, sound_entered, sound_walked, sound_declared, all_declared}
 use Rattle.cd_resolve.proofs.Exact.{IsWalk, all_sound, all_complete}
-use Rattle.cd_resolve.proofs.LeastFault.{nothing_told, least_told}
+use Rattle.cd_resolve.proofs.LeastFault.{nothing_reported, least_reported}
 
 -- what a type sees, and the walk over it
 abbrev seen : Declarations → Frames
@@ -152,32 +152,32 @@ declared_faults declared = ap all_faults (lean_list [] declared nothing)
 
 pub type_sound : (declared : Declarations) (is : Tree) → least_from None (all_faults (found_in_type declared is)) ≡ None
     → (one : Fault) → IsFault (declared ∷ []) (declared ∷ []) is one → ⊥
-type_sound declared is none = nothing_told (all_faults (lean (over_type declared is))) (IsOfType declared is)
+type_sound declared is none = nothing_reported (all_faults (lean (over_type declared is))) (IsOfType declared is)
     (all_complete (declared ∷ []) (suc zero) (IsOfType declared is) (over_type declared is) (type_walk declared is))
     (rw (type_faults declared is) at none)
 
 pub declared_sound : (declared : Declarations) → least_from None (all_faults (found_in_declarations declared)) ≡ None
     → (one : Fault) → IsFaultOfList [] (declared ∷ []) declared one → ⊥
-declared_sound declared none = nothing_told (all_faults (lean (over_declared declared))) (IsOfDeclared declared)
+declared_sound declared none = nothing_reported (all_faults (lean (over_declared declared))) (IsOfDeclared declared)
     (all_complete [] zero (IsOfDeclared declared) (over_declared declared) (declared_walk declared))
     (rw (declared_faults declared) at none)
 
-pub type_told : (declared : Declarations) (is : Tree) (e : NameError)
+pub type_reported : (declared : Declarations) (is : Tree) (e : NameError)
     → IsLeast (least_from None (all_faults (found_in_type declared is))) e
-    → IsToldError (IsFault (declared ∷ []) (declared ∷ []) is) e
-type_told declared is (error.Fault fault name at) least = least_told (all_faults (lean (over_type declared is)))
+    → IsReportedError (IsFault (declared ∷ []) (declared ∷ []) is) e
+type_reported declared is (error.Fault fault name at) least = least_reported (all_faults (lean (over_type declared is)))
     (IsOfType declared is)
     (all_sound (declared ∷ []) (suc zero) (IsOfType declared is) (over_type declared is) (type_walk declared is))
     (all_complete (declared ∷ []) (suc zero) (IsOfType declared is) (over_type declared is) (type_walk declared is))
     (record { fault = fault; name = name; at = at }) (rw (type_faults declared is) at least)
-type_told declared is error.Memory least = tt
+type_reported declared is error.Memory least = tt
 
-pub declared_told : (declared : Declarations) (e : NameError)
+pub declared_reported : (declared : Declarations) (e : NameError)
     → IsLeast (least_from None (all_faults (found_in_declarations declared))) e
-    → IsToldError (IsFaultOfList [] (declared ∷ []) declared) e
-declared_told declared (error.Fault fault name at) least = least_told (all_faults (lean (over_declared declared)))
+    → IsReportedError (IsFaultOfList [] (declared ∷ []) declared) e
+declared_reported declared (error.Fault fault name at) least = least_reported (all_faults (lean (over_declared declared)))
     (IsOfDeclared declared)
     (all_sound [] zero (IsOfDeclared declared) (over_declared declared) (declared_walk declared))
     (all_complete [] zero (IsOfDeclared declared) (over_declared declared) (declared_walk declared))
     (record { fault = fault; name = name; at = at }) (rw (declared_faults declared) at least)
-declared_told declared error.Memory least = tt
+declared_reported declared error.Memory least = tt

@@ -18,7 +18,7 @@ use Rattle.cd_resolve.specs.Faults.{IsFaultOfList}
 use Rattle.cd_resolve.specs.Faults as fault
 use Rattle.cd_tables.specs.Rows.{row_of}
 use Rattle.cd_resolve.specs.Inner.BuiltinNames.{is_among, is_builtin}
-use Rattle.cd_resolve.specs.Inner.Finding.{Frames, innermost, Id, Place, State, told_if, entered, met, place_of}
+use Rattle.cd_resolve.specs.Inner.Finding.{Frames, innermost, Id, Place, State, reported_if, entered, met, place_of}
 use Rattle.cd_resolve.specs.Inner.Finding.{labelled, start_of, found_in, found_in_declared}
 use Rattle.cd_resolve.proofs.InLists.{IsIn, in_front, in_last, in_more}
 use Rattle.cd_resolve.proofs.Rich.{whole}
@@ -81,30 +81,30 @@ builtin_is _ _ grammar.data_type = refl
 abbrev pub twice : Name → ℕ → Fault
 twice name at = record { fault = Twice; name = name; at = at }
 
-told_once : (b : Bool) (name : Name) (at : ℕ) (s : State Frames) → b ≡ true
-    → IsIn (twice name at) (told_if b name at s).faults
-told_once true name at s is = in_last (twice name at) s.faults
-told_once false name at s is = absurd cc
+reported_once : (b : Bool) (name : Name) (at : ℕ) (s : State Frames) → b ≡ true
+    → IsIn (twice name at) (reported_if b name at s).faults
+reported_once true name at s is = in_last (twice name at) s.faults
+reported_once false name at s is = absurd cc
 
 -- a label that is among those before is told
-label_told : (label : Name) (at : ℕ) (is : Tree) (fields : Fields) (seen : List Name) (s : State Frames)
+label_reported : (label : Name) (at : ℕ) (is : Tree) (fields : Fields) (seen : List Name) (s : State Frames)
     → IsField label at is fields → IsIn label seen
     → IsIn (twice label at) (labelled seen fields s).faults
-label_told label at is _ seen s (fault.IsField.first _ _ optional _ rest) before =
-    (labelled_grows (seen ++ label ∷ []) rest (told_if (is_among seen label) label at s)).faults (twice label at)
-    (told_once (is_among seen label) label at s (in_among seen label before))
-label_told label at is _ seen s (fault.IsField.later _ other _ there optional _ another rest on) before =
-    label_told label at is rest (seen ++ other ∷ []) (told_if (is_among seen other) other there s) on
+label_reported label at is _ seen s (fault.IsField.first _ _ optional _ rest) before =
+    (labelled_grows (seen ++ label ∷ []) rest (reported_if (is_among seen label) label at s)).faults (twice label at)
+    (reported_once (is_among seen label) label at s (in_among seen label before))
+label_reported label at is _ seen s (fault.IsField.later _ other _ there optional _ another rest on) before =
+    label_reported label at is rest (seen ++ other ∷ []) (reported_if (is_among seen other) other there s) on
     (in_front label seen (other ∷ []) before)
 
-pub again_told : (label : Name) (at : ℕ) (fields : Fields) (seen : List Name) (s : State Frames)
+pub again_reported : (label : Name) (at : ℕ) (fields : Fields) (seen : List Name) (s : State Frames)
     → LabelAgain label at fields
     → IsIn (twice label at) (labelled seen fields s).faults
-again_told label at _ seen s (fault.LabelAgain.here _ _ there optional is other rest on) =
-    label_told label at is rest (seen ++ label ∷ []) (told_if (is_among seen label) label there s) on
+again_reported label at _ seen s (fault.LabelAgain.here _ _ there optional is other rest on) =
+    label_reported label at is rest (seen ++ label ∷ []) (reported_if (is_among seen label) label there s) on
     (in_last label seen)
-again_told label at _ seen s (fault.LabelAgain.later _ other _ there optional is rest on) =
-    again_told label at rest (seen ++ other ∷ []) (told_if (is_among seen other) other there s) on
+again_reported label at _ seen s (fault.LabelAgain.later _ other _ there optional is rest on) =
+    again_reported label at rest (seen ++ other ∷ []) (reported_if (is_among seen other) other there s) on
 
 -- a name that is declared again, or is built in, is told
 abbrev IsTaken : List Name → Name → Type 0
@@ -118,25 +118,25 @@ taken_on : (seen : List Name) (name other : Name) → IsTaken seen name → IsTa
 taken_on seen name other (inl before) = inl (in_front name seen (other ∷ []) before)
 taken_on seen name other (inr builtin) = inr builtin
 
-pub taken_told : (frames : Frames) (list : ℕ) (name : Name) (at : ℕ) (is : Tree) (declarations : Declarations)
+pub taken_reported : (frames : Frames) (list : ℕ) (name : Name) (at : ℕ) (is : Tree) (declarations : Declarations)
     (seen : List Name) (s : State Frames) → IsDeclared name at is declarations
     → IsTaken seen name → IsIn (twice name at) (found_in_declared whole frames list seen declarations s).faults
-taken_told frames list name at is _ seen s (fault.IsDeclared.first _ _ _ rest) taken =
-    let one = told_if (is_among seen name || is_builtin name) name at s in
+taken_reported frames list name at is _ seen s (fault.IsDeclared.first _ _ _ rest) taken =
+    let one = reported_if (is_among seen name || is_builtin name) name at s in
     let two = found_in whole frames (start_of (is_among seen name) list name) is one in
     (then one two _ (walked_grows frames (start_of (is_among seen name) list name) is one)
     (declared_grows frames list (seen ++ name ∷ []) rest two)).faults
-    (twice name at) (told_once (is_among seen name || is_builtin name) name at s (taken_is seen name taken))
-taken_told frames list name at is _ seen s (fault.IsDeclared.later _ other _ there _ another rest on) taken =
-    taken_told frames list name at is rest (seen ++ other ∷ []) _ on (taken_on seen name other taken)
+    (twice name at) (reported_once (is_among seen name || is_builtin name) name at s (taken_is seen name taken))
+taken_reported frames list name at is _ seen s (fault.IsDeclared.later _ other _ there _ another rest on) taken =
+    taken_reported frames list name at is rest (seen ++ other ∷ []) _ on (taken_on seen name other taken)
 
-pub declared_told : (frames : Frames) (list : ℕ) (name : Name) (at : ℕ) (declarations : Declarations) (seen : List Name)
+pub declared_reported : (frames : Frames) (list : ℕ) (name : Name) (at : ℕ) (declarations : Declarations) (seen : List Name)
     (s : State Frames) → DeclaredAgain name at declarations
     → IsIn (twice name at) (found_in_declared whole frames list seen declarations s).faults
-declared_told frames list name at _ seen s (fault.DeclaredAgain.here _ _ there is other rest on) =
-    taken_told frames list name at is rest (seen ++ name ∷ []) _ on (inl (in_last name seen))
-declared_told frames list name at _ seen s (fault.DeclaredAgain.later _ other _ there is rest on) =
-    declared_told frames list name at rest (seen ++ other ∷ []) _ on
+declared_reported frames list name at _ seen s (fault.DeclaredAgain.here _ _ there is other rest on) =
+    taken_reported frames list name at is rest (seen ++ name ∷ []) _ on (inl (in_last name seen))
+declared_reported frames list name at _ seen s (fault.DeclaredAgain.later _ other _ there is rest on) =
+    declared_reported frames list name at rest (seen ++ other ∷ []) _ on
 
 -- the tree of a declaration is walked over
 pub visits_declared : (least : ℕ) (frames : Frames) (list : ℕ) (name : Name) (at : ℕ) (is : Tree)
@@ -145,7 +145,7 @@ pub visits_declared : (least : ℕ) (frames : Frames) (list : ℕ) (name : Name)
     → Grows (found_in_declared whole frames list seen declarations s) t
     → (start : Option Id) × Visited least start frames is t
 visits_declared least frames list name at is _ seen s t (fault.IsDeclared.first _ _ _ rest) fits late grows =
-    let one = told_if (is_among seen name || is_builtin name) name at s in
+    let one = reported_if (is_among seen name || is_builtin name) name at s in
     let more = if_grows (is_among seen name || is_builtin name) name at s in
     let two = found_in whole frames (start_of (is_among seen name) list name) is one in (
       start_of (is_among seen name) list name,
@@ -158,7 +158,7 @@ visits_declared least frames list name at is _ seen s t (fault.IsDeclared.first 
     )
 visits_declared least frames list name at is _ seen s t (fault.IsDeclared.later _ other _ there _ another rest on) fits
     late grows =
-    let one = told_if (is_among seen other || is_builtin other) other there s in
+    let one = reported_if (is_among seen other || is_builtin other) other there s in
     let two = found_in whole frames (start_of (is_among seen other) list other) another one in
     let more = then s one two (if_grows (is_among seen other || is_builtin other) other there s)
     (walked_grows frames (start_of (is_among seen other) list other) another one) in
@@ -181,7 +181,7 @@ pub visits_first : (least : ℕ) (frames : Frames) (list : ℕ) (name : Name) (a
     → Visited least (Some (record { list = list; name = name })) frames is t
 visits_first least frames list name at is _ seen s t (fault.IsFirst.here _ _ _ rest) none fits late grows =
     let new = not_among seen name none in
-    let one = told_if (is_among seen name || is_builtin name) name at s in
+    let one = reported_if (is_among seen name || is_builtin name) name at s in
     let more = if_grows (is_among seen name || is_builtin name) name at s in
     let two = found_in whole frames (start_of (is_among seen name) list name) is one in
     rw (ap (λ b. start_of b list name) new) at (let visited : Visited least (start_of (is_among seen name) list name)
@@ -193,7 +193,7 @@ visits_first least frames list name at is _ seen s t (fault.IsFirst.here _ _ _ r
     } in visited)
 visits_first least frames list name at is _ seen s t (fault.IsFirst.later _ other _ there _ another rest differ on) none
     fits late grows =
-    let one = told_if (is_among seen other || is_builtin other) other there s in
+    let one = reported_if (is_among seen other || is_builtin other) other there s in
     let two = found_in whole frames (start_of (is_among seen other) list other) another one in
     let more = then s one two (if_grows (is_among seen other || is_builtin other) other there s)
     (walked_grows frames (start_of (is_among seen other) list other) another one) in
@@ -217,14 +217,14 @@ Outcome outer least t fault = IsIn fault t.faults ⊎ Loop outer least t.lists f
 some_not : {A : Type 0} → (a : A) (found : Option A) → found ≡ Some a → found ≡ None → ⊥
 some_not a found is none = absurd cc
 
-unknown_told : (frames : Frames) (start : Option Id) (name : Name) (at : ℕ) (s : State Frames) → Fits s.lists frames
+unknown_reported : (frames : Frames) (start : Option Id) (name : Name) (at : ℕ) (s : State Frames) → Fits s.lists frames
     → declared_as (scope_of frames) name ≡ None
     → IsIn (record { fault = Unknown; name = name; at = at }) (met start name at (place_of frames name) s).faults
-unknown_told frames start name at s fits none = by (place_of frames name) refl
+unknown_reported frames start name at s fits none = by (place_of frames name) refl
   where
     by : (place : Option Place) → place_of frames name ≡ place
         → IsIn (record { fault = Unknown; name = name; at = at }) (met start name at place s).faults
-    by None is = in_last (let told : Fault = record { fault = Unknown; name = name; at = at } in told) s.faults
+    by None is = in_last (let reported : Fault = record { fault = Unknown; name = name; at = at } in reported) s.faults
     by (Some place) is = let found = place_found s.lists frames name place fits is in absurd
         (some_not _ _ found.declared none)
 
@@ -233,12 +233,12 @@ mutual
       (one : Fault) (t : State Frames) → scope ≡ scope_of frames
       → IsFault outer scope is one → Visited least start frames is t → Outcome outer least t one
   complete _ least start frames _ _ _ t same_scope (fault.unknown outer scope span name none) visited =
-      inl (visited.grows.faults _ (unknown_told frames start name span.from visited.before visited.fits (ap (λ scope.
+      inl (visited.grows.faults _ (unknown_reported frames start name span.from visited.before visited.fits (ap (λ scope.
       declared_as scope name) (sym same_scope) ∙ none)))
   complete _ least start frames _ _ _ t same_scope (fault.label_twice outer scope span fields more label at again)
       visited =
       inl ((then _ _ _ (fields_grow frames fields (labelled [] fields visited.before)) visited.grows).faults
-      (twice label at) (again_told label at fields [] visited.before again))
+      (twice label at) (again_reported label at fields [] visited.before again))
   complete _ least start frames _ _ _ t same_scope (fault.in_part outer scope inner span kind part one is_part is_fault)
       visited =
       let there = visits_part least start frames scope inner kind part t same_scope is_part
@@ -264,11 +264,11 @@ mutual
       → IsFaultOfList outer scope declarations one → ListVisited least list frames t → Outcome outer least t one
   complete_list _ least list frames _ _ _ t same_scope same_list late listed
       (fault.IsFaultOfList.twice outer scope declarations name at again) visited =
-      inl (visited.grows.faults (twice name at) (rw same_list at (declared_told frames list name at declarations []
+      inl (visited.grows.faults (twice name at) (rw same_list at (declared_reported frames list name at declarations []
       visited.before again)))
   complete_list _ least list frames _ _ _ t same_scope same_list late listed
       (fault.built_in outer scope declarations name at is type declared builtin) visited =
-      inl (visited.grows.faults (twice name at) (rw same_list at (taken_told frames list name at is declarations []
+      inl (visited.grows.faults (twice name at) (rw same_list at (taken_reported frames list name at is declarations []
       visited.before declared (inr (builtin_is name type builtin)))))
   complete_list _ least list frames _ _ _ t same_scope same_list late listed
       (fault.unguarded outer scope declarations name at is first leads) visited =

@@ -13,7 +13,7 @@ use Rattle.cd_resolve.specs.declared.fault.NameFault.TheVariants.{Unguarded}
 use Rattle.cd_resolve.specs.Faults.{Fault, IsFirst}
 use Rattle.cd_resolve.specs.Faults as fault
 use Rattle.cd_resolve.specs.Inner.Finding.{Frames, innermost, Id, Link, State}
-use Rattle.cd_resolve.specs.Inner.Cycles.{is_cyclic, unguarded, told_cycle, cycles_told}
+use Rattle.cd_resolve.specs.Inner.Cycles.{is_cyclic, unguarded, reported_cycle, cycles_reported}
 use Rattle.cd_resolve.proofs.InLists.{IsIn, in_front, in_last, in_more}
 use Rattle.cd_resolve.proofs.WhatNamesMean.{scope_of, IsNode, declared_at, first_place, first_tree}
 use Rattle.cd_resolve.proofs.Visits.{VisitedKind, ListVisited, kind_visited}
@@ -137,28 +137,28 @@ true_path outer lists links _ _ are (and_on start middle to link before is start
 
 -- the faults with those of names that lead back to themselves
 cycle_keeps : (b : Bool) (link : Link) (one : Fault) (faults : List Fault) → IsIn one faults
-    → IsIn one (told_cycle b link faults)
+    → IsIn one (reported_cycle b link faults)
 cycle_keeps true link one faults is = in_front one faults (unguarded link ∷ []) is
 cycle_keeps false link one faults is = is
 
 cycles_keep : (links rest : List Link) (one : Fault) (faults : List Fault) → IsIn one faults
-    → IsIn one (cycles_told links rest faults)
+    → IsIn one (cycles_reported links rest faults)
 cycles_keep links [] one faults is = is
 cycles_keep links (link ∷ rest) one faults is = cycles_keep links rest one
-    (told_cycle (is_cyclic links link.to) link faults) (cycle_keeps (is_cyclic links link.to) link one faults is)
+    (reported_cycle (is_cyclic links link.to) link faults) (cycle_keeps (is_cyclic links link.to) link one faults is)
 
-cycle_has : (b : Bool) (link : Link) (faults : List Fault) → b ≡ true → IsIn (unguarded link) (told_cycle b link faults)
+cycle_has : (b : Bool) (link : Link) (faults : List Fault) → b ≡ true → IsIn (unguarded link) (reported_cycle b link faults)
 cycle_has true link faults is = in_last (unguarded link) faults
 cycle_has false link faults is = absurd cc
 
 cycles_have : (links rest : List Link) (link : Link) (faults : List Fault) → IsIn link rest
-    → is_cyclic links link.to ≡ true → IsIn (unguarded link) (cycles_told links rest faults)
+    → is_cyclic links link.to ≡ true → IsIn (unguarded link) (cycles_reported links rest faults)
 cycles_have links [] link faults is cyclic = elim is [ ]
 cycles_have links (first ∷ rest) link faults (inl equal) cyclic =
-    rw equal (cycles_keep links rest (unguarded first) (told_cycle (is_cyclic links first.to) first faults)
+    rw equal (cycles_keep links rest (unguarded first) (reported_cycle (is_cyclic links first.to) first faults)
     (cycle_has (is_cyclic links first.to) first faults (rw equal at cyclic)))
 cycles_have links (first ∷ rest) link faults (inr on) cyclic = cycles_have links rest link
-    (told_cycle (is_cyclic links first.to) first faults) on cyclic
+    (reported_cycle (is_cyclic links first.to) first faults) on cyclic
 
 pub record IsCycle (links rest : List Link) (one : Fault) : Type 0 where
   pub link : Link
@@ -166,7 +166,7 @@ pub record IsCycle (links rest : List Link) (one : Fault) : Type 0 where
   pub cyclic : is_cyclic links link.to ≡ true
   pub equal : one ≡ unguarded link
 
-in_cycle : (b : Bool) (link : Link) (one : Fault) (faults : List Fault) → IsIn one (told_cycle b link faults)
+in_cycle : (b : Bool) (link : Link) (one : Fault) (faults : List Fault) → IsIn one (reported_cycle b link faults)
     → IsIn one faults ⊎ ((b ≡ true) × (one ≡ unguarded link))
 in_cycle true link one faults is = by (in_more one (unguarded link) faults is)
   where
@@ -175,18 +175,18 @@ in_cycle true link one faults is = by (in_more one (unguarded link) faults is)
     by (inr new) = inr (refl, new)
 in_cycle false link one faults is = inl is
 
-in_cycles : (links rest : List Link) (one : Fault) (faults : List Fault) → IsIn one (cycles_told links rest faults)
+in_cycles : (links rest : List Link) (one : Fault) (faults : List Fault) → IsIn one (cycles_reported links rest faults)
     → IsIn one faults ⊎ IsCycle links rest one
 in_cycles links [] one faults is = inl is
 in_cycles links (link ∷ rest) one faults is = by
-    (in_cycles links rest one (told_cycle (is_cyclic links link.to) link faults) is)
+    (in_cycles links rest one (reported_cycle (is_cyclic links link.to) link faults) is)
   where
     at : IsIn one faults ⊎ ((is_cyclic links link.to ≡ true) × (one ≡ unguarded link))
         → IsIn one faults ⊎ IsCycle links (link ∷ rest) one
     at (inl old) = inl old
     at (inr new) = inr (record { link = link; is_in = inl refl; cyclic = new.0; equal = new.1 })
 
-    by : IsIn one (told_cycle (is_cyclic links link.to) link faults) ⊎ IsCycle links rest one
+    by : IsIn one (reported_cycle (is_cyclic links link.to) link faults) ⊎ IsCycle links rest one
         → IsIn one faults ⊎ IsCycle links (link ∷ rest) one
     by (inl old) = at (in_cycle (is_cyclic links link.to) link one faults old)
     by (inr new) = inr (record { link = new.link; is_in = inr new.is_in; cyclic = new.cyclic; equal = new.equal })
@@ -285,10 +285,10 @@ inside_equal : (outer : Scope) (name : Declared) (frames other : Frames) → nam
     → name.scope ≡ scope_of other → length outer < length (scope_of frames) → length outer < length (scope_of other)
 inside_equal outer name frames other equal equal_too inside = rw (sym equal_too, equal) inside
 
-loop_told : (outer : Scope) (least : ℕ) (IsWhole : Fault → Type 0) (t : State Frames) → IsWalk outer least IsWhole t
+loop_reported : (outer : Scope) (least : ℕ) (IsWhole : Fault → Type 0) (t : State Frames) → IsWalk outer least IsWhole t
     → (one : Fault) → Loop outer least t.lists one
-    → IsIn one (cycles_told t.links t.links t.faults)
-loop_told outer least IsWhole t walk one loop =
+    → IsIn one (cycles_reported t.links t.links t.faults)
+loop_reported outer least IsWhole t walk one loop =
     let name = declared_at one.name loop.frames loop.is in
     let id : Id = record { list = loop.list; name = one.name } in
     let stands : Stands t.lists id name = record {
@@ -317,7 +317,7 @@ loop_told outer least IsWhole t walk one loop =
         → Stands t.lists id (declared_at one.name frames is)
         → Leads t.links id id → (link : Link) → IsIn link t.links → link.to ≡ id → (to_is : Tree) (to_frames : Frames)
         → IsNode t.lists link.to link.at to_is to_frames
-        → IsIn one (cycles_told t.links t.links t.faults)
+        → IsIn one (cycles_reported t.links t.links t.faults)
     loop_is one t frames is first kind id stands leads link is_in to to_is to_frames to_node =
         let node : IsNode t.lists id link.at to_is to_frames = rw to at to_node in
         let same_node = one_node t.lists id link.at stands.at to_is stands.is to_frames stands.frames node
@@ -331,17 +331,17 @@ loop_told outer least IsWhole t walk one loop =
 
 -- the faults that are told are those of the whole
 pub all_sound : (outer : Scope) (least : ℕ) (IsWhole : Fault → Type 0) (t : State Frames) → IsWalk outer least IsWhole t
-    → (one : Fault) → IsIn one (cycles_told t.links t.links t.faults) → IsWhole one
+    → (one : Fault) → IsIn one (cycles_reported t.links t.links t.faults) → IsWhole one
 all_sound outer least IsWhole t walk one is = by (in_cycles t.links t.links one t.faults is)
   where
     by : IsIn one t.faults ⊎ IsCycle t.links t.links one → IsWhole one
-    by (inl told) = walk.sound.faults one told
+    by (inl reported) = walk.sound.faults one reported
     by (inr cycle) = cycle_sound outer least IsWhole t walk one cycle
 
 pub all_complete : (outer : Scope) (least : ℕ) (IsWhole : Fault → Type 0) (t : State Frames)
-    → IsWalk outer least IsWhole t → (one : Fault) → IsWhole one → IsIn one (cycles_told t.links t.links t.faults)
+    → IsWalk outer least IsWhole t → (one : Fault) → IsWhole one → IsIn one (cycles_reported t.links t.links t.faults)
 all_complete outer least IsWhole t walk one is = by (walk.complete one is)
   where
-    by : Outcome outer least t one → IsIn one (cycles_told t.links t.links t.faults)
-    by (inl told) = cycles_keep t.links t.links one t.faults told
-    by (inr loop) = loop_told outer least IsWhole t walk one loop
+    by : Outcome outer least t one → IsIn one (cycles_reported t.links t.links t.faults)
+    by (inl reported) = cycles_keep t.links t.links one t.faults reported
+    by (inr loop) = loop_reported outer least IsWhole t walk one loop

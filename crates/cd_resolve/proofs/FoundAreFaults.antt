@@ -19,7 +19,7 @@ use Rattle.cd_resolve.specs.Faults.{Fault, IsField, LabelAgain, IsItem, IsItemOf
 use Rattle.cd_resolve.specs.Faults.{IsFault, IsFaultOfList}
 use Rattle.cd_resolve.specs.Faults as fault
 use Rattle.cd_resolve.specs.Inner.BuiltinNames.{is_among, is_builtin}
-use Rattle.cd_resolve.specs.Inner.Finding.{Frames, innermost, Id, Link, Place, State, told, told_if, entered, linked}
+use Rattle.cd_resolve.specs.Inner.Finding.{Frames, innermost, Id, Link, Place, State, reported, reported_if, entered, linked}
 use Rattle.cd_resolve.specs.Inner.Finding.{met, place_of, labelled, start_of, found_in, found_in_kind, found_in_trees}
 use Rattle.cd_resolve.specs.Inner.Finding.{found_in_signs, found_in_fields, found_in_declared, found_in_regular}
 use Rattle.cd_resolve.specs.Inner.Finding.{found_in_regular_kind, found_in_regulars}
@@ -93,10 +93,10 @@ pub record IsSound (outer : Scope) (least : ℕ) (IsWhole : Fault → Type 0) (s
       → IsFaultOfList outer (scope_of frames) (innermost frames) one → IsWhole one
   pub links : (link : Link) → IsIn link s.links → IsTrueLink outer s.lists link
 
-sound_told : (outer : Scope) (least : ℕ) (IsWhole : Fault → Type 0) (kind : NameFault) (name : Name) (at : ℕ)
+sound_reported : (outer : Scope) (least : ℕ) (IsWhole : Fault → Type 0) (kind : NameFault) (name : Name) (at : ℕ)
     (s : State Frames) → IsSound outer least IsWhole s
-    → IsWhole (record { fault = kind; name = name; at = at }) → IsSound outer least IsWhole (told kind name at s)
-sound_told outer least IsWhole kind name at s sound is = record {
+    → IsWhole (record { fault = kind; name = name; at = at }) → IsSound outer least IsWhole (reported kind name at s)
+sound_reported outer least IsWhole kind name at s sound is = record {
   faults = λ one there. by one (in_more one (record { fault = kind; name = name; at = at }) s.faults there);
   lists = sound.lists;
   links = sound.links;
@@ -108,8 +108,8 @@ sound_told outer least IsWhole kind name at s sound is = record {
 
 sound_if : (outer : Scope) (least : ℕ) (IsWhole : Fault → Type 0) (b : Bool) (name : Name) (at : ℕ) (s : State Frames)
     → IsSound outer least IsWhole s
-    → (b ≡ true → IsWhole (twice name at)) → IsSound outer least IsWhole (told_if b name at s)
-sound_if outer least IsWhole true name at s sound is = sound_told outer least IsWhole Twice name at s sound (is refl)
+    → (b ≡ true → IsWhole (twice name at)) → IsSound outer least IsWhole (reported_if b name at s)
+sound_if outer least IsWhole true name at s sound is = sound_reported outer least IsWhole Twice name at s sound (is refl)
 sound_if outer least IsWhole false name at s sound is = sound
 
 pub sound_entered : (outer : Scope) (least : ℕ) (IsWhole : Fault → Type 0) (frames : Frames) (s : State Frames)
@@ -150,7 +150,7 @@ sound_met : (outer : Scope) (least : ℕ) (IsWhole : Fault → Type 0) (frames :
     → (place ≡ None → IsWhole (record { fault = Unknown; name = name; at = at }))
     → IsSound outer least IsWhole (met start name at place s)
 sound_met outer least IsWhole frames start name at None s sound fits here starts unknown =
-    sound_told outer least IsWhole Unknown name at s sound (unknown refl)
+    sound_reported outer least IsWhole Unknown name at s sound (unknown refl)
 sound_met outer least IsWhole frames None name at (Some place) s sound fits here starts unknown = sound
 sound_met outer least IsWhole frames (Some id) name at (Some place) s sound fits here starts unknown =
     let there = place_found s.lists frames name place fits here in
@@ -200,7 +200,7 @@ sound_labelled : (outer : Scope) (least : ℕ) (IsWhole : Fault → Type 0) (see
     → IsSound outer least IsWhole (labelled seen fields s)
 sound_labelled outer least IsWhole seen NoField all s sound before is = sound
 sound_labelled outer least IsWhole seen (AField label at optional one rest) all s sound before is =
-    sound_labelled outer least IsWhole (seen ++ label ∷ []) rest all (told_if (is_among seen label) label at s)
+    sound_labelled outer least IsWhole (seen ++ label ∷ []) rest all (reported_if (is_among seen label) label at s)
     (sound_if outer least IsWhole (is_among seen label) label at s sound
     (λ among. is label at (before.again label at one (among_in seen label among) (fault.IsField.first label at
     optional one rest))))
@@ -490,7 +490,7 @@ mutual
   sound_declared outer least IsWhole frames list seen (ADeclaration name at is rest) s sound fits listed inside before
       of_whole =
       let taken = is_among seen name || is_builtin name in
-      let one_state = told_if taken name at s in
+      let one_state = reported_if taken name at s in
       let start = start_of (is_among seen name) list name in
       let two_state = found_in whole frames start is one_state in
       let to_one = if_grows taken name at s in

@@ -12,7 +12,7 @@ use Rattle.cd_syntax.specs.TypeTree.{Capture, Regulars, NoRegular, ARegular}
 use Rattle.cd_resolve.specs.declared.fault.NameFault.{NameFault}
 use Rattle.cd_resolve.specs.Faults.{Fault}
 use Rattle.cd_resolve.specs.Inner.BuiltinNames.{is_among, is_builtin}
-use Rattle.cd_resolve.specs.Inner.Finding.{Frames, Id, Link, Place, State, told, told_if, entered, met, place_of}
+use Rattle.cd_resolve.specs.Inner.Finding.{Frames, Id, Link, Place, State, reported, reported_if, entered, met, place_of}
 use Rattle.cd_resolve.specs.Inner.Finding.{labelled, start_of, found_in, found_in_kind, found_in_trees, found_in_signs}
 use Rattle.cd_resolve.specs.Inner.Finding.{found_in_fields, found_in_declared, found_in_regular, found_in_regular_kind}
 use Rattle.cd_resolve.specs.Inner.Finding.{found_in_regulars}
@@ -37,8 +37,8 @@ then s t u first second = record {
   longer = omega (arith, first.longer, second.longer);
 }
 
-pub told_grows : (fault : NameFault) (name : Name) (at : ℕ) (s : State Frames) → Grows s (told fault name at s)
-told_grows fault name at s = record {
+pub reported_grows : (fault : NameFault) (name : Name) (at : ℕ) (s : State Frames) → Grows s (reported fault name at s)
+reported_grows fault name at s = record {
   faults = λ one is. in_front one s.faults _ is;
   lists = λ n frames is. is;
   links = λ
@@ -46,8 +46,8 @@ told_grows fault name at s = record {
   longer = omega arith;
 }
 
-pub if_grows : (twice : Bool) (name : Name) (at : ℕ) (s : State Frames) → Grows s (told_if twice name at s)
-if_grows true name at s = told_grows _ name at s
+pub if_grows : (twice : Bool) (name : Name) (at : ℕ) (s : State Frames) → Grows s (reported_if twice name at s)
+if_grows true name at s = reported_grows _ name at s
 if_grows false name at s = same s
 
 pub entered_grows : (frames : Frames) (s : State Frames) → Grows s (entered frames s)
@@ -61,7 +61,7 @@ entered_grows frames s = record {
 
 pub met_grows : (start : Option Id) (name : Name) (at : ℕ) (place : Option Place) (s : State Frames)
     → Grows s (met start name at place s)
-met_grows start name at None s = told_grows _ name at s
+met_grows start name at None s = reported_grows _ name at s
 met_grows None name at (Some place) s = same s
 met_grows (Some start) name at (Some place) s = record {
   faults = λ one is. is;
@@ -133,7 +133,7 @@ mutual
       → Grows s (found_in_declared whole frames list seen declarations s)
   declared_grows frames list seen NoDeclaration s = same s
   declared_grows frames list seen (ADeclaration name at is rest) s =
-      let one = told_if (is_among seen name || is_builtin name) name at s in
+      let one = reported_if (is_among seen name || is_builtin name) name at s in
       let two = found_in whole frames (start_of (is_among seen name) list name) is one in
       then s one _ (if_grows (is_among seen name || is_builtin name) name at s)
       (then one two _ (walked_grows frames (start_of (is_among seen name) list name) is one)

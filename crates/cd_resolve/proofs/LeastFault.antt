@@ -5,7 +5,7 @@ use Rattle.std.specs.Bool.{Decides}
 use Rattle.std.proofs.lemmas.Bool.{cases_Bool, cases_order, cases_lt}
 use Rattle.std.proofs.lemmas.Bool.Decides.{Decides-eqb, Decides-and, Decides-or, Decides-ltb}
 use Rattle.std.proofs.lemmas.Option.{same_Some}
-use Rattle.cd_resolve.specs.Faults.{Fault, rank, IsBefore, IsTold}
+use Rattle.cd_resolve.specs.Faults.{Fault, rank, IsBefore, IsReported}
 use Rattle.cd_resolve.specs.Least.{goes_before, lesser, least_from}
 use Rattle.cd_resolve.proofs.InLists.{IsIn}
 
@@ -116,15 +116,15 @@ some_is_least (x ∷ rest) s none = by (cases_Bool (goes_before x s)) (λ other.
     by (inr stays) on = on s (rw stays at none)
 
 -- what is told, where the list has just the faults that are such
-pub nothing_told : (faults : List Fault) (IsSuch : Fault → Type 0) → ((one : Fault) → IsSuch one → IsIn one faults)
+pub nothing_reported : (faults : List Fault) (IsSuch : Fault → Type 0) → ((one : Fault) → IsSuch one → IsIn one faults)
     → least_from None faults ≡ None → (one : Fault) → IsSuch one → ⊥
-nothing_told [] IsSuch has none one is = has one is
-nothing_told (first ∷ rest) IsSuch has none one is = some_is_least rest first none
+nothing_reported [] IsSuch has none one is = has one is
+nothing_reported (first ∷ rest) IsSuch has none one is = some_is_least rest first none
 
-pub least_told : (faults : List Fault) (IsSuch : Fault → Type 0) → ((one : Fault) → IsIn one faults → IsSuch one)
+pub least_reported : (faults : List Fault) (IsSuch : Fault → Type 0) → ((one : Fault) → IsIn one faults → IsSuch one)
     → ((one : Fault) → IsSuch one → IsIn one faults)
-    → (one : Fault) → least_from None faults ≡ Some one → IsTold IsSuch one
-least_told faults IsSuch are has one is = record {
+    → (one : Fault) → least_from None faults ≡ Some one → IsReported IsSuch one
+least_reported faults IsSuch are has one is = record {
   is = by least.is;
   first = λ other such. least.first other (has other such);
 }

@@ -15,7 +15,7 @@ use Rattle.cd_model.specs.Guarded.{LeadsTo}
 use Rattle.cd_model.specs.Guarded as guarded
 use Rattle.cd_model.specs.Written.{kind_of}
 use Rattle.cd_resolve.specs.Inner.BuiltinNames.{is_among, is_builtin}
-use Rattle.cd_resolve.specs.Inner.Finding.{Frames, innermost, Id, Link, Place, State, told_if, entered, met, place_of}
+use Rattle.cd_resolve.specs.Inner.Finding.{Frames, innermost, Id, Link, Place, State, reported_if, entered, met, place_of}
 use Rattle.cd_resolve.specs.Inner.Finding.{labelled, start_of, found_in, found_in_kind, found_in_trees, found_in_signs}
 use Rattle.cd_resolve.specs.Inner.Finding.{found_in_fields, found_in_declared, found_in_regular, found_in_regular_kind}
 use Rattle.cd_resolve.specs.Inner.Finding.{found_in_regulars}
@@ -47,7 +47,7 @@ new_then least s u v t first second = record { each = λ n frames is. by n frame
     by n frames (inl old) = first.each n frames old
     by n frames (inr new) = inr new
 
-new_if : (least : ℕ) (b : Bool) (name : Name) (at : ℕ) (s t : State Frames) → New least s (told_if b name at s) t
+new_if : (least : ℕ) (b : Bool) (name : Name) (at : ℕ) (s t : State Frames) → New least s (reported_if b name at s) t
 new_if least true name at s t = record { each = λ n frames is. inl is }
 new_if least false name at s t = record { each = λ n frames is. inl is }
 
@@ -61,7 +61,7 @@ new_labelled : (least : ℕ) (seen : List Name) (fields : Fields) (s t : State F
     → New least s (labelled seen fields s) t
 new_labelled least seen NoField s t = none_new least s t
 new_labelled least seen (AField label at optional is rest) s t =
-    let one = told_if (is_among seen label) label at s in
+    let one = reported_if (is_among seen label) label at s in
     new_then least s one _ t (new_if least (is_among seen label) label at s t)
     (new_labelled least (seen ++ label ∷ []) rest one t)
 
@@ -201,7 +201,7 @@ mutual
       → New least s (found_in_declared whole frames list seen declarations s) t
   new_declared least frames list seen NoDeclaration s t fits late grows = none_new least s t
   new_declared least frames list seen (ADeclaration name at is rest) s t fits late grows =
-      let one = told_if (is_among seen name || is_builtin name) name at s in
+      let one = reported_if (is_among seen name || is_builtin name) name at s in
       let start = start_of (is_among seen name) list name in
       let two = found_in whole frames start is one in
       let to_one = if_grows (is_among seen name || is_builtin name) name at s in

@@ -10,7 +10,7 @@ use Rattle.cd_syntax.specs.TypeTree.{Signs, NoSign, ASign, Fields, NoField, AFie
 use Rattle.cd_syntax.specs.TypeTree.{ADeclaration, Regular, regular, RegularKind, Nothing, Item, Seq, Alt, Repeat}
 use Rattle.cd_syntax.specs.TypeTree.{Capture, Regulars, NoRegular, ARegular}
 use Rattle.cd_resolve.specs.Inner.BuiltinNames.{is_among, is_builtin}
-use Rattle.cd_resolve.specs.Inner.Finding.{Frames, innermost, Id, Place, State, told_if, entered, met, place_of}
+use Rattle.cd_resolve.specs.Inner.Finding.{Frames, innermost, Id, Place, State, reported_if, entered, met, place_of}
 use Rattle.cd_resolve.specs.Inner.Finding.{labelled, start_of, found_in, found_in_kind, found_in_trees, found_in_signs}
 use Rattle.cd_resolve.specs.Inner.Finding.{found_in_fields, found_in_declared, found_in_regular, found_in_regular_kind}
 use Rattle.cd_resolve.specs.Inner.Finding.{found_in_regulars, found_in_list}
@@ -23,7 +23,7 @@ abbrev pub lean : State Frames → State Declarations
 lean s = record { faults = s.faults; lists = map innermost s.lists; links = s.links }
 
 lean_if : (twice : Bool) (name : Name) (at : ℕ) (s : State Frames)
-    → told_if twice name at (lean s) ≡ lean (told_if twice name at s)
+    → reported_if twice name at (lean s) ≡ lean (reported_if twice name at s)
 lean_if true name at s = refl
 lean_if false name at s = refl
 
@@ -41,7 +41,7 @@ lean_labelled : (seen : List Name) (fields : Fields) (s : State Frames)
 lean_labelled seen NoField s = refl
 lean_labelled seen (AField label at optional is rest) s =
     ap (labelled (seen ++ label ∷ []) rest) (lean_if (is_among seen label) label at s) ∙ lean_labelled
-    (seen ++ label ∷ []) rest (told_if (is_among seen label) label at s)
+    (seen ++ label ∷ []) rest (reported_if (is_among seen label) label at s)
 
 mutual
   pub lean_walked : (frames : Frames) (start : Option Id) (is : Tree) (s : State Frames)
@@ -119,10 +119,10 @@ mutual
       (is_among seen name || is_builtin name) name at s)
       ∙ ap (found_in_declared innermost frames list (seen ++ name ∷ []) rest)
       (lean_walked frames (start_of (is_among seen name) list name) is
-      (told_if (is_among seen name || is_builtin name) name at s))
+      (reported_if (is_among seen name || is_builtin name) name at s))
       ∙ lean_declared frames list (seen ++ name ∷ []) rest
       (found_in whole frames (start_of (is_among seen name) list name) is
-      (told_if (is_among seen name || is_builtin name) name at s))
+      (reported_if (is_among seen name || is_builtin name) name at s))
 
   lean_regular : (frames : Frames) (is : Regular) (s : State Frames)
       → found_in_regular innermost frames is (lean s) ≡ lean (found_in_regular whole frames is s)

@@ -168,6 +168,6 @@ IsBefore one other = (one.at < other.at)
     ⊎ ((one.at ≡ other.at) × (rank one.fault ≤ rank other.fault))
 
 -- it is one of these faults, and none of them comes before it
-pub record IsTold (IsSuch : Fault → Type 0) (fault : Fault) : Type 0 where
+pub record IsReported (IsSuch : Fault → Type 0) (fault : Fault) : Type 0 where
   pub is : IsSuch fault
   pub first : (other : Fault) → IsSuch other → IsBefore fault other

@@ -3,7 +3,7 @@ ghost use Rattle.std.specs.Prelude.{◌≡◌, IfOk, OnOk, IfErr};
 ghost use Rattle.cd_syntax.specs.PlainTree.{plain, plain_declarations};
 ghost use Rattle.cd_syntax.specs.WellMade.{AreWellMadeDeclarations};
 ghost use Rattle.cd_syntax.specs.WellMadePattern.{IsWellMadePattern};
-ghost use Rattle.cd_resolve.specs.Errors.{IsToldError};
+ghost use Rattle.cd_resolve.specs.Errors.{IsReportedError};
 ghost use Rattle.cd_resolve.specs.Faults.{Fault, IsFaultOfType, IsFaultOfDeclarations};
 ghost use Rattle.cd_resolve.specs.Named.{declared_by};
 
@@ -37,7 +37,7 @@ pub fn check_declarations(alloc: Global, declared: &Declarations) -> Result<(), 
     ensures sound { OnOk result ((fault : Fault)
         → IsFaultOfDeclarations (plain_declarations declared.now) fault → ⊥) }
     ensures fault { IfErr result
-        (λ error. IsToldError (IsFaultOfDeclarations (plain_declarations declared.now)) error) }
+        (λ error. IsReportedError (IsFaultOfDeclarations (plain_declarations declared.now)) error) }
 {
     read_declarations(alloc, 0, declared)?;
     Ok(())
@@ -56,7 +56,7 @@ pub fn check_tree(alloc: Global, names: &Names<'_>, tree: &Tree) -> Result<(), N
     ensures sound { OnOk result ((fault : Fault)
         → IsFaultOfType (declared_by names.now) (plain tree.now) fault → ⊥) }
     ensures fault { IfErr result
-        (λ error. IsToldError (IsFaultOfType (declared_by names.now) (plain tree.now)) error) }
+        (λ error. IsReportedError (IsFaultOfType (declared_by names.now) (plain tree.now)) error) }
 {
     read_type(alloc, 0, names, tree)?;
     Ok(())

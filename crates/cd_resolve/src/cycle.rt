@@ -2,16 +2,16 @@
 ghost use Rattle.std.specs.Prelude.{◌≡◌, IfOk, map, true, ◌&&◌, not, slice_get};
 ghost use Rattle.cd_resolve.specs.Inner.Cycles.{same_id, is_held, with_next, with_next_of};
 ghost use Rattle.cd_resolve.specs.Inner.Cycles.{reached as reached_by, is_cyclic as is_cyclic_id};
-ghost use Rattle.cd_resolve.specs.Inner.Cycles.{told_cycle, cycles_told};
+ghost use Rattle.cd_resolve.specs.Inner.Cycles.{reported_cycle, cycles_reported};
 ghost use Rattle.cd_resolve.specs.Inner.Ranks.{all_fall};
 ghost use Rattle.cd_resolve.specs.Inner.PlainFound.{plain_id, plain_link};
-ghost use Rattle.cd_resolve.specs.PlainTold.{plain_told};
+ghost use Rattle.cd_resolve.specs.PlainTold.{plain_reported};
 
 use crate::compare::is_same;
 use crate::fault::NameFault;
 use crate::found::{Id, Link};
 use crate::ranks::Ranks;
-use crate::told::Told;
+use crate::reported::Reported;
 use std::alloc::{AllocError, Global};
 
 // Whether both are one declared name.
@@ -113,36 +113,36 @@ fn leads_back<'t>(
 }
 
 /// Tells the names that lead back to themselves.
-pub(crate) fn tell_cycles<'t>(
+pub(crate) fn report_cycles<'t>(
     alloc: Global,
     links: &[Link<'t>],
-    faults: &mut Vec<Told<'t>>,
+    faults: &mut Vec<Reported<'t>>,
 ) -> Result<(), AllocError>
     ensures { IfOk result (λ _.
-        map plain_told faults.new.items
-        ≡ cycles_told (map plain_link links.now) (map plain_link links.now)
-        (map plain_told faults.old.items)) }
+        map plain_reported faults.new.items
+        ≡ cycles_reported (map plain_link links.now) (map plain_link links.now)
+        (map plain_reported faults.old.items)) }
 {
     let ranks = Ranks::of(alloc, links)?;
     for link in links {
         let found = leads_back(alloc, links, &ranks, &link.to)?;
-        tell_cycle(found, link, faults)?;
+        report_cycle(found, link, faults)?;
     }
     Ok(())
 }
 
 // Tells the name that a link leads to, if it leads back to itself.
-fn tell_cycle<'t>(
+fn report_cycle<'t>(
     found: bool,
     link: &Link<'t>,
-    faults: &mut Vec<Told<'t>>,
+    faults: &mut Vec<Reported<'t>>,
 ) -> Result<(), AllocError>
     ensures { IfOk result (λ _.
-        map plain_told faults.new.items
-        ≡ told_cycle found (plain_link link.now) (map plain_told faults.old.items)) }
+        map plain_reported faults.new.items
+        ≡ reported_cycle found (plain_link link.now) (map plain_reported faults.old.items)) }
 {
     if found {
-        faults.push(Told {
+        faults.push(Reported {
             fault: NameFault::Unguarded,
             name: Some(link.to.name),
             at: link.at,

@@ -157,7 +157,7 @@ fn walk_declared<'t>(
     for (place, declaration) in items.iter().enumerate() {
         let name = &declaration.name;
         let again = frame.declares_before(place, name);
-        found.tell_twice(is_taken(again, name), name, declaration.at)?;
+        found.report_twice(is_taken(again, name), name, declaration.at)?;
         let start = start_of(again, frame.list, name);
         let root = walk(base, &declaration.tree, frames, start, state, found)?;
         state.settle(number, root);

@@ -1,13 +1,13 @@
 //! What a walk over a tree finds.
 ghost use Rattle.std.specs.Prelude.{◌≡◌, IfOk, length, []};
 ghost use Rattle.cd_syntax.specs.PlainTree.{plain_declarations};
-ghost use Rattle.cd_resolve.specs.Inner.Finding.{told, told_if, entered, linked, met};
+ghost use Rattle.cd_resolve.specs.Inner.Finding.{reported, reported_if, entered, linked, met};
 ghost use Rattle.cd_resolve.specs.Inner.Finding.{start_of as start_of_declared};
 ghost use Rattle.cd_resolve.specs.Inner.PlainFound.{plain_id, plain_start, plain_place};
 ghost use Rattle.cd_resolve.specs.Inner.PlainFound.{plain_found};
 
 use crate::fault::NameFault;
-use crate::told::Told;
+use crate::reported::Reported;
 use cd_syntax::name::Name;
 use cd_syntax::type_tree::Declarations;
 use std::alloc::{AllocError, Global};
@@ -37,7 +37,7 @@ pub(crate) struct Place {
 /// The faults so far, the lists of declarations, and the links between declared names.
 #[derive(Drop)]
 pub(crate) struct Found<'t> {
-    pub(crate) faults: Vec<Told<'t>>,
+    pub(crate) faults: Vec<Reported<'t>>,
     pub(crate) lists: Vec<&'t Declarations>,
     pub(crate) links: Vec<Link<'t>>,
 }
@@ -55,16 +55,16 @@ impl<'t> Found<'t> {
     }
 
     /// Tells a fault.
-    pub(crate) fn tell(
+    pub(crate) fn report(
         &mut self,
         fault: NameFault,
         name: &'t Name,
         at: usize,
     ) -> Result<(), AllocError>
         ensures { IfOk result (λ _.
-            plain_found self.new ≡ told fault name.now at (plain_found self.old)) }
+            plain_found self.new ≡ reported fault name.now at (plain_found self.old)) }
     {
-        self.faults.push(Told {
+        self.faults.push(Reported {
             fault,
             name: Some(name),
             at,
@@ -73,17 +73,17 @@ impl<'t> Found<'t> {
     }
 
     /// Tells of a name that stands twice, if it does.
-    pub(crate) fn tell_twice(
+    pub(crate) fn report_twice(
         &mut self,
         twice: bool,
         name: &'t Name,
         at: usize,
     ) -> Result<(), AllocError>
         ensures { IfOk result (λ _.
-            plain_found self.new ≡ told_if twice name.now at (plain_found self.old)) }
+            plain_found self.new ≡ reported_if twice name.now at (plain_found self.old)) }
     {
         if twice {
-            return self.tell(NameFault::Twice, name, at);
+            return self.report(NameFault::Twice, name, at);
         }
         Ok(())
     }
@@ -113,7 +113,7 @@ impl<'t> Found<'t> {
             (plain_found self.old)) }
     {
         let Some(place) = place else {
-            return self.tell(NameFault::Unknown, name, at);
+            return self.report(NameFault::Unknown, name, at);
         };
         let Some(start) = start else {
             return Ok(());

@@ -8,29 +8,29 @@ ghost use Rattle.cd_resolve.specs.Least.{comes_first as comes_first_of};
 ghost use Rattle.cd_resolve.specs.Least.{goes_first as goes_first_error};
 ghost use Rattle.cd_resolve.specs.Least.{first_error as first_of_errors};
 ghost use Rattle.cd_resolve.specs.Least.{first_of as first_of_results};
-ghost use Rattle.cd_resolve.specs.PlainTold.{plain_told, name_or_none};
+ghost use Rattle.cd_resolve.specs.PlainTold.{plain_reported, name_or_none};
 
 use crate::error::NameError;
 use crate::fault::NameFault;
-use crate::told::Told;
+use crate::reported::Reported;
 use cd_syntax::name::Name;
 use std::alloc::{AllocError, Global};
 
 /// Tells the least of these faults: the one with the least place, and at one place the first in the
 /// order of `NameFault`.
-pub fn tell_least(alloc: Global, faults: &[Told<'_>]) -> Result<(), NameError>
-    ensures sound { OnOk result (least_from None (map plain_told faults.now) ≡ None) }
+pub fn tell_least(alloc: Global, faults: &[Reported<'_>]) -> Result<(), NameError>
+    ensures sound { OnOk result (least_from None (map plain_reported faults.now) ≡ None) }
     ensures fault { IfErr result
-        (λ error. IsLeast (least_from None (map plain_told faults.now)) error) }
+        (λ error. IsLeast (least_from None (map plain_reported faults.now)) error) }
 {
     match least(faults) {
-        Some(told) => Err(error_of(alloc, &told)),
+        Some(reported) => Err(error_of(alloc, &reported)),
         None => Ok(()),
     }
 }
 
-fn least<'t>(faults: &[Told<'t>]) -> Option<Told<'t>>
-    ensures { option_map plain_told result ≡ least_from None (map plain_told faults.now) }
+fn least<'t>(faults: &[Reported<'t>]) -> Option<Reported<'t>>
+    ensures { option_map plain_reported result ≡ least_from None (map plain_reported faults.now) }
 {
     let mut least = None;
     for fault in faults {
@@ -39,9 +39,9 @@ fn least<'t>(faults: &[Told<'t>]) -> Option<Told<'t>>
     least
 }
 
-fn lesser<'t>(least: Option<Told<'t>>, fault: &Told<'t>) -> Option<Told<'t>>
-    ensures { option_map plain_told result
-        ≡ lesser_fault (option_map plain_told least.entry) (plain_told fault.now) }
+fn lesser<'t>(least: Option<Reported<'t>>, fault: &Reported<'t>) -> Option<Reported<'t>>
+    ensures { option_map plain_reported result
+        ≡ lesser_fault (option_map plain_reported least.entry) (plain_reported fault.now) }
 {
     let Some(so_far) = least else {
         return Some(*fault);
@@ -52,8 +52,8 @@ fn lesser<'t>(least: Option<Told<'t>>, fault: &Told<'t>) -> Option<Told<'t>>
     least
 }
 
-fn goes_before(one: &Told<'_>, other: &Told<'_>) -> bool
-    ensures { result ≡ goes_before_fault (plain_told one.now) (plain_told other.now) }
+fn goes_before(one: &Reported<'_>, other: &Reported<'_>) -> bool
+    ensures { result ≡ goes_before_fault (plain_reported one.now) (plain_reported other.now) }
 {
     comes_first(one.at, one.fault, other.at, other.fault)
 }
@@ -81,14 +81,14 @@ fn rank(fault: NameFault) -> usize
 }
 
 // The error that tells a fault.
-fn error_of(alloc: Global, told: &Told<'_>) -> NameError
-    ensures { IsLeast (Some (plain_told told.now)) result }
+fn error_of(alloc: Global, reported: &Reported<'_>) -> NameError
+    ensures { IsLeast (Some (plain_reported reported.now)) result }
 {
-    match name_of(alloc, told.name) {
+    match name_of(alloc, reported.name) {
         Ok(name) => NameError::Fault {
-            fault: told.fault,
+            fault: reported.fault,
             name,
-            at: told.at,
+            at: reported.at,
         },
         Err(_) => NameError::Memory,
     }

@@ -5,7 +5,7 @@ ghost use Rattle.cd_syntax.specs.TypeTree.{trees_of};
 ghost use Rattle.cd_syntax.specs.WellMade.{AreWellMadeDeclarations};
 ghost use Rattle.cd_syntax.specs.WellMadePattern.{IsWellMadePattern};
 ghost use Rattle.cd_model.specs.AllOf.{AllOf};
-ghost use Rattle.cd_resolve.specs.Errors.{IsToldError};
+ghost use Rattle.cd_resolve.specs.Errors.{IsReportedError};
 ghost use Rattle.cd_resolve.specs.Faults.{Fault, IsFaultOfType, IsFaultOfDeclarations};
 ghost use Rattle.cd_resolve.specs.Named.{plain_names, declared_by};
 ghost use Rattle.cd_resolve.specs.Wanted.{wanted_tree};
@@ -14,20 +14,20 @@ ghost use Rattle.cd_resolve.specs.Least.{least_from, IsLeast};
 ghost use Rattle.cd_resolve.specs.Inner.Equation.{plain_equations};
 ghost use Rattle.cd_resolve.specs.Inner.Names.{numbered};
 ghost use Rattle.cd_resolve.specs.Inner.PlainBase.{names_outside, lists_outside};
-ghost use Rattle.cd_resolve.specs.PlainTold.{plain_told};
+ghost use Rattle.cd_resolve.specs.PlainTold.{plain_reported};
 ghost use Rattle.cd_resolve.specs.Inner.PlainFound.{plain_found};
 ghost use Rattle.cd_resolve.specs.Inner.Walk.{walked, walked_list, walked_trees};
 
 use crate::base::Base;
-use crate::cycle::tell_cycles;
+use crate::cycle::report_cycles;
 use crate::declare::walk_list;
 use crate::equation::Equation;
 use crate::error::NameError;
 use crate::found::Found;
 use crate::least::tell_least;
 use crate::names::Names;
+use crate::reported::Reported;
 use crate::state::State;
-use crate::told::Told;
 use crate::walk::walk;
 use crate::wanted::WantedType;
 use cd_graph::built_in::ANY;
@@ -51,7 +51,7 @@ pub(crate) fn read_declarations<'t>(
     ensures sound { OnOk result ((fault : Fault)
         → IsFaultOfDeclarations (plain_declarations declared.now) fault → ⊥) }
     ensures fault { IfErr result
-        (λ error. IsToldError (IsFaultOfDeclarations (plain_declarations declared.now)) error) }
+        (λ error. IsReportedError (IsFaultOfDeclarations (plain_declarations declared.now)) error) }
     ensures equations { IfOk result (λ read. plain_equations read.0.items
         ≡ walked_list first [] [] (plain_declarations declared.now) []) }
     ensures names { IfOk result (λ read. plain_names read.1
@@ -65,7 +65,7 @@ pub(crate) fn read_declarations<'t>(
         outer: None,
     };
     let frame = walk_list(&base, declared, &mut state, &mut found)?;
-    match told(alloc, found) {
+    match reported(alloc, found) {
         Ok(()) => Ok((state.equations, Names { frame })),
         Err(error) => Err(error),
     }
@@ -89,7 +89,7 @@ pub(crate) fn read_type(
     ensures sound { OnOk result ((fault : Fault)
         → IsFaultOfType (declared_by names.now) (plain tree.now) fault → ⊥) }
     ensures fault { IfErr result
-        (λ error. IsToldError (IsFaultOfType (declared_by names.now) (plain tree.now)) error) }
+        (λ error. IsReportedError (IsFaultOfType (declared_by names.now) (plain tree.now)) error) }
     ensures equations { IfOk result (λ read. (read.1, plain_equations read.0.items)
         ≡ walked first (numbered (plain_names names.now).first (declared_by names.now)) []
         (plain tree.now) []) }
@@ -101,7 +101,7 @@ pub(crate) fn read_type(
         outer: Some(&names.frame),
     };
     let (root, found) = walk_type(&base, names.frame.declarations, tree, &mut state)?;
-    match told(alloc, found) {
+    match reported(alloc, found) {
         Ok(()) => Ok((state.equations, root)),
         Err(error) => Err(error),
     }
@@ -192,7 +192,7 @@ fn walk_type<'t>(
 }
 
 // Tells the least fault of what is found.
-fn told(alloc: Global, found: Found<'_>) -> Result<(), NameError>
+fn reported(alloc: Global, found: Found<'_>) -> Result<(), NameError>
     ensures sound { OnOk result (least_from None (all_faults (plain_found found.entry)) ≡ None) }
     ensures fault { IfErr result
         (λ error. IsLeast (least_from None (all_faults (plain_found found.entry))) error) }
@@ -202,11 +202,11 @@ fn told(alloc: Global, found: Found<'_>) -> Result<(), NameError>
 }
 
 // All faults of what is found.
-fn faults_of<'t>(alloc: Global, found: Found<'t>) -> Result<Vec<Told<'t>>, AllocError>
+fn faults_of<'t>(alloc: Global, found: Found<'t>) -> Result<Vec<Reported<'t>>, AllocError>
     ensures { IfOk result (λ faults.
-        map plain_told faults.items ≡ all_faults (plain_found found.entry)) }
+        map plain_reported faults.items ≡ all_faults (plain_found found.entry)) }
 {
     let mut faults = found.faults;
-    tell_cycles(alloc, found.links.as_slice(), &mut faults)?;
+    report_cycles(alloc, found.links.as_slice(), &mut faults)?;
     Ok(faults)
 }

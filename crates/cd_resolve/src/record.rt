@@ -43,7 +43,7 @@ pub(crate) fn walk_record<'t>(
         ≡ walked_kind base.now.first (names_outside base.now) (plain_frames frames.now)
         (Record (plain_fields fields.now) more) (plain_equations state.old.equations.items)) }
 {
-    tell_labels(base.alloc, fields, found)?;
+    report_labels(base.alloc, fields, found)?;
     let made = walk_fields(base, fields, frames, state, found)?;
     state.record(base, made, more)
 }
@@ -77,7 +77,7 @@ fn walk_fields<'t>(
 }
 
 // Tells the labels that stand twice.
-fn tell_labels<'t>(
+fn report_labels<'t>(
     alloc: Global,
     fields: &'t FieldTrees,
     found: &mut Found<'t>,
@@ -88,7 +88,7 @@ fn tell_labels<'t>(
     let mut seen = NameIndex::new(alloc);
     for field in fields.items() {
         let again = seen.add(&field.label)?;
-        found.tell_twice(again, &field.label, field.at)?;
+        found.report_twice(again, &field.label, field.at)?;
     }
     Ok(())
 }

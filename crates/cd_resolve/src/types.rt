@@ -10,7 +10,7 @@ ghost use Rattle.cd_model.specs.StandsFor.{StandsFor};
 ghost use Rattle.cd_graph.specs.Nodes.{nodes};
 ghost use Rattle.cd_graph.specs.PlainFormula.{plain_list};
 ghost use Rattle.cd_resolve.specs.Faults.{Fault, IsFaultOfType, IsFaultOfDeclarations};
-ghost use Rattle.cd_resolve.specs.Errors.{IsToldError};
+ghost use Rattle.cd_resolve.specs.Errors.{IsReportedError};
 ghost use Rattle.cd_resolve.specs.Named.{AreNamed, plain_names, declared_by};
 
 use crate::error::NameError;
@@ -59,7 +59,7 @@ pub fn resolve<'t>(
     ensures sound { OnOk result ((fault : Fault)
         → IsFaultOfDeclarations (plain_declarations declared.now) fault → ⊥) }
     ensures fault { IfErr result
-        (λ error. IsToldError (IsFaultOfDeclarations (plain_declarations declared.now)) error) }
+        (λ error. IsReportedError (IsFaultOfDeclarations (plain_declarations declared.now)) error) }
     ensures formulas { IfOk result
         (λ batch. AllOf (IsFormula (first + length (plain_list batch.formulas)))
         (plain_list batch.formulas)) }
@@ -98,7 +98,7 @@ pub fn resolve_type(
     ensures sound { OnOk result ((fault : Fault)
         → IsFaultOfType (declared_by names.now) (plain tree.now) fault → ⊥) }
     ensures fault { IfErr result
-        (λ error. IsToldError (IsFaultOfType (declared_by names.now) (plain tree.now)) error) }
+        (λ error. IsReportedError (IsFaultOfType (declared_by names.now) (plain tree.now)) error) }
     ensures formulas { IfOk result (λ batch.
         AllOf (IsFormula (length (nodes graph.now) + length (plain_list batch.formulas)))
         (plain_list batch.formulas)) }
@@ -134,7 +134,7 @@ pub fn resolve_type_from(
     ensures sound { OnOk result ((fault : Fault)
         → IsFaultOfType (declared_by names.now) (plain tree.now) fault → ⊥) }
     ensures fault { IfErr result
-        (λ error. IsToldError (IsFaultOfType (declared_by names.now) (plain tree.now)) error) }
+        (λ error. IsReportedError (IsFaultOfType (declared_by names.now) (plain tree.now)) error) }
     ensures formulas { IfOk result (λ batch.
         AllOf (IsFormula (first + length (plain_list batch.formulas)))
         (plain_list batch.formulas)) }

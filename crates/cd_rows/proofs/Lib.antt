@@ -4,7 +4,7 @@ pub mod RefinedRows
 pub mod FirstRows
 pub mod ClausesOfRecords
 pub mod OwnLabels
-pub mod LivingRows
+pub mod RowsWithWitnesses
 pub mod RecordsOfRows
 pub mod RowsAfter
 pub mod RowsOfGraphs

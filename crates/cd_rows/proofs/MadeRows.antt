@@ -26,15 +26,15 @@ use Rattle.cd_products.proofs.Decided.{elements_decided}
 use Rattle.cd_products.proofs.LongerGraphs.{clauses_kept, test_of_longer}
 use Rattle.cd_products.proofs.MadeProducts.{drops, keeps, drops_values, values_decided}
 use Rattle.cd_products.proofs.Tests.{right_test}
-use Rattle.cd_rows.specs.RecordRows.{IsLivingRow, CoverRecords, AreRecordRows}
+use Rattle.cd_rows.specs.RecordRows.{RowHasWitnesses, CoverRecords, AreRecordRows}
 use Rattle.cd_rows.specs.RecordRows.{CoverRecordValues, RowAsksNodes}
 use Rattle.cd_rows.specs.Inner.PlainClauses.{row_clause, row_clauses}
 use Rattle.cd_rows.specs.Inner.Refining.{needed, less_row, rows_of_clause}
 use Rattle.cd_rows.specs.Inner.Refining.{rows_of_clauses}
 use Rattle.cd_rows.proofs.ClausesOfRecords.{rows_only, rows_hold}
 use Rattle.cd_rows.proofs.FirstRows.{first_labels}
-use Rattle.cd_rows.proofs.LivingRows.{SomeInEvery, less_some_in_every, row_lives, none_dropped}
-use Rattle.cd_rows.proofs.LivingRows.{field_decided, at_labels}
+use Rattle.cd_rows.proofs.RowsWithWitnesses.{SomeInEvery, less_some_in_every, row_lives, none_dropped}
+use Rattle.cd_rows.proofs.RowsWithWitnesses.{field_decided, at_labels}
 use Rattle.cd_rows.proofs.OwnLabels.{have_own, have_labels}
 use Rattle.cd_rows.proofs.RefinedRows.{HasThese, less_these, clause_has, clause_passes}
 use Rattle.cd_rows.proofs.RowsOfGraphs.{clauses_ask, row_clauses_ask}
@@ -73,7 +73,7 @@ module _ (answers : Thing → Answers) (Sort : Thing → Type 0) (test : List Qu
     labels = labels_of (wanted ++ refused)
 
     live : (rows : List Row) → AllOf (λ row. test (needed row) ≡ true) rows
-        → AllOf (IsMade labels) rows → AllOf (IsLivingRow answers Sort) rows
+        → AllOf (IsMade labels) rows → AllOf (RowHasWitnesses answers Sort) rows
     live [] each made = tt
     live (row ∷ rows) each made =
         let has = row_lives answers Sort row (keeps (needed row) each.0) in (
@@ -87,7 +87,7 @@ module _ (answers : Thing → Answers) (Sort : Thing → Type 0) (test : List Qu
           live rows each.1 made.1,
         )
 
-    clause_lives : AllOf (IsLivingRow answers Sort)
+    clause_lives : AllOf (RowHasWitnesses answers Sort)
         (rows_of_clause test (row_clause wanted refused))
     clause_lives = live (rows_of_clause test (row_clause wanted refused))
         (clause_passes test (row_clause wanted refused))
@@ -102,11 +102,11 @@ module _ (answers : Thing → Answers) (Sort : Thing → Type 0) (test : List Qu
 
   module _ (graph : Graph) (sound : IsGraph graph) (question : Question) where
     rows_live : (all : List Clause) → AllOf (IsClauseOfQuestion graph question) all
-        → AllOf (IsLivingRow answers Sort) (rows_of_clauses test (row_clauses all))
+        → AllOf (RowHasWitnesses answers Sort) (rows_of_clauses test (row_clauses all))
     rows_live [] each = tt
     rows_live (Records wanted refused ∷ all) each =
         let names = clause_names_labels graph sound question (Records wanted refused) each.0 in
-        each_of_lists (IsLivingRow answers Sort) (rows_of_clause test (row_clause wanted refused))
+        each_of_lists (RowHasWitnesses answers Sort) (rows_of_clause test (row_clause wanted refused))
         (rows_of_clauses test (row_clauses all)) (clause_lives wanted refused names.0 names.1)
         (rows_live all each.1)
     rows_live (Ints _ _ ∷ all) each = rows_live all each.1
@@ -134,7 +134,7 @@ module _ (graph : Graph) (begins : (more : Graph) × (graph ≡ built_ins ++ mor
             (none_dropped (in_node graph) IsElement (thing_at fields)
             (at_labels sort.elements fields is.1) test (drops graph test found.1));
         only = λ fields is one. rows_only graph no_closure question all are test fields one;
-        living = rows_live (in_node graph) IsElement test (keeps graph test found.1) graph sound
+        witnesses = rows_live (in_node graph) IsElement test (keeps graph test found.1) graph sound
             question all are.0;
       })
 

@@ -20,7 +20,7 @@ use Rattle.cd_rules.proofs.MembersFields.{found, put, found_there, found_elsewhe
 use Rattle.cd_rules.proofs.MembersFields.{put_fields}
 use Rattle.cd_model.proofs.Ones.{each_weaker, one_of_map}
 use Rattle.cd_products.specs.QuestionBoxes.{InQuestion, IsInhabited}
-use Rattle.cd_rows.specs.RecordRows.{IsLivingRow, InRecordRow, HaveOwnLabels, cell_in, asked_at}
+use Rattle.cd_rows.specs.RecordRows.{RowHasWitnesses, InRecordRow, HaveOwnLabels, cell_in, asked_at}
 use Rattle.cd_rows.proofs.LessRows.{labels_in}
 
 -- fields that are a record of elements
@@ -363,14 +363,14 @@ module _ (answers : Thing → Answers) where
               some_elsewhere row.some more.each,
         )
 
-  module _ (row : Row) (living : IsLivingRow answers IsElement row) where
+  module _ (row : Row) (witnesses : RowHasWitnesses answers IsElement row) where
     abbrev more_than : (n : ℕ) → (base : Made) → More row.every base n row.some
-    more_than n base = have_more row.every base row.some living.some living.within n
+    more_than n base = have_more row.every base row.some witnesses.some witnesses.within n
 
     pub has_record : (fields : thing.Fields) × IsElement (thing.Record fields)
         × InRecordRow answers fields row
     has_record =
-        let fits = fit_cells row.cells living.labels living.once living.cells in
+        let fits = fit_cells row.cells witnesses.labels witnesses.once witnesses.cells in
         let n = longest (labels_in row.cells) in
         let more = more_than n fits.made in (
           more.made.fields,
@@ -392,8 +392,8 @@ module _ (answers : Thing → Answers) where
         → (fields : thing.Fields) × IsElement (thing.Record fields)
         × InRecordRow answers fields row × (thing_at fields label ≡ Some e)
     has_picked label e is_label is_element is =
-        let picks = pick row.every label e is_label is_element row.cells living.labels living.once
-        living.cells is in
+        let picks = pick row.every label e is_label is_element row.cells witnesses.labels witnesses.once
+        witnesses.cells is in
         let n = longest (label ∷ labels_in row.cells) in
         let more = more_than n picks.made in
         let short = λ (name : Name) (one : IsOneOf (labels_in row.cells) name).

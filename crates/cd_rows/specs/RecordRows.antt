@@ -50,7 +50,7 @@ module _ (answers : Thing → Answers NodeId) where
   module _ (Sort : Thing → Type 0) where
     -- A row that has a record: at the label of each cell there may be nothing or there is a thing
     -- for it, and there is one for each question of `some`, which is in `every` then
-    pub record IsLivingRow (row : Row) : Type 0 where
+    pub record RowHasWitnesses (row : Row) : Type 0 where
       pub cells : AllOf
           (λ cell. (cell.1.absent ≡ true) ⊎ IsInhabited answers Sort cell.1.value) row.cells
       pub some : AllOf (IsInhabited answers Sort) row.some
@@ -71,7 +71,7 @@ module _ (answers : Thing → Answers NodeId) where
       pub covers : CoverRecords question rows
       pub only : (fields : Fields) → Sort (Record fields) → AnyOf (InRecordRow fields) rows
           → asked (answers (Record fields)) question true
-      pub living : AllOf IsLivingRow rows
+      pub witnesses : AllOf RowHasWitnesses rows
 
 -- Rows cover the records of a question that are values in each sound graph that begins with this
 -- one, under all interfaces of that graph

@@ -4,10 +4,10 @@
 mod copied;
 mod cut;
 pub mod laws;
-mod living;
 mod narrowed;
 mod of_records;
 mod refused;
 mod row_clause;
+mod witnesses;
 
 pub use of_records::record_rows;

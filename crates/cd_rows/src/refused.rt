@@ -14,8 +14,8 @@ ghost use Rattle.cd_rows.specs.Inner.Refining.{ClauseAsks, refuse as refuse_type
 ghost use Rattle.cd_rows.specs.Inner.Refining.{rows_of_clause, rows_of_clauses};
 
 use crate::cut::less;
-use crate::living::{keep, keep_one};
 use crate::row_clause::RowClause;
+use crate::witnesses::{keep, keep_one};
 use cd_empty::World;
 use cd_graph::fields::Fields;
 use cd_needs::row::Row;

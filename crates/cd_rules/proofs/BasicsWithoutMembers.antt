@@ -9,7 +9,7 @@ use Rattle.cd_model.specs.Membership.{asked, answers, reader}
 use Rattle.cd_model.specs.Types.{no_closure}
 use Rattle.cd_rules.specs.BasicSets.{IsBasic, HasNoBasic}
 use Rattle.cd_rules.specs.Clauses.{Clause, Ints, Chars, Atoms, IsClauseOfQuestion, IsInClause}
-use Rattle.cd_rules.specs.Family.{Breaks}
+use Rattle.cd_rules.specs.Family.{Refutes}
 use Rattle.cd_rules.specs.Needs.{AreNeeds}
 use Rattle.cd_rules.proofs.ClausesExact.{thing_exact}
 
@@ -34,11 +34,11 @@ module _ (graph : Graph) (question : Question) (none : HasNoBasic graph question
   nothing_needed _ of basic = absurd basic
 
   -- each family breaks them
-  pub basic_breaks : (family : List Question) (is : Clause) → IsClauseOfQuestion graph question is → IsBasic is → Breaks family is
-  basic_breaks family (Ints wanted refused) of basic = ([] ∷ [], nothing_needed (Ints wanted refused) of basic, inl tt)
-  basic_breaks family (Chars wanted refused) of basic = ([] ∷ [], nothing_needed (Chars wanted refused) of basic, inl tt)
-  basic_breaks family (Atoms wanted refused) of basic = ([] ∷ [], nothing_needed (Atoms wanted refused) of basic, inl tt)
-  basic_breaks family _ of basic = absurd basic
+  pub basic_refutes : (family : List Question) (is : Clause) → IsClauseOfQuestion graph question is → IsBasic is → Refutes family is
+  basic_refutes family (Ints wanted refused) of basic = ([] ∷ [], nothing_needed (Ints wanted refused) of basic, inl tt)
+  basic_refutes family (Chars wanted refused) of basic = ([] ∷ [], nothing_needed (Chars wanted refused) of basic, inl tt)
+  basic_refutes family (Atoms wanted refused) of basic = ([] ∷ [], nothing_needed (Atoms wanted refused) of basic, inl tt)
+  basic_refutes family _ of basic = absurd basic
 
   -- an element of the question is in no basic clause
   pub in_no_basic : (is : Clause) → IsBasic is → (e : Thing) → IsElement e → asked (answers graph e) question true

@@ -15,7 +15,7 @@ use Rattle.cd_model.specs.Kinds.{Kind, AnInteger, ACharacter, AnAtom, APair, AnX
 use Rattle.cd_model.specs.Membership as node
 use Rattle.cd_model.specs.Membership.{Reader, Answers, Labelled, Mapping, integer_reader, character_reader, atom_reader}
 use Rattle.cd_model.specs.Membership.{pair_reader, xml_reader, record_reader, function_reader}
-use Rattle.cd_rules.specs.Choices.{Choice, Meets}
+use Rattle.cd_rules.specs.Dnf.{Conjunct, Meets}
 use Rattle.cd_rules.specs.Clauses.{Clause, Ints, Chars, Atoms, Pairs, Xmls, Records, Arrows, kind_of_formula, AllOfKind}
 use Rattle.cd_rules.specs.Clauses.{integers_of, characters_of, atoms_of, pair_of, xml_of, record_of, arrow_of}
 use Rattle.cd_rules.specs.Clauses.{one_more, parts_in, IsClauseOf, IsInClause}
@@ -32,7 +32,7 @@ ReadAlike reader parts_of formula_of =
 
 module _ (reader : Reader) where
   -- all wanted literals of a choice that is met are of the thing's kind
-  all_of : (kind : Kind) → IsOfKind kind reader → (choice : Choice) → Meets reader choice → AllOfKind kind choice
+  all_of : (kind : Kind) → IsOfKind kind reader → (conjunct : Conjunct) → Meets reader conjunct → AllOfKind kind conjunct
   all_of kind of_kind [] meets = tt
   all_of kind of_kind (literal ∷ rest) meets = (
     λ wanted. of_kind literal.is (subst (λ (answer : Bool). reader literal.is answer) wanted meets.0),
@@ -51,8 +51,8 @@ module _ (reader : Reader) where
     read_one true false is rest _ each = each
     read_one false true is rest _ each = each
 
-    read_parts : ReadAlike reader parts_of formula_of → (sign : Bool) (choice : Choice) → Meets reader choice
-        → AllOf (λ parts. reader (formula_of parts) sign) (parts_in parts_of sign choice)
+    read_parts : ReadAlike reader parts_of formula_of → (sign : Bool) (conjunct : Conjunct) → Meets reader conjunct
+        → AllOf (λ parts. reader (formula_of parts) sign) (parts_in parts_of sign conjunct)
     read_parts alike sign [] meets = tt
     read_parts alike sign (literal ∷ rest) meets =
         read_one sign literal.wanted (parts_of literal.is) (parts_in parts_of sign rest)
@@ -87,94 +87,94 @@ module _ (reader : Reader) where
   arrows_alike _ answer is = tt
 
   -- the clause of a choice for each kind, and that its wanted and its refused formulas are read so
-  pub in_integers : IsOfKind AnInteger reader → (choice : Choice) → Meets reader choice
-      → IsClauseOf choice (Ints (parts_in integers_of true choice) (parts_in integers_of false choice))
-      × AllOf (λ set. reader (formula.Ints set) true) (parts_in integers_of true choice)
-      × AllOf (λ set. reader (formula.Ints set) false) (parts_in integers_of false choice)
-  in_integers of_kind choice meets = (
-    (all_of AnInteger of_kind choice meets, refl, refl),
-    read_parts integers_of formula.Ints integers_alike true choice meets,
-    read_parts integers_of formula.Ints integers_alike false choice meets,
+  pub in_integers : IsOfKind AnInteger reader → (conjunct : Conjunct) → Meets reader conjunct
+      → IsClauseOf conjunct (Ints (parts_in integers_of true conjunct) (parts_in integers_of false conjunct))
+      × AllOf (λ set. reader (formula.Ints set) true) (parts_in integers_of true conjunct)
+      × AllOf (λ set. reader (formula.Ints set) false) (parts_in integers_of false conjunct)
+  in_integers of_kind conjunct meets = (
+    (all_of AnInteger of_kind conjunct meets, refl, refl),
+    read_parts integers_of formula.Ints integers_alike true conjunct meets,
+    read_parts integers_of formula.Ints integers_alike false conjunct meets,
   )
 
-  pub in_characters : IsOfKind ACharacter reader → (choice : Choice) → Meets reader choice
-      → IsClauseOf choice (Chars (parts_in characters_of true choice) (parts_in characters_of false choice))
-      × AllOf (λ set. reader (formula.Chars set) true) (parts_in characters_of true choice)
-      × AllOf (λ set. reader (formula.Chars set) false) (parts_in characters_of false choice)
-  in_characters of_kind choice meets = (
-    (all_of ACharacter of_kind choice meets, refl, refl),
-    read_parts characters_of formula.Chars characters_alike true choice meets,
-    read_parts characters_of formula.Chars characters_alike false choice meets,
+  pub in_characters : IsOfKind ACharacter reader → (conjunct : Conjunct) → Meets reader conjunct
+      → IsClauseOf conjunct (Chars (parts_in characters_of true conjunct) (parts_in characters_of false conjunct))
+      × AllOf (λ set. reader (formula.Chars set) true) (parts_in characters_of true conjunct)
+      × AllOf (λ set. reader (formula.Chars set) false) (parts_in characters_of false conjunct)
+  in_characters of_kind conjunct meets = (
+    (all_of ACharacter of_kind conjunct meets, refl, refl),
+    read_parts characters_of formula.Chars characters_alike true conjunct meets,
+    read_parts characters_of formula.Chars characters_alike false conjunct meets,
   )
 
-  pub in_atoms : IsOfKind AnAtom reader → (choice : Choice) → Meets reader choice
-      → IsClauseOf choice (Atoms (parts_in atoms_of true choice) (parts_in atoms_of false choice))
-      × AllOf (λ set. reader (formula.Atoms set) true) (parts_in atoms_of true choice)
-      × AllOf (λ set. reader (formula.Atoms set) false) (parts_in atoms_of false choice)
-  in_atoms of_kind choice meets = (
-    (all_of AnAtom of_kind choice meets, refl, refl),
-    read_parts atoms_of formula.Atoms atoms_alike true choice meets,
-    read_parts atoms_of formula.Atoms atoms_alike false choice meets,
+  pub in_atoms : IsOfKind AnAtom reader → (conjunct : Conjunct) → Meets reader conjunct
+      → IsClauseOf conjunct (Atoms (parts_in atoms_of true conjunct) (parts_in atoms_of false conjunct))
+      × AllOf (λ set. reader (formula.Atoms set) true) (parts_in atoms_of true conjunct)
+      × AllOf (λ set. reader (formula.Atoms set) false) (parts_in atoms_of false conjunct)
+  in_atoms of_kind conjunct meets = (
+    (all_of AnAtom of_kind conjunct meets, refl, refl),
+    read_parts atoms_of formula.Atoms atoms_alike true conjunct meets,
+    read_parts atoms_of formula.Atoms atoms_alike false conjunct meets,
   )
 
-  pub in_pairs : IsOfKind APair reader → (choice : Choice) → Meets reader choice
-      → IsClauseOf choice (Pairs (parts_in pair_of true choice) (parts_in pair_of false choice))
-      × AllOf (λ parts. reader (formula.Pair parts.0 parts.1) true) (parts_in pair_of true choice)
-      × AllOf (λ parts. reader (formula.Pair parts.0 parts.1) false) (parts_in pair_of false choice)
-  in_pairs of_kind choice meets = (
-    (all_of APair of_kind choice meets, refl, refl),
-    read_parts pair_of (λ parts. formula.Pair parts.0 parts.1) pairs_alike true choice meets,
-    read_parts pair_of (λ parts. formula.Pair parts.0 parts.1) pairs_alike false choice meets,
+  pub in_pairs : IsOfKind APair reader → (conjunct : Conjunct) → Meets reader conjunct
+      → IsClauseOf conjunct (Pairs (parts_in pair_of true conjunct) (parts_in pair_of false conjunct))
+      × AllOf (λ parts. reader (formula.Pair parts.0 parts.1) true) (parts_in pair_of true conjunct)
+      × AllOf (λ parts. reader (formula.Pair parts.0 parts.1) false) (parts_in pair_of false conjunct)
+  in_pairs of_kind conjunct meets = (
+    (all_of APair of_kind conjunct meets, refl, refl),
+    read_parts pair_of (λ parts. formula.Pair parts.0 parts.1) pairs_alike true conjunct meets,
+    read_parts pair_of (λ parts. formula.Pair parts.0 parts.1) pairs_alike false conjunct meets,
   )
 
-  pub in_xmls : IsOfKind AnXml reader → (choice : Choice) → Meets reader choice
-      → IsClauseOf choice (Xmls (parts_in xml_of true choice) (parts_in xml_of false choice))
-      × AllOf (λ parts. reader (formula.Xml parts.0 parts.1 parts.2) true) (parts_in xml_of true choice)
-      × AllOf (λ parts. reader (formula.Xml parts.0 parts.1 parts.2) false) (parts_in xml_of false choice)
-  in_xmls of_kind choice meets = (
-    (all_of AnXml of_kind choice meets, refl, refl),
-    read_parts xml_of (λ parts. formula.Xml parts.0 parts.1 parts.2) xmls_alike true choice meets,
-    read_parts xml_of (λ parts. formula.Xml parts.0 parts.1 parts.2) xmls_alike false choice meets,
+  pub in_xmls : IsOfKind AnXml reader → (conjunct : Conjunct) → Meets reader conjunct
+      → IsClauseOf conjunct (Xmls (parts_in xml_of true conjunct) (parts_in xml_of false conjunct))
+      × AllOf (λ parts. reader (formula.Xml parts.0 parts.1 parts.2) true) (parts_in xml_of true conjunct)
+      × AllOf (λ parts. reader (formula.Xml parts.0 parts.1 parts.2) false) (parts_in xml_of false conjunct)
+  in_xmls of_kind conjunct meets = (
+    (all_of AnXml of_kind conjunct meets, refl, refl),
+    read_parts xml_of (λ parts. formula.Xml parts.0 parts.1 parts.2) xmls_alike true conjunct meets,
+    read_parts xml_of (λ parts. formula.Xml parts.0 parts.1 parts.2) xmls_alike false conjunct meets,
   )
 
-  pub in_records : IsOfKind ARecord reader → (choice : Choice) → Meets reader choice
-      → IsClauseOf choice (Records (parts_in record_of true choice) (parts_in record_of false choice))
-      × AllOf (λ type. reader (formula.Record type.named type.rest) true) (parts_in record_of true choice)
-      × AllOf (λ type. reader (formula.Record type.named type.rest) false) (parts_in record_of false choice)
-  in_records of_kind choice meets = (
-    (all_of ARecord of_kind choice meets, refl, refl),
-    read_parts record_of (λ type. formula.Record type.named type.rest) records_alike true choice meets,
-    read_parts record_of (λ type. formula.Record type.named type.rest) records_alike false choice meets,
+  pub in_records : IsOfKind ARecord reader → (conjunct : Conjunct) → Meets reader conjunct
+      → IsClauseOf conjunct (Records (parts_in record_of true conjunct) (parts_in record_of false conjunct))
+      × AllOf (λ type. reader (formula.Record type.named type.rest) true) (parts_in record_of true conjunct)
+      × AllOf (λ type. reader (formula.Record type.named type.rest) false) (parts_in record_of false conjunct)
+  in_records of_kind conjunct meets = (
+    (all_of ARecord of_kind conjunct meets, refl, refl),
+    read_parts record_of (λ type. formula.Record type.named type.rest) records_alike true conjunct meets,
+    read_parts record_of (λ type. formula.Record type.named type.rest) records_alike false conjunct meets,
   )
 
-  pub in_arrows : IsOfKind AFunction reader → (choice : Choice) → Meets reader choice
-      → IsClauseOf choice (Arrows (parts_in arrow_of true choice) (parts_in arrow_of false choice))
-      × AllOf (λ parts. reader (formula.Arrow parts.0 parts.1) true) (parts_in arrow_of true choice)
-      × AllOf (λ parts. reader (formula.Arrow parts.0 parts.1) false) (parts_in arrow_of false choice)
-  in_arrows of_kind choice meets = (
-    (all_of AFunction of_kind choice meets, refl, refl),
-    read_parts arrow_of (λ parts. formula.Arrow parts.0 parts.1) arrows_alike true choice meets,
-    read_parts arrow_of (λ parts. formula.Arrow parts.0 parts.1) arrows_alike false choice meets,
+  pub in_arrows : IsOfKind AFunction reader → (conjunct : Conjunct) → Meets reader conjunct
+      → IsClauseOf conjunct (Arrows (parts_in arrow_of true conjunct) (parts_in arrow_of false conjunct))
+      × AllOf (λ parts. reader (formula.Arrow parts.0 parts.1) true) (parts_in arrow_of true conjunct)
+      × AllOf (λ parts. reader (formula.Arrow parts.0 parts.1) false) (parts_in arrow_of false conjunct)
+  in_arrows of_kind conjunct meets = (
+    (all_of AFunction of_kind conjunct meets, refl, refl),
+    read_parts arrow_of (λ parts. formula.Arrow parts.0 parts.1) arrows_alike true conjunct meets,
+    read_parts arrow_of (λ parts. formula.Arrow parts.0 parts.1) arrows_alike false conjunct meets,
   )
 
 -- for any kind
 pub in_clause : (kind : Kind) (reader : Reader)
     → ((is : Formula) → reader is true → kind_of_formula is ≡ Some kind)
-    → (choice : Choice) → Meets reader choice → (clause : Clause) × IsClauseOf choice clause × IsInClause kind reader clause
-in_clause AnInteger reader of_kind choice meets = let is = in_integers reader of_kind choice meets in
-    (Ints (parts_in integers_of true choice) (parts_in integers_of false choice), is.0, (refl, is.1, is.2))
-in_clause ACharacter reader of_kind choice meets = let is = in_characters reader of_kind choice meets in
-    (Chars (parts_in characters_of true choice) (parts_in characters_of false choice), is.0, (refl, is.1, is.2))
-in_clause AnAtom reader of_kind choice meets = let is = in_atoms reader of_kind choice meets in
-    (Atoms (parts_in atoms_of true choice) (parts_in atoms_of false choice), is.0, (refl, is.1, is.2))
-in_clause APair reader of_kind choice meets = let is = in_pairs reader of_kind choice meets in
-    (Pairs (parts_in pair_of true choice) (parts_in pair_of false choice), is.0, (refl, is.1, is.2))
-in_clause AnXml reader of_kind choice meets = let is = in_xmls reader of_kind choice meets in
-    (Xmls (parts_in xml_of true choice) (parts_in xml_of false choice), is.0, (refl, is.1, is.2))
-in_clause ARecord reader of_kind choice meets = let is = in_records reader of_kind choice meets in
-    (Records (parts_in record_of true choice) (parts_in record_of false choice), is.0, (refl, is.1, is.2))
-in_clause AFunction reader of_kind choice meets = let is = in_arrows reader of_kind choice meets in
-    (Arrows (parts_in arrow_of true choice) (parts_in arrow_of false choice), is.0, (refl, is.1, is.2))
+    → (conjunct : Conjunct) → Meets reader conjunct → (clause : Clause) × IsClauseOf conjunct clause × IsInClause kind reader clause
+in_clause AnInteger reader of_kind conjunct meets = let is = in_integers reader of_kind conjunct meets in
+    (Ints (parts_in integers_of true conjunct) (parts_in integers_of false conjunct), is.0, (refl, is.1, is.2))
+in_clause ACharacter reader of_kind conjunct meets = let is = in_characters reader of_kind conjunct meets in
+    (Chars (parts_in characters_of true conjunct) (parts_in characters_of false conjunct), is.0, (refl, is.1, is.2))
+in_clause AnAtom reader of_kind conjunct meets = let is = in_atoms reader of_kind conjunct meets in
+    (Atoms (parts_in atoms_of true conjunct) (parts_in atoms_of false conjunct), is.0, (refl, is.1, is.2))
+in_clause APair reader of_kind conjunct meets = let is = in_pairs reader of_kind conjunct meets in
+    (Pairs (parts_in pair_of true conjunct) (parts_in pair_of false conjunct), is.0, (refl, is.1, is.2))
+in_clause AnXml reader of_kind conjunct meets = let is = in_xmls reader of_kind conjunct meets in
+    (Xmls (parts_in xml_of true conjunct) (parts_in xml_of false conjunct), is.0, (refl, is.1, is.2))
+in_clause ARecord reader of_kind conjunct meets = let is = in_records reader of_kind conjunct meets in
+    (Records (parts_in record_of true conjunct) (parts_in record_of false conjunct), is.0, (refl, is.1, is.2))
+in_clause AFunction reader of_kind conjunct meets = let is = in_arrows reader of_kind conjunct meets in
+    (Arrows (parts_in arrow_of true conjunct) (parts_in arrow_of false conjunct), is.0, (refl, is.1, is.2))
 
 -- readers of things of one kind
 pub kind_of_integer : (n : ℤ) → IsOfKind AnInteger (integer_reader n)

@@ -6,40 +6,40 @@ use Rattle.cd_model.specs.Formula.{Graph}
 use Rattle.cd_model.specs.Kinds.{Kind, kind_of}
 use Rattle.cd_model.specs.Membership.{Reader, Mapping, at_nodes, asked}
 use Rattle.cd_model.specs.Thing.{Thing}
-use Rattle.cd_rules.specs.Choices.{Choice, Meets, choices_of}
+use Rattle.cd_rules.specs.Dnf.{Conjunct, Meets, dnf_of}
 use Rattle.cd_rules.specs.Clauses.{Clause, IsClauseOf, IsClauseOfQuestion, IsInClause}
-use Rattle.cd_rules.proofs.ChoicesExact.{question_exact}
+use Rattle.cd_rules.proofs.DnfExact.{question_exact}
 use Rattle.cd_rules.proofs.ClauseBack.{clause_back}
 use Rattle.cd_rules.proofs.ClauseOf.{IsOfKind, in_clause, kind_of_thing}
-use Rattle.cd_rules.proofs.Elsewhere.{IsElsewhere, thing_is_elsewhere}
+use Rattle.cd_rules.proofs.OtherKinds.{IsOutsideOtherKinds, thing_is_elsewhere}
 use Rattle.cd_model.proofs.Ones.{one_weaker}
 use Rattle.cd_rules.proofs.Things.{reader_of, answers_of}
 
 module _ (kind : Kind) (reader : Reader) where
   -- a clause of one of some choices, and the thing is in it
-  abbrev InOneOf : List Choice → Type 0
-  InOneOf choices = (clause : Clause) × AnyOf (λ choice. IsClauseOf choice clause) choices × IsInClause kind reader clause
+  abbrev InOneOf : List Conjunct → Type 0
+  InOneOf conjuncts = (clause : Clause) × AnyOf (λ conjunct. IsClauseOf conjunct clause) conjuncts × IsInClause kind reader clause
 
   -- what meets one of some choices is in a clause of one of them
-  clause_of_one : IsOfKind kind reader → (choices : List Choice) → AnyOf (Meets reader) choices → InOneOf choices
+  clause_of_one : IsOfKind kind reader → (conjuncts : List Conjunct) → AnyOf (Meets reader) conjuncts → InOneOf conjuncts
   clause_of_one of_kind [] one = elim one [ ]
-  clause_of_one of_kind (choice ∷ choices) (inl meets) =
-      let is = in_clause kind reader of_kind choice meets in (is.0, inl is.1, is.2)
-  clause_of_one of_kind (choice ∷ choices) (inr later) =
-      let is = clause_of_one of_kind choices later in (is.0, inr is.1, is.2)
+  clause_of_one of_kind (conjunct ∷ conjuncts) (inl meets) =
+      let is = in_clause kind reader of_kind conjunct meets in (is.0, inl is.1, is.2)
+  clause_of_one of_kind (conjunct ∷ conjuncts) (inr later) =
+      let is = clause_of_one of_kind conjuncts later in (is.0, inr is.1, is.2)
 
   -- and what is in such a clause meets the choice
-  one_of_clause : IsElsewhere kind reader → (choices : List Choice) → InOneOf choices → AnyOf (Meets reader) choices
-  one_of_clause elsewhere choices is = one_weaker (λ choice. IsClauseOf choice is.0) (Meets reader)
-      (λ choice of. clause_back kind reader elsewhere choice is.0 of is.2) choices is.1
+  one_of_clause : IsOutsideOtherKinds kind reader → (conjuncts : List Conjunct) → InOneOf conjuncts → AnyOf (Meets reader) conjuncts
+  one_of_clause elsewhere conjuncts is = one_weaker (λ conjunct. IsClauseOf conjunct is.0) (Meets reader)
+      (λ conjunct of. clause_back kind reader elsewhere conjunct is.0 of is.2) conjuncts is.1
 
   -- a thing of one kind is in a question just where it is in one of the question's clauses
-  pub clauses_exact : IsOfKind kind reader → IsElsewhere kind reader → (graph : Graph) (question : Question)
+  pub clauses_exact : IsOfKind kind reader → IsOutsideOtherKinds kind reader → (graph : Graph) (question : Question)
       → asked (at_nodes graph reader) question true
       ↔ ((clause : Clause) × IsClauseOfQuestion graph question clause × IsInClause kind reader clause)
   clauses_exact of_kind elsewhere graph question = (
-    λ asking. clause_of_one of_kind (choices_of graph question) ((question_exact reader graph question).0 asking),
-    λ is. (question_exact reader graph question).1 (one_of_clause elsewhere (choices_of graph question) is),
+    λ asking. clause_of_one of_kind (dnf_of graph question) ((question_exact reader graph question).0 asking),
+    λ is. (question_exact reader graph question).1 (one_of_clause elsewhere (dnf_of graph question) is),
   )
 
 -- a thing is in a question just where it is in one of the question's clauses

@@ -5,16 +5,16 @@ use Rattle.cd_model.specs.AllOf.{AnyOf}
 use Rattle.cd_model.specs.Formula as formula
 use Rattle.cd_model.specs.Formula.{Formula, Graph}
 use Rattle.cd_model.specs.Kinds.{APair, AnXml, ARecord, AFunction}
-use Rattle.cd_rules.specs.Choices.{Choice}
+use Rattle.cd_rules.specs.Dnf.{Conjunct}
 use Rattle.cd_rules.specs.Clauses.{Pair, Triple, RecordType, Pairs, Xmls, Records, Arrows, kind_of_formula, IsClauseOfQuestion}
 use Rattle.cd_rules.specs.Clauses.{pair_of, xml_of, record_of, arrow_of, parts_in}
-use Rattle.cd_rules.specs.KindChoices.{is_of, kind_choices_of}
-use Rattle.cd_rules.proofs.KindChoicesExact.{clause_of_kind}
-use Rattle.cd_rules.proofs.KindChoicesBack.{kind_clause_of}
+use Rattle.cd_rules.specs.KindDnf.{is_of, kind_dnf_of}
+use Rattle.cd_rules.proofs.KindDnfExact.{clause_of_kind}
+use Rattle.cd_rules.proofs.KindDnfBack.{kind_clause_of}
 
 -- a choice wants and refuses these
-abbrev pub HasParts : {X : Type 0} → (Formula → Option X) → (wanted refused : List X) → Choice → Type 0
-HasParts parts_of wanted refused choice = (wanted ≡ parts_in parts_of true choice) × (refused ≡ parts_in parts_of false choice)
+abbrev pub HasParts : {X : Type 0} → (Formula → Option X) → (wanted refused : List X) → Conjunct → Type 0
+HasParts parts_of wanted refused conjunct = (wanted ≡ parts_in parts_of true conjunct) × (refused ≡ parts_in parts_of false conjunct)
 
 pair_kind : (is : Formula) → is_of APair is ≡ true → kind_of_formula is ≡ Some APair
 pair_kind (formula.Pair first second) same = refl
@@ -30,7 +30,7 @@ no_pair _ same = refl
 
 pub pairs_of_kind : (graph : Graph) (question : Question) (wanted refused : List Pair)
     → IsClauseOfQuestion graph question (Pairs wanted refused)
-    ↔ AnyOf (HasParts pair_of wanted refused) (kind_choices_of APair graph question)
+    ↔ AnyOf (HasParts pair_of wanted refused) (kind_dnf_of APair graph question)
 pairs_of_kind graph question wanted refused = (
   clause_of_kind APair pair_of no_pair is_pair graph question wanted refused,
   kind_clause_of APair pair_kind pair_of no_pair wanted refused graph question,
@@ -50,7 +50,7 @@ no_xml _ same = refl
 
 pub xmls_of_kind : (graph : Graph) (question : Question) (wanted refused : List Triple)
     → IsClauseOfQuestion graph question (Xmls wanted refused)
-    ↔ AnyOf (HasParts xml_of wanted refused) (kind_choices_of AnXml graph question)
+    ↔ AnyOf (HasParts xml_of wanted refused) (kind_dnf_of AnXml graph question)
 xmls_of_kind graph question wanted refused = (
   clause_of_kind AnXml xml_of no_xml is_xml graph question wanted refused,
   kind_clause_of AnXml xml_kind xml_of no_xml wanted refused graph question,
@@ -70,7 +70,7 @@ no_record _ same = refl
 
 pub records_of_kind : (graph : Graph) (question : Question) (wanted refused : List RecordType)
     → IsClauseOfQuestion graph question (Records wanted refused)
-    ↔ AnyOf (HasParts record_of wanted refused) (kind_choices_of ARecord graph question)
+    ↔ AnyOf (HasParts record_of wanted refused) (kind_dnf_of ARecord graph question)
 records_of_kind graph question wanted refused = (
   clause_of_kind ARecord record_of no_record is_record graph question wanted refused,
   kind_clause_of ARecord record_kind record_of no_record wanted refused graph question,
@@ -90,7 +90,7 @@ no_arrow _ same = refl
 
 pub arrows_of_kind : (graph : Graph) (question : Question) (wanted refused : List Pair)
     → IsClauseOfQuestion graph question (Arrows wanted refused)
-    ↔ AnyOf (HasParts arrow_of wanted refused) (kind_choices_of AFunction graph question)
+    ↔ AnyOf (HasParts arrow_of wanted refused) (kind_dnf_of AFunction graph question)
 arrows_of_kind graph question wanted refused = (
   clause_of_kind AFunction arrow_of no_arrow is_arrow graph question wanted refused,
   kind_clause_of AFunction arrow_kind arrow_of no_arrow wanted refused graph question,

@@ -10,9 +10,9 @@ use Rattle.cd_model.specs.Interfaces.{Interfaces}
 use Rattle.cd_model.specs.Membership.{asked, answers, reader, value_answers, value_reader}
 use Rattle.cd_model.specs.Thing.{Thing, IsValue}
 use Rattle.cd_model.specs.Types.{no_closure}
-use Rattle.cd_rules.specs.Choices.{choices_of}
+use Rattle.cd_rules.specs.Dnf.{dnf_of}
 use Rattle.cd_rules.specs.Clauses.{Clause, Ints, Chars, Atoms, Pairs, Xmls, Records, Arrows, IsClauseOfQuestion}
-use Rattle.cd_rules.specs.Family.{IsOfFamily, IsCovered, Breaks, IsClosed, AsksNodes}
+use Rattle.cd_rules.specs.Family.{IsOfFamily, IsSubsumed, Refutes, IsClosed, AsksNodes}
 use Rattle.cd_rules.specs.Members.{HasElement}
 use Rattle.cd_rules.specs.Needs.{Way, Need, question, empty_or_not, pair_way, xml_way, arrow_way, splits, splits_in_three}
 use Rattle.cd_rules.specs.Rows.{Row, rows_of}
@@ -21,7 +21,7 @@ use Rattle.cd_rules.proofs.Among.{set_among}
 use Rattle.cd_rules.proofs.Answered.{each_of_asked}
 use Rattle.cd_rules.proofs.Asking.{each_of_set}
 use Rattle.cd_rules.proofs.ClausesExact.{thing_exact}
-use Rattle.cd_rules.proofs.Covering.{covers_own, covers_more}
+use Rattle.cd_rules.proofs.Subsumption.{subsumes_own, subsumes_more}
 use Rattle.cd_rules.proofs.MembersOfClauses.{supplied_has}
 use Rattle.cd_rules.proofs.NoMember.{element_out, value_out}
 use Rattle.cd_rules.proofs.NumbersBeyond.{has_built_ins, named, of_nodes, asks_nodes, asked_there, asked_back}
@@ -30,7 +30,7 @@ use Rattle.cd_rules.proofs.Settling.{each_or_one, clause_settled}
 use Rattle.cd_rules.specs.Within.{IsWithin}
 use Rattle.cd_rules.proofs.PartsAsk.{RowAsks, clause_is_within, clause_names_labels, pair_ways_ask, xml_ways_ask, arrow_ways_ask, rows_ask}
 use Rattle.cd_rules.proofs.BasicNeeds.{needs_known, integer_or_not, character_or_not, atom_or_not}
-use Rattle.cd_rules.proofs.ClausesAnswer.{Answer, choices_answer}
+use Rattle.cd_rules.proofs.ClausesAnswer.{Answer, conjuncts_answer}
 use Rattle.cd_model.proofs.HoldsOrNot.{HoldsOrNot}
 use Rattle.cd_rules.proofs.NodeSets.{all_questions, among_all}
 
@@ -53,16 +53,16 @@ module _ (graph more : Graph) (begins : graph ≡ built_ins ++ more) (sound : Is
   HasOrIsOf family one = HasElement graph one ⊎ IsOfFamily one family
 
   -- each question of sets has an element, or is of this family
-  abbrev Covers : List Question → Type 0
-  Covers family = (one : Question) → IsOfFamily one (all_questions nodes) → HasOrIsOf family one
+  abbrev Subsumes : List Question → Type 0
+  Subsumes family = (one : Question) → IsOfFamily one (all_questions nodes) → HasOrIsOf family one
 
-  module _ (family : List Question) (covers : Covers family) where
+  module _ (family : List Question) (subsumes : Subsumes family) where
     question_settled : (one : Question) → AsksNodes nodes one → IsSettled (HasElement graph) family one
-    question_settled one asks = elim (covers (set_question one) (among_all nodes one.pos one.neg
+    question_settled one asks = elim (subsumes (set_question one) (among_all nodes one.pos one.neg
         (each_of_set (λ id. id.0 < nodes) one.pos asks.0, each_of_set (λ id. id.0 < nodes) one.neg asks.1))) [
           | inl has ↦ inl (has.0, has.1, each_of_asked (answers graph has.0) one.pos one.neg has.2)
-          | inr of ↦ inr (covers_more family one (set_question one) (set_among one.pos, set_among one.neg)
-              (covers_own family (set_question one) of))
+          | inr of ↦ inr (subsumes_more family one (set_question one) (set_among one.pos, set_among one.neg)
+              (subsumes_own family (set_question one) of))
         ]
 
     way_settled : (way : Way) → AllOf (AsksNodes nodes) way → AllOf (IsSettled (HasElement graph) family) way
@@ -113,16 +113,16 @@ module _ (graph more : Graph) (begins : graph ≡ built_ins ++ more) (sound : Is
         (rows_of wanted refused) (rows_ask nodes wanted refused within)
 
     -- each clause of a question is broken, or the question has an element
-    abbrev IsBroken : Question → Type 0
-    IsBroken one = (clause : Clause) → IsClauseOfQuestion graph one clause → Breaks family clause
+    abbrev IsRefuted : Question → Type 0
+    IsRefuted one = (clause : Clause) → IsClauseOfQuestion graph one clause → Refutes family clause
 
-    broken_or_has : (one : Question) → IsBroken one ⊎ HasElement graph one
-    broken_or_has one = by_answer (choices_answer (HasElement graph) family (choices_of graph one)
+    refuted_or_has : (one : Question) → IsRefuted one ⊎ HasElement graph one
+    refuted_or_has one = by_answer (conjuncts_answer (HasElement graph) family (dnf_of graph one)
         (λ clause of. clause_settled (HasElement graph) family clause
         (all_settled clause (clause_is_within graph sound one clause of))))
       where
-        by_answer : Answer (HasElement graph) family (IsClauseOfQuestion graph one) → IsBroken one ⊎ HasElement graph one
-        by_answer (inl broken) = inl broken
+        by_answer : Answer (HasElement graph) family (IsClauseOfQuestion graph one) → IsRefuted one ⊎ HasElement graph one
+        by_answer (inl refuted) = inl refuted
         by_answer (inr supplied) =
             let clause = supplied.0 in
             let names = clause_names_labels graph sound one clause supplied.1 in
@@ -158,40 +158,40 @@ module _ (graph more : Graph) (begins : graph ≡ built_ins ++ more) (sound : Is
 
   -- there is a closed family
   abbrev HasClosed : Type 0
-  HasClosed = (family : List Question) × IsClosed graph family × Covers family
+  HasClosed = (family : List Question) × IsClosed graph family × Subsumes family
 
-  closed_of : (most : ℕ) (family : List Question) → length family ≤ most → Covers family → HasClosed
-  closed_of most [] short covers = ([], tt, covers)
-  closed_of zero (first ∷ family) short covers = absurd (omega arith)
-  closed_of (suc most) (first ∷ family) short covers =
-      by_answer (each_or_one (IsBroken (first ∷ family) covers) (HasElement graph) (first ∷ family)
-      (each_of_all (λ one. IsBroken (first ∷ family) covers one ⊎ HasElement graph one)
-      (broken_or_has (first ∷ family) covers) (first ∷ family))) (closed_of most)
+  closed_of : (most : ℕ) (family : List Question) → length family ≤ most → Subsumes family → HasClosed
+  closed_of most [] short subsumes = ([], tt, subsumes)
+  closed_of zero (first ∷ family) short subsumes = absurd (omega arith)
+  closed_of (suc most) (first ∷ family) short subsumes =
+      by_answer (each_or_one (IsRefuted (first ∷ family) subsumes) (HasElement graph) (first ∷ family)
+      (each_of_all (λ one. IsRefuted (first ∷ family) subsumes one ⊎ HasElement graph one)
+      (refuted_or_has (first ∷ family) subsumes) (first ∷ family))) (closed_of most)
     where
-      by_answer : AllOf (IsBroken (first ∷ family) covers) (first ∷ family) ⊎ AnyOf (HasElement graph) (first ∷ family)
-          → ((family : List Question) → length family ≤ most → Covers family → HasClosed) → HasClosed
-      by_answer (inl closed) go_on = (first ∷ family, closed, covers)
+      by_answer : AllOf (IsRefuted (first ∷ family) subsumes) (first ∷ family) ⊎ AnyOf (HasElement graph) (first ∷ family)
+          → ((family : List Question) → length family ≤ most → Subsumes family → HasClosed) → HasClosed
+      by_answer (inl closed) go_on = (first ∷ family, closed, subsumes)
       by_answer (inr has) go_on =
           let less = without (first ∷ family) has in
           let shorter = less.shorter in
           go_on less.rest (omega arith)
-          (λ one there. elim (covers one there) [ inl has ↦ inl has | inr of ↦ less.others one of ])
+          (λ one there. elim (subsumes one there) [ inl has ↦ inl has | inr of ↦ less.others one of ])
 
   closed : HasClosed
   closed = closed_of (length (all_questions nodes)) (all_questions nodes) (omega arith) (λ one there. inr there)
 
   -- so a question has an element, or the family covers that of the same nodes
-  has_or_covered : (one : Question) → HasElement graph one ⊎ IsCovered (of_nodes graph more begins one) closed.0
-  has_or_covered one = by_settled (closed.2 (of_nodes graph more begins one)
+  has_or_subsumed : (one : Question) → HasElement graph one ⊎ IsSubsumed (of_nodes graph more begins one) closed.0
+  has_or_subsumed one = by_settled (closed.2 (of_nodes graph more begins one)
       (among_all nodes (map (named graph more begins) one.pos) (map (named graph more begins) one.neg) (asks_nodes graph more begins one)))
     where
       by_settled : HasOrIsOf closed.0 (of_nodes graph more begins one)
-          → HasElement graph one ⊎ IsCovered (of_nodes graph more begins one) closed.0
+          → HasElement graph one ⊎ IsSubsumed (of_nodes graph more begins one) closed.0
       by_settled (inl has) = inl (has.0, has.1, asked_back graph more begins (reader graph has.0) one has.2)
-      by_settled (inr there) = inr (covers_own closed.0 (of_nodes graph more begins one) there)
+      by_settled (inr there) = inr (subsumes_own closed.0 (of_nodes graph more begins one) there)
 
   pub has_or_not : (one : Question) → HoldsOrNot (HasElement graph one)
-  has_or_not one = elim (has_or_covered one) [
+  has_or_not one = elim (has_or_subsumed one) [
     | inl has ↦ inl has
     | inr there ↦ inr (λ has. element_out graph (more, begins) closed.0 closed.1 has.0 has.1 (of_nodes graph more begins one)
         (asked_there graph more begins (reader graph has.0) one has.2) there)
@@ -200,7 +200,7 @@ module _ (graph more : Graph) (begins : graph ≡ built_ins ++ more) (sound : Is
   -- where a value is in a question, an element is too
   pub element_too : (one : Question) (interfaces : Interfaces) (v : Thing) → IsValue v
       → asked (value_answers graph interfaces v) one true → HasElement graph one
-  element_too one interfaces v is inside = elim (has_or_covered one) [
+  element_too one interfaces v is inside = elim (has_or_subsumed one) [
     | inl has ↦ has
     | inr there ↦ absurd (value_out graph (more, begins) closed.0 closed.1 interfaces v is (of_nodes graph more begins one)
         (asked_there graph more begins (value_reader graph interfaces v) one inside) there)

@@ -6,13 +6,13 @@ use Rattle.cd_model.specs.AllOf.{AllOf, AnyOf}
 use Rattle.cd_rules.specs.Clauses.{Pair, Triple}
 use Rattle.cd_model.specs.BuiltIns.{ATOM, RECORD}
 use Rattle.cd_rules.specs.Fails.{Fails, seen, cases, ThreeFail, three_seen, three_cases}
-use Rattle.cd_rules.specs.Tasks.{HasCovered}
-use Rattle.cd_rules.specs.Family.{IsCovered, BreaksNeed, AreAmong}
+use Rattle.cd_rules.specs.Tasks.{HasSubsumed}
+use Rattle.cd_rules.specs.Family.{IsSubsumed, RefutesNeed, AreAmong}
 use Rattle.cd_rules.specs.Needs.{question, pair_way, xml_way, arrow_way, result_questions, splits, splits_in_three}
 use Rattle.cd_rules.specs.Needs.{to_one, to_other, to_first, to_middle, to_last}
 use Rattle.cd_rules.proofs.Among.{of_each, each_of_its, among_itself, among_map}
 use Rattle.cd_rules.proofs.Asking.{each_of_map}
-use Rattle.cd_rules.proofs.Covering.{asks_more, covers_more}
+use Rattle.cd_rules.proofs.Subsumption.{asks_more, subsumes_more}
 use Rattle.cd_rules.proofs.Sides.{splits_back, splits_in_three_back}
 
 -- two sides, and a fact that comes from sides to longer ones
@@ -83,11 +83,11 @@ all_three_fail {X} Fact comes all tree = each_of_its Fact (splits_in_three all) 
 module _ (family : List Question) where
   -- a family covers the question that wants and refuses more, where it covers the one that wants and refuses less
   asks_further : (pos neg more_pos more_neg : List NodeId) → AreAmong pos more_pos → AreAmong neg more_neg
-      → IsCovered (question pos neg) family → IsCovered (question more_pos more_neg) family
+      → IsSubsumed (question pos neg) family → IsSubsumed (question more_pos more_neg) family
   asks_further pos neg more_pos more_neg wanted refused =
-      covers_more family (question more_pos more_neg) (question pos neg) (asks_more pos neg more_pos more_neg wanted refused)
+      subsumes_more family (question more_pos more_neg) (question pos neg) (asks_more pos neg more_pos more_neg wanted refused)
 
-  pair_on : (wanted : List Pair) → ComesOn (λ sides. HasCovered family (pair_way wanted sides))
+  pair_on : (wanted : List Pair) → ComesOn (λ sides. HasSubsumed family (pair_way wanted sides))
   pair_on wanted sides longer one other (inl first) = inl (asks_further (map (λ parts. parts.0) wanted) (map (λ parts. parts.0) sides.0)
       (map (λ parts. parts.0) wanted) (map (λ parts. parts.0) longer.0) (among_itself (map (λ parts. parts.0) wanted))
       (among_map (λ (parts : Pair). parts.0) sides.0 longer.0 one) first)
@@ -97,8 +97,8 @@ module _ (family : List Question) where
   pair_on wanted sides longer one other (inr (inr none)) = elim none [ ]
 
   -- the question of a result asks more where more arrows speak of it
-  results_on : (refused : Pair) (some all : List Pair) → AreAmong some all → HasCovered family (result_questions refused some)
-      → HasCovered family (result_questions refused all)
+  results_on : (refused : Pair) (some all : List Pair) → AreAmong some all → HasSubsumed family (result_questions refused some)
+      → HasSubsumed family (result_questions refused all)
   results_on refused [] all among is = elim is [ ]
   results_on refused (x ∷ some) [] among is = elim among.0 [ ]
   results_on refused (x ∷ some) (y ∷ all) among (inl is) = inl (asks_further (map (λ parts. parts.1) (x ∷ some)) (refused.1 ∷ [])
@@ -106,23 +106,23 @@ module _ (family : List Question) where
       (among_itself (refused.1 ∷ [])) is)
   results_on refused (x ∷ some) (y ∷ all) among (inr none) = elim none [ ]
 
-  arrow_on : (refused : Pair) → ComesOn (λ sides. HasCovered family (arrow_way refused sides))
+  arrow_on : (refused : Pair) → ComesOn (λ sides. HasSubsumed family (arrow_way refused sides))
   arrow_on refused sides longer one other (inl argument) = inl (asks_further (refused.0 ∷ []) (map (λ parts. parts.0) sides.0)
       (refused.0 ∷ []) (map (λ parts. parts.0) longer.0) (among_itself (refused.0 ∷ []))
       (among_map (λ (parts : Pair). parts.0) sides.0 longer.0 one) argument)
   arrow_on refused sides longer one other (inr result) = inr (results_on refused sides.1 longer.1 other result)
 
-  pub pair_need_fails : (wanted refused : List Pair) → Fails (λ sides. HasCovered family (pair_way wanted sides)) refused ([], [])
-      → BreaksNeed family (map (pair_way wanted) (splits refused))
-  pair_need_fails wanted refused tree = each_of_map (pair_way wanted) (HasCovered family) (splits refused)
-      (all_fail (λ sides. HasCovered family (pair_way wanted sides)) (pair_on wanted) refused tree)
+  pub pair_need_fails : (wanted refused : List Pair) → Fails (λ sides. HasSubsumed family (pair_way wanted sides)) refused ([], [])
+      → RefutesNeed family (map (pair_way wanted) (splits refused))
+  pair_need_fails wanted refused tree = each_of_map (pair_way wanted) (HasSubsumed family) (splits refused)
+      (all_fail (λ sides. HasSubsumed family (pair_way wanted sides)) (pair_on wanted) refused tree)
 
-  pub arrow_need_fails : (refused : Pair) (wanted : List Pair) → Fails (λ sides. HasCovered family (arrow_way refused sides)) wanted ([], [])
-      → BreaksNeed family (map (arrow_way refused) (splits wanted))
-  arrow_need_fails refused wanted tree = each_of_map (arrow_way refused) (HasCovered family) (splits wanted)
-      (all_fail (λ sides. HasCovered family (arrow_way refused sides)) (arrow_on refused) wanted tree)
+  pub arrow_need_fails : (refused : Pair) (wanted : List Pair) → Fails (λ sides. HasSubsumed family (arrow_way refused sides)) wanted ([], [])
+      → RefutesNeed family (map (arrow_way refused) (splits wanted))
+  arrow_need_fails refused wanted tree = each_of_map (arrow_way refused) (HasSubsumed family) (splits wanted)
+      (all_fail (λ sides. HasSubsumed family (arrow_way refused sides)) (arrow_on refused) wanted tree)
 
-  xml_on : (wanted : List Triple) → ComesOnInThree (λ sides. HasCovered family (xml_way wanted sides))
+  xml_on : (wanted : List Triple) → ComesOnInThree (λ sides. HasSubsumed family (xml_way wanted sides))
   xml_on wanted sides longer one other last (inl first) = inl (asks_further (ATOM ∷ map (λ parts. parts.0) wanted)
       (map (λ parts. parts.0) sides.0) (ATOM ∷ map (λ parts. parts.0) wanted) (map (λ parts. parts.0) longer.0)
       (among_itself (ATOM ∷ map (λ parts. parts.0) wanted)) (among_map (λ (parts : Triple). parts.0) sides.0 longer.0 one) first)
@@ -134,7 +134,7 @@ module _ (family : List Question) where
       (among_itself (map (λ parts. parts.2) wanted)) (among_map (λ (parts : Triple). parts.2) sides.2 longer.2 last) third)))
   xml_on wanted sides longer one other last (inr (inr (inr none))) = elim none [ ]
 
-  pub xml_need_fails : (wanted refused : List Triple) → ThreeFail (λ sides. HasCovered family (xml_way wanted sides)) refused ([], [], [])
-      → BreaksNeed family (map (xml_way wanted) (splits_in_three refused))
-  xml_need_fails wanted refused tree = each_of_map (xml_way wanted) (HasCovered family) (splits_in_three refused)
-      (all_three_fail (λ sides. HasCovered family (xml_way wanted sides)) (xml_on wanted) refused tree)
+  pub xml_need_fails : (wanted refused : List Triple) → ThreeFail (λ sides. HasSubsumed family (xml_way wanted sides)) refused ([], [], [])
+      → RefutesNeed family (map (xml_way wanted) (splits_in_three refused))
+  xml_need_fails wanted refused tree = each_of_map (xml_way wanted) (HasSubsumed family) (splits_in_three refused)
+      (all_three_fail (λ sides. HasSubsumed family (xml_way wanted sides)) (xml_on wanted) refused tree)

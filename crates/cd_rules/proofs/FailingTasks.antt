@@ -6,7 +6,7 @@ use Rattle.cd_sets.specs.declared.question.Question.{Question}
 use Rattle.cd_syntax.specs.Name.{Name}
 use Rattle.cd_model.specs.AllOf.{AllOf, AnyOf}
 use Rattle.cd_rules.specs.Clauses.{Clause, Ints, Chars, Atoms, Pairs, Xmls, Records, Arrows}
-use Rattle.cd_rules.specs.Family.{IsCovered, BreaksRow, BreaksNeed, Breaks, AreAmong}
+use Rattle.cd_rules.specs.Family.{IsSubsumed, RefutesRow, RefutesNeed, Refutes, AreAmong}
 use Rattle.cd_rules.specs.Needs.{pair_way, arrow_way, splits}
 use Rattle.cd_rules.specs.Rows.{Cell, labels_of}
 use Rattle.cd_rules.proofs.Among.{of_each}
@@ -21,40 +21,40 @@ use Rattle.cd_rules.proofs.FailingNeeds.{pair_need_fails, xml_need_fails, arrow_
 use Rattle.cd_rules.proofs.FailingRows.{records_fail}
 
 -- a covered question of a cell that may not be absent breaks the row
-present_breaks : (family : List Question) (cells : List (Name × Cell)) → AnyOf (λ question. IsCovered question family) (present cells)
-    → AnyOf (λ cell. (cell.1.absent ≡ false) × IsCovered cell.1.value family) cells
-present_breaks family [] is = elim is [ ]
-present_breaks family (cell ∷ cells) is = by_absent (cases_Bool cell.1.absent) (present_breaks family cells)
+present_refutes : (family : List Question) (cells : List (Name × Cell)) → AnyOf (λ question. IsSubsumed question family) (present cells)
+    → AnyOf (λ cell. (cell.1.absent ≡ false) × IsSubsumed cell.1.value family) cells
+present_refutes family [] is = elim is [ ]
+present_refutes family (cell ∷ cells) is = by_absent (cases_Bool cell.1.absent) (present_refutes family cells)
   where
-    by_absent : (cell.1.absent ≡ true) ⊎ (cell.1.absent ≡ false) → (AnyOf (λ question. IsCovered question family) (present cells)
-        → AnyOf (λ cell. (cell.1.absent ≡ false) × IsCovered cell.1.value family) cells)
-        → AnyOf (λ cell. (cell.1.absent ≡ false) × IsCovered cell.1.value family) (cell ∷ cells)
-    by_absent (inl may) rest = inr (rest (subst (AnyOf (λ question. IsCovered question family)) (absent_so may) is))
+    by_absent : (cell.1.absent ≡ true) ⊎ (cell.1.absent ≡ false) → (AnyOf (λ question. IsSubsumed question family) (present cells)
+        → AnyOf (λ cell. (cell.1.absent ≡ false) × IsSubsumed cell.1.value family) cells)
+        → AnyOf (λ cell. (cell.1.absent ≡ false) × IsSubsumed cell.1.value family) (cell ∷ cells)
+    by_absent (inl may) rest = inr (rest (subst (AnyOf (λ question. IsSubsumed question family)) (absent_so may) is))
       where
         absent_so : cell.1.absent ≡ true → present (cell ∷ cells) ≡ present cells
         absent_so same = rw same refl
-    by_absent (inr has) rest = by_one (subst (AnyOf (λ question. IsCovered question family)) (present_so has) is)
+    by_absent (inr has) rest = by_one (subst (AnyOf (λ question. IsSubsumed question family)) (present_so has) is)
       where
         present_so : cell.1.absent ≡ false → present (cell ∷ cells) ≡ cell.1.value ∷ present cells
         present_so same = rw same refl
 
-        by_one : AnyOf (λ question. IsCovered question family) (cell.1.value ∷ present cells)
-            → AnyOf (λ cell. (cell.1.absent ≡ false) × IsCovered cell.1.value family) (cell ∷ cells)
-        by_one (inl covered) = inl (has, covered)
+        by_one : AnyOf (λ question. IsSubsumed question family) (cell.1.value ∷ present cells)
+            → AnyOf (λ cell. (cell.1.absent ≡ false) × IsSubsumed cell.1.value family) (cell ∷ cells)
+        by_one (inl subsumed) = inl (has, subsumed)
         by_one (inr there) = inr (rest there)
 
 -- a question that the family covers
-pub covered_fails : (family : List Question) (task : Task) → AnyOf (λ question. IsCovered question family) (questions_of task)
+pub subsumed_fails : (family : List Question) (task : Task) → AnyOf (λ question. IsSubsumed question family) (questions_of task)
     → TaskFails family task
-covered_fails family (PairTask wanted refused given left) is = seen given is
-covered_fails family (XmlTask wanted refused given left) is = three_seen given is
-covered_fails family (ArrowTask refused wanted given left) is = seen given is
-covered_fails family (RecordTask wanted refused given left) is = row_seen given (by_side
-    (one_on_a_side (λ question. IsCovered question family) (present (row_of_given wanted refused given).cells) (row_of_given wanted refused given).some is))
+subsumed_fails family (PairTask wanted refused given left) is = seen given is
+subsumed_fails family (XmlTask wanted refused given left) is = three_seen given is
+subsumed_fails family (ArrowTask refused wanted given left) is = seen given is
+subsumed_fails family (RecordTask wanted refused given left) is = row_seen given (by_side
+    (one_on_a_side (λ question. IsSubsumed question family) (present (row_of_given wanted refused given).cells) (row_of_given wanted refused given).some is))
   where
-    by_side : AnyOf (λ question. IsCovered question family) (present (row_of_given wanted refused given).cells)
-        ⊎ AnyOf (λ question. IsCovered question family) (row_of_given wanted refused given).some → BreaksRow family (row_of_given wanted refused given)
-    by_side (inl cell) = inl (present_breaks family (row_of_given wanted refused given).cells cell)
+    by_side : AnyOf (λ question. IsSubsumed question family) (present (row_of_given wanted refused given).cells)
+        ⊎ AnyOf (λ question. IsSubsumed question family) (row_of_given wanted refused given).some → RefutesRow family (row_of_given wanted refused given)
+    by_side (inl cell) = inl (present_refutes family (row_of_given wanted refused given).cells cell)
     by_side (inr some) = inr some
 
 -- what is taken out of those that are left is a member
@@ -80,22 +80,22 @@ cases_fail family _ _ (record_cases wanted refused given left rest type taken) i
     (None ∷ map Some (labels_of (wanted ++ refused))) fail) one)
 
 -- a clause of whose tasks one fails is broken
-pub task_breaks : (family : List Question) (clause : Clause) → AnyOf (TaskFails family) (tasks_of clause) → Breaks family clause
-task_breaks family (Pairs wanted refused) (inl fails) =
+pub task_refutes : (family : List Question) (clause : Clause) → AnyOf (TaskFails family) (tasks_of clause) → Refutes family clause
+task_refutes family (Pairs wanted refused) (inl fails) =
     (map (pair_way wanted) (splits refused) ∷ [], refl, inl (pair_need_fails family wanted refused fails))
-task_breaks family (Pairs wanted refused) (inr none) = elim none [ ]
-task_breaks family (Xmls wanted refused) (inl fails) = (_, refl, inl (xml_need_fails family wanted refused fails))
-task_breaks family (Xmls wanted refused) (inr none) = elim none [ ]
-task_breaks family (Arrows wanted refused) is = (
+task_refutes family (Pairs wanted refused) (inr none) = elim none [ ]
+task_refutes family (Xmls wanted refused) (inl fails) = (_, refl, inl (xml_need_fails family wanted refused fails))
+task_refutes family (Xmls wanted refused) (inr none) = elim none [ ]
+task_refutes family (Arrows wanted refused) is = (
   _,
   refl,
-  one_of_map (λ one. map (arrow_way one) (splits wanted)) (BreaksNeed family) refused
-      (one_weaker (λ one. TaskFails family (ArrowTask one wanted ([], []) wanted)) (λ one. BreaksNeed family (map (arrow_way one) (splits wanted)))
+  one_of_map (λ one. map (arrow_way one) (splits wanted)) (RefutesNeed family) refused
+      (one_weaker (λ one. TaskFails family (ArrowTask one wanted ([], []) wanted)) (λ one. RefutesNeed family (map (arrow_way one) (splits wanted)))
       (λ one fails. arrow_need_fails family one wanted fails) refused
       (map_of_one (λ one. ArrowTask one wanted ([], []) wanted) (TaskFails family) refused is)),
 )
-task_breaks family (Records wanted refused) (inl fails) = records_fail family wanted refused fails
-task_breaks family (Records wanted refused) (inr none) = elim none [ ]
-task_breaks family (Ints wanted refused) is = elim is [ ]
-task_breaks family (Chars wanted refused) is = elim is [ ]
-task_breaks family (Atoms wanted refused) is = elim is [ ]
+task_refutes family (Records wanted refused) (inl fails) = records_fail family wanted refused fails
+task_refutes family (Records wanted refused) (inr none) = elim none [ ]
+task_refutes family (Ints wanted refused) is = elim is [ ]
+task_refutes family (Chars wanted refused) is = elim is [ ]
+task_refutes family (Atoms wanted refused) is = elim is [ ]

@@ -19,8 +19,8 @@ module _ (graph : Graph) (settled : List Question) (question : Question) where
 
   pub first_kept : (before after : State) → Step graph settled before after → IsRight graph settled before
       → HasFirst question before → HasFirst question after
-  first_kept _ _ (opens before other choices new asks of accounts) is (inl one) = inl one
-  first_kept _ _ (opens before other choices new asks of accounts) is (inr (rest, same)) =
+  first_kept _ _ (opens before other conjuncts new asks of accounts) is (inl one) = inl one
+  first_kept _ _ (opens before other conjuncts new asks of accounts) is (inr (rest, same)) =
       inr (rest ++ other ∷ [], ap (λ list. list ++ other ∷ []) same)
   first_kept _ _ (knows before witness new right) is (inl one) = inl (one_on_left IsIts before.witnesses (witness ∷ []) one)
   first_kept _ _ (knows before witness new right) is (inr first) = inr first

@@ -12,9 +12,9 @@ pub mod Things
 pub mod Asking
 pub mod Answered
 pub mod Sides
-pub mod ChoicesExact
+pub mod DnfExact
 pub mod ClauseOf
-pub mod Elsewhere
+pub mod OtherKinds
 pub mod ClauseBack
 pub mod ClausesExact
 pub mod PairsForward
@@ -25,8 +25,8 @@ pub mod LabelsNamed
 pub mod RecordsForward
 pub mod RecordsOfThings
 pub mod Among
-pub mod Covering
-pub mod Broken
+pub mod Subsumption
+pub mod Refuted
 pub mod NoMember
 pub mod MembersOfSets
 pub mod MembersOfPairs
@@ -56,8 +56,8 @@ pub mod ValuesDecided
 pub mod WaysExact
 pub mod BasicSetsExact
 pub mod BasicsWithoutMembers
-pub mod KindChoicesExact
-pub mod KindChoicesBack
+pub mod KindDnfExact
+pub mod KindDnfBack
 pub mod ClausesOfKind
 pub mod FailingNeeds
 pub mod FailingRows
@@ -65,7 +65,7 @@ pub mod CasesAreTasks
 pub mod FailingTasks
 pub mod TasksOfNodes
 pub mod Completions
-pub mod CoveredChoices
+pub mod SubsumedConjuncts
 pub mod ClausesByKind
 pub mod MembersOfTasks
 pub mod UnionsAlike

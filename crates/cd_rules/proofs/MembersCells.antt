@@ -88,14 +88,14 @@ module _ (graph : Graph) (cell_of : Name → Cell) where
   -- where each cell may be absent or has an element there are fields
   pub cells_fit : (labels : List Name) → AllOf IsLabel labels
       → AllOf (λ label. ((cell_of label).absent ≡ true) ⊎ HasElement graph (cell_of label).value) labels → FitCells labels
-  cells_fit [] are living = (NoField, tt, tt, λ label. inr (λ one. elim one [ ], refl))
-  cells_fit (first ∷ labels) are living = by_living living.0 (cells_fit labels are.1 living.1)
+  cells_fit [] are witnesses = (NoField, tt, tt, λ label. inr (λ one. elim one [ ], refl))
+  cells_fit (first ∷ labels) are witnesses = by_witnesses witnesses.0 (cells_fit labels are.1 witnesses.1)
     where
-      by_living : ((cell_of first).absent ≡ true) ⊎ HasElement graph (cell_of first).value → FitCells labels
+      by_witnesses : ((cell_of first).absent ≡ true) ⊎ HasElement graph (cell_of first).value → FitCells labels
           → FitCells (first ∷ labels)
-      by_living (inl free) rest =
+      by_witnesses (inl free) rest =
           (rest.0, rest.1, rest.2, λ label. with_nothing first labels rest.0 free label (rest.3 label))
-      by_living (inr (is, is_element, asked_so)) rest = (
+      by_witnesses (inr (is, is_element, asked_so)) rest = (
         put first is rest.0,
         put_rises None first is rest.0 tt rest.1,
         put_fields first is rest.0 are.0 is_element rest.2,

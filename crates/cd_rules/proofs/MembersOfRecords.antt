@@ -7,7 +7,7 @@ use Rattle.cd_model.specs.AllOf.{AllOf, AnyOf}
 use Rattle.cd_model.specs.Formula.{Graph, Field}
 use Rattle.cd_model.proofs.Labels.{names_of}
 use Rattle.cd_rules.specs.Clauses.{Records, RecordType}
-use Rattle.cd_rules.specs.Members.{HasElement, HasMember, HaveLabels, IsLiving}
+use Rattle.cd_rules.specs.Members.{HasElement, HasMember, HaveLabels, HasWitnesses}
 use Rattle.cd_rules.specs.Needs.{question}
 use Rattle.cd_rules.specs.Rows.{Cell, with_label, labels_after, labels_of, types_elsewhere}
 use Rattle.cd_rules.specs.Rows.{cell_at, reasons_of, row_of, rows_of}
@@ -46,21 +46,21 @@ each_of_both Is (x ∷ xs) ys each others = (each.0, each_of_both Is xs ys each.
 
 -- fields of the cells of a row, and of its other questions, are a record of the clause
 row_has : (graph : Graph) (wanted refused : List RecordType) → HaveLabels wanted → HaveLabels refused
-    → Chosen (λ reasons. IsLiving (HasElement graph) (row_of (labels_of (wanted ++ refused)) wanted reasons))
+    → Chosen (λ reasons. HasWitnesses (HasElement graph) (row_of (labels_of (wanted ++ refused)) wanted reasons))
     (labels_of (wanted ++ refused)) refused
     → HasMember graph (Records wanted refused)
-row_has graph wanted refused wanted_labels refused_labels (reasons, living, known, same) =
+row_has graph wanted refused wanted_labels refused_labels (reasons, witnesses, known, same) =
     let labels = labels_of (wanted ++ refused) in
     let are = labels_are (wanted ++ refused)
     (each_of_both (λ (type : RecordType). AllOf (λ field. IsLabel field.0) type.named) wanted refused
     wanted_labels refused_labels) in
     let base = cells_fit graph (cell_at wanted reasons) labels are
     (map_of_each (λ label. (label, cell_at wanted reasons label))
-    (λ (cell : Name × Cell). (cell.1.absent ≡ true) ⊎ HasElement graph cell.1.value) labels living.0) in
+    (λ (cell : Name × Cell). (cell.1.absent ≡ true) ⊎ HasElement graph cell.1.value) labels witnesses.0) in
     let more = have_more (InRests graph wanted) (HasRest graph wanted) (in_rests graph wanted) base.0 base.1 base.2
     (types_elsewhere reasons) (longest labels)
     (map_of_each (λ (type : RecordType). question (map (λ type. type.rest) wanted) (type.rest ∷ [])) (HasElement graph)
-    (types_elsewhere reasons) living.1) in (
+    (types_elsewhere reasons) witnesses.1) in (
       thing.Record more.0,
       (more.1, more.2),
       (
@@ -72,9 +72,9 @@ row_has graph wanted refused wanted_labels refused_labels (reasons, living, know
 
 -- A living row gives a record that is in each wanted type and outside each refused one
 pub records_have : (graph : Graph) (wanted refused : List RecordType) → HaveLabels wanted → HaveLabels refused
-    → AnyOf (IsLiving (HasElement graph)) (rows_of wanted refused) → HasMember graph (Records wanted refused)
-records_have graph wanted refused wanted_labels refused_labels living =
+    → AnyOf (HasWitnesses (HasElement graph)) (rows_of wanted refused) → HasMember graph (Records wanted refused)
+records_have graph wanted refused wanted_labels refused_labels witnesses =
     let labels = labels_of (wanted ++ refused) in
     row_has graph wanted refused wanted_labels refused_labels
-    (reasons_back (λ reasons. IsLiving (HasElement graph) (row_of labels wanted reasons)) labels refused
-    (map_of_one (row_of labels wanted) (IsLiving (HasElement graph)) (reasons_of labels refused) living))
+    (reasons_back (λ reasons. HasWitnesses (HasElement graph) (row_of labels wanted reasons)) labels refused
+    (map_of_one (row_of labels wanted) (HasWitnesses (HasElement graph)) (reasons_of labels refused) witnesses))

@@ -61,16 +61,16 @@ reasons_back Fact labels (type ∷ refused) one =
       ap (λ (types : List RecordType). type ∷ types) rest.3,
     )
 
-module _ (At : Name → RecordType → Type 0) (Elsewhere : RecordType → Type 0) where
+module _ (At : Name → RecordType → Type 0) (OtherKinds : RecordType → Type 0) where
   -- what a type has for its reason
   abbrev pub ByReason : RecordType → Reason → Type 0
-  ByReason type None = Elsewhere type
+  ByReason type None = OtherKinds type
   ByReason type (Some label) = At label type
 
   -- what the types of each label have, and those elsewhere, each type has
   pub by_reasons : (labels : List Name) (reasons : Reasons) → AllOf (λ one. IsKnown labels one.1) reasons
       → ((label : Name) → IsOneOf labels label → AllOf (At label) (types_at label reasons))
-      → AllOf Elsewhere (types_elsewhere reasons) → AllOf (λ one. ByReason one.0 one.1) reasons
+      → AllOf OtherKinds (types_elsewhere reasons) → AllOf (λ one. ByReason one.0 one.1) reasons
   by_reasons labels [] each at elsewhere = tt
   by_reasons labels ((type, None) ∷ reasons) each at elsewhere =
       (elsewhere.0, by_reasons labels reasons each.1 at elsewhere.1)

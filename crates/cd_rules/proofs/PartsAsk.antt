@@ -10,7 +10,7 @@ use Rattle.cd_model.specs.Formula as formula
 use Rattle.cd_model.specs.Formula.{Formula, Formulas, NoFormula, AFormula, Graph, Field, formula_at, field_of}
 use Rattle.cd_model.specs.Formula.{AreRisingLabels, IsFormula, AreFormulas, IsGraph}
 use Rattle.cd_model.specs.Kinds.{Kind, APair, AnXml, ARecord, AFunction}
-use Rattle.cd_rules.specs.Choices.{Literal, Choice, joined, when, choices, choices_of_each, choices_of_one, choices_at, choices_of}
+use Rattle.cd_rules.specs.Dnf.{Literal, Conjunct, joined, when, dnf, dnf_of_each, dnf_of_one, dnf_at, dnf_of}
 use Rattle.cd_rules.specs.Clauses.{Pair, Triple, RecordType, Clause, Pairs, Xmls, Records, Arrows}
 use Rattle.cd_rules.specs.Clauses.{pair_of, xml_of, record_of, arrow_of, one_more, parts_in}
 use Rattle.cd_rules.specs.Clauses.{IsOfParts, IsClauseOf, IsClauseOfQuestion}
@@ -27,19 +27,19 @@ use Rattle.cd_rules.specs.Within.{IsPairWithin, IsXmlWithin, IsTypeWithin, IsWit
 -- what each literal of these choices and of those has, each of the joined choices has
 module _ (fact : Literal → Type 0) where
   -- one choice with each of those
-  joined_with : (choice : Choice) (others : List Choice) → AllOf fact choice → AllOf (AllOf fact) others
-      → AllOf (AllOf fact) (map (λ other. choice ++ other) others)
-  joined_with choice [] each those = tt
-  joined_with choice (other ∷ others) each those =
-      (each_of_lists fact choice other each those.0, joined_with choice others each those.1)
+  joined_with : (conjunct : Conjunct) (others : List Conjunct) → AllOf fact conjunct → AllOf (AllOf fact) others
+      → AllOf (AllOf fact) (map (λ other. conjunct ++ other) others)
+  joined_with conjunct [] each those = tt
+  joined_with conjunct (other ∷ others) each those =
+      (each_of_lists fact conjunct other each those.0, joined_with conjunct others each those.1)
 
   -- each of these with each of those
-  joined_have : (first second : List Choice) → AllOf (AllOf fact) first → AllOf (AllOf fact) second
+  joined_have : (first second : List Conjunct) → AllOf (AllOf fact) first → AllOf (AllOf fact) second
       → AllOf (AllOf fact) (joined first second)
   joined_have [] second these those = tt
-  joined_have (choice ∷ first) second these those =
-      each_of_lists (AllOf fact) (map (λ other. choice ++ other) second) (joined first second)
-      (joined_with choice second these.0 those) (joined_have first second these.1 those)
+  joined_have (conjunct ∷ first) second these those =
+      each_of_lists (AllOf fact) (map (λ other. conjunct ++ other) second) (joined first second)
+      (joined_with conjunct second these.0 those) (joined_have first second these.1 those)
 
   -- a choice that asks for nothing has no literal
   always_or_not : (wanted : Bool) → AllOf (AllOf fact) (when wanted)
@@ -54,31 +54,31 @@ module _ (nodes : ℕ) where
 
   mutual
     -- each literal of the choices of a formula is one of the graph
-    choices_are : (is : Formula) (wanted : Bool) → IsFormula nodes is → AllOf (AllOf IsLiteral) (choices is wanted)
-    choices_are formula.Nothing wanted whole = always_or_not IsLiteral (not wanted)
-    choices_are formula.Everything wanted whole = always_or_not IsLiteral wanted
-    choices_are (formula.And formulas) true whole = choices_of_each_are formulas true whole
-    choices_are (formula.And formulas) false whole = choices_of_one_are formulas false whole
-    choices_are (formula.Or formulas) true whole = choices_of_one_are formulas true whole
-    choices_are (formula.Or formulas) false whole = choices_of_each_are formulas false whole
-    choices_are (formula.Not is) wanted whole = choices_are is (not wanted) whole
-    choices_are is wanted whole = ((whole, tt), tt)
+    conjuncts_are : (is : Formula) (wanted : Bool) → IsFormula nodes is → AllOf (AllOf IsLiteral) (dnf is wanted)
+    conjuncts_are formula.Nothing wanted whole = always_or_not IsLiteral (not wanted)
+    conjuncts_are formula.Everything wanted whole = always_or_not IsLiteral wanted
+    conjuncts_are (formula.And formulas) true whole = dnf_of_each_are formulas true whole
+    conjuncts_are (formula.And formulas) false whole = dnf_of_one_are formulas false whole
+    conjuncts_are (formula.Or formulas) true whole = dnf_of_one_are formulas true whole
+    conjuncts_are (formula.Or formulas) false whole = dnf_of_each_are formulas false whole
+    conjuncts_are (formula.Not is) wanted whole = conjuncts_are is (not wanted) whole
+    conjuncts_are is wanted whole = ((whole, tt), tt)
 
     -- so it is of a choice of each formula
-    choices_of_each_are : (formulas : Formulas) (wanted : Bool) → AreFormulas nodes formulas
-        → AllOf (AllOf IsLiteral) (choices_of_each formulas wanted)
-    choices_of_each_are NoFormula wanted whole = (tt, tt)
-    choices_of_each_are (AFormula is rest) wanted whole =
-        joined_have IsLiteral (choices is wanted) (choices_of_each rest wanted)
-        (choices_are is wanted whole.0) (choices_of_each_are rest wanted whole.1)
+    dnf_of_each_are : (formulas : Formulas) (wanted : Bool) → AreFormulas nodes formulas
+        → AllOf (AllOf IsLiteral) (dnf_of_each formulas wanted)
+    dnf_of_each_are NoFormula wanted whole = (tt, tt)
+    dnf_of_each_are (AFormula is rest) wanted whole =
+        joined_have IsLiteral (dnf is wanted) (dnf_of_each rest wanted)
+        (conjuncts_are is wanted whole.0) (dnf_of_each_are rest wanted whole.1)
 
     -- and of a choice of one of them
-    choices_of_one_are : (formulas : Formulas) (wanted : Bool) → AreFormulas nodes formulas
-        → AllOf (AllOf IsLiteral) (choices_of_one formulas wanted)
-    choices_of_one_are NoFormula wanted whole = tt
-    choices_of_one_are (AFormula is rest) wanted whole =
-        each_of_lists (AllOf IsLiteral) (choices is wanted) (choices_of_one rest wanted)
-        (choices_are is wanted whole.0) (choices_of_one_are rest wanted whole.1)
+    dnf_of_one_are : (formulas : Formulas) (wanted : Bool) → AreFormulas nodes formulas
+        → AllOf (AllOf IsLiteral) (dnf_of_one formulas wanted)
+    dnf_of_one_are NoFormula wanted whole = tt
+    dnf_of_one_are (AFormula is rest) wanted whole =
+        each_of_lists (AllOf IsLiteral) (dnf is wanted) (dnf_of_one rest wanted)
+        (conjuncts_are is wanted whole.0) (dnf_of_one_are rest wanted whole.1)
 
   -- each number has a formula of the graph
   formula_is : (graph : Graph) (id : ℕ) → AllOf (IsFormula nodes) graph → IsFormula nodes (formula_at graph (node id))
@@ -87,19 +87,19 @@ module _ (nodes : ℕ) where
   formula_is (is ∷ graph) (suc id) each = formula_is graph id each.1
 
   -- so the literals of a choice of each node are of the graph
-  choices_at_are : (graph : Graph) → AllOf (IsFormula nodes) graph → (ids : List NodeId) (wanted : Bool)
-      → AllOf (AllOf IsLiteral) (choices_at graph ids wanted)
-  choices_at_are graph whole [] wanted = (tt, tt)
-  choices_at_are graph whole (id ∷ ids) wanted =
-      joined_have IsLiteral (choices (formula_at graph id) wanted) (choices_at graph ids wanted)
-      (choices_are (formula_at graph id) wanted (formula_is graph id.0 whole)) (choices_at_are graph whole ids wanted)
+  dnf_at_are : (graph : Graph) → AllOf (IsFormula nodes) graph → (ids : List NodeId) (wanted : Bool)
+      → AllOf (AllOf IsLiteral) (dnf_at graph ids wanted)
+  dnf_at_are graph whole [] wanted = (tt, tt)
+  dnf_at_are graph whole (id ∷ ids) wanted =
+      joined_have IsLiteral (dnf (formula_at graph id) wanted) (dnf_at graph ids wanted)
+      (conjuncts_are (formula_at graph id) wanted (formula_is graph id.0 whole)) (dnf_at_are graph whole ids wanted)
 
   -- and those of a question's choices
-  choices_of_question_are : (graph : Graph) → AllOf (IsFormula nodes) graph → (question : Question)
-      → AllOf (AllOf IsLiteral) (choices_of graph question)
-  choices_of_question_are graph whole question =
-      joined_have IsLiteral (choices_at graph question.pos true) (choices_at graph question.neg false)
-      (choices_at_are graph whole question.pos true) (choices_at_are graph whole question.neg false)
+  dnf_of_question_are : (graph : Graph) → AllOf (IsFormula nodes) graph → (question : Question)
+      → AllOf (AllOf IsLiteral) (dnf_of graph question)
+  dnf_of_question_are graph whole question =
+      joined_have IsLiteral (dnf_at graph question.pos true) (dnf_at graph question.neg false)
+      (dnf_at_are graph whole question.pos true) (dnf_at_are graph whole question.neg false)
 
   -- what the parts of each formula have, the parts of a choice have
   module _ {X : Type 0} (has : X → Type 0) where
@@ -118,8 +118,8 @@ module _ (nodes : ℕ) where
     PartsHave parts_of = (is : Formula) → IsFormula nodes is → IfSome (parts_of is) has
 
     -- of all literals of a choice
-    parts_in_have : (parts_of : Formula → Option X) → PartsHave parts_of → (sign : Bool) (choice : Choice)
-        → AllOf IsLiteral choice → AllOf has (parts_in parts_of sign choice)
+    parts_in_have : (parts_of : Formula → Option X) → PartsHave parts_of → (sign : Bool) (conjunct : Conjunct)
+        → AllOf IsLiteral conjunct → AllOf has (parts_in parts_of sign conjunct)
     parts_in_have parts_of have sign [] each = tt
     parts_in_have parts_of have sign (literal ∷ rest) each =
         one_more_has sign literal.wanted (parts_of literal.is) (parts_in parts_of sign rest)
@@ -127,11 +127,11 @@ module _ (nodes : ℕ) where
 
     -- and so the wanted and the refused parts of a clause
     clause_parts_have : (kind : Kind) (parts_of : Formula → Option X) → PartsHave parts_of
-        → (choice : Choice) (wanted refused : List X) → IsOfParts kind parts_of choice wanted refused
-        → AllOf IsLiteral choice → AllOf has wanted × AllOf has refused
-    clause_parts_have kind parts_of have choice wanted refused is each = (
-      subst (AllOf has) (sym is.1) (parts_in_have parts_of have true choice each),
-      subst (AllOf has) (sym is.2) (parts_in_have parts_of have false choice each),
+        → (conjunct : Conjunct) (wanted refused : List X) → IsOfParts kind parts_of conjunct wanted refused
+        → AllOf IsLiteral conjunct → AllOf has wanted × AllOf has refused
+    clause_parts_have kind parts_of have conjunct wanted refused is each = (
+      subst (AllOf has) (sym is.1) (parts_in_have parts_of have true conjunct each),
+      subst (AllOf has) (sym is.2) (parts_in_have parts_of have false conjunct each),
     )
 
   -- the parts of a formula of the graph are among its nodes: of pairs
@@ -155,17 +155,17 @@ module _ (nodes : ℕ) where
   arrow_is_within _ whole = tt
 
   -- a clause of a choice of formulas of the graph has its parts among the nodes
-  within_by_choice : (clause : Clause) (choice : Choice) → IsClauseOf choice clause → AllOf IsLiteral choice
+  within_by_conjunct : (clause : Clause) (conjunct : Conjunct) → IsClauseOf conjunct clause → AllOf IsLiteral conjunct
       → IsWithin nodes clause
-  within_by_choice (Pairs wanted refused) choice is each =
-      clause_parts_have (IsPairWithin nodes) APair pair_of pair_is_within choice wanted refused is each
-  within_by_choice (Xmls wanted refused) choice is each =
-      clause_parts_have (IsXmlWithin nodes) AnXml xml_of xml_is_within choice wanted refused is each
-  within_by_choice (Records wanted refused) choice is each =
-      clause_parts_have (IsTypeWithin nodes) ARecord record_of record_is_within choice wanted refused is each
-  within_by_choice (Arrows wanted refused) choice is each =
-      clause_parts_have (IsPairWithin nodes) AFunction arrow_of arrow_is_within choice wanted refused is each
-  within_by_choice _ choice is each = tt
+  within_by_conjunct (Pairs wanted refused) conjunct is each =
+      clause_parts_have (IsPairWithin nodes) APair pair_of pair_is_within conjunct wanted refused is each
+  within_by_conjunct (Xmls wanted refused) conjunct is each =
+      clause_parts_have (IsXmlWithin nodes) AnXml xml_of xml_is_within conjunct wanted refused is each
+  within_by_conjunct (Records wanted refused) conjunct is each =
+      clause_parts_have (IsTypeWithin nodes) ARecord record_of record_is_within conjunct wanted refused is each
+  within_by_conjunct (Arrows wanted refused) conjunct is each =
+      clause_parts_have (IsPairWithin nodes) AFunction arrow_of arrow_is_within conjunct wanted refused is each
+  within_by_conjunct _ conjunct is each = tt
 
   -- labels that rise are labels
   rising_are_labels : (before : Option Name) (named : List (Name × Field)) → AreRisingLabels before named
@@ -179,34 +179,34 @@ module _ (nodes : ℕ) where
   record_names_labels _ whole = tt
 
   -- and so does a clause of a choice of formulas of the graph
-  labels_by_choice : (clause : Clause) (choice : Choice) → IsClauseOf choice clause → AllOf IsLiteral choice
+  labels_by_conjunct : (clause : Clause) (conjunct : Conjunct) → IsClauseOf conjunct clause → AllOf IsLiteral conjunct
       → NamesLabels clause
-  labels_by_choice (Records wanted refused) choice is each =
+  labels_by_conjunct (Records wanted refused) conjunct is each =
       clause_parts_have (λ type. AllOf (λ field. IsLabel field.0) type.named) ARecord record_of record_names_labels
-      choice wanted refused is each
-  labels_by_choice _ choice is each = tt
+      conjunct wanted refused is each
+  labels_by_conjunct _ conjunct is each = tt
 
 -- a clause of a question has a fact that each of its choices gives
-by_choices : (Fact : Clause → Type 0) (graph : Graph) → IsGraph graph → (question : Question) (clause : Clause)
-    → ((choice : Choice) → IsClauseOf choice clause → AllOf (IsLiteral (length graph)) choice → Fact clause)
+by_conjuncts : (Fact : Clause → Type 0) (graph : Graph) → IsGraph graph → (question : Question) (clause : Clause)
+    → ((conjunct : Conjunct) → IsClauseOf conjunct clause → AllOf (IsLiteral (length graph)) conjunct → Fact clause)
     → IsClauseOfQuestion graph question clause → Fact clause
-by_choices Fact graph whole question clause leads of =
-    one_leads (λ choice. IsClauseOf choice clause × AllOf (IsLiteral (length graph)) choice)
-    (λ choice both. leads choice both.0 both.1) (choices_of graph question)
-    (one_with_each (λ choice. IsClauseOf choice clause) (AllOf (IsLiteral (length graph))) (choices_of graph question)
-    of (choices_of_question_are (length graph) graph whole question))
+by_conjuncts Fact graph whole question clause leads of =
+    one_leads (λ conjunct. IsClauseOf conjunct clause × AllOf (IsLiteral (length graph)) conjunct)
+    (λ conjunct both. leads conjunct both.0 both.1) (dnf_of graph question)
+    (one_with_each (λ conjunct. IsClauseOf conjunct clause) (AllOf (IsLiteral (length graph))) (dnf_of graph question)
+    of (dnf_of_question_are (length graph) graph whole question))
 
 -- a clause of a question has its parts among the nodes of the graph
 pub clause_is_within : (graph : Graph) → IsGraph graph → (question : Question)
     → (clause : Clause) → IsClauseOfQuestion graph question clause → IsWithin (length graph) clause
-clause_is_within graph whole question clause of = by_choices (IsWithin (length graph)) graph whole question clause
-    (within_by_choice (length graph) clause) of
+clause_is_within graph whole question clause of = by_conjuncts (IsWithin (length graph)) graph whole question clause
+    (within_by_conjunct (length graph) clause) of
 
 -- and its record types name labels
 pub clause_names_labels : (graph : Graph) → IsGraph graph → (question : Question)
     → (clause : Clause) → IsClauseOfQuestion graph question clause → NamesLabels clause
-clause_names_labels graph whole question clause of = by_choices NamesLabels graph whole question clause
-    (labels_by_choice (length graph) clause) of
+clause_names_labels graph whole question clause of = by_conjuncts NamesLabels graph whole question clause
+    (labels_by_conjunct (length graph) clause) of
 
 -- what each of a list has, each of the sides to which it is given has
 module _ {X : Type 0} (has : X → Type 0) where

@@ -91,12 +91,12 @@ module _ (settled : List Question) where
   pub once_kept : (graph : Graph) (before after : State) → Step graph settled before after
       → AreFrames graph settled before.list before.frames → Differ (all_questions settled before)
       → Differ (all_questions settled after)
-  once_kept graph _ _ (opens before question choices new asks of accounts) are once =
+  once_kept graph _ _ (opens before question conjuncts new asks of accounts) are once =
       subst Differ (sym (listed_between before.list [] question before.witnesses))
       (differ_with (settled ++ before.list) (map (λ witness. witness.0) before.witnesses) question once new)
   once_kept graph _ _ (knows before witness new is) are once = one_witness_more before.list before.witnesses witness once new
   once_kept graph _ _ (works witnesses list place question before after frames step) are once = once
-  once_kept graph _ _ (finds witnesses list last frames e is) (before, done, list_is, place_is, left, broken, are) once =
+  once_kept graph _ _ (finds witnesses list last frames e is) (before, done, list_is, place_is, left, refuted, are) once =
       subst (λ list. Differ (of_both list (witnesses ++ (last.question, e) ∷ [])))
       (sym (cut_to_place last.place list before last.question done list_is place_is))
       (one_witness_more before witnesses (last.question, e)

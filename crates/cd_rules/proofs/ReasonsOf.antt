@@ -94,10 +94,10 @@ reasons_named labels (type ∷ refused) = named_with labels type (None ∷ map S
     (tt, all_named labels labels (λ label one. one)) (reasons_named labels refused)
 
 -- what is refused at a label, and what is refused at a label that no type names
-module _ (At : Name → RecordType → Type 0) (Elsewhere : RecordType → Type 0) where
+module _ (At : Name → RecordType → Type 0) (OtherKinds : RecordType → Type 0) where
   abbrev pub HasReason : RecordType → Reason → Type 0
   HasReason type (Some label) = At label type
-  HasReason type None = Elsewhere type
+  HasReason type None = OtherKinds type
 
   -- a type is refused at a label that is its reason
   pub refused_at : (label : Name) (reasons : Reasons) → AreReasons HasReason reasons
@@ -115,7 +115,7 @@ module _ (At : Name → RecordType → Type 0) (Elsewhere : RecordType → Type 
       by_name (inr differ) later = rw differ later
 
   -- the others are refused elsewhere
-  pub refused_elsewhere : (reasons : Reasons) → AreReasons HasReason reasons → AllOf Elsewhere (types_elsewhere reasons)
+  pub refused_elsewhere : (reasons : Reasons) → AreReasons HasReason reasons → AllOf OtherKinds (types_elsewhere reasons)
   refused_elsewhere [] each = tt
   refused_elsewhere ((type, None) ∷ reasons) each = (each.0, refused_elsewhere reasons each.1)
   refused_elsewhere ((type, Some label) ∷ reasons) each = refused_elsewhere reasons each.1
@@ -139,7 +139,7 @@ module _ (At : Name → RecordType → Type 0) (Elsewhere : RecordType → Type 
   -- where all types are refused at the label that is their reason, or elsewhere, these are reasons
   pub reasons_back : (labels : List Name) (reasons : Reasons) → AreNamed labels reasons
       → ((label : Name) → IsOneOf labels label → AllOf (At label) (types_at label reasons))
-      → AllOf Elsewhere (types_elsewhere reasons) → AreReasons HasReason reasons
+      → AllOf OtherKinds (types_elsewhere reasons) → AreReasons HasReason reasons
   reasons_back labels [] named at_labels others = tt
   reasons_back labels ((type, None) ∷ reasons) named at_labels others =
       (others.0, reasons_back labels reasons named.1 at_labels others.1)

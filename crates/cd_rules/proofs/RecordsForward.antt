@@ -7,7 +7,7 @@ use Rattle.cd_model.specs.Formula as formula
 use Rattle.cd_model.specs.Formula.{Field, field_of}
 use Rattle.cd_model.specs.Membership.{Answers, Labelled, asked, record_reader}
 use Rattle.cd_rules.specs.Clauses.{RecordType}
-use Rattle.cd_rules.specs.Members.{IsLiving}
+use Rattle.cd_rules.specs.Members.{HasWitnesses}
 use Rattle.cd_rules.specs.Rows.{Cell, Row, rows_of}
 use Rattle.cd_rules.specs.InRow.{IsInCell, HasElsewhere, IsInRow}
 use Rattle.cd_rules.proofs.InCells.{Says}
@@ -55,7 +55,7 @@ module _ (labelled : Labelled) (Fact : Question → Type 0) (has : (label : Name
       inr (asking cell.value (subst (λ there. asked (answers_of label there) cell.value true) (sym same) is))
 
   -- a row that the record is in lives
-  row_lives : (row : Row) → IsInRow answers_at at row → IsLiving Fact row
+  row_lives : (row : Row) → IsInRow answers_at at row → HasWitnesses Fact row
   row_lives row is = (
     each_weaker (λ cell. IsInCell answers_at (at cell.0) cell.1) (λ cell. (cell.1.absent ≡ true) ⊎ Fact cell.1.value)
         (λ cell here. cell_lives cell.0 cell.1 (has cell.0) refl here) row.cells is.0,
@@ -73,9 +73,9 @@ pub records_forward : (labelled : Labelled) (Fact : Question → Type 0) → ((l
     → (wanted refused : List RecordType)
     → AllOf (λ type. record_reader labelled (formula.Record type.named type.rest) true) wanted
     → AllOf (λ type. record_reader labelled (formula.Record type.named type.rest) false) refused
-    → AnyOf (IsLiving Fact) (rows_of wanted refused)
+    → AnyOf (HasWitnesses Fact) (rows_of wanted refused)
 records_forward labelled Fact has wanted refused inside outside =
-    one_weaker (IsInRow told at_labels) (IsLiving Fact) (row_lives labelled Fact has) (rows_of wanted refused)
+    one_weaker (IsInRow told at_labels) (HasWitnesses Fact) (row_lives labelled Fact has) (rows_of wanted refused)
     ((rows_exact told at_labels wanted refused).0 (
       each_weaker (λ type. record_reader labelled (formula.Record type.named type.rest) true)
           (λ type. record_reader (labelled_by told at_labels) (formula.Record type.named type.rest) true)

@@ -14,7 +14,7 @@ use Rattle.cd_rules.proofs.QuestionsOnce.{once_kept}
 module _ (graph : Graph) (settled : List Question) where
   witnesses_kept : (before after : State) → Step graph settled before after → AllOf (IsWitness graph) before.witnesses
       → AllOf (IsWitness graph) after.witnesses
-  witnesses_kept _ _ (opens before question choices new asks of accounts) are = are
+  witnesses_kept _ _ (opens before question conjuncts new asks of accounts) are = are
   witnesses_kept _ _ (knows before witness new is) are = each_of_lists (IsWitness graph) before.witnesses (witness ∷ []) are (is, tt)
   witnesses_kept _ _ (works witnesses list place question before after frames step) are = are
   witnesses_kept _ _ (finds witnesses list last frames e is) are =
@@ -23,11 +23,11 @@ module _ (graph : Graph) (settled : List Question) where
 
   asks_kept : (before after : State) → Step graph settled before after → AreFrames graph settled before.list before.frames
       → AllOf (AsksNodes (length graph)) before.list → AllOf (AsksNodes (length graph)) after.list
-  asks_kept _ _ (opens before question choices new asks of accounts) are each =
+  asks_kept _ _ (opens before question conjuncts new asks of accounts) are each =
       each_of_lists (AsksNodes (length graph)) before.list (question ∷ []) each (asks, tt)
   asks_kept _ _ (knows before witness new is) are each = each
   asks_kept _ _ (works witnesses list place question before after frames step) are each = each
-  asks_kept _ _ (finds witnesses list last frames e is) (before, done, list_is, place_is, left, broken, are) each =
+  asks_kept _ _ (finds witnesses list last frames e is) (before, done, list_is, place_is, left, refuted, are) each =
       subst (AllOf (AsksNodes (length graph))) (sym (cut_to_place last.place list before last.question done list_is place_is))
       (each_parts (AsksNodes (length graph)) before (last.question ∷ done) (subst (AllOf (AsksNodes (length graph))) list_is each)).0
   asks_kept _ _ (leaves witnesses list last frames is_done) are each = each

@@ -7,10 +7,10 @@ use Rattle.std.proofs.lemmas.List.{length-append, length-map}
 use Rattle.cd_sets.specs.declared.question.Question.{Question}
 use Rattle.cd_model.specs.Formula.{Formula, Formulas, NoFormula, AFormula, And, Or, Not, Graph}
 use Rattle.cd_model.specs.Kinds.{Kind}
-use Rattle.cd_rules.specs.Choices.{Choice, joined}
-use Rattle.cd_rules.specs.KindChoices.{kind_choices, kind_of_each, kind_of_one}
-use Rattle.cd_rules.specs.PartialChoices.{Signed, Partial, partial, clause_by, completions, each_signed, GoesOn, unfolds, divides, extends}
-use Rattle.cd_rules.specs.PartialChoices.{IsConjunction, wants_each, refuses_each, denies, IsDisjunction, wants_one, refuses_one}
+use Rattle.cd_rules.specs.Dnf.{Conjunct, joined}
+use Rattle.cd_rules.specs.KindDnf.{kind_dnf, kind_of_each, kind_of_one}
+use Rattle.cd_rules.specs.PartialConjuncts.{Signed, Partial, partial, clause_by, completions, each_signed, GoesOn, unfolds, divides, extends}
+use Rattle.cd_rules.specs.PartialConjuncts.{IsConjunction, wants_each, refuses_each, denies, IsDisjunction, wants_one, refuses_one}
 use Rattle.cd_rules.specs.Rows.{labels_of}
 use Rattle.cd_rules.specs.Tasks.{Task, PairTask, XmlTask, ArrowTask, RecordTask}
 use Rattle.cd_rules.specs.Tasks.{AreCases, pair_cases, xml_cases, arrow_cases, record_cases}
@@ -67,11 +67,11 @@ task_weighs (ArrowTask refused wanted given left) = weighs 2 (length left)
 task_weighs (RecordTask wanted refused given left) = weighs (suc (length (labels_of (wanted ++ refused)))) (length left)
 
 -- as many choices are joined as there are of the one for each of the other
-length_joined : (some others : List Choice) → length (joined some others) ≡ length some * length others
+length_joined : (some others : List Conjunct) → length (joined some others) ≡ length some * length others
 length_joined [] others = omega arith
-length_joined (choice ∷ some) others = length-append (map (λ other. choice ++ other) others) (joined some others)
-    ∙ by_parts (length some) (length others) (length (map (λ other. choice ++ other) others)) (length (joined some others))
-    (length-map others (λ other. choice ++ other)) (length_joined some others)
+length_joined (conjunct ∷ some) others = length-append (map (λ other. conjunct ++ other) others) (joined some others)
+    ∙ by_parts (length some) (length others) (length (map (λ other. conjunct ++ other) others)) (length (joined some others))
+    (length-map others (λ other. conjunct ++ other)) (length_joined some others)
   where
     by_parts : (n m first rest : ℕ) → first ≡ m → rest ≡ n * m → first + rest ≡ suc n * m
     by_parts n m first rest same so = let times = suc-mul n m in omega arith
@@ -82,10 +82,10 @@ module _ (kind : Kind) where
       → joining_weight kind (each_signed formulas wanted ++ left)
       ≡ weight_of_each kind formulas wanted + length (kind_of_each kind formulas wanted) * joining_weight kind left
   joining_each NoFormula wanted left = omega arith
-  joining_each (AFormula is rest) wanted left = by_parts (formula_weight kind is wanted) (length (kind_choices kind is wanted))
+  joining_each (AFormula is rest) wanted left = by_parts (formula_weight kind is wanted) (length (kind_dnf kind is wanted))
       (weight_of_each kind rest wanted) (length (kind_of_each kind rest wanted)) (joining_weight kind left)
-      (joining_weight kind (each_signed rest wanted ++ left)) (length (joined (kind_choices kind is wanted) (kind_of_each kind rest wanted)))
-      (joining_each rest wanted left) (length_joined (kind_choices kind is wanted) (kind_of_each kind rest wanted))
+      (joining_weight kind (each_signed rest wanted ++ left)) (length (joined (kind_dnf kind is wanted) (kind_of_each kind rest wanted)))
+      (joining_each rest wanted left) (length_joined (kind_dnf kind is wanted) (kind_of_each kind rest wanted))
     where
       by_parts : (one count others other_count left rest joined_count : ℕ) → rest ≡ others + other_count * left
           → joined_count ≡ count * other_count → one + count * rest ≡ (one + count * others) + joined_count * left
@@ -101,24 +101,24 @@ module _ (kind : Kind) where
   unfolding_falls _ _ left (denies is wanted) = omega arith
 
   -- what each clause has that one of the extensions may become is what each has that the choice may become
-  module _ (choice : Choice) (left : List Signed) where
-    abbrev weight_with : Choice → ℕ
-    weight_with rest = clause_weight (clause_by kind (choice ++ rest))
+  module _ (conjunct : Conjunct) (left : List Signed) where
+    abbrev weight_with : Conjunct → ℕ
+    weight_with rest = clause_weight (clause_by kind (conjunct ++ rest))
 
-    with_more : (more : Choice) (all : List Choice) → sum_of (λ rest. clause_weight (clause_by kind ((choice ++ more) ++ rest))) all
+    with_more : (more : Conjunct) (all : List Conjunct) → sum_of (λ rest. clause_weight (clause_by kind ((conjunct ++ more) ++ rest))) all
         ≡ sum_of weight_with (map (λ other. more ++ other) all)
     with_more more [] = refl
     with_more more (rest ∷ all) =
-        let first = ap (λ choice. clause_weight (clause_by kind choice)) (append_assoc choice more rest) in
+        let first = ap (λ conjunct. clause_weight (clause_by kind conjunct)) (append_assoc conjunct more rest) in
         let others = with_more more all in omega arith
 
-    extensions_weight : (some : List Choice) → sum_of partial_weight (map (λ more. partial kind (choice ++ more) left) some)
+    extensions_weight : (some : List Conjunct) → sum_of partial_weight (map (λ more. partial kind (conjunct ++ more) left) some)
         ≡ length some * joining_weight kind left + sum_of weight_with (joined some (completions kind left))
     extensions_weight [] = omega arith
     extensions_weight (more ∷ some) = by_parts (joining_weight kind left) (length some)
-        (sum_of (λ rest. clause_weight (clause_by kind ((choice ++ more) ++ rest))) (completions kind left))
+        (sum_of (λ rest. clause_weight (clause_by kind ((conjunct ++ more) ++ rest))) (completions kind left))
         (sum_of weight_with (map (λ other. more ++ other) (completions kind left)))
-        (sum_of partial_weight (map (λ more. partial kind (choice ++ more) left) some))
+        (sum_of partial_weight (map (λ more. partial kind (conjunct ++ more) left) some))
         (sum_of weight_with (joined some (completions kind left)))
         (sum_of weight_with (map (λ other. more ++ other) (completions kind left) ++ joined some (completions kind left)))
         (with_more more (completions kind left)) (extensions_weight some)
@@ -129,21 +129,21 @@ module _ (kind : Kind) where
         by_parts joining count first first_too others rest both same so together = let times = suc-mul count joining in omega arith
 
   -- a choice for each of some formulas, of which one is to be met
-  module _ (choice : Choice) (left : List Signed) where
-    weight_of_divided : (formulas : Formulas) (wanted : Bool) → sum_of partial_weight (divided kind choice left (each_signed formulas wanted))
+  module _ (conjunct : Conjunct) (left : List Signed) where
+    weight_of_divided : (formulas : Formulas) (wanted : Bool) → sum_of partial_weight (divided kind conjunct left (each_signed formulas wanted))
         ≡ (weight_of_one kind formulas wanted + length (kind_of_one kind formulas wanted) * joining_weight kind left)
-        + sum_of (weight_with choice left) (joined (kind_of_one kind formulas wanted) (completions kind left))
+        + sum_of (weight_with conjunct left) (joined (kind_of_one kind formulas wanted) (completions kind left))
     weight_of_divided NoFormula wanted = omega arith
     weight_of_divided (AFormula is rest) wanted =
-        let some = kind_choices kind is wanted in let others = kind_of_one kind rest wanted in
+        let some = kind_dnf kind is wanted in let others = kind_of_one kind rest wanted in
         by_parts (formula_weight kind is wanted) (length some) (joining_weight kind left)
-        (sum_of (weight_with choice left) (joined some (completions kind left)))
-        (sum_of partial_weight (divided kind choice left (each_signed rest wanted))) (weight_of_one kind rest wanted) (length others)
-        (sum_of (weight_with choice left) (joined others (completions kind left))) (length (some ++ others))
-        (sum_of (weight_with choice left) (joined (some ++ others) (completions kind left)))
+        (sum_of (weight_with conjunct left) (joined some (completions kind left)))
+        (sum_of partial_weight (divided kind conjunct left (each_signed rest wanted))) (weight_of_one kind rest wanted) (length others)
+        (sum_of (weight_with conjunct left) (joined others (completions kind left))) (length (some ++ others))
+        (sum_of (weight_with conjunct left) (joined (some ++ others) (completions kind left)))
         (weight_of_divided rest wanted) (length-append some others)
-        (ap (sum_of (weight_with choice left)) (joined_both some others (completions kind left))
-        ∙ sum_of_both (weight_with choice left) (joined some (completions kind left)) (joined others (completions kind left)))
+        (ap (sum_of (weight_with conjunct left)) (joined_both some others (completions kind left))
+        ∙ sum_of_both (weight_with conjunct left) (joined some (completions kind left)) (joined others (completions kind left)))
       where
         by_parts : (one count joining clauses rest others other_count other_clauses both_count both_clauses : ℕ)
             → rest ≡ (others + other_count * joining) + other_clauses → both_count ≡ count + other_count
@@ -153,7 +153,7 @@ module _ (kind : Kind) where
             let times = ap (λ n. n * joining) so ∙ add-mul count other_count joining in omega arith
 
     dividing_falls : (one : Signed) (members : List Signed) → IsDisjunction one members
-        → sum_of partial_weight (divided kind choice left members) < partial_weight (partial kind choice (one ∷ left))
+        → sum_of partial_weight (divided kind conjunct left members) < partial_weight (partial kind conjunct (one ∷ left))
     dividing_falls _ _ (wants_one formulas) = let same = weight_of_divided formulas true in omega arith
     dividing_falls _ _ (refuses_one formulas) = let same = weight_of_divided formulas false in omega arith
 
@@ -170,33 +170,33 @@ joining_weighs kind (one ∷ left) = let first = formula_weighs kind one.0 one.1
 
 -- where a choice goes on, what comes of it weighs less
 more_falls : (first : Partial) (more : List Partial) → GoesOn first more → sum_of partial_weight more < partial_weight first
-more_falls _ _ (unfolds kind choice one members left are) =
+more_falls _ _ (unfolds kind conjunct one members left are) =
     let less = unfolding_falls kind one members left are in
-    let same = ap (sum_of (weight_with kind choice left)) (completions_unfold kind one members left are) in omega arith
-more_falls _ _ (divides kind choice one members left are) = dividing_falls kind choice left one members are
-more_falls _ _ (extends kind choice one left) =
-    let sum = extensions_weight kind choice left (kind_choices kind one.0 one.1) in
+    let same = ap (sum_of (weight_with kind conjunct left)) (completions_unfold kind one members left are) in omega arith
+more_falls _ _ (divides kind conjunct one members left are) = dividing_falls kind conjunct left one members are
+more_falls _ _ (extends kind conjunct one left) =
+    let sum = extensions_weight kind conjunct left (kind_dnf kind one.0 one.1) in
     let first = formula_weighs kind one.0 one.1 in omega arith
 
 work_falls : (known : List Question) (before after : Work) → Works known before after → work_weight after < work_weight before
-work_falls known _ _ (goes_further first more choices clause later branches goes) =
-    let less = more_falls first more goes in let both = sum_of_both partial_weight more choices in omega arith
-work_falls known _ _ (cuts choice choices clause later branches fails) =
-    let one = joining_weighs choice.kind choice.left in omega arith
-work_falls known _ _ (begins kind choice choices before late task later same) =
+work_falls known _ _ (goes_further first more conjuncts clause later branches goes) =
+    let less = more_falls first more goes in let both = sum_of_both partial_weight more conjuncts in omega arith
+work_falls known _ _ (cuts conjunct conjuncts clause later branches fails) =
+    let one = joining_weighs conjunct.kind conjunct.left in omega arith
+work_falls known _ _ (begins kind conjunct conjuncts before late task later same) =
     let tasks = ap (sum_of task_weight) same in
-    let whole = ap (λ choice. clause_weight (clause_by kind choice)) (append-nil choice) in omega arith
-work_falls known _ _ (drops choices clause later task branches covered) = let one = task_weighs task in omega arith
-work_falls known _ _ (splits choices clause later task branches cases are) =
+    let whole = ap (λ conjunct. clause_weight (clause_by kind conjunct)) (append-nil conjunct) in omega arith
+work_falls known _ _ (drops conjuncts clause later task branches subsumed) = let one = task_weighs task in omega arith
+work_falls known _ _ (splits conjuncts clause later task branches cases are) =
     let less = cases_fall task cases are in let both = sum_of_both task_weight cases branches in omega arith
-work_falls known _ _ (goes_on choices clause next later task branches) = let one = task_weighs task in omega arith
+work_falls known _ _ (goes_on conjuncts clause next later task branches) = let one = task_weighs task in omega arith
 
 one_longer : {X : Type 0} (xs : List X) (x : X) → length (xs ++ x ∷ []) ≡ suc (length xs)
 one_longer [] x = refl
 one_longer (y ∷ xs) x = ap suc (one_longer xs x)
 
 pub step_further : (graph : Graph) (settled : List Question) (before after : State) → Step graph settled before after → IsFurther before after
-step_further graph settled _ _ (opens before question choices new asks of accounts) = inr (inl (refl, one_longer before.list question))
+step_further graph settled _ _ (opens before question conjuncts new asks of accounts) = inr (inl (refl, one_longer before.list question))
 step_further graph settled _ _ (knows before witness new is) = inl (one_longer before.witnesses witness)
 step_further graph settled _ _ (works witnesses list place question before after frames step) =
     let less = work_falls (settled ++ list) before after step in inr (inr (refl, refl, omega arith))

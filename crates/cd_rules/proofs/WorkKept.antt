@@ -5,32 +5,32 @@ use Rattle.cd_model.specs.AllOf.{AllOf, AnyOf}
 use Rattle.cd_model.specs.Formula.{Graph}
 use Rattle.cd_model.proofs.Covered.{each_parts}
 use Rattle.cd_rules.specs.Clauses.{IsClauseOfQuestion, Clause}
-use Rattle.cd_rules.specs.Family.{AreAmong, IsCovered, Breaks}
-use Rattle.cd_rules.specs.PartialChoices.{clause_by, PartialFails, IsPartialOf}
+use Rattle.cd_rules.specs.Family.{AreAmong, IsSubsumed, Refutes}
+use Rattle.cd_rules.specs.PartialConjuncts.{clause_by, PartialFails, IsPartialOf}
 use Rattle.cd_rules.specs.Tasks.{Task, TaskFails, IsTaskOf, AreCases, questions_of}
 use Rattle.cd_rules.proofs.Among.{among_on}
 use Rattle.cd_rules.proofs.CasesAreTasks.{cases_of_task, tasks_are}
-use Rattle.cd_rules.proofs.Covering.{covered_where, covers_on}
-use Rattle.cd_rules.proofs.FailingTasks.{covered_fails, cases_fail, task_breaks}
+use Rattle.cd_rules.proofs.Subsumption.{subsumed_where, subsumes_on}
+use Rattle.cd_rules.proofs.FailingTasks.{subsumed_fails, cases_fail, task_refutes}
 use Rattle.cd_model.proofs.Ones.{each_weaker, one_weaker, each_of_lists}
 use Rattle.cd_rules.proofs.Completions.{of_more, to_more, of_complete, to_complete}
 use Rattle.cd_rules.specs.Machine.{Work, Works, goes_further, cuts, begins, drops, splits, goes_on}
-use Rattle.cd_rules.specs.Right.{AreTasksOf, IsWorkOf, IsBroken}
+use Rattle.cd_rules.specs.Right.{AreTasksOf, IsWorkOf, IsRefuted}
 
 module _ (graph : Graph) where
   -- a larger base keeps what rests on it
-  pub broken_on : (base more : List Question) → AreAmong base more → (questions : List Question)
-      → AllOf (IsBroken graph base) questions → AllOf (IsBroken graph more) questions
-  broken_on base more among = each_weaker (IsBroken graph base) (IsBroken graph more)
-      (λ question broken family larger. broken family (among_on base more family among larger))
+  pub refuted_on : (base more : List Question) → AreAmong base more → (questions : List Question)
+      → AllOf (IsRefuted graph base) questions → AllOf (IsRefuted graph more) questions
+  refuted_on base more among = each_weaker (IsRefuted graph base) (IsRefuted graph more)
+      (λ question refuted family larger. refuted family (among_on base more family among larger))
 
   pub work_on : (base more : List Question) → AreAmong base more → (question : Question) (left : Work)
       → IsWorkOf graph base question left → IsWorkOf graph more question left
   work_on base more among question left is = record {
-    choices_fail = λ family larger. is.choices_fail family (among_on base more family among larger);
+    conjuncts_fail = λ family larger. is.conjuncts_fail family (among_on base more family among larger);
     branches_fail = λ family larger. is.branches_fail family (among_on base more family among larger);
     later_fails = λ family larger. is.later_fails family (among_on base more family among larger);
-    choices_are = is.choices_are;
+    conjuncts_are = is.conjuncts_are;
     branches_are = is.branches_are;
     later_are = is.later_are;
   }
@@ -61,63 +61,63 @@ module _ (graph : Graph) where
 
     pub work_kept : (base : List Question) (before after : Work) → Works base before after
         → IsWorkOf graph base question before → IsWorkOf graph base question after
-    work_kept base _ _ (goes_further first more choices clause later branches goes) is = record {
-      choices_fail = λ family larger broken fail. let both = each_parts (PartialFails family) more choices fail in
-          is.choices_fail family larger broken (of_more (Breaks family) first more goes both.0, both.1);
+    work_kept base _ _ (goes_further first more conjuncts clause later branches goes) is = record {
+      conjuncts_fail = λ family larger refuted fail. let both = each_parts (PartialFails family) more conjuncts fail in
+          is.conjuncts_fail family larger refuted (of_more (Refutes family) first more goes both.0, both.1);
       branches_fail = is.branches_fail;
       later_fails = is.later_fails;
-      choices_are = each_of_lists (IsPartialOf graph question) more choices
-          (to_more (IsClauseOfQuestion graph question) first more goes is.choices_are.0) is.choices_are.1;
+      conjuncts_are = each_of_lists (IsPartialOf graph question) more conjuncts
+          (to_more (IsClauseOfQuestion graph question) first more goes is.conjuncts_are.0) is.conjuncts_are.1;
       branches_are = is.branches_are;
       later_are = is.later_are;
     }
-    work_kept base _ _ (cuts choice choices clause later branches fails) is = record {
-      choices_fail = λ family larger broken fail. is.choices_fail family larger broken (fails family larger, fail);
+    work_kept base _ _ (cuts conjunct conjuncts clause later branches fails) is = record {
+      conjuncts_fail = λ family larger refuted fail. is.conjuncts_fail family larger refuted (fails family larger, fail);
       branches_fail = is.branches_fail;
       later_fails = is.later_fails;
-      choices_are = is.choices_are.1;
+      conjuncts_are = is.conjuncts_are.1;
       branches_are = is.branches_are;
       later_are = is.later_are;
     }
-    work_kept base _ _ (begins kind choice choices before late task later same) is =
-        let tasks = subst (AllOf (IsTaskOf (clause_by kind choice))) same (tasks_are (clause_by kind choice)) in
-        let of = of_complete (IsClauseOfQuestion graph question) kind choice is.choices_are.0 in record {
-          choices_fail = λ family larger broken fail. is.choices_fail family larger (is.branches_fail family larger tt)
-              (to_complete (Breaks family) kind choice broken, fail);
+    work_kept base _ _ (begins kind conjunct conjuncts before late task later same) is =
+        let tasks = subst (AllOf (IsTaskOf (clause_by kind conjunct))) same (tasks_are (clause_by kind conjunct)) in
+        let of = of_complete (IsClauseOfQuestion graph question) kind conjunct is.conjuncts_are.0 in record {
+          conjuncts_fail = λ family larger refuted fail. is.conjuncts_fail family larger (is.branches_fail family larger tt)
+              (to_complete (Refutes family) kind conjunct refuted, fail);
           branches_fail = λ family larger fail.
-              task_breaks family (clause_by kind choice) (subst (AnyOf (TaskFails family)) (sym same) (inl fail.0));
+              task_refutes family (clause_by kind conjunct) (subst (AnyOf (TaskFails family)) (sym same) (inl fail.0));
           later_fails = λ family larger fail.
-              task_breaks family (clause_by kind choice) (subst (AnyOf (TaskFails family)) (sym same) (inr fail));
-          choices_are = is.choices_are.1;
+              task_refutes family (clause_by kind conjunct) (subst (AnyOf (TaskFails family)) (sym same) (inr fail));
+          conjuncts_are = is.conjuncts_are.1;
           branches_are = (of, (tasks.0, tt));
           later_are = (of, tasks.1);
         }
-    work_kept base _ _ (drops choices clause later task branches covered) is = record {
-      choices_fail = is.choices_fail;
+    work_kept base _ _ (drops conjuncts clause later task branches subsumed) is = record {
+      conjuncts_fail = is.conjuncts_fail;
       branches_fail = λ family larger fail. is.branches_fail family larger (
-        covered_fails family task (one_weaker (λ question. IsCovered question base) (λ question. IsCovered question family)
-            (covers_on base family (covered_where base family larger)) (questions_of task) covered),
+        subsumed_fails family task (one_weaker (λ question. IsSubsumed question base) (λ question. IsSubsumed question family)
+            (subsumes_on base family (subsumed_where base family larger)) (questions_of task) subsumed),
         fail,
       );
       later_fails = is.later_fails;
-      choices_are = is.choices_are;
+      conjuncts_are = is.conjuncts_are;
       branches_are = tasks_after clause task branches is.branches_are;
       later_are = is.later_are;
     }
-    work_kept base _ _ (splits choices clause later task branches cases are) is = record {
-      choices_fail = is.choices_fail;
+    work_kept base _ _ (splits conjuncts clause later task branches cases are) is = record {
+      conjuncts_fail = is.conjuncts_fail;
       branches_fail = λ family larger fail. let both = each_parts (TaskFails family) cases branches fail in
           is.branches_fail family larger (cases_fail_too family clause task branches cases are is.branches_are both.0, both.1);
       later_fails = is.later_fails;
-      choices_are = is.choices_are;
+      conjuncts_are = is.conjuncts_are;
       branches_are = cases_before clause task branches cases are is.branches_are;
       later_are = is.later_are;
     }
-    work_kept base _ _ (goes_on choices clause next later task branches) is = record {
-      choices_fail = is.choices_fail;
+    work_kept base _ _ (goes_on conjuncts clause next later task branches) is = record {
+      conjuncts_fail = is.conjuncts_fail;
       branches_fail = λ family larger fail. is.later_fails family larger (inl fail.0);
       later_fails = λ family larger fail. is.later_fails family larger (inr fail);
-      choices_are = is.choices_are;
+      conjuncts_are = is.conjuncts_are;
       branches_are = task_alone clause next later is.later_are;
       later_are = tasks_after clause next later is.later_are;
     }

@@ -12,7 +12,7 @@ use Rattle.cd_model.specs.Formula.{Graph, Formula, Field}
 use Rattle.cd_model.specs.Kinds.{Kind, AnInteger, ACharacter, AnAtom, APair, AnXml, ARecord}
 use Rattle.cd_model.specs.Kinds.{AFunction}
 use Rattle.cd_model.specs.Membership.{Reader}
-use Rattle.cd_rules.specs.Choices.{Choice, choices_of}
+use Rattle.cd_rules.specs.Dnf.{Conjunct, dnf_of}
 
 -- the nodes of the parts of a formula
 abbrev pub Pair : Type 0
@@ -47,9 +47,9 @@ kind_of_formula (formula.Arrow argument result) = Some AFunction
 kind_of_formula is = None
 
 -- all wanted literals are of this kind
-abbrev pub AllOfKind : Kind → Choice → Type 0
-AllOfKind kind choice = AllOf
-    (λ literal. literal.wanted ≡ true → kind_of_formula literal.is ≡ Some kind) choice
+abbrev pub AllOfKind : Kind → Conjunct → Type 0
+AllOfKind kind conjunct = AllOf
+    (λ literal. literal.wanted ≡ true → kind_of_formula literal.is ≡ Some kind) conjunct
 
 -- the parts of a formula, where it is of this kind
 abbrev pub integers_of : Formula → Option (List Interval)
@@ -86,31 +86,32 @@ one_more true true (Some x) rest = x ∷ rest
 one_more false false (Some x) rest = x ∷ rest
 one_more sign wanted x rest = rest
 
-abbrev pub parts_in : {X : Type 0} → (Formula → Option X) → (sign : Bool) → Choice → List X
+abbrev pub parts_in : {X : Type 0} → (Formula → Option X) → (sign : Bool) → Conjunct → List X
 parts_in parts_of sign [] = []
 parts_in parts_of sign (literal ∷ rest) =
     one_more sign literal.wanted (parts_of literal.is) (parts_in parts_of sign rest)
 
 -- A choice has a clause of each kind to which all its wanted literals belong: its wanted and its
 -- refused literals of that kind
-abbrev pub IsOfParts : {X : Type 0} → Kind → (Formula → Option X) → Choice
+abbrev pub IsOfParts : {X : Type 0} → Kind → (Formula → Option X) → Conjunct
     → (wanted refused : List X) → Type 0
-IsOfParts kind parts_of choice wanted refused = AllOfKind kind choice
-    × (wanted ≡ parts_in parts_of true choice) × (refused ≡ parts_in parts_of false choice)
+IsOfParts kind parts_of conjunct wanted refused = AllOfKind kind conjunct
+    × (wanted ≡ parts_in parts_of true conjunct) × (refused ≡ parts_in parts_of false conjunct)
 
-abbrev pub IsClauseOf : Choice → Clause → Type 0
-IsClauseOf choice (Ints wanted refused) = IsOfParts AnInteger integers_of choice wanted refused
-IsClauseOf choice (Chars wanted refused) = IsOfParts ACharacter characters_of choice wanted refused
-IsClauseOf choice (Atoms wanted refused) = IsOfParts AnAtom atoms_of choice wanted refused
-IsClauseOf choice (Pairs wanted refused) = IsOfParts APair pair_of choice wanted refused
-IsClauseOf choice (Xmls wanted refused) = IsOfParts AnXml xml_of choice wanted refused
-IsClauseOf choice (Records wanted refused) = IsOfParts ARecord record_of choice wanted refused
-IsClauseOf choice (Arrows wanted refused) = IsOfParts AFunction arrow_of choice wanted refused
+abbrev pub IsClauseOf : Conjunct → Clause → Type 0
+IsClauseOf conjunct (Ints wanted refused) = IsOfParts AnInteger integers_of conjunct wanted refused
+IsClauseOf conjunct (Chars wanted refused) =
+    IsOfParts ACharacter characters_of conjunct wanted refused
+IsClauseOf conjunct (Atoms wanted refused) = IsOfParts AnAtom atoms_of conjunct wanted refused
+IsClauseOf conjunct (Pairs wanted refused) = IsOfParts APair pair_of conjunct wanted refused
+IsClauseOf conjunct (Xmls wanted refused) = IsOfParts AnXml xml_of conjunct wanted refused
+IsClauseOf conjunct (Records wanted refused) = IsOfParts ARecord record_of conjunct wanted refused
+IsClauseOf conjunct (Arrows wanted refused) = IsOfParts AFunction arrow_of conjunct wanted refused
 
 -- a question has the clauses of its choices
 abbrev pub IsClauseOfQuestion : Graph → Question → Clause → Type 0
 IsClauseOfQuestion graph question clause =
-    AnyOf (λ choice. IsClauseOf choice clause) (choices_of graph question)
+    AnyOf (λ conjunct. IsClauseOf conjunct clause) (dnf_of graph question)
 
 -- a thing of a kind is in each wanted formula and outside each refused one
 abbrev pub IsInParts : {X : Type 0} → (kind of : Kind) → Reader → (X → Formula)

@@ -21,8 +21,8 @@ SameMembers some others = AreAmong some others × AreAmong others some
 
 -- A question asks no less than another: it wants each node that the other wants, and refuses each
 -- one that the other refuses. So what is in it is in the other
-abbrev pub AsksNoLess : Question → Question → Type 0
-AsksNoLess question other = AreAmong other.pos question.pos × AreAmong other.neg question.neg
+abbrev pub IsSubsumedBy : Question → Question → Type 0
+IsSubsumedBy question other = AreAmong other.pos question.pos × AreAmong other.neg question.neg
 
 -- a question contradicts itself where it wants a node that it refuses: nothing is in it
 abbrev pub ContradictsItself : Question → Type 0
@@ -30,34 +30,34 @@ ContradictsItself question = AnyOf (λ id. AnyOf (λ other. other ≡ id) questi
 
 -- a family covers a question that asks no less than one of its questions, and each one that
 -- contradicts itself
-abbrev pub IsCovered : Question → List Question → Type 0
-IsCovered question family = AnyOf (AsksNoLess question) family ⊎ ContradictsItself question
+abbrev pub IsSubsumed : Question → List Question → Type 0
+IsSubsumed question family = AnyOf (IsSubsumedBy question) family ⊎ ContradictsItself question
 
 -- a need is broken where each of its ways has a question that the family covers
-abbrev pub BreaksNeed : List Question → Need → Type 0
-BreaksNeed family need = AllOf (λ way. AnyOf (λ question. IsCovered question family) way) need
+abbrev pub RefutesNeed : List Question → Need → Type 0
+RefutesNeed family need = AllOf (λ way. AnyOf (λ question. IsSubsumed question family) way) need
 
 -- a row is broken where a field has to be there and its question is covered, or a question of
 -- `some` is
-abbrev pub BreaksRow : List Question → Row → Type 0
-BreaksRow family row = AnyOf
-    (λ cell. (cell.1.absent ≡ false) × IsCovered cell.1.value family) row.cells
-    ⊎ AnyOf (λ question. IsCovered question family) row.some
+abbrev pub RefutesRow : List Question → Row → Type 0
+RefutesRow family row = AnyOf
+    (λ cell. (cell.1.absent ≡ false) × IsSubsumed cell.1.value family) row.cells
+    ⊎ AnyOf (λ question. IsSubsumed question family) row.some
 
 -- a clause is broken where one of its needs is; and a clause of records where each of its rows is
-abbrev pub HasBrokenNeed : List Question → Clause → Type 0
-HasBrokenNeed family clause = (needs : List Need) × AreNeeds clause needs
-    × AnyOf (BreaksNeed family) needs
+abbrev pub HasRefutedNeed : List Question → Clause → Type 0
+HasRefutedNeed family clause = (needs : List Need) × AreNeeds clause needs
+    × AnyOf (RefutesNeed family) needs
 
-abbrev pub Breaks : List Question → Clause → Type 0
-Breaks family (Records wanted refused) = AllOf (BreaksRow family) (rows_of wanted refused)
-Breaks family clause = HasBrokenNeed family clause
+abbrev pub Refutes : List Question → Clause → Type 0
+Refutes family (Records wanted refused) = AllOf (RefutesRow family) (rows_of wanted refused)
+Refutes family clause = HasRefutedNeed family clause
 
 -- a family is closed where it breaks each clause of each of its questions
 abbrev pub IsClosed : Graph → List Question → Type 0
 IsClosed graph family = AllOf
     (λ question. (clause : Clause) → IsClauseOfQuestion graph question clause
-    → Breaks family clause) family
+    → Refutes family clause) family
 
 -- a question of nodes among so many
 abbrev pub AsksNodes : (nodes : ℕ) → Question → Type 0

@@ -1,7 +1,7 @@
 pub mod Machine
 pub mod Right
 pub mod Weight
-pub mod Choices
+pub mod Dnf
 pub mod Clauses
 pub mod Needs
 pub mod Rows
@@ -13,8 +13,8 @@ pub mod Examples
 pub mod Within
 pub mod InWay
 pub mod BasicSets
-pub mod KindChoices
+pub mod KindDnf
 pub mod Fails
 pub mod Tasks
-pub mod PartialChoices
+pub mod PartialConjuncts
 pub mod MadeForTasks

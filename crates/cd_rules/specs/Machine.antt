@@ -9,24 +9,24 @@ use Rattle.cd_model.specs.Formula.{Graph}
 use Rattle.cd_model.specs.Kinds.{Kind}
 use Rattle.cd_model.specs.Membership.{asked, answers}
 use Rattle.cd_model.specs.Thing.{Thing, IsElement}
-use Rattle.cd_rules.specs.Choices.{Choice}
+use Rattle.cd_rules.specs.Dnf.{Conjunct}
 use Rattle.cd_rules.specs.Clauses.{Clause}
-use Rattle.cd_rules.specs.Family.{AreAmong, IsCovered, AsksNodes}
-use Rattle.cd_rules.specs.PartialChoices.{Partial, GoesOn, partial, clause_by, PartialFails}
-use Rattle.cd_rules.specs.PartialChoices.{IsPartialOf, AccountForClauses}
+use Rattle.cd_rules.specs.Family.{AreAmong, IsSubsumed, AsksNodes}
+use Rattle.cd_rules.specs.PartialConjuncts.{Partial, GoesOn, partial, clause_by, PartialFails}
+use Rattle.cd_rules.specs.PartialConjuncts.{IsPartialOf, AccountForClauses}
 use Rattle.cd_rules.specs.Tasks.{Task, tasks_of, questions_of, AreCases}
 
 -- What is left to do for a question: the choices whose clauses are not begun, the clause that is
 -- begun, its tasks that are not begun, and the branches of the one that is
 pub record Work : Type 0 where
-  pub choices : List Partial
+  pub conjuncts : List Partial
   pub clause : Option Clause
   pub later : List Task
   pub branches : List Task
 
 abbrev pub work : List Partial → Option Clause → (later branches : List Task) → Work
-work choices clause later branches =
-    record { choices = choices; clause = clause; later = later; branches = branches }
+work conjuncts clause later branches =
+    record { conjuncts = conjuncts; clause = clause; later = later; branches = branches }
 
 -- a question of the list that is worked at, and its place in the list
 pub record Frame : Type 0 where
@@ -58,42 +58,42 @@ state witnesses list frames = record { witnesses = witnesses; list = list; frame
 -- one thing is done for a question, where these questions are settled or listed
 pub data Works (known : List Question) : (before after : Work) → Type 0 where
   -- a choice goes on by its next formula
-  goes_further : (first : Partial) (more choices : List Partial) (clause : Option Clause)
+  goes_further : (first : Partial) (more conjuncts : List Partial) (clause : Option Clause)
       (later branches : List Task) → GoesOn first more
-      → Works known (work (first ∷ choices) clause later branches)
-      (work (more ++ choices) clause later branches)
+      → Works known (work (first ∷ conjuncts) clause later branches)
+      (work (more ++ conjuncts) clause later branches)
   -- a choice goes that fails by what is known
-  cuts : (choice : Partial) (choices : List Partial) (clause : Option Clause)
+  cuts : (conjunct : Partial) (conjuncts : List Partial) (clause : Option Clause)
       (later branches : List Task)
-      → ((family : List Question) → AreAmong known family → PartialFails family choice)
-      → Works known (work (choice ∷ choices) clause later branches)
-      (work choices clause later branches)
+      → ((family : List Question) → AreAmong known family → PartialFails family conjunct)
+      → Works known (work (conjunct ∷ conjuncts) clause later branches)
+      (work conjuncts clause later branches)
   -- the clause of a complete choice is begun, where no branch is left of the one before
-  begins : (kind : Kind) (choice : Choice) (choices : List Partial) (before : Option Clause)
+  begins : (kind : Kind) (conjunct : Conjunct) (conjuncts : List Partial) (before : Option Clause)
       (late : List Task) (task : Task) (later : List Task)
-      → tasks_of (clause_by kind choice) ≡ task ∷ later
-      → Works known (work (partial kind choice [] ∷ choices) before late [])
-      (work choices (Some (clause_by kind choice)) later (task ∷ []))
+      → tasks_of (clause_by kind conjunct) ≡ task ∷ later
+      → Works known (work (partial kind conjunct [] ∷ conjuncts) before late [])
+      (work conjuncts (Some (clause_by kind conjunct)) later (task ∷ []))
   -- a branch ends by a question that is covered
-  drops : (choices : List Partial) (clause : Option Clause) (later : List Task) (task : Task)
+  drops : (conjuncts : List Partial) (clause : Option Clause) (later : List Task) (task : Task)
       (branches : List Task)
-      → AnyOf (λ question. IsCovered question known) (questions_of task)
-      → Works known (work choices clause later (task ∷ branches))
-      (work choices clause later branches)
+      → AnyOf (λ question. IsSubsumed question known) (questions_of task)
+      → Works known (work conjuncts clause later (task ∷ branches))
+      (work conjuncts clause later branches)
   -- a branch becomes its cases
-  splits : (choices : List Partial) (clause : Option Clause) (later : List Task) (task : Task)
+  splits : (conjuncts : List Partial) (clause : Option Clause) (later : List Task) (task : Task)
       (branches cases : List Task) → AreCases task cases
-      → Works known (work choices clause later (task ∷ branches))
-      (work choices clause later (cases ++ branches))
+      → Works known (work conjuncts clause later (task ∷ branches))
+      (work conjuncts clause later (cases ++ branches))
   -- a task is done by its first branch, and the next one is begun
-  goes_on : (choices : List Partial) (clause : Option Clause) (next : Task) (later : List Task)
+  goes_on : (conjuncts : List Partial) (clause : Option Clause) (next : Task) (later : List Task)
       (task : Task) (branches : List Task)
-      → Works known (work choices clause (next ∷ later) (task ∷ branches))
-      (work choices clause later (next ∷ []))
+      → Works known (work conjuncts clause (next ∷ later) (task ∷ branches))
+      (work conjuncts clause later (next ∷ []))
 
 -- nothing is left to do
 abbrev pub IsDone : Work → Type 0
-IsDone left = (left.choices ≡ []) × (left.branches ≡ [])
+IsDone left = (left.conjuncts ≡ []) × (left.branches ≡ [])
 
 -- the questions of which something is known or assumed
 abbrev pub all_questions : (settled : List Question) → State → List Question
@@ -106,12 +106,12 @@ module _ (graph : Graph) (settled : List Question) where
   -- one step, where these questions are settled: they have no element
   pub data Step : (before after : State) → Type 0 where
     -- a new question is assumed to have no element, and gets a frame
-    opens : (before : State) (question : Question) (choices : List Partial)
+    opens : (before : State) (question : Question) (conjuncts : List Partial)
         → NotIn (all_questions settled before) question → AsksNodes (length graph) question
-        → AllOf (IsPartialOf graph question) choices
-        → AccountForClauses graph (settled ++ (before.list ++ question ∷ [])) question choices
+        → AllOf (IsPartialOf graph question) conjuncts
+        → AccountForClauses graph (settled ++ (before.list ++ question ∷ [])) question conjuncts
         → Step before (state before.witnesses (before.list ++ question ∷ [])
-        (frame (length before.list) question (work choices None [] []) ∷ before.frames))
+        (frame (length before.list) question (work conjuncts None [] []) ∷ before.frames))
     -- an element of a new question is at hand
     knows : (before : State) (witness : Witness)
         → NotIn (all_questions settled before) witness.0 → IsWitness graph witness

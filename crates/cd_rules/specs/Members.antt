@@ -17,8 +17,8 @@ IsMet fact need = AnyOf (λ way. AllOf fact way) need
 
 -- a row lives where at each label nothing may stand or the cell's question has the fact, and so has
 -- each question of `some`
-abbrev pub IsLiving : (Question → Type 0) → Row → Type 0
-IsLiving fact row = AllOf (λ cell. (cell.1.absent ≡ true) ⊎ fact cell.1.value) row.cells
+abbrev pub HasWitnesses : (Question → Type 0) → Row → Type 0
+HasWitnesses fact row = AllOf (λ cell. (cell.1.absent ≡ true) ⊎ fact cell.1.value) row.cells
     × AllOf fact row.some
 
 -- all needs of a clause are met; of a clause of records one row lives
@@ -26,7 +26,7 @@ abbrev pub HasAllNeeds : (Question → Type 0) → Clause → Type 0
 HasAllNeeds fact clause = (needs : List Need) × AreNeeds clause needs × AllOf (IsMet fact) needs
 
 abbrev pub IsSupplied : (Question → Type 0) → Clause → Type 0
-IsSupplied fact (Records wanted refused) = AnyOf (IsLiving fact) (rows_of wanted refused)
+IsSupplied fact (Records wanted refused) = AnyOf (HasWitnesses fact) (rows_of wanted refused)
 IsSupplied fact clause = HasAllNeeds fact clause
 
 -- an element is in a question, and in a clause

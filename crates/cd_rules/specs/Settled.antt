@@ -5,10 +5,10 @@ use Rattle.cd_model.specs.AllOf.{AllOf}
 use Rattle.cd_rules.specs.Clauses.{Clause, Records}
 use Rattle.cd_rules.specs.Needs.{Need, AreNeeds}
 use Rattle.cd_rules.specs.Rows.{Row, rows_of}
-use Rattle.cd_rules.specs.Family.{IsCovered}
+use Rattle.cd_rules.specs.Family.{IsSubsumed}
 
 abbrev pub IsSettled : (Question → Type 0) → List Question → Question → Type 0
-IsSettled fact family question = fact question ⊎ IsCovered question family
+IsSettled fact family question = fact question ⊎ IsSubsumed question family
 
 abbrev pub AreSettled : (Question → Type 0) → List Question → Need → Type 0
 AreSettled fact family need = AllOf (λ way. AllOf (IsSettled fact family) way) need

@@ -6,7 +6,7 @@ use Rattle.cd_sets.specs.declared.question.Question.{Question}
 use Rattle.cd_syntax.specs.Name.{Name, IsLabel}
 use Rattle.cd_model.specs.AllOf.{AllOf, AnyOf}
 use Rattle.cd_rules.specs.Clauses.{Clause, Pairs, Xmls, Records, Arrows, Pair, Triple, RecordType}
-use Rattle.cd_rules.specs.Family.{SameMembers, IsCovered, BreaksRow, AsksNodes}
+use Rattle.cd_rules.specs.Family.{SameMembers, IsSubsumed, RefutesRow, AsksNodes}
 use Rattle.cd_rules.specs.Within.{IsWithin}
 use Rattle.cd_rules.specs.Needs.{Way, pair_way, xml_way, arrow_way, to_one, to_other, to_first}
 use Rattle.cd_rules.specs.Needs.{to_middle, to_last}
@@ -41,19 +41,19 @@ questions_of (RecordTask wanted refused given left) =
     present (row_of_given wanted refused given).cells ++ (row_of_given wanted refused given).some
 
 -- some way has a question that the family covers
-abbrev pub HasCovered : List Question → Way → Type 0
-HasCovered family way = AnyOf (λ question. IsCovered question family) way
+abbrev pub HasSubsumed : List Question → Way → Type 0
+HasSubsumed family way = AnyOf (λ question. IsSubsumed question family) way
 
 -- whatever else is given, no way is left
 abbrev pub TaskFails : List Question → Task → Type 0
 TaskFails family (PairTask wanted refused given left) =
-    Fails (λ sides. HasCovered family (pair_way wanted sides)) refused given
+    Fails (λ sides. HasSubsumed family (pair_way wanted sides)) refused given
 TaskFails family (XmlTask wanted refused given left) =
-    ThreeFail (λ sides. HasCovered family (xml_way wanted sides)) refused given
+    ThreeFail (λ sides. HasSubsumed family (xml_way wanted sides)) refused given
 TaskFails family (ArrowTask refused wanted given left) =
-    Fails (λ sides. HasCovered family (arrow_way refused sides)) wanted given
+    Fails (λ sides. HasSubsumed family (arrow_way refused sides)) wanted given
 TaskFails family (RecordTask wanted refused given left) =
-    RowsFail (λ reasons. BreaksRow family (row_of_given wanted refused reasons))
+    RowsFail (λ reasons. RefutesRow family (row_of_given wanted refused reasons))
     (labels_of (wanted ++ refused)) refused given
 
 -- What is to do for a clause, all of it: one task for each refused arrow, else one. A clause of a

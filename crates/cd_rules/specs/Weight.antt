@@ -6,8 +6,8 @@ use Rattle.cd_model.specs.Formula.{Formula, Formulas, NoFormula, AFormula, And, 
 use Rattle.cd_model.specs.Kinds.{Kind}
 use Rattle.cd_rules.specs.Clauses.{Clause}
 use Rattle.cd_rules.specs.Family.{AreAmong}
-use Rattle.cd_rules.specs.KindChoices.{kind_choices}
-use Rattle.cd_rules.specs.PartialChoices.{Partial, Signed, clause_by, completions}
+use Rattle.cd_rules.specs.KindDnf.{kind_dnf}
+use Rattle.cd_rules.specs.PartialConjuncts.{Partial, Signed, clause_by, completions}
 use Rattle.cd_rules.specs.Rows.{labels_of}
 use Rattle.cd_rules.specs.Tasks.{Task, PairTask, XmlTask, ArrowTask, RecordTask, tasks_of}
 use Rattle.cd_rules.specs.Machine.{Work, Frame, State, all_questions, Step}
@@ -46,7 +46,7 @@ abbrev mutual
   pub weight_of_each : Kind → Formulas → Bool → ℕ
   weight_of_each kind NoFormula wanted = 0
   weight_of_each kind (AFormula is rest) wanted = formula_weight kind is wanted
-      + length (kind_choices kind is wanted) * weight_of_each kind rest wanted
+      + length (kind_dnf kind is wanted) * weight_of_each kind rest wanted
 
   pub weight_of_one : Kind → Formulas → Bool → ℕ
   weight_of_one kind NoFormula wanted = 0
@@ -56,16 +56,16 @@ abbrev mutual
 abbrev pub joining_weight : Kind → List Signed → ℕ
 joining_weight kind [] = 1
 joining_weight kind (one ∷ left) = formula_weight kind one.0 one.1
-    + length (kind_choices kind one.0 one.1) * joining_weight kind left
+    + length (kind_dnf kind one.0 one.1) * joining_weight kind left
 
 -- a choice has this for the formulas that are left, and what each clause has that it may become
 abbrev pub partial_weight : Partial → ℕ
 partial_weight is = joining_weight is.kind is.left
-    + sum_of (λ rest. clause_weight (clause_by is.kind (is.choice ++ rest)))
+    + sum_of (λ rest. clause_weight (clause_by is.kind (is.conjunct ++ rest)))
     (completions is.kind is.left)
 
 abbrev pub work_weight : Work → ℕ
-work_weight left = suc (sum_of partial_weight left.choices + sum_of task_weight left.later
+work_weight left = suc (sum_of partial_weight left.conjuncts + sum_of task_weight left.later
     + sum_of task_weight left.branches)
 
 abbrev pub frames_weight : List Frame → ℕ

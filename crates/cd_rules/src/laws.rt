@@ -23,21 +23,21 @@ ghost use Rattle.cd_model.specs.Kinds.{kind_of, APair, AnXml, ARecord};
 ghost use Rattle.cd_rules.specs.Clauses.{Clause, Pair, Triple, RecordType, Pairs, Xmls, Records};
 ghost use Rattle.cd_rules.specs.Clauses.{IsClauseOfQuestion, IsInClause};
 ghost use Rattle.cd_rules.specs.Members.{HasElement, HasMember, IsSupplied, NamesLabels};
-ghost use Rattle.cd_rules.specs.Family.{IsOfFamily, IsCovered, BreaksRow, Breaks, IsClosed};
+ghost use Rattle.cd_rules.specs.Family.{IsOfFamily, IsSubsumed, RefutesRow, Refutes, IsClosed};
 ghost use Rattle.cd_rules.specs.Family.{AsksNodes};
 ghost use Rattle.cd_syntax.specs.Name.{Name};
 ghost use Rattle.cd_rules.specs.BasicSets.{question_passes, integer_test, character_test};
 ghost use Rattle.cd_rules.specs.BasicSets.{atom_test};
-ghost use Rattle.cd_rules.specs.Choices.{choices, choices_of, Meets};
+ghost use Rattle.cd_rules.specs.Dnf.{dnf, dnf_of, Meets};
 
 /// A question holds just what meets one of its choices.
-pub fn choices_are_exact()
+pub fn dnf_is_exact()
     ensures elements { (graph : Graph) (question : Question) (e : Thing)
         → asked (answers graph e) question true
-        ↔ AnyOf (Meets (reader graph e)) (choices_of graph question) }
+        ↔ AnyOf (Meets (reader graph e)) (dnf_of graph question) }
     ensures values { (graph : Graph) (question : Question) (interfaces : Interfaces) (v : Thing)
         → asked (value_answers graph interfaces v) question true
-        ↔ AnyOf (Meets (value_reader graph interfaces v)) (choices_of graph question) }
+        ↔ AnyOf (Meets (value_reader graph interfaces v)) (dnf_of graph question) }
 {}
 
 /// A question holds just what is in one of its clauses.
@@ -83,11 +83,11 @@ pub fn rows_are_exact()
 pub fn closed_families_are_empty()
     ensures elements { (graph more : Graph) (family : List Question) (question : Question)
         (e : Thing) → graph ≡ built_ins ++ more
-        → IsClosed graph family → IsCovered question family → IsElement e
+        → IsClosed graph family → IsSubsumed question family → IsElement e
         → asked (answers graph e) question true → ⊥ }
     ensures values { (graph more : Graph) (family : List Question) (question : Question)
         (interfaces : Interfaces) (v : Thing) → graph ≡ built_ins ++ more
-        → IsClosed graph family → IsCovered question family → IsValue v
+        → IsClosed graph family → IsSubsumed question family → IsValue v
         → asked (value_answers graph interfaces v) question true → ⊥ }
 {}
 
@@ -110,9 +110,9 @@ pub fn needs_are_exact()
 {}
 
 /// A family covers the questions of it.
-pub fn families_cover()
+pub fn families_subsume()
     ensures { (family : List Question) (question : Question) → IsOfFamily question family
-        → IsCovered question family }
+        → IsSubsumed question family }
 {}
 
 /// A clause all of whose questions have elements or are covered by a family has all that it needs,
@@ -120,7 +120,7 @@ pub fn families_cover()
 pub fn clauses_are_settled()
     ensures { (graph : Graph) (family : List Question) (clause : Clause)
         → IsSettledClause (HasElement graph) family clause
-        → IsSupplied (HasElement graph) clause ⊎ Breaks family clause }
+        → IsSupplied (HasElement graph) clause ⊎ Refutes family clause }
 {}
 
 /// In a sound graph each question has an element or has none. Where it has none it has no value
@@ -186,10 +186,10 @@ pub fn ways_are_exact()
 /// Choices, ways and rows of small cases.
 pub fn worked_examples()
     ensures sets { set_of (map node (3 ∷ 1 ∷ 3 ∷ [])) ≡ map node (1 ∷ 3 ∷ []) }
-    ensures choices { choices example.not_both true
+    ensures dnf { dnf example.not_both true
         ≡ (record { wanted = false; is = example.integers } ∷ [])
         ∷ (record { wanted = false; is = example.characters } ∷ []) ∷ [] }
-    ensures both { choices example.not_both false
+    ensures both { dnf example.not_both false
         ≡ (record { wanted = true; is = example.integers }
         ∷ record { wanted = true; is = example.characters } ∷ []) ∷ [] }
     ensures pairs { map (pair_way (both 14 15 ∷ [])) (splits (both 16 17 ∷ []))
@@ -206,14 +206,15 @@ pub fn worked_examples()
     ensures rows { rows_of (example.with_a 14 1 ∷ []) (example.with_a 15 0 ∷ [])
         ≡ example.row_at_a (asks (14 ∷ []) []) (asks (1 ∷ []) []) (asks (1 ∷ []) (0 ∷ []) ∷ [])
         ∷ example.row_at_a (asks (14 ∷ []) (15 ∷ [])) (asks (1 ∷ []) []) [] ∷ [] }
-    ensures covered { IsCovered (asks (1 ∷ 2 ∷ []) (3 ∷ 4 ∷ [])) (asks (1 ∷ []) (4 ∷ []) ∷ []) }
-    ensures contradicts { IsCovered (asks (1 ∷ 2 ∷ []) (3 ∷ 2 ∷ [])) [] }
-    ensures not_covered { IsCovered (asks (1 ∷ []) (3 ∷ [])) (asks (1 ∷ 2 ∷ []) (3 ∷ []) ∷ []) → ⊥ }
-    ensures has_to_be_there { BreaksRow (asks (14 ∷ []) [] ∷ [])
+    ensures subsumed { IsSubsumed (asks (1 ∷ 2 ∷ []) (3 ∷ 4 ∷ [])) (asks (1 ∷ []) (4 ∷ []) ∷ []) }
+    ensures contradicts { IsSubsumed (asks (1 ∷ 2 ∷ []) (3 ∷ 2 ∷ [])) [] }
+    ensures not_subsumed { IsSubsumed (asks (1 ∷ []) (3 ∷ [])) (asks (1 ∷ 2 ∷ []) (3 ∷ []) ∷ [])
+        → ⊥ }
+    ensures has_to_be_there { RefutesRow (asks (14 ∷ []) [] ∷ [])
         (example.row_at_a (asks (14 ∷ []) []) (asks (1 ∷ []) []) []) }
-    ensures may_be_absent { BreaksRow (asks (14 ∷ []) [] ∷ [])
+    ensures may_be_absent { RefutesRow (asks (14 ∷ []) [] ∷ [])
         (example.row_without_a (asks (14 ∷ []) []) (asks (1 ∷ []) []) []) → ⊥ }
-    ensures covered_elsewhere { BreaksRow (asks (1 ∷ []) (0 ∷ []) ∷ [])
+    ensures subsumed_elsewhere { RefutesRow (asks (1 ∷ []) (0 ∷ []) ∷ [])
         (example.row_without_a (asks (14 ∷ []) []) (asks (1 ∷ []) [])
         (asks (1 ∷ []) (0 ∷ []) ∷ [])) }
     ensures endless { IsClosed example.endless (asks (14 ∷ []) [] ∷ []) }

@@ -8,11 +8,11 @@ ghost use Rattle.cd_model.specs.Formula.{Graph, IsGraph};
 ghost use Rattle.cd_model.specs.Kinds.{Kind, kind_of};
 ghost use Rattle.cd_model.specs.Membership.{asked, answers, reader};
 ghost use Rattle.cd_model.specs.Thing.{Thing, IsElement};
-ghost use Rattle.cd_rules.specs.Choices.{Choice};
+ghost use Rattle.cd_rules.specs.Dnf.{Conjunct};
 ghost use Rattle.cd_rules.specs.Clauses.{Clause, IsInClause};
 ghost use Rattle.cd_rules.specs.Examples.{asks, endless};
 ghost use Rattle.cd_rules.specs.Family.{IsOfFamily, IsClosed, AsksNodes};
-ghost use Rattle.cd_rules.specs.PartialChoices.{partial, clause_by, IsPartialOf};
+ghost use Rattle.cd_rules.specs.PartialConjuncts.{partial, clause_by, IsPartialOf};
 ghost use Rattle.cd_rules.specs.Tasks.{IsTaskOfNodes};
 ghost use Rattle.cd_rules.specs.Machine.{Witness, Work, State, state, IsWitness, Step, Steps};
 ghost use Rattle.cd_rules.specs.Machine.{NotIn, all_questions};
@@ -91,9 +91,9 @@ pub fn members_are_witnesses()
         → IsWorkOf graph base question left → left.clause ≡ Some clause
         → IsElement e → IsInClause (kind_of e) (reader graph e) clause
         → IsWitness graph (question, e) }
-    ensures complete { (graph : Graph) (question : Question) (kind : Kind) (choice : Choice)
-        (e : Thing) → IsPartialOf graph question (partial kind choice [])
-        → IsElement e → IsInClause (kind_of e) (reader graph e) (clause_by kind choice)
+    ensures complete { (graph : Graph) (question : Question) (kind : Kind) (conjunct : Conjunct)
+        (e : Thing) → IsPartialOf graph question (partial kind conjunct [])
+        → IsElement e → IsInClause (kind_of e) (reader graph e) (clause_by kind conjunct)
         → IsWitness graph (question, e) }
 {}
 

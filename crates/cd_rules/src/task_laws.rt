@@ -15,17 +15,17 @@ ghost use Rattle.cd_model.specs.Kinds.{APair, AnXml, ARecord, AFunction};
 ghost use Rattle.cd_model.specs.Interfaces.{Interfaces};
 ghost use Rattle.cd_model.specs.Membership.{holds, answers, reader, value_answers, value_reader};
 ghost use Rattle.cd_rules.specs.BasicSets.{HasNoBasic};
-ghost use Rattle.cd_rules.specs.Choices.{Choice};
+ghost use Rattle.cd_rules.specs.Dnf.{Conjunct};
 ghost use Rattle.cd_rules.specs.Clauses.{Clause, Pair, Triple, RecordType, Pairs, Xmls, Arrows};
 ghost use Rattle.cd_rules.specs.Clauses.{Records, IsInClause, parts_in, pair_of, xml_of, record_of};
 ghost use Rattle.cd_rules.specs.Clauses.{IsClauseOfQuestion, arrow_of};
-ghost use Rattle.cd_rules.specs.Family.{SameMembers, IsCovered, Breaks};
+ghost use Rattle.cd_rules.specs.Family.{SameMembers, IsSubsumed, Refutes};
 ghost use Rattle.cd_rules.specs.InRow.{thing_at, IsForRow};
 ghost use Rattle.cd_rules.specs.InWay.{AreInWay};
 ghost use Rattle.cd_rules.specs.MadeForTasks.{IsRightPair, IsFunctionBut, arrows_of};
 ghost use Rattle.cd_rules.specs.Needs.{question};
-ghost use Rattle.cd_rules.specs.PartialChoices.{Signed, partial, partial_choices, PartialFails};
-ghost use Rattle.cd_rules.specs.PartialChoices.{IsPartialOf, AccountForClauses};
+ghost use Rattle.cd_rules.specs.PartialConjuncts.{Signed, partial, partial_conjuncts, PartialFails};
+ghost use Rattle.cd_rules.specs.PartialConjuncts.{IsPartialOf, AccountForClauses};
 ghost use Rattle.cd_rules.specs.Rows.{Reasons, field_at};
 ghost use Rattle.cd_rules.specs.Tasks.{Task, PairTask, XmlTask, ArrowTask, RecordTask, IsTask};
 ghost use Rattle.cd_rules.specs.Tasks.{IsTaskOf, tasks_of, questions_of, row_of_given, AreCases};
@@ -33,39 +33,39 @@ ghost use Rattle.cd_rules.specs.Tasks.{TaskFails, IsTaskOfNodes};
 
 /// Where no element of a basic kind is in a question, the choices of the other kinds account for
 /// its clauses; and each clause that they may become is one of the question.
-pub fn partial_choices_account_for_clauses()
+pub fn partial_conjuncts_account_for_clauses()
     ensures all { (graph : Graph) (base : List Question) (question : Question)
         → HasNoBasic graph question
-        → AccountForClauses graph base question (partial_choices graph question) }
+        → AccountForClauses graph base question (partial_conjuncts graph question) }
     ensures of_question { (graph : Graph) (question : Question)
-        → AllOf (IsPartialOf graph question) (partial_choices graph question) }
+        → AllOf (IsPartialOf graph question) (partial_conjuncts graph question) }
 {}
 
 /// A partial choice fails where a question of it is covered, whatever formulas are left: that of
 /// what it wants of a part of pairs or of XML things, or of a field that a type asks for, or that
 /// of the argument of an arrow that it refuses.
-pub fn partial_choices_are_cut()
-    ensures pairs { (family : List Question) (choice : Choice) (left : List Signed)
-        → IsCovered (question (map (λ parts. parts.0) (parts_in pair_of true choice)) []) family
-        ⊎ IsCovered (question (map (λ parts. parts.1) (parts_in pair_of true choice)) []) family
-        → PartialFails family (partial APair choice left) }
-    ensures xmls { (family : List Question) (choice : Choice) (left : List Signed)
-        → IsCovered (question (ATOM ∷ map (λ parts. parts.0) (parts_in xml_of true choice)) [])
+pub fn partial_conjuncts_are_cut()
+    ensures pairs { (family : List Question) (conjunct : Conjunct) (left : List Signed)
+        → IsSubsumed (question (map (λ parts. parts.0) (parts_in pair_of true conjunct)) []) family
+        ⊎ IsSubsumed (question (map (λ parts. parts.1) (parts_in pair_of true conjunct)) []) family
+        → PartialFails family (partial APair conjunct left) }
+    ensures xmls { (family : List Question) (conjunct : Conjunct) (left : List Signed)
+        → IsSubsumed (question (ATOM ∷ map (λ parts. parts.0) (parts_in xml_of true conjunct)) [])
         family
-        ⊎ IsCovered (question (RECORD ∷ map (λ parts. parts.1) (parts_in xml_of true choice)) [])
+        ⊎ IsSubsumed (question (RECORD ∷ map (λ parts. parts.1) (parts_in xml_of true conjunct)) [])
         family
-        ⊎ IsCovered (question (map (λ parts. parts.2) (parts_in xml_of true choice)) []) family
-        → PartialFails family (partial AnXml choice left) }
-    ensures records { (family : List Question) (choice : Choice) (left : List Signed)
+        ⊎ IsSubsumed (question (map (λ parts. parts.2) (parts_in xml_of true conjunct)) []) family
+        → PartialFails family (partial AnXml conjunct left) }
+    ensures records { (family : List Question) (conjunct : Conjunct) (left : List Signed)
         (label : Name)
-        → AnyOf (λ type. (field_at type label).optional ≡ false) (parts_in record_of true choice)
-        → IsCovered (question (map (λ type. (field_at type label).type)
-        (parts_in record_of true choice)) []) family
-        → PartialFails family (partial ARecord choice left) }
-    ensures functions { (family : List Question) (choice : Choice) (left : List Signed)
-        → AnyOf (λ parts. IsCovered (question (parts.0 ∷ []) []) family)
-        (parts_in arrow_of false choice)
-        → PartialFails family (partial AFunction choice left) }
+        → AnyOf (λ type. (field_at type label).optional ≡ false) (parts_in record_of true conjunct)
+        → IsSubsumed (question (map (λ type. (field_at type label).type)
+        (parts_in record_of true conjunct)) []) family
+        → PartialFails family (partial ARecord conjunct left) }
+    ensures functions { (family : List Question) (conjunct : Conjunct) (left : List Signed)
+        → AnyOf (λ parts. IsSubsumed (question (parts.0 ∷ []) []) family)
+        (parts_in arrow_of false conjunct)
+        → PartialFails family (partial AFunction conjunct left) }
 {}
 
 /// The tasks of a clause, and the cases of such a task, are tasks of the clause. Where it is a
@@ -81,15 +81,15 @@ pub fn cases_are_tasks()
 
 /// A task fails where one of its questions is covered, or where each of its cases fails; and a
 /// clause is broken where one of its tasks fails.
-pub fn failing_tasks_break_clauses()
-    ensures covered { (family : List Question) (task : Task)
-        → AnyOf (λ question. IsCovered question family) (questions_of task)
+pub fn failing_tasks_refute_clauses()
+    ensures subsumed { (family : List Question) (task : Task)
+        → AnyOf (λ question. IsSubsumed question family) (questions_of task)
         → TaskFails family task }
     ensures cases { (family : List Question) (task : Task) (cases : List Task)
         → AreCases task cases → IsTask task
         → AllOf (TaskFails family) cases → TaskFails family task }
-    ensures breaks { (family : List Question) (clause : Clause)
-        → AnyOf (TaskFails family) (tasks_of clause) → Breaks family clause }
+    ensures refutes { (family : List Question) (clause : Clause)
+        → AnyOf (TaskFails family) (tasks_of clause) → Refutes family clause }
 {}
 
 /// Elements of a task's questions make a thing of the clause, where that is outside each member
@@ -154,16 +154,16 @@ pub fn tasks_make_functions()
 {}
 
 /// A clause that wants and refuses the same pair, XML formula or arrow is broken by each family.
-pub fn wanted_and_refused_is_broken()
+pub fn wanted_and_refused_is_refuted()
     ensures pairs { (family : List Question) (wanted refused : List Pair) (parts : Pair)
         → AnyOf (λ other. other ≡ parts) wanted → AnyOf (λ other. other ≡ parts) refused
-        → Breaks family (Pairs wanted refused) }
+        → Refutes family (Pairs wanted refused) }
     ensures xmls { (family : List Question) (wanted refused : List Triple) (parts : Triple)
         → AnyOf (λ other. other ≡ parts) wanted → AnyOf (λ other. other ≡ parts) refused
-        → Breaks family (Xmls wanted refused) }
+        → Refutes family (Xmls wanted refused) }
     ensures arrows { (family : List Question) (wanted refused : List Pair) (parts : Pair)
         → AnyOf (λ other. other ≡ parts) wanted → AnyOf (λ other. other ≡ parts) refused
-        → Breaks family (Arrows wanted refused) }
+        → Refutes family (Arrows wanted refused) }
 {}
 
 /// Elements and values answer alike at nodes with equal formulas, and at unions with the same

@@ -6,7 +6,7 @@ use Rattle.cd_evaluation.specs.Runs.{Result}
 use Rattle.cd_safety.specs.SafeProgram.{IsMain}
 use Rattle.cd_replies.specs.Bytes.{Bytes}
 use Rattle.cd_replies.specs.Reply.{Reply, not_input as no_input}
-use Rattle.cd_running.specs.Ending.{Tells}
+use Rattle.cd_running.specs.Ending.{Reports}
 use Rattle.cd_running.specs.Input.{IsNoInput}
 use Rattle.cd_running.specs.RunAnswer.{not_input, ran}
 use Rattle.cd_running.specs.RunsOn.{IsRun}
@@ -19,9 +19,9 @@ module _ (program : Program) (main : FunctionTree) (is_main : IsMain program mai
       not_input (record { program = program; has = has; main = main; is_main = is_main; value = v; writes = writes }) outside
 
   -- or a run comes to this result
-  pub run_answered : (result : Result) → IsRun program main v units result → (reply : Reply) → Tells result.outcome reply
+  pub run_answered : (result : Result) → IsRun program main v units result → (reply : Reply) → Reports result.outcome reply
       → OnValue program units document v reply
-  run_answered result run reply tells disk writes file has = ran result (record {
+  run_answered result run reply reports disk writes file has = ran result (record {
     given = record { program = program; has = has; main = main; is_main = is_main; value = v; writes = writes };
     run = run;
-  }) reply tells
+  }) reply reports

@@ -7,7 +7,7 @@ use Rattle.cd_names.specs.ProgramFaults.{in_types}
 use Rattle.cd_typing.specs.Typed.{IsTyped}
 use Rattle.cd_replies.specs.Bytes.{Bytes}
 use Rattle.cd_replies.specs.Naming.{RefusesNames, naming}
-use Rattle.cd_replies.specs.Texts.{Against, ReadsAsProgram}
+use Rattle.cd_replies.specs.Texts.{TextFault, ReadsAsProgram}
 use Rattle.cd_running.specs.TypedProgram.{IsTypedProgram}
 
 pub typed_program : (text : Bytes) (program : Program) → ReadsAsProgram text program → IsWellMadeProgram program → IsTyped program
@@ -20,5 +20,5 @@ typed_program text program reads made typed = record {
   patterns = patterns_begin_apart (chars text) reads.tokens 1000 program reads.spelled reads.written;
 }
 
-pub names_sound : (program : Program) → IsTypedProgram program → (against : Against) → RefusesNames program.types against → ⊥
-names_sound program typed _ (naming fault told) = typed.sound fault (in_types fault told.is)
+pub names_sound : (program : Program) → IsTypedProgram program → (text_fault : TextFault) → RefusesNames program.types text_fault → ⊥
+names_sound program typed _ (naming fault reported) = typed.sound fault (in_types fault reported.is)

@@ -12,8 +12,8 @@ abbrev pub text_of : Thing → Bytes
 text_of v = encode_utf8_all (canonical v)
 
 -- the reply tells the outcome; none tells that a run is stuck
-pub data Tells : Outcome → Reply → Type 0 where
-  done : (v : Thing) → Tells (Done v) (reply.printed (text_of v))
-  raised : (v : Thing) → Tells (Raised v) (reply.uncaught (text_of v))
-  overflow : Tells Overflow reply.overflow
-  spent : Tells Spent reply.spent
+pub data Reports : Outcome → Reply → Type 0 where
+  done : (v : Thing) → Reports (Done v) (reply.printed (text_of v))
+  raised : (v : Thing) → Reports (Raised v) (reply.uncaught (text_of v))
+  overflow : Reports Overflow reply.overflow
+  spent : Reports Spent reply.spent

@@ -10,8 +10,8 @@ use Rattle.cd_replies.specs.Disk.{Disk, FileRefusal}
 use Rattle.cd_replies.specs.Documents.{RefusesDocument, FileWrites}
 use Rattle.cd_replies.specs.Reply.{Reply, not_input as no_input}
 use Rattle.cd_replies.specs.Texts.{RefusesProgram}
-use Rattle.cd_checking.specs.CheckAnswer.{FileHasProgram, TellsFault}
-use Rattle.cd_running.specs.Ending.{Tells}
+use Rattle.cd_checking.specs.CheckAnswer.{FileHasProgram, ReportsFault}
+use Rattle.cd_running.specs.Ending.{Reports}
 use Rattle.cd_running.specs.Input.{IsNoInput}
 use Rattle.cd_running.specs.RunsOn.{IsRun}
 
@@ -45,7 +45,8 @@ pub data RunAnswer (disk : Disk) (units : ℕ) (file document : Bytes) : Reply �
       → RunAnswer disk units file document reply
   -- a fault of typing, as `check` says it
   program_refused : (text : Bytes) (program : Program) → FileHasProgram disk file text program
-      → (reply : Reply) → TellsFault file text program reply → RunAnswer disk units file document reply
+      → (reply : Reply) → ReportsFault file text program reply
+      → RunAnswer disk units file document reply
   document_refused : (program : Program) → FileHasTyped disk file program → (reply : Reply)
       → FileRefusal RefusesDocument disk document reply
       → RunAnswer disk units file document reply
@@ -53,4 +54,4 @@ pub data RunAnswer (disk : Disk) (units : ℕ) (file document : Bytes) : Reply �
       → IsNoInput given.program given.main given.value
       → RunAnswer disk units file document (no_input document)
   ran : (result : Result) → HasRun disk units file document result → (reply : Reply)
-      → Tells result.outcome reply → RunAnswer disk units file document reply
+      → Reports result.outcome reply → RunAnswer disk units file document reply

@@ -23,7 +23,7 @@ use cd_replies::file::read_file;
 use cd_replies::message::{Message, no_text, not_input, refused};
 use cd_replies::reader::read_program;
 use cd_safety::laws::typed_programs_have_main;
-use running::told;
+use running::reported;
 use std::alloc::{AllocError, Global};
 
 mod input;
@@ -51,7 +51,7 @@ pub fn run<F: Files>(
 ) -> Result<Message, AllocError>
     ensures answer { IsAnswer (λ disk. RunAnswer disk units file.now document.now)
         (F.state files.old) (F.state files.new) result }
-    ensures told { (F.state files.new).told ≡ (F.state files.old).told }
+    ensures known { (F.state files.new).known ≡ (F.state files.old).known }
     ensures read { ReadsAmong (F.state files.old) (F.state files.new)
         (file.now ∷ document.now ∷ []) }
 {
@@ -142,6 +142,6 @@ fn of_value(
     typed_programs_have_main();
     match run_on(alloc, program, values, value, units)? {
         None => not_input(alloc, document),
-        Some(ran) => told(alloc, values, ran.outcome),
+        Some(ran) => reported(alloc, values, ran.outcome),
     }
 }

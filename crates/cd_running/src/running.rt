@@ -4,7 +4,7 @@ ghost use Rattle.cd_cells.specs.Table.{table};
 ghost use Rattle.cd_evaluation.specs.Runs.{Stuck};
 ghost use Rattle.cd_machine.specs.PlainRan.{plain_outcome, IsOutcome};
 ghost use Rattle.cd_replies.specs.Message.{reply_of};
-ghost use Rattle.cd_running.specs.Ending.{Tells};
+ghost use Rattle.cd_running.specs.Ending.{Reports};
 
 use cd_cells::Values;
 use cd_machine::Outcome;
@@ -13,10 +13,14 @@ use cd_replies::message::{Message, overflow, printed, spent, uncaught};
 use std::alloc::{AllocError, Global};
 
 /// What is said of an outcome other than that of a run which is stuck.
-pub(crate) fn told(alloc: Global, values: &Values, outcome: Outcome) -> Result<Message, AllocError>
+pub(crate) fn reported(
+    alloc: Global,
+    values: &Values,
+    outcome: Outcome,
+) -> Result<Message, AllocError>
     requires within { IsOutcome (length (table values.now)) outcome }
     requires goes { plain_outcome (table values.now) outcome ≢ Stuck }
-    ensures { IfOk result (λ message. Tells (plain_outcome (table values.now) outcome)
+    ensures { IfOk result (λ message. Reports (plain_outcome (table values.now) outcome)
         (reply_of message)) }
 {
     match outcome {

@@ -11,9 +11,9 @@ use Rattle.cd_replies.specs.Bytes.{Bytes}
 use Rattle.cd_replies.specs.Reply.{Reply, cannot_read}
 use Rattle.cd_replies.specs.Naming.{StandsForText}
 use Rattle.cd_replies.specs.Texts.{RefusesDeclarations}
-use Rattle.cd_replies.specs.Disk.{Disk, HasText, marked, told_disk, marked_disk}
+use Rattle.cd_replies.specs.Disk.{Disk, HasText, unreadable, known_disk, unreadable_disk}
 use Rattle.cd_replies.proofs.Messages.{replies}
-use Rattle.cd_replies.proofs.FilesMet.{has_text, met_same, FaultMet, failed, granted, fault_met}
+use Rattle.cd_replies.proofs.FilesEncountered.{has_text, encountered_same, FaultMet, failed, granted, fault_encountered}
 use Rattle.cd_sub.specs.SubAnswer.{SubAnswer, yes, no, SubTypesAnswer, file_refused}
 use Rattle.cd_sub.specs.Inner.Comparing.{ComparesNodes, within, outside}
 use Rattle.cd_replies.specs.Message.{IsAnswer, reply_of}
@@ -38,35 +38,35 @@ compared graph declared text1 text2 first second is1 is2 (Ok message) compares =
 compared graph declared text1 text2 first second is1 is2 (Err error) compares = tt
 
 -- what is said of a file that has no text is an answer
-answers_met : (old new : FilesState) (name text1 text2 : Bytes) (reply : Reply) → FaultMet RefusesDeclarations old new name reply
+answers_encountered : (old new : FilesState) (name text1 text2 : Bytes) (reply : Reply) → FaultMet RefusesDeclarations old new name reply
     → (r : Result Message AllocError) → IfOk r (λ message. reply_of message ≡ reply) → IsAnswer (λ disk. SubTypesAnswer disk name text1 text2) old new r
-answers_met old new name text1 text2 _ (failed is refusal) r said = (
-  marked_disk old name,
-  marked name is.rose is.last,
-  replies r (cannot_read name) (SubTypesAnswer (marked_disk old name) name text1 text2) said (file_refused (cannot_read name) refusal),
+answers_encountered old new name text1 text2 _ (failed is refusal) r said = (
+  unreadable_disk old name,
+  unreadable name is.rose is.last,
+  replies r (cannot_read name) (SubTypesAnswer (unreadable_disk old name) name text1 text2) said (file_refused (cannot_read name) refusal),
 )
-answers_met old new name text1 text2 _ (granted same reply refusal) r said = (
-  told_disk old,
-  met_same old new same,
-  replies r reply (SubTypesAnswer (told_disk old) name text1 text2) said (file_refused reply refusal),
+answers_encountered old new name text1 text2 _ (granted same reply refusal) r said = (
+  known_disk old,
+  encountered_same old new same,
+  replies r reply (SubTypesAnswer (known_disk old) name text1 text2) said (file_refused reply refusal),
 )
 
 pub answers_fault : (old new : FilesState) (name text1 text2 : Bytes) (fault : FileFault) → IsFileRead old new name (Ok (Err fault))
     → (r : Result Message AllocError) → IfOk r (λ message. reply_of message ≡ said_of name fault) → IsAnswer (λ disk. SubTypesAnswer disk name text1 text2) old new r
 answers_fault old new name text1 text2 fault is r said =
-    answers_met old new name text1 text2 (said_of name fault) (fault_met RefusesDeclarations old new name fault is) r said
+    answers_encountered old new name text1 text2 (said_of name fault) (fault_encountered RefusesDeclarations old new name fault is) r said
 
 -- and so is what is said where it has one
 pub answers_text : (old new : FilesState) (name text1 text2 : Bytes) (text : String Global) → IsFileRead old new name (Ok (Ok text))
     → (r : Result Message AllocError) → IfOk r (λ message. (disk : Disk) → HasText disk name (string_bytes text) → SubTypesAnswer disk name text1 text2 (reply_of message))
     → IsAnswer (λ disk. SubTypesAnswer disk name text1 text2) old new r
 answers_text old new name text1 text2 text is (Ok message) said = (
-  told_disk old,
-  met_same old new is.0,
-  said (told_disk old) (has_text old new name text is),
+  known_disk old,
+  encountered_same old new is.0,
+  said (known_disk old) (has_text old new name text is),
 )
-answers_text old new name text1 text2 text is (Err error) said = (told_disk old, met_same old new is.0, tt)
+answers_text old new name text1 text2 text is (Err error) said = (known_disk old, encountered_same old new is.0, tt)
 
 pub answers_nothing : (old new : FilesState) (name text1 text2 : Bytes) (error : AllocError) → IsFileRead old new name (Err error)
     → IsAnswer (λ disk. SubTypesAnswer disk name text1 text2) old new (Err error)
-answers_nothing old new name text1 text2 error is = (told_disk old, met_same old new is, tt)
+answers_nothing old new name text1 text2 error is = (known_disk old, encountered_same old new is, tt)

@@ -8,7 +8,7 @@ ghost use Rattle.cd_syntax.specs.WellMade.{AreWellMadeDeclarations};
 ghost use Rattle.cd_model.specs.Formula.{IsGraph};
 ghost use Rattle.cd_resolve.specs.Named.{AreNamed, plain_names, declared_by};
 ghost use Rattle.cd_empty.specs.Seen.{graph_of};
-ghost use Rattle.cd_replies.specs.Message.{IsAnswer, against, reply_of};
+ghost use Rattle.cd_replies.specs.Message.{IsAnswer, text_fault, reply_of};
 ghost use Rattle.cd_replies.specs.Disk.{Disk, HasText};
 ghost use Rattle.cd_replies.specs.File.{ReadsThere};
 ghost use Rattle.cd_replies.specs.Naming.{AreNamedWell, RefusesNames};
@@ -60,7 +60,7 @@ pub fn sub_types<F: Files>(
 ) -> Result<Message, AllocError>
     ensures answer { IsAnswer (λ disk. SubTypesAnswer disk file.now first.now second.now)
         (F.state files.old) (F.state files.new) result }
-    ensures told { (F.state files.new).told ≡ (F.state files.old).told }
+    ensures known { (F.state files.new).known ≡ (F.state files.old).known }
     ensures read { ReadsThere (F.state files.old) (F.state files.new) file.now }
 {
     match read_file(files, file) {
@@ -103,7 +103,7 @@ fn sub_with(
     ensures answer { IfOk result (λ said. MatchResult said
         (λ message.
         SubAnswer (plain_declarations declared.now) first.now second.now (reply_of message))
-        (λ refusal. RefusesNames (plain_declarations declared.now) (against refusal))) }
+        (λ refusal. RefusesNames (plain_declarations declared.now) (text_fault refusal))) }
     ensures sound { IfOk result
         (λ said. IfOk said (λ _. AreNamedWell (plain_declarations declared.now))) }
 {

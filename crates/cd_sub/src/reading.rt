@@ -3,7 +3,7 @@ ghost use Rattle.std.specs.Prelude.{◌≡◌, ◌++◌, IfOk, MatchResult};
 ghost use Rattle.cd_model.specs.Formula.{Graph as PlainGraph, IsGraph};
 ghost use Rattle.cd_resolve.specs.Named.{AreNamed, plain_names, declared_by};
 ghost use Rattle.cd_empty.specs.Seen.{graph_of};
-ghost use Rattle.cd_replies.specs.Message.{against};
+ghost use Rattle.cd_replies.specs.Message.{text_fault};
 ghost use Rattle.cd_replies.specs.Naming.{AreNamedWell, StandsForText};
 ghost use Rattle.cd_replies.specs.Texts.{RefusesType};
 
@@ -29,7 +29,7 @@ pub(crate) fn node(
         (λ _. (more : PlainGraph) × (graph_of world.new ≡ graph_of world.old ++ more))) }
     ensures read { IfOk result (λ read. MatchResult read
         (λ id. StandsForText (graph_of world.new) id (declared_by names.now) text.now)
-        (λ refusal. RefusesType (declared_by names.now) text.now (against refusal))) }
+        (λ refusal. RefusesType (declared_by names.now) text.now (text_fault refusal))) }
 {
     match read_type(alloc, world.graph(), names, text)? {
         Ok(batch) => {

@@ -11,9 +11,9 @@ use Rattle.cd_syntax.specs.Integer.{IsInteger}
 use Rattle.cd_syntax.specs.Name.{begins_word, IsLabel}
 use Rattle.cd_syntax.specs.Digits.{AreDigits, decimal_value, BeginsWithNoDigit}
 use Rattle.cd_syntax.specs.Signs.{BeginsWith}
-use Rattle.cd_syntax.specs.Quotes.{Quotes, BreaksEscape, EndsHalf}
+use Rattle.cd_syntax.specs.Quotes.{Quotes, BeginsNoEscape, EndsHalf}
 use Rattle.cd_syntax.specs.Comments.{IsComment}
-use Rattle.cd_syntax.specs.Tokens.{is_blank, EndsWord, bytes, IsDropped, Writes, joins}
+use Rattle.cd_syntax.specs.Tokens.{is_blank, EndsWord, bytes, IsDropped, IsLexemeOf, joins}
 
 -- `"` or `'`
 abbrev pub is_quote : ℕ → Bool
@@ -24,38 +24,41 @@ abbrev pub is_other : ℕ → Bool
 is_other c = not (is_blank c || begins_word c || is_ascii_digit c || is_quote c)
 
 -- the text, which begins at this byte, has a fault at its front
-pub data Breaks (joined : Bool) (at : ℕ) : List ℕ → LexError → Type 0 where
+pub data HasFaultHere (joined : Bool) (at : ℕ) : List ℕ → LexError → Type 0 where
   -- a character that begins no token
   character : (c : ℕ) (text : List ℕ) → is_other c ≡ true
       → ((is : Sign) → BeginsWith (c ∷ text) is → ⊥)
       → ((name rest : List ℕ) → c ∷ text ≡ 96 ∷ name ++ rest → IsLabel name → EndsWord rest → ⊥)
-      → Breaks joined at (c ∷ text) (BadChar at)
+      → HasFaultHere joined at (c ∷ text) (BadChar at)
   -- between quotes, a `\` that no escape can begin with
   escape : (quote : ℕ) (written characters text : List ℕ) → is_quote quote ≡ true
-      → Quotes quote written characters → BreaksEscape text
-      → Breaks joined at (quote ∷ written ++ text) (BadChar (at + bytes (quote ∷ written)))
+      → Quotes quote written characters → BeginsNoEscape text
+      → HasFaultHere joined at (quote ∷ written ++ text) (BadChar (at + bytes (quote ∷ written)))
   open_text : (quote : ℕ) (written characters text : List ℕ) → is_quote quote ≡ true
       → Quotes quote written characters → EndsHalf text
-      → Breaks joined at (quote ∷ written ++ text) (OpenText at)
+      → HasFaultHere joined at (quote ∷ written ++ text) (OpenText at)
   -- no front of the text is a comment
   open_comment : (text : List ℕ)
       → ((written rest : List ℕ) → 40 ∷ 42 ∷ text ≡ written ++ rest → IsComment written → ⊥)
-      → Breaks joined at (40 ∷ 42 ∷ text) (OpenComment at)
+      → HasFaultHere joined at (40 ∷ 42 ∷ text) (OpenComment at)
   number : (digits text : List ℕ) → AreDigits digits → BeginsWithNoDigit text
       → (IsInteger (pos (decimal_value digits)) → ⊥)
-      → Breaks joined at (digits ++ text) (TooWide at)
+      → HasFaultHere joined at (digits ++ text) (TooWide at)
   negative : (digits text : List ℕ) → joined ≡ false → AreDigits digits → BeginsWithNoDigit text
       → (IsInteger (neg_ℤ (pos (decimal_value digits))) → ⊥)
-      → Breaks joined at (45 ∷ digits ++ text) (TooWide at)
+      → HasFaultHere joined at (45 ∷ digits ++ text) (TooWide at)
 
 -- this is the first fault of the text, which begins at this byte: tokens and what is dropped stand
 -- before it
-pub data Fails : (joined : Bool) (at : ℕ) → List ℕ → LexError → Type 0 where
-  here : (joined : Bool) (at : ℕ) (text : List ℕ) (fault : LexError) → Breaks joined at text fault
-      → Fails joined at text fault
+pub data HasFirstFault : (joined : Bool) (at : ℕ) → List ℕ → LexError → Type 0 where
+  here : (joined : Bool) (at : ℕ) (text : List ℕ) (fault : LexError)
+      → HasFaultHere joined at text fault
+      → HasFirstFault joined at text fault
   after_dropped : (joined : Bool) (at : ℕ) (written text : List ℕ) (fault : LexError)
       → IsDropped written
-      → Fails false (at + bytes written) text fault → Fails joined at (written ++ text) fault
+      → HasFirstFault false (at + bytes written) text fault
+      → HasFirstFault joined at (written ++ text) fault
   after_token : (joined : Bool) (at : ℕ) (written text : List ℕ) (kind : TokenKind)
-      (fault : LexError) → Writes joined written text kind
-      → Fails (joins kind) (at + bytes written) text fault → Fails joined at (written ++ text) fault
+      (fault : LexError) → IsLexemeOf joined written text kind
+      → HasFirstFault (joins kind) (at + bytes written) text fault
+      → HasFirstFault joined at (written ++ text) fault

@@ -31,15 +31,15 @@ pub data Quotes (quote : ℕ) : (written characters : List ℕ) → Type 0 where
       → Quotes quote (92 ∷ digits ++ 59 ∷ written) (decimal_value digits ∷ characters)
 
 -- the text begins with a `\` that no escape can begin with, however the text goes on
-pub data BreaksEscape : List ℕ → Type 0 where
+pub data BeginsNoEscape : List ℕ → Type 0 where
   no_letter : (c : ℕ) (rest : List ℕ) → is_ascii_digit c ≡ false
-      → ((meant : ℕ) → IsEscapeLetter c meant → ⊥) → BreaksEscape (92 ∷ c ∷ rest)
+      → ((meant : ℕ) → IsEscapeLetter c meant → ⊥) → BeginsNoEscape (92 ∷ c ∷ rest)
   -- all the digits that stand there are no code
   no_code : (digits rest : List ℕ) → AreDigits digits → BeginsWithNoDigit rest → (IsCode digits → ⊥)
-      → BreaksEscape (92 ∷ digits ++ rest)
+      → BeginsNoEscape (92 ∷ digits ++ rest)
   -- or another character than `;` follows them
   no_semicolon : (digits : List ℕ) (c : ℕ) (rest : List ℕ) → AreDigits digits
-      → is_ascii_digit c ≡ false → c ≢ 59 → BreaksEscape (92 ∷ digits ++ c ∷ rest)
+      → is_ascii_digit c ≡ false → c ≢ 59 → BeginsNoEscape (92 ∷ digits ++ c ∷ rest)
 
 -- the end of a text in an escape that could go on, or in none
 pub data EndsHalf : List ℕ → Type 0 where

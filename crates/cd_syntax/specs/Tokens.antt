@@ -36,28 +36,28 @@ pub data IsDropped : List ℕ → Type 0 where
 
 -- What is written is a token, with the text after it. It is joined where a token ends right before
 -- it that is no sign, or is `)`, `]` or `}`: then a `-` is no sign of a number
-pub data Writes (joined : Bool) : (written text : List ℕ) → TokenKind → Type 0 where
+pub data IsLexemeOf (joined : Bool) : (written text : List ℕ) → TokenKind → Type 0 where
   word : (name text : List ℕ) → IsTrue (is_word name) → EndsWord text
-      → Writes joined name text (Word name)
+      → IsLexemeOf joined name text (Word name)
   -- a number is all the digits that there are, and fits 128 bits
   number : (digits text : List ℕ) → AreDigits digits → BeginsWithNoDigit text
       → IsInteger (pos (decimal_value digits))
-      → Writes joined digits text (Int (pos (decimal_value digits)))
+      → IsLexemeOf joined digits text (Int (pos (decimal_value digits)))
   negative : (digits text : List ℕ) → joined ≡ false → AreDigits digits → BeginsWithNoDigit text
       → IsInteger (neg_ℤ (pos (decimal_value digits)))
-      → Writes joined (45 ∷ digits) text (Int (neg_ℤ (pos (decimal_value digits))))
+      → IsLexemeOf joined (45 ∷ digits) text (Int (neg_ℤ (pos (decimal_value digits))))
   chars : (written characters text : List ℕ) → Quotes 39 written characters
-      → Writes joined (39 ∷ written ++ 39 ∷ []) text (Chars characters)
+      → IsLexemeOf joined (39 ∷ written ++ 39 ∷ []) text (Chars characters)
   text : (written characters text : List ℕ) → Quotes 34 written characters
-      → Writes joined (34 ∷ written ++ 34 ∷ []) text (Text characters)
+      → IsLexemeOf joined (34 ∷ written ++ 34 ∷ []) text (Text characters)
   -- a backquote and at once a word other than `_`
   atom : (name text : List ℕ) → IsLabel name → EndsWord text
-      → Writes joined (96 ∷ name) text (Atom name)
+      → IsLexemeOf joined (96 ∷ name) text (Atom name)
   -- the longest sign that stands there, but no `(*`, and no `-` of a number
   sign : (is : ASign) (text : List ℕ) → IsLongest is (characters is ++ text)
       → begins_pair 40 42 (characters is ++ text) ≡ false
       → (joined ≡ false → begins_negative (characters is ++ text) ≡ false)
-      → Writes joined (characters is) text (Sign is)
+      → IsLexemeOf joined (characters is) text (Sign is)
 
 -- whether what follows such a token at once is joined to it
 abbrev pub joins : TokenKind → Bool
@@ -76,15 +76,15 @@ token_at at written kind = record {
 }
 
 -- the text, which begins at this byte, spells these tokens
-pub data Spells : (joined : Bool) (at : ℕ) → List ℕ → List Token → Type 0 where
-  nothing : (joined : Bool) (at : ℕ) → Spells joined at [] []
+pub data Lexes : (joined : Bool) (at : ℕ) → List ℕ → List Token → Type 0 where
+  nothing : (joined : Bool) (at : ℕ) → Lexes joined at [] []
   dropped : (joined : Bool) (at : ℕ) (written text : List ℕ) (tokens : List Token)
       → IsDropped written
-      → Spells false (at + bytes written) text tokens → Spells joined at (written ++ text) tokens
+      → Lexes false (at + bytes written) text tokens → Lexes joined at (written ++ text) tokens
   token : (joined : Bool) (at : ℕ) (written text : List ℕ) (kind : TokenKind) (tokens : List Token)
-      → Writes joined written text kind
-      → Spells (joins kind) (at + bytes written) text tokens
-      → Spells joined at (written ++ text) (token_at at written kind ∷ tokens)
+      → IsLexemeOf joined written text kind
+      → Lexes (joins kind) (at + bytes written) text tokens
+      → Lexes joined at (written ++ text) (token_at at written kind ∷ tokens)
 
 -- a token of a kind, at any place
 abbrev pub at : TokenKind → Span → Token

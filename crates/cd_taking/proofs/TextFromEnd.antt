@@ -15,7 +15,7 @@ use Rattle.cd_cells.proofs.GrownTables.{further, at_grown}
 -- these bytes are left, and the characters after them are pairs
 pub record IsPaired (old : Values) (text : List ℕ) (now : Values) (made : ℕ) (rest : List ℕ) : Type 0 where
   pub done : List ℕ
-  pub spells : text ≡ rest ++ encodes done
+  pub lexes : text ≡ rest ++ encodes done
   pub is : IsAt (table now) made (text_of done)
   pub grows : Grows old now
 
@@ -23,7 +23,7 @@ pub paired_start : (old values : Values) (end : ℕ) (text rest : List ℕ) → 
     → IsPaired old text values end rest
 paired_start old values end text rest is at grows = record {
   done = [];
-  spells = sym is ∙ sym (append-nil rest);
+  lexes = sym is ∙ sym (append-nil rest);
   is = at;
   grows = grows;
 }
@@ -36,7 +36,7 @@ pub paired_on : (old one two three : Values) (before letter id : ℕ) (text rest
 paired_on old one two three before letter id text rest later c now is grows at then added last =
     let after = at_grown one two grows before (text_of now.done) now.is in record {
       done = c ∷ now.done;
-      spells = now.spells ∙ ap (λ (bytes : List ℕ). bytes ++ encodes now.done) is ∙ append_assoc later (encode_utf8 c) (encodes now.done);
+      lexes = now.lexes ∙ ap (λ (bytes : List ℕ). bytes ++ encodes now.done) is ∙ append_assoc later (encode_utf8 c) (encodes now.done);
       is = last_at (table two) (table three) id (Pair (Character c) (text_of now.done))
           (added ∙ ap (λ (one : Thing). table two ++ one ∷ []) (cc (at.is, after.is))) last;
       grows = further old two three (further old one two now.grows grows) then;
@@ -45,7 +45,7 @@ paired_on old one two three before letter id text rest later c now is grows at t
 pub paired_end : (old now : Values) (made : ℕ) (text rest : List ℕ) → IsUtf8 text → IsPaired old text now made rest → length rest ≡ 0
     → IsAt (table now) made (text_of (chars text))
 paired_end old now made text [] utf8 all none =
-    subst (λ (cs : List ℕ). IsAt (table now) made (text_of cs)) (chars_from_encodes all.done text utf8 (sym all.spells)) all.is
+    subst (λ (cs : List ℕ). IsAt (table now) made (text_of cs)) (chars_from_encodes all.done text utf8 (sym all.lexes)) all.is
 paired_end old now made text (byte ∷ rest) utf8 all none = absurd (omega (arith, none))
 
 -- the pairs so far have a number

@@ -4,7 +4,7 @@ mod PartsOfLists
 mod NextWords
 mod Odometers
 mod Skipping
-mod ToldOnce
+mod VisitedOnce
 mod FullWords
 mod WaysOfWords
 mod RowsOfWords

@@ -3,7 +3,7 @@ use Rattle.std.proofs.Common.{◌≡◌, ◌∙◌, ap, sym, refl, ℕ, ◌<◌,
 use Rattle.std.specs.Option.{IfSome, IsSome}
 use Rattle.cd_tasks.specs.Assignments.{Word, without_those_from}
 use Rattle.cd_tasks.specs.Inner.AfterWords.{after, later, next_later, words_from}
-use Rattle.cd_tasks.specs.Inner.Odometers.{word_told, words_left}
+use Rattle.cd_tasks.specs.Inner.Odometers.{word_visited, words_left}
 use Rattle.cd_tasks.specs.declared.odometer.Next.{Next}
 use Rattle.cd_tasks.specs.declared.odometer.Next.TheVariants.{First, Below, Later}
 use Rattle.cd_tasks.proofs.NextWords.{goes_below, later_is, nothing_below}
@@ -17,15 +17,15 @@ past_full last members word short full =
 
 -- the words that do not begin with the one that was told
 pub skipped : (next : Next) (last members : ℕ) (word : Word)
-    → IfSome (word_told next word) (λ told. later last members word ≡ without_those_from told (words_left next last members word))
+    → IfSome (word_visited next word) (λ visited. later last members word ≡ without_those_from visited (words_left next last members word))
 skipped First last members word = tt
 skipped Below last members word = sym (without_after last members word)
 skipped Later last members word = sym (without_later last members word)
 
-pub told_stays : (next : Next) (word : Word) → IsSome (word_told next word) → word_told Later word ≡ word_told next word
-told_stays First word some = absurd (true≢false (sym some))
-told_stays Below word some = refl
-told_stays Later word some = refl
+pub visited_stays : (next : Next) (word : Word) → IsSome (word_visited next word) → word_visited Later word ≡ word_visited next word
+visited_stays First word some = absurd (true≢false (sym some))
+visited_stays Below word some = refl
+visited_stays Later word some = refl
 
 -- below a word of fewer members the longer one is next
 pub next_below : (next : Next) (last members : ℕ) (word longer : Word) → next ≡ Below → length word < members → longer ≡ word ++ 0 ∷ []

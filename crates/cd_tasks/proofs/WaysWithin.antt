@@ -7,7 +7,7 @@ use Rattle.cd_sets.specs.declared.node_id.NodeId.{NodeId}
 use Rattle.cd_model.specs.BuiltIns.{ATOM, RECORD}
 use Rattle.cd_rules.proofs.Among.{among_both, among_itself, among_map, among_sets}
 use Rattle.cd_rules.specs.Clauses.{Clause, Ints, Chars, Atoms, Pairs, Xmls, Records, Arrows, Pair, Triple}
-use Rattle.cd_rules.specs.Family.{AreAmong, AsksNoLess}
+use Rattle.cd_rules.specs.Family.{AreAmong, IsSubsumedBy}
 use Rattle.cd_rules.specs.Needs.{question, pair_way, xml_way, result_questions, to_one, to_other, to_first, to_middle, to_last}
 use Rattle.cd_tasks.specs.Assignments.{Word, begins_with, given, given_in_three, to_side, to_side_of_three, way_of, way_outside}
 use Rattle.cd_tasks.specs.Within.{IsWayWithin}
@@ -67,12 +67,12 @@ three_within (side ∷ word) (other ∷ longer) (x ∷ members) begins =
 
 -- a question asks no less where what it is made of has more
 pub asks_no_less : (pos neg more_pos more_neg : List NodeId) → AreAmong pos more_pos → AreAmong neg more_neg
-    → AsksNoLess (question more_pos more_neg) (question pos neg)
+    → IsSubsumedBy (question more_pos more_neg) (question pos neg)
 asks_no_less pos neg more_pos more_neg among_pos among_neg = (among_sets pos more_pos among_pos, among_sets neg more_neg among_neg)
 
 -- of the parts of more members too
 parts_within : {X : Type 0} (part : X → NodeId) (pos : List NodeId) (members more : List X) → AreAmong members more
-    → AsksNoLess (question pos (map part more)) (question pos (map part members))
+    → IsSubsumedBy (question pos (map part more)) (question pos (map part members))
 parts_within part pos members more among =
     asks_no_less pos (map part members) pos (map part more) (among_itself pos) (among_map part members more among)
 

@@ -1,7 +1,7 @@
 -- Ways and rows of words, within those of the words that begin with them.
 use Rattle.std.specs.Prelude.{◌≡◌, true, List, [], ◌∷◌}
 use Rattle.cd_syntax.specs.Name.{Name}
-use Rattle.cd_rules.specs.Family.{AreAmong, AsksNoLess}
+use Rattle.cd_rules.specs.Family.{AreAmong, IsSubsumedBy}
 use Rattle.cd_rules.specs.Needs.{Way}
 use Rattle.cd_rules.specs.Rows.{Cell, Row}
 
@@ -10,13 +10,13 @@ abbrev pub IsWayWithin : (way longer : Way) → Type 0
 IsWayWithin [] longer = Unit {0}
 IsWayWithin (question ∷ way) [] = ⊥
 IsWayWithin (question ∷ way) (other ∷ longer) =
-    AsksNoLess other question × IsWayWithin way longer
+    IsSubsumedBy other question × IsWayWithin way longer
 
 -- the longer cell's question asks no less; and where the longer cell lets the label be absent, so
 -- does this one
 abbrev pub IsCellWithin : (cell longer : Cell) → Type 0
 IsCellWithin cell longer =
-    AsksNoLess longer.value cell.value × (longer.absent ≡ true → cell.absent ≡ true)
+    IsSubsumedBy longer.value cell.value × (longer.absent ≡ true → cell.absent ≡ true)
 
 -- the cells of the same labels, likewise
 abbrev pub AreCellsWithin : (cells longer : List (Name × Cell)) → Type 0

@@ -14,7 +14,7 @@ ghost use Rattle.cd_tasks.specs.Within.{IsRowWithin, IsWayWithin};
 
 /// No word stands twice among all words, and each word of at most so many members, given to some of
 /// the sides, is one of them.
-pub fn words_are_told_once()
+pub fn words_are_visited_once()
     ensures once { (sides members : ℕ) → Differ (all_words sides members) }
     ensures each { (sides members : ℕ) (word : Word) → length word ≤ members
         → AllOf (λ side. side < sides) word

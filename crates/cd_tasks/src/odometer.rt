@@ -32,14 +32,14 @@ pub(crate) struct Odometer {
 }
 
 impl Odometer {
-    ghost use Rattle.cd_tasks.specs.Inner.Odometers.{rest_of, told_of};
+    ghost use Rattle.cd_tasks.specs.Inner.Odometers.{rest_of, visited_of};
 
     /// All words, none of which is told.
     pub(crate) fn new(alloc: Global, sides: usize, members: usize) -> Odometer
         requires { 0 < sides }
         ensures members { result.members ≡ members }
         ensures rest { rest_of result ≡ all_words sides members }
-        ensures told { told_of result ≡ None }
+        ensures visited { visited_of result ≡ None }
     {
         Odometer {
             last: sides - 1,
@@ -94,11 +94,11 @@ impl Odometer {
     }
 
     /// Tells the next word.
-    pub(crate) fn tell(&mut self, word: Vec<usize>)
+    pub(crate) fn visit(&mut self, word: Vec<usize>)
         requires { length word.items ≤ self.old.members }
         ensures members { self.new.members ≡ self.old.members }
         ensures rest { rest_of self.new ≡ after self.old.last self.old.members word.items }
-        ensures told { told_of self.new ≡ Some word.items }
+        ensures visited { visited_of self.new ≡ Some word.items }
     {
         self.word = word;
         self.next = Next::Below;
@@ -106,11 +106,11 @@ impl Odometer {
 
     /// Skips the words that begin with the one that was told.
     pub(crate) fn skip(&mut self)
-        requires { IsSome (told_of self.old) }
+        requires { IsSome (visited_of self.old) }
         ensures members { self.new.members ≡ self.old.members }
-        ensures rest { IfSome (told_of self.old)
+        ensures rest { IfSome (visited_of self.old)
             (λ word. rest_of self.new ≡ without_those_from word (rest_of self.old)) }
-        ensures told { told_of self.new ≡ told_of self.old }
+        ensures visited { visited_of self.new ≡ visited_of self.old }
     {
         self.next = Next::Later;
     }

@@ -43,7 +43,7 @@ pub struct RowWalk<'g> {
 }
 
 impl<'g> RowWalk<'g> {
-    ghost use Rattle.cd_tasks.specs.RowWalks.{IsStep, refused_of, rest, told, wanted_of};
+    ghost use Rattle.cd_tasks.specs.RowWalks.{IsStep, refused_of, rest, visited, wanted_of};
 
     /// The walk over the rows of the records that are in each of the wanted types and in none of
     /// the refused ones.
@@ -63,7 +63,7 @@ impl<'g> RowWalk<'g> {
         ensures rest { IfOk result (λ walk. rest walk
             ≡ all_words (length (labels_of_types (wanted_of walk ++ refused_of walk)) + 1)
             (length (refused_of walk))) }
-        ensures told { IfOk result (λ walk. told walk ≡ None) }
+        ensures visited { IfOk result (λ walk. visited walk ≡ None) }
     {
         let labels = labels_of(alloc, wanted.as_slice(), refused.as_slice())?;
         let sides = labels.as_slice().len() + 1;
@@ -82,18 +82,18 @@ impl<'g> RowWalk<'g> {
     ///
     /// Want of memory. Then nothing is told.
     pub fn step(&mut self) -> Result<RowStep, AllocError>
-        ensures told { IfOk result (λ step. IsStep self.old self.new step) }
+        ensures visited { IfOk result (λ step. IsStep self.old self.new step) }
         ensures wanted { wanted_of self.new ≡ wanted_of self.old }
         ensures refused { refused_of self.new ≡ refused_of self.old }
         ensures rest_stays { OnErr result (rest self.new ≡ rest self.old) }
-        ensures told_stays { OnErr result (told self.new ≡ told self.old) }
+        ensures visited_stays { OnErr result (visited self.new ≡ visited self.old) }
     {
         let Some(word) = self.words.next_word()? else {
             return Ok(RowStep::Done);
         };
         let row = self.row_by(word.as_slice())?;
         let is_full = word.as_slice().len() == self.refused.as_slice().len();
-        self.words.tell(word);
+        self.words.visit(word);
         if is_full {
             Ok(RowStep::Full(row))
         } else {
@@ -115,10 +115,10 @@ impl<'g> RowWalk<'g> {
 
     /// Skips the words that begin with the one that was told last.
     pub fn skip(&mut self)
-        requires told { IsSome (told self.old) }
-        ensures rest { IfSome (told self.old)
+        requires visited { IsSome (visited self.old) }
+        ensures rest { IfSome (visited self.old)
             (λ word. rest self.new ≡ without_those_from word (rest self.old)) }
-        ensures told { told self.new ≡ told self.old }
+        ensures visited { visited self.new ≡ visited self.old }
         ensures wanted { wanted_of self.new ≡ wanted_of self.old }
         ensures refused { refused_of self.new ≡ refused_of self.old }
     {

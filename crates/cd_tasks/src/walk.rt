@@ -34,7 +34,7 @@ pub struct Walk<'g> {
 }
 
 impl<'g> Walk<'g> {
-    ghost use Rattle.cd_tasks.specs.Walks.{IsStep, clause_of, need_of, rest, told};
+    ghost use Rattle.cd_tasks.specs.Walks.{IsStep, clause_of, need_of, rest, visited};
 
     /// The walk over the ways of one need of a clause of pairs, XML elements or functions.
     ///
@@ -48,7 +48,7 @@ impl<'g> Walk<'g> {
         ensures need { IfOk result (λ walk. need_of walk ≡ need) }
         ensures rest { let all = plain_clause clause.now in
             IfOk result (λ walk. rest walk ≡ all_words (sides_of all) (members_of all)) }
-        ensures told { IfOk result (λ walk. told walk ≡ None) }
+        ensures visited { IfOk result (λ walk. visited walk ≡ None) }
     {
         let words = Odometer::new(alloc, count_sides(clause), count_members(clause));
         Ok(Walk {
@@ -64,11 +64,11 @@ impl<'g> Walk<'g> {
     ///
     /// Want of memory. Then nothing is told.
     pub fn step(&mut self) -> Result<Step, AllocError>
-        ensures told { IfOk result (λ step. IsStep self.old self.new step) }
+        ensures visited { IfOk result (λ step. IsStep self.old self.new step) }
         ensures clause { clause_of self.new ≡ clause_of self.old }
         ensures need { need_of self.new ≡ need_of self.old }
         ensures rest_stays { OnErr result (rest self.new ≡ rest self.old) }
-        ensures told_stays { OnErr result (told self.new ≡ told self.old) }
+        ensures visited_stays { OnErr result (visited self.new ≡ visited self.old) }
     {
         let Some(word) = self.words.next_word()? else {
             return Ok(Step::Done);
@@ -76,7 +76,7 @@ impl<'g> Walk<'g> {
         let alloc = self.words.allocator();
         let way = way_of(alloc, &self.clause, self.need, word.as_slice())?;
         let is_full = word.as_slice().len() == count_members(&self.clause);
-        self.words.tell(word);
+        self.words.visit(word);
         let questions = Questions::of(way);
         if is_full {
             Ok(Step::Full(questions))
@@ -87,10 +87,10 @@ impl<'g> Walk<'g> {
 
     /// Skips the words that begin with the one that was told last.
     pub fn skip(&mut self)
-        requires told { IsSome (told self.old) }
-        ensures rest { IfSome (told self.old)
+        requires visited { IsSome (visited self.old) }
+        ensures rest { IfSome (visited self.old)
             (λ word. rest self.new ≡ without_those_from word (rest self.old)) }
-        ensures told { told self.new ≡ told self.old }
+        ensures visited { visited self.new ≡ visited self.old }
         ensures clause { clause_of self.new ≡ clause_of self.old }
         ensures need { need_of self.new ≡ need_of self.old }
     {

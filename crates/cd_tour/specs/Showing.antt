@@ -6,8 +6,8 @@ use Rattle.cd_base.specs.Status.{status_number}
 use Rattle.cd_base.specs.declared.status.Status.{Status}
 use Rattle.cd_replies.specs.Bytes.{Bytes}
 use Rattle.cd_replies.specs.Reply.{Reply}
-use Rattle.cd_driver.specs.World.{World}
-use Rattle.cd_replies.specs.Disk.{Disk, Met}
+use Rattle.cd_driver.specs.Outside.{Outside}
+use Rattle.cd_replies.specs.Disk.{Disk, Encountered}
 use Rattle.cd_driver.specs.Answer.{Answer}
 use Rattle.cd_tour.specs.CommandLine.{command_line}
 use Rattle.cd_tour.specs.declared.queries.Query.{Query}
@@ -20,14 +20,14 @@ abbrev pub meaning_of : Query → Bytes
 meaning_of query = query.meaning.now
 
 -- an answer to the words was written whole, and this is its status
-pub record IsAnswered (words : List Bytes) (before after : World) (status : Status) : Type 0 where
+pub record IsAnswered (words : List Bytes) (before after : Outside) (status : Status) : Type 0 where
   pub disk : Disk
-  pub met : Met before.files after.files disk
+  pub encountered : Encountered before.files after.files disk
   pub reply : Reply
   pub answer : Answer words disk reply
   pub status_is : status ≡ reply.status
-  pub out : Appends before.out.told after.out.told reply.out
-  pub err : Appends before.err.told after.err.told reply.err
+  pub out : Appends before.out.known after.out.known reply.out
+  pub err : Appends before.err.known after.err.known reply.err
 
 -- what stands after an answer: its status, what it means, and an empty line
 abbrev pub ending : Status → Bytes → Bytes
@@ -35,17 +35,17 @@ ending status meaning = codes "status "
     ++ (decimal (status_number status) ++ (codes "\n" ++ (meaning ++ codes "\n\n")))
 
 -- the query was shown: its words, an answer to them, and the answer's status and meaning
-pub record IsShown (query : Query) (before after : World) : Type 0 where
+pub record IsShown (query : Query) (before after : Outside) : Type 0 where
   pub disk : Disk
-  pub met : Met before.files after.files disk
+  pub encountered : Encountered before.files after.files disk
   pub reply : Reply
   pub answer : Answer (words_of query) disk reply
-  pub out : Appends before.out.told after.out.told
+  pub out : Appends before.out.known after.out.known
       (command_line (words_of query) ++ (reply.out ++ ending reply.status (meaning_of query)))
-  pub err : Appends before.err.told after.err.told reply.err
+  pub err : Appends before.err.known after.err.known reply.err
 
 -- the queries were shown one after the other
-abbrev pub AreShown : List Query → World → World → Type 0
+abbrev pub AreShown : List Query → Outside → Outside → Type 0
 AreShown [] before after = after ≡ before
-AreShown (query ∷ queries) before after = (between : World) × IsShown query before between
+AreShown (query ∷ queries) before after = (between : Outside) × IsShown query before between
     × AreShown queries between after

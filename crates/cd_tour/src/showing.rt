@@ -1,7 +1,7 @@
 //! How queries are shown: the words as a command line, the answer, its status, and what it means.
 ghost use Rattle.std.specs.Prelude.{◌≡◌, map, IfOk, string_bytes};
 ghost use Rattle.cd_driver.specs.Command.{texts};
-ghost use Rattle.cd_driver.specs.World.{world};
+ghost use Rattle.cd_driver.specs.Outside.{outside};
 ghost use Rattle.cd_tour.specs.Showing.{IsAnswered, ending, IsShown, AreShown};
 
 use crate::line::command_line;
@@ -22,8 +22,8 @@ pub(crate) fn show_all<F: Files, S: Sink>(
     err: &mut S,
 ) -> Result<()>
     ensures { IfOk result (λ _. AreShown queries.now
-        (world (F.state files.old) (S.state out.old) (S.state err.old))
-        (world (F.state files.new) (S.state out.new) (S.state err.new))) }
+        (outside (F.state files.old) (S.state out.old) (S.state err.old))
+        (outside (F.state files.new) (S.state out.new) (S.state err.new))) }
 {
     for query in queries {
         show(alloc, query, files, out, err)?;
@@ -40,8 +40,8 @@ fn show<F: Files, S: Sink>(
     err: &mut S,
 ) -> Result<()>
     ensures { IfOk result (λ _. IsShown query.now
-        (world (F.state files.old) (S.state out.old) (S.state err.old))
-        (world (F.state files.new) (S.state out.new) (S.state err.new))) }
+        (outside (F.state files.old) (S.state out.old) (S.state err.old))
+        (outside (F.state files.new) (S.state out.new) (S.state err.new))) }
 {
     out.put(command_line(alloc, query.words)?.as_bytes())?;
     let status = answered(alloc, query.words, files, out, err)?;
@@ -58,8 +58,8 @@ fn answered<F: Files, S: Sink>(
     err: &mut S,
 ) -> Result<Status>
     ensures { IfOk result (λ status. IsAnswered (map (λ word. word.now) words.now)
-        (world (F.state files.old) (S.state out.old) (S.state err.old))
-        (world (F.state files.new) (S.state out.new) (S.state err.new)) status) }
+        (outside (F.state files.old) (S.state out.old) (S.state err.old))
+        (outside (F.state files.new) (S.state out.new) (S.state err.new)) status) }
 {
     let words = owned(alloc, words)?;
     let status = cduce(alloc, words.as_slice(), files, out, err);

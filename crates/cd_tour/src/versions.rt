@@ -15,7 +15,7 @@ pub(crate) fn both_versions<F: Files>(
     alloc: Global,
     files: &mut F,
 ) -> Result<MemoryFiles, ReadError>
-    ensures joined { IfOk result (λ made. HoldsBoth (F.state files.old).told made.files) }
+    ensures joined { IfOk result (λ made. HoldsBoth (F.state files.old).known made.files) }
     ensures ok { OnOk result (F.state files.new ≡ F.state files.old) }
 {
     let mut text = files.read("schema.cd", MOST)?;

@@ -6,7 +6,7 @@ use Rattle.cd_model.specs.AllOf.{AnyOf}
 use Rattle.cd_resolve.specs.Faults.{Fault}
 use Rattle.cd_variables.specs.Occurrences.{Occurrence}
 use Rattle.cd_variables.specs.VariableFaults.{IsOneIn, twice}
-use Rattle.cd_variables.specs.FindingVariables.{has_name, told_if, told_of_each, told_again}
+use Rattle.cd_variables.specs.FindingVariables.{has_name, reported_if, reported_of_each, reported_again}
 
 -- a step adds such faults, and keeps those that are there
 abbrev pub Adds : (Fault → Type 0) → (List Fault → List Fault) → Type 0
@@ -61,7 +61,7 @@ adds_one fault s f = (to s, from s) where
   from (one ∷ rest) (inr is) = inr (from rest (inr is))
 
 -- one fault if a test holds
-pub adds_if : (test : Bool) (fault : Fault) → Adds (λ f. (test ≡ true) × (fault ≡ f)) (told_if test fault)
+pub adds_if : (test : Bool) (fault : Fault) → Adds (λ f. (test ≡ true) × (fault ≡ f)) (reported_if test fault)
 adds_if true fault = adds_same (λ f. fault ≡ f) (λ f. (true ≡ true) × (fault ≡ f)) (λ s. s ++ fault ∷ [])
     (λ f. (λ is. (refl, is), λ both. both.1)) (adds_one fault)
 adds_if false fault = adds_same (λ f. ⊥) (λ f. (false ≡ true) × (fault ≡ f)) (λ s. s)
@@ -69,19 +69,19 @@ adds_if false fault = adds_same (λ f. ⊥) (λ f. (false ≡ true) × (fault �
 
 -- a fault of each occurrence
 pub adds_each : (fault : Occurrence → Fault) (all : List Occurrence)
-    → Adds (λ f. AnyOf (λ o. fault o ≡ f) all) (told_of_each fault all)
+    → Adds (λ f. AnyOf (λ o. fault o ≡ f) all) (reported_of_each fault all)
 adds_each fault [] = adds_nothing
 adds_each fault (o ∷ rest) = adds_both (λ f. fault o ≡ f) (λ f. AnyOf (λ o. fault o ≡ f) rest)
-    (λ s. s ++ fault o ∷ []) (told_of_each fault rest) (adds_one (fault o)) (adds_each fault rest)
+    (λ s. s ++ fault o ∷ []) (reported_of_each fault rest) (adds_one (fault o)) (adds_each fault rest)
 
 -- those of occurrences whose names were seen
 abbrev pub Again : List Name → List Occurrence → Fault → Type 0
 Again seen all f = AnyOf (λ o. (has_name seen o.name ≡ true) × (twice o ≡ f)) all
 
-pub adds_again : (seen : List Name) (all : List Occurrence) → Adds (Again seen all) (told_again seen all)
+pub adds_again : (seen : List Name) (all : List Occurrence) → Adds (Again seen all) (reported_again seen all)
 adds_again seen [] = adds_nothing
 adds_again seen (o ∷ rest) = adds_both (λ f. (has_name seen o.name ≡ true) × (twice o ≡ f)) (Again seen rest)
-    (told_if (has_name seen o.name) (twice o)) (told_again seen rest)
+    (reported_if (has_name seen o.name) (twice o)) (reported_again seen rest)
     (adds_if (has_name seen o.name) (twice o)) (adds_again seen rest)
 
 -- a step that does the same

@@ -8,7 +8,7 @@ use Rattle.cd_syntax.specs.Name.{Name}
 use Rattle.cd_syntax.specs.TypeTree.{Tree, Signs}
 use Rattle.cd_resolve.specs.Faults.{Fault}
 use Rattle.cd_variables.specs.Occurrences.{Occurrence, takes_away, bound, bound_by_signs}
-use Rattle.cd_variables.specs.FindingVariables.{sides_in, sign_faults, names_among, told_again}
+use Rattle.cd_variables.specs.FindingVariables.{sides_in, sign_faults, names_among, reported_again}
 use Rattle.cd_variables.specs.FindingVariables.{variable_faults}
 use Rattle.cd_variables.specs.FindingMisplaced.{misplaced_in}
 use Rattle.cd_variables.proofs.Sides.{sides_left, none_left}
@@ -54,20 +54,20 @@ module _ (one : Tree) (signs : Signs) where
   abbrev Found : List Fault → List Fault
   Found s = if takes_away signs then sign_faults [] signs (misplaced_in one s)
       else sign_faults (names_among (bound one)) signs
-      (told_again [] (bound one) (variable_faults one s))
+      (reported_again [] (bound one) (variable_faults one s))
 
   pub side_found : (seen : List Name) (s after : List Fault) → 0 < sides_in signs → seen ≡ []
       → after ≡ misplaced_in one s → sign_faults seen signs after ≡ Found s
   side_found seen s after some none is = (λ i. sign_faults (none i) signs (is i))
       ∙ chosen_first (takes_away signs) (sign_faults [] signs (misplaced_in one s))
       (sign_faults (names_among (bound one)) signs
-      (told_again [] (bound one) (variable_faults one s))) (sides_left signs some)
+      (reported_again [] (bound one) (variable_faults one s))) (sides_left signs some)
 
   pub kept_found : (seen : List Name) (s after : List Fault) → sides_in signs ≡ 0
       → seen ≡ names_among (bound one)
-      → after ≡ told_again [] (bound one) (variable_faults one s)
+      → after ≡ reported_again [] (bound one) (variable_faults one s)
       → sign_faults seen signs after ≡ Found s
   kept_found seen s after none names is = (λ i. sign_faults (names i) signs (is i))
       ∙ chosen_second (takes_away signs) (sign_faults [] signs (misplaced_in one s))
       (sign_faults (names_among (bound one)) signs
-      (told_again [] (bound one) (variable_faults one s))) (none_left signs none)
+      (reported_again [] (bound one) (variable_faults one s))) (none_left signs none)

@@ -14,28 +14,28 @@ use Rattle.cd_variables.specs.FindingMisplaced.{misplaced_in, misplaced_in_kind,
 use Rattle.cd_variables.specs.FindingMisplaced.{misplaced_in_signs, misplaced_in_fields, misplaced_in_declarations}
 use Rattle.cd_variables.specs.FindingMisplaced.{misplaced_in_regular, misplaced_in_regular_kind}
 use Rattle.cd_variables.specs.FindingMisplaced.{misplaced_in_regulars}
-use Rattle.cd_variables.specs.FindingVariables.{told_of_each}
+use Rattle.cd_variables.specs.FindingVariables.{reported_of_each}
 
 -- a fault of each of some, and then of others
-told_of_both : (ones others : List Occurrence) (s : List Fault)
-    → told_of_each misplaced (ones ++ others) s ≡ told_of_each misplaced others (told_of_each misplaced ones s)
-told_of_both [] others s = refl
-told_of_both (o ∷ rest) others s = told_of_both rest others (s ++ misplaced o ∷ [])
+reported_of_both : (ones others : List Occurrence) (s : List Fault)
+    → reported_of_each misplaced (ones ++ others) s ≡ reported_of_each misplaced others (reported_of_each misplaced ones s)
+reported_of_both [] others s = refl
+reported_of_both (o ∷ rest) others s = reported_of_both rest others (s ++ misplaced o ∷ [])
 
 -- what comes first is found, and then what is found after it
 in_turn : (ones others : List Occurrence) (first second : List Fault → List Fault)
-    → ((s : List Fault) → first s ≡ told_of_each misplaced ones s)
-    → ((s : List Fault) → second s ≡ told_of_each misplaced others s)
-    → (s : List Fault) → second (first s) ≡ told_of_each misplaced (ones ++ others) s
+    → ((s : List Fault) → first s ≡ reported_of_each misplaced ones s)
+    → ((s : List Fault) → second s ≡ reported_of_each misplaced others s)
+    → (s : List Fault) → second (first s) ≡ reported_of_each misplaced (ones ++ others) s
 in_turn ones others first second one other s = other (first s)
-    ∙ ap (told_of_each misplaced others) (one s) ∙ sym (told_of_both ones others s)
+    ∙ ap (reported_of_each misplaced others) (one s) ∙ sym (reported_of_both ones others s)
 
 mutual
-  pub found_in_tree : (t : Tree) (s : List Fault) → misplaced_in t s ≡ told_of_each misplaced (variables t) s
+  pub found_in_tree : (t : Tree) (s : List Fault) → misplaced_in t s ≡ reported_of_each misplaced (variables t) s
   found_in_tree (tree span kind) s = found_in_kind span.from kind s
 
   found_in_kind : (at : ℕ) (kind : Kind) (s : List Fault)
-      → misplaced_in_kind at kind s ≡ told_of_each misplaced (variables_in at kind) s
+      → misplaced_in_kind at kind s ≡ reported_of_each misplaced (variables_in at kind) s
   found_in_kind at (Tuple trees) s = found_in_trees trees s
   found_in_kind at (Arrows trees) s = found_in_trees trees s
   found_in_kind at (Union trees) s = found_in_trees trees s
@@ -62,36 +62,36 @@ mutual
   found_in_kind at (Named name) s = refl
 
   pub found_in_trees : (trees : Trees) (s : List Fault)
-      → misplaced_in_trees trees s ≡ told_of_each misplaced (variables_of_all trees) s
+      → misplaced_in_trees trees s ≡ reported_of_each misplaced (variables_of_all trees) s
   found_in_trees NoTree s = refl
   found_in_trees (ATree first rest) s = in_turn (variables first) (variables_of_all rest)
       (misplaced_in first) (misplaced_in_trees rest) (found_in_tree first) (found_in_trees rest) s
 
   found_in_signs : (signs : Signs) (s : List Fault)
-      → misplaced_in_signs signs s ≡ told_of_each misplaced (variables_of_signs signs) s
+      → misplaced_in_signs signs s ≡ reported_of_each misplaced (variables_of_signs signs) s
   found_in_signs NoSign s = refl
   found_in_signs (ASign kept t rest) s = in_turn (variables t) (variables_of_signs rest)
       (misplaced_in t) (misplaced_in_signs rest) (found_in_tree t) (found_in_signs rest) s
 
   found_in_fields : (fields : Fields) (s : List Fault)
-      → misplaced_in_fields fields s ≡ told_of_each misplaced (variables_of_fields fields) s
+      → misplaced_in_fields fields s ≡ reported_of_each misplaced (variables_of_fields fields) s
   found_in_fields NoField s = refl
   found_in_fields (AField label at optional t rest) s = in_turn (variables t) (variables_of_fields rest)
       (misplaced_in t) (misplaced_in_fields rest) (found_in_tree t) (found_in_fields rest) s
 
   pub found_in_declarations : (declarations : Declarations) (s : List Fault)
       → misplaced_in_declarations declarations s
-      ≡ told_of_each misplaced (variables_of_declarations declarations) s
+      ≡ reported_of_each misplaced (variables_of_declarations declarations) s
   found_in_declarations NoDeclaration s = refl
   found_in_declarations (ADeclaration name at t rest) s = in_turn (variables t) (variables_of_declarations rest)
       (misplaced_in t) (misplaced_in_declarations rest) (found_in_tree t) (found_in_declarations rest) s
 
   found_in_regular : (r : Regular) (s : List Fault)
-      → misplaced_in_regular r s ≡ told_of_each misplaced (variables_of_regular r) s
+      → misplaced_in_regular r s ≡ reported_of_each misplaced (variables_of_regular r) s
   found_in_regular (regular span kind) s = found_in_regular_kind span.from kind s
 
   found_in_regular_kind : (at : ℕ) (kind : RegularKind) (s : List Fault)
-      → misplaced_in_regular_kind at kind s ≡ told_of_each misplaced (variables_of_regular_kind at kind) s
+      → misplaced_in_regular_kind at kind s ≡ reported_of_each misplaced (variables_of_regular_kind at kind) s
   found_in_regular_kind at Nothing s = refl
   found_in_regular_kind at (Item t) s = found_in_tree t s
   found_in_regular_kind at (Seq all) s = found_in_regulars all s
@@ -101,7 +101,7 @@ mutual
       found_in_regular r (s ++ misplaced (record { name = name; at = at }) ∷ [])
 
   found_in_regulars : (all : Regulars) (s : List Fault)
-      → misplaced_in_regulars all s ≡ told_of_each misplaced (variables_of_regulars all) s
+      → misplaced_in_regulars all s ≡ reported_of_each misplaced (variables_of_regulars all) s
   found_in_regulars NoRegular s = refl
   found_in_regulars (ARegular first rest) s = in_turn (variables_of_regular first) (variables_of_regulars rest)
       (misplaced_in_regular first) (misplaced_in_regulars rest) (found_in_regular first) (found_in_regulars rest) s

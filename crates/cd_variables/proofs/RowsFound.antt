@@ -7,7 +7,7 @@ use Rattle.cd_resolve.specs.Faults.{Fault}
 use Rattle.cd_variables.specs.Occurrences.{Occurrence, has, variables, bound}
 use Rattle.cd_variables.specs.VariableFaults.{IsVariableFault, IsAmong, StandsAgain, twice, misplaced}
 use Rattle.cd_variables.specs.FindingMisplaced.{misplaced_in}
-use Rattle.cd_variables.specs.FindingVariables.{has_name, names_among, variable_faults, told_again, told_of_each}
+use Rattle.cd_variables.specs.FindingVariables.{has_name, names_among, variable_faults, reported_again, reported_of_each}
 use Rattle.cd_variables.proofs.Adding.{Adds, Again, adds_both, adds_same, adds_each, adds_again, adds_as, any_in, one_of_any}
 use Rattle.cd_variables.proofs.MisplacedFound.{found_in_tree}
 use Rattle.cd_variables.proofs.NamesAmong.{seen_or_has, seen_before, seen_in}
@@ -29,7 +29,7 @@ PartFault seen kept side f = RowFault seen kept f ⊎ Misplaced side f
 -- one tree more where no variable may stand
 adds_misplaced : (t : Tree) → Adds (λ f. AnyOf (λ o. misplaced o ≡ f) (variables t)) (misplaced_in t)
 adds_misplaced t = adds_as (λ f. AnyOf (λ o. misplaced o ≡ f) (variables t)) (misplaced_in t)
-    (told_of_each misplaced (variables t)) (found_in_tree t) (adds_each misplaced (variables t))
+    (reported_of_each misplaced (variables t)) (found_in_tree t) (adds_each misplaced (variables t))
 
 pub adds_side : (t : Tree) (seen : List Name) (kept side : List Tree) (step : List Fault → List Fault)
     → Adds (PartFault seen kept side) step → Adds (PartFault seen kept (t ∷ side)) (λ s. step (misplaced_in t s))
@@ -54,15 +54,15 @@ adds_side t seen kept side step on =
 pub adds_part : (t : Tree) (seen : List Name) (kept side : List Tree) (step : List Fault → List Fault)
     → Adds (IsVariableFault t) (variable_faults t)
     → Adds (PartFault (seen ++ names_among (bound t)) kept side) step
-    → Adds (PartFault seen (t ∷ kept) side) (λ s. step (told_again seen (bound t) (variable_faults t s)))
+    → Adds (PartFault seen (t ∷ kept) side) (λ s. step (reported_again seen (bound t) (variable_faults t s)))
 adds_part t seen kept side step one on =
     adds_same (λ f. (IsVariableFault t f ⊎ Again seen (bound t) f)
     ⊎ PartFault (seen ++ names_among (bound t)) kept side f)
-    (PartFault seen (t ∷ kept) side) (λ s. step (told_again seen (bound t) (variable_faults t s)))
+    (PartFault seen (t ∷ kept) side) (λ s. step (reported_again seen (bound t) (variable_faults t s)))
     (λ f. (to f, from f))
     (adds_both (λ f. IsVariableFault t f ⊎ Again seen (bound t) f) (PartFault (seen ++ names_among (bound t)) kept side)
-    (λ s. told_again seen (bound t) (variable_faults t s)) step
-    (adds_both (IsVariableFault t) (Again seen (bound t)) (variable_faults t) (told_again seen (bound t))
+    (λ s. reported_again seen (bound t) (variable_faults t s)) step
+    (adds_both (IsVariableFault t) (Again seen (bound t)) (variable_faults t) (reported_again seen (bound t))
     one (adds_again seen (bound t))) on) where
       to : (f : Fault) → (IsVariableFault t f ⊎ Again seen (bound t) f)
           ⊎ PartFault (seen ++ names_among (bound t)) kept side f → PartFault seen (t ∷ kept) side f

@@ -7,7 +7,7 @@ use Rattle.cd_syntax.specs.TypeTree.{Tree, Signs, ASign, Fields, AField}
 use Rattle.cd_resolve.specs.Faults.{Fault}
 use Rattle.cd_variables.specs.Occurrences.{Occurrence, takes_away, bound, bound_by_signs, bound_by_fields}
 use Rattle.cd_variables.specs.FindingMisplaced.{misplaced_in}
-use Rattle.cd_variables.specs.FindingVariables.{names_among, variable_faults, told_again, sign_faults, field_faults}
+use Rattle.cd_variables.specs.FindingVariables.{names_among, variable_faults, reported_again, sign_faults, field_faults}
 use Rattle.cd_variables.specs.FindingVariables.{sides_in}
 use Rattle.cd_variables.proofs.Sides.{sides_left, none_left, one_less, later_none}
 
@@ -28,7 +28,7 @@ optional_step label at true t rest all all_after seen seen_after s s_after out a
 pub present_step : (label : Name) (at : ℕ) (optional : Bool) (t : Tree) (rest : Fields)
     (all all_after : List Occurrence) (seen seen_after : List Name) (s s_after : List Fault)
     → optional ≡ false → all_after ≡ all ++ bound t → seen_after ≡ seen ++ names_among (bound t)
-    → s_after ≡ told_again seen (bound t) (variable_faults t s)
+    → s_after ≡ reported_again seen (bound t) (variable_faults t s)
     → (all_after ++ bound_by_fields rest ≡ all ++ bound_by_fields (AField label at optional t rest))
     × (field_faults seen_after rest s_after ≡ field_faults seen (AField label at optional t rest) s)
 present_step label at true t rest all all_after seen seen_after s s_after out all_is seen_is s_is =
@@ -72,17 +72,17 @@ side_step kept t rest left left_after all all_after seen seen_after s s_after le
 
       by_faults : sign_faults seen_after rest s_after ≡ (if not kept || takes_away rest
           then sign_faults seen rest (misplaced_in t s)
-          else sign_faults (seen ++ names_among (bound t)) rest (told_again seen (bound t) (variable_faults t s)))
+          else sign_faults (seen ++ names_among (bound t)) rest (reported_again seen (bound t) (variable_faults t s)))
       by_faults = ap (λ seen. sign_faults seen rest s_after) seen_is ∙ ap (sign_faults seen rest) s_is
           ∙ sym (taken_away (not kept || takes_away rest) side (sign_faults seen rest (misplaced_in t s))
-          (sign_faults (seen ++ names_among (bound t)) rest (told_again seen (bound t) (variable_faults t s))))
+          (sign_faults (seen ++ names_among (bound t)) rest (reported_again seen (bound t) (variable_faults t s))))
 
 -- those of one after the last `\` bind
 pub kept_step : (kept : Bool) (t : Tree) (rest : Signs) (left left_after : ℕ)
     (all all_after : List Occurrence) (seen seen_after : List Name) (s s_after : List Fault)
     → left ≡ sides_in (ASign kept t rest) → left ≤ 0 → left_after ≡ left
     → all_after ≡ all ++ bound t → seen_after ≡ seen ++ names_among (bound t)
-    → s_after ≡ told_again seen (bound t) (variable_faults t s)
+    → s_after ≡ reported_again seen (bound t) (variable_faults t s)
     → (left_after ≡ sides_in rest)
     × (all_after ++ bound_by_signs rest ≡ all ++ bound_by_signs (ASign kept t rest))
     × (sign_faults seen_after rest s_after ≡ sign_faults seen (ASign kept t rest) s)
@@ -106,8 +106,8 @@ kept_step kept t rest left left_after all all_after seen seen_after s s_after le
 
       by_faults : sign_faults seen_after rest s_after ≡ (if not kept || takes_away rest
           then sign_faults seen rest (misplaced_in t s)
-          else sign_faults (seen ++ names_among (bound t)) rest (told_again seen (bound t) (variable_faults t s)))
+          else sign_faults (seen ++ names_among (bound t)) rest (reported_again seen (bound t) (variable_faults t s)))
       by_faults = ap (λ seen. sign_faults seen rest s_after) seen_is
           ∙ ap (sign_faults (seen ++ names_among (bound t)) rest) s_is
           ∙ sym (not_taken (not kept || takes_away rest) side (sign_faults seen rest (misplaced_in t s))
-          (sign_faults (seen ++ names_among (bound t)) rest (told_again seen (bound t) (variable_faults t s))))
+          (sign_faults (seen ++ names_among (bound t)) rest (reported_again seen (bound t) (variable_faults t s))))

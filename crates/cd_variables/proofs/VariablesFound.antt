@@ -27,7 +27,7 @@ use Rattle.cd_variables.specs.FindingMisplaced.{misplaced_in, misplaced_in_trees
 use Rattle.cd_variables.specs.FindingVariables.{has_name, names_among, variable_faults, kind_faults, row_faults}
 use Rattle.cd_variables.specs.FindingVariables.{sign_faults, field_faults, union_faults, alternative_faults}
 use Rattle.cd_variables.specs.FindingVariables.{regular_faults, regular_kind_faults, turn_faults, choice_faults}
-use Rattle.cd_variables.specs.FindingVariables.{other_faults, told_if, told_again, told_of_each, differ}
+use Rattle.cd_variables.specs.FindingVariables.{other_faults, reported_if, reported_again, reported_of_each, differ}
 use Rattle.cd_variables.proofs.Adding.{Adds, Again, adds_nothing, adds_both, adds_same, adds_if, adds_each, adds_again}
 use Rattle.cd_variables.proofs.Adding.{any_in, one_of_any, one_of_both, one_of_first, one_of_second}
 use Rattle.cd_variables.proofs.NamesAmong.{differ_where, where_differ, has_itself}
@@ -319,7 +319,7 @@ kept_or_side : (b : Bool) (t : Tree) (seen : List Name) (kept side : List Tree) 
     → Adds (PartFault (seen ++ names_among (bound t)) kept side) (step (seen ++ names_among (bound t)))
     → Adds (PartFault seen (if b then kept else t ∷ kept) (if b then t ∷ side else side))
     (λ s. if b then step seen (misplaced_in t s)
-    else step (seen ++ names_among (bound t)) (told_again seen (bound t) (variable_faults t s)))
+    else step (seen ++ names_among (bound t)) (reported_again seen (bound t) (variable_faults t s)))
 kept_or_side true t seen kept side step one on_side on_kept = adds_side t seen kept side (step seen) on_side
 kept_or_side false t seen kept side step one on_side on_kept =
     adds_part t seen kept side (step (seen ++ names_among (bound t))) one on_kept
@@ -330,7 +330,7 @@ first_or_side : (b : Bool) (t : Tree) (kept side : List Tree) (step : List Name 
     → Adds (PartFault (names_among (bound t)) kept side) (step (names_among (bound t)))
     → Adds (PartFault [] ((if b then [] else t ∷ []) ++ kept) ((if b then t ∷ [] else []) ++ side))
     (λ s. if b then step [] (misplaced_in t s)
-    else step (names_among (bound t)) (told_again [] (bound t) (variable_faults t s)))
+    else step (names_among (bound t)) (reported_again [] (bound t) (variable_faults t s)))
 first_or_side true t kept side step one on_side on_kept = adds_side t [] kept side (step []) on_side
 first_or_side false t kept side step one on_side on_kept = adds_part t [] kept side (step (names_among (bound t))) one on_kept
 
@@ -338,25 +338,25 @@ first_or_side false t kept side step one on_side on_kept = adds_part t [] kept s
 adds_alternative : (names : List Name) (t : Tree) (rest : List Tree) (step : List Fault → List Fault)
     → Adds (IsVariableFault t) (variable_faults t) → Adds (λ f. AnyOf (AlternativeFault names f) rest) step
     → Adds (λ f. AnyOf (AlternativeFault names f) (t ∷ rest))
-    (λ s. step (told_if (differ names (names_among (bound t))) (differs (begins t)) (variable_faults t s)))
+    (λ s. step (reported_if (differ names (names_among (bound t))) (differs (begins t)) (variable_faults t s)))
 adds_alternative names t rest step one on =
     adds_both (λ f. AlternativeFault names f t) (λ f. AnyOf (AlternativeFault names f) rest)
-    (λ s. told_if (differ names (names_among (bound t))) (differs (begins t)) (variable_faults t s)) step
+    (λ s. reported_if (differ names (names_among (bound t))) (differs (begins t)) (variable_faults t s)) step
     (adds_both (IsVariableFault t)
     (λ f. (differ names (names_among (bound t)) ≡ true) × (differs (begins t) ≡ f)) (variable_faults t)
-    (told_if (differ names (names_among (bound t))) (differs (begins t))) one
+    (reported_if (differ names (names_among (bound t))) (differs (begins t))) one
     (adds_if (differ names (names_among (bound t))) (differs (begins t)))) on
 
 adds_other : (names : List Name) (r : Regular) (rest : List Regular) (step : List Fault → List Fault)
     → Adds (IsRegularFault r) (regular_faults r) → Adds (λ f. AnyOf (OtherFault names f) rest) step
     → Adds (λ f. AnyOf (OtherFault names f) (r ∷ rest))
-    (λ s. step (told_if (differ names (names_among (plain r))) (differs (regular_begins r)) (regular_faults r s)))
+    (λ s. step (reported_if (differ names (names_among (plain r))) (differs (regular_begins r)) (regular_faults r s)))
 adds_other names r rest step one on =
     adds_both (λ f. OtherFault names f r) (λ f. AnyOf (OtherFault names f) rest)
-    (λ s. told_if (differ names (names_among (plain r))) (differs (regular_begins r)) (regular_faults r s)) step
+    (λ s. reported_if (differ names (names_among (plain r))) (differs (regular_begins r)) (regular_faults r s)) step
     (adds_both (IsRegularFault r)
     (λ f. (differ names (names_among (plain r)) ≡ true) × (differs (regular_begins r) ≡ f)) (regular_faults r)
-    (told_if (differ names (names_among (plain r))) (differs (regular_begins r))) one
+    (reported_if (differ names (names_among (plain r))) (differs (regular_begins r))) one
     (adds_if (differ names (names_among (plain r))) (differs (regular_begins r)))) on
 
 -- the next part that is taken in turn
@@ -364,14 +364,14 @@ adds_turn : (seen plain_ones : List Name) (r : Regular) (rest : List Regular) (s
     → Adds (IsRegularFault r) (regular_faults r)
     → Adds (TurnFault (seen ++ names_among (plain r) ++ names_among (gathered r)) (plain_ones ++ names_among (plain r)) rest) step
     → Adds (TurnFault seen plain_ones (r ∷ rest))
-    (λ s. step (told_again plain_ones (gathered r) (told_again seen (plain r) (regular_faults r s))))
+    (λ s. step (reported_again plain_ones (gathered r) (reported_again seen (plain r) (regular_faults r s))))
 adds_turn seen plain_ones r rest step one on =
     adds_both (λ f. (IsRegularFault r f ⊎ Again seen (plain r) f) ⊎ Again plain_ones (gathered r) f)
     (TurnFault (seen ++ names_among (plain r) ++ names_among (gathered r)) (plain_ones ++ names_among (plain r)) rest)
-    (λ s. told_again plain_ones (gathered r) (told_again seen (plain r) (regular_faults r s))) step
+    (λ s. reported_again plain_ones (gathered r) (reported_again seen (plain r) (regular_faults r s))) step
     (adds_both (λ f. IsRegularFault r f ⊎ Again seen (plain r) f) (Again plain_ones (gathered r))
-    (λ s. told_again seen (plain r) (regular_faults r s)) (told_again plain_ones (gathered r))
-    (adds_both (IsRegularFault r) (Again seen (plain r)) (regular_faults r) (told_again seen (plain r)) one
+    (λ s. reported_again seen (plain r) (regular_faults r s)) (reported_again plain_ones (gathered r))
+    (adds_both (IsRegularFault r) (Again seen (plain r)) (regular_faults r) (reported_again seen (plain r)) one
     (adds_again seen (plain r))) (adds_again plain_ones (gathered r))) on
 
 mutual
@@ -393,11 +393,11 @@ mutual
   adds_kind (Xml tag attributes content) = adds_parts_alone (tag ∷ attributes ∷ content ∷ []) []
       (kind_faults (Xml tag attributes content))
       (adds_part tag [] (attributes ∷ content ∷ []) []
-      (λ s. told_again (names_among (bound tag) ++ names_among (bound attributes)) (bound content)
-      (variable_faults content (told_again (names_among (bound tag)) (bound attributes) (variable_faults attributes s))))
+      (λ s. reported_again (names_among (bound tag) ++ names_among (bound attributes)) (bound content)
+      (variable_faults content (reported_again (names_among (bound tag)) (bound attributes) (variable_faults attributes s))))
       (adds_tree tag)
       (adds_part attributes (names_among (bound tag)) (content ∷ []) []
-      (λ s. told_again (names_among (bound tag) ++ names_among (bound attributes)) (bound content)
+      (λ s. reported_again (names_among (bound tag) ++ names_among (bound attributes)) (bound content)
       (variable_faults content s)) (adds_tree attributes)
       (adds_part content (names_among (bound tag) ++ names_among (bound attributes)) [] [] (λ s. s) (adds_tree content)
       (adds_no_part (names_among (bound tag) ++ names_among (bound attributes) ++ names_among (bound content))))))
@@ -456,11 +456,11 @@ mutual
   adds_regular_kind (Seq all) = adds_turns [] [] all
   adds_regular_kind (Alt all) = adds_choice all
   adds_regular_kind (Repeat r post) = adds_both (IsRegularFault r) (λ f. AnyOf (λ o. repeats o ≡ f) (plain r))
-      (regular_faults r) (told_of_each repeats (plain r)) (adds_regular r) (adds_each repeats (plain r))
+      (regular_faults r) (reported_of_each repeats (plain r)) (adds_regular r) (adds_each repeats (plain r))
   adds_regular_kind (Capture name r) = adds_both (λ f. IsRegularFault r f ⊎ Again (name ∷ []) (plain r) f)
-      (Again (name ∷ []) (gathered r)) (λ s. told_again (name ∷ []) (plain r) (regular_faults r s))
-      (told_again (name ∷ []) (gathered r))
-      (adds_both (IsRegularFault r) (Again (name ∷ []) (plain r)) (regular_faults r) (told_again (name ∷ []) (plain r))
+      (Again (name ∷ []) (gathered r)) (λ s. reported_again (name ∷ []) (plain r) (regular_faults r s))
+      (reported_again (name ∷ []) (gathered r))
+      (adds_both (IsRegularFault r) (Again (name ∷ []) (plain r)) (regular_faults r) (reported_again (name ∷ []) (plain r))
       (adds_regular r) (adds_again (name ∷ []) (plain r))) (adds_again (name ∷ []) (gathered r))
 
   adds_turns : (seen plain_ones : List Name) (all : Regulars)

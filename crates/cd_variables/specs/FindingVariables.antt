@@ -21,20 +21,20 @@ abbrev pub names_among : List Occurrence → List Name
 names_among all = map (λ occurrence. occurrence.name) all
 
 -- a fault is told if this holds
-abbrev pub told_if : Bool → Fault → List Fault → List Fault
-told_if true fault s = s ++ fault ∷ []
-told_if false fault s = s
+abbrev pub reported_if : Bool → Fault → List Fault → List Fault
+reported_if true fault s = s ++ fault ∷ []
+reported_if false fault s = s
 
 -- one of each of these occurrences
-abbrev pub told_of_each : (Occurrence → Fault) → List Occurrence → List Fault → List Fault
-told_of_each fault [] s = s
-told_of_each fault (o ∷ rest) s = told_of_each fault rest (s ++ fault o ∷ [])
+abbrev pub reported_of_each : (Occurrence → Fault) → List Occurrence → List Fault → List Fault
+reported_of_each fault [] s = s
+reported_of_each fault (o ∷ rest) s = reported_of_each fault rest (s ++ fault o ∷ [])
 
 -- those whose variables are among these names stand again
-abbrev pub told_again : List Name → List Occurrence → List Fault → List Fault
-told_again seen [] s = s
-told_again seen (o ∷ rest) s =
-    told_again seen rest (told_if (has_name seen o.name) (twice o) s)
+abbrev pub reported_again : List Name → List Occurrence → List Fault → List Fault
+reported_again seen [] s = s
+reported_again seen (o ∷ rest) s =
+    reported_again seen rest (reported_if (has_name seen o.name) (twice o) s)
 
 -- the same names are among both, as often as it may be
 abbrev pub HaveSameNames : List Name → List Name → Type 0
@@ -61,13 +61,13 @@ abbrev mutual
   kind_faults (Meet first signs) s =
       if takes_away signs then sign_faults [] signs (misplaced_in first s)
       else sign_faults (names_among (bound first)) signs
-      (told_again [] (bound first) (variable_faults first s))
+      (reported_again [] (bound first) (variable_faults first s))
   kind_faults (Sequence r) s = regular_faults r s
   kind_faults (Record fields more) s = field_faults [] fields s
   kind_faults (Xml tag attributes content) s =
-      told_again (names_among (bound tag) ++ names_among (bound attributes)) (bound content)
-      (variable_faults content (told_again (names_among (bound tag)) (bound attributes)
-      (variable_faults attributes (told_again [] (bound tag) (variable_faults tag s)))))
+      reported_again (names_among (bound tag) ++ names_among (bound attributes)) (bound content)
+      (variable_faults content (reported_again (names_among (bound tag)) (bound attributes)
+      (variable_faults attributes (reported_again [] (bound tag) (variable_faults tag s)))))
   kind_faults (Where body declarations) s =
       misplaced_in_declarations declarations (misplaced_in body s)
   kind_faults kind s = s
@@ -76,21 +76,21 @@ abbrev mutual
   row_faults seen NoTree s = s
   row_faults seen (ATree t rest) s =
       row_faults (seen ++ names_among (bound t)) rest
-      (told_again seen (bound t) (variable_faults t s))
+      (reported_again seen (bound t) (variable_faults t s))
 
   pub sign_faults : List Name → Signs → List Fault → List Fault
   sign_faults seen NoSign s = s
   sign_faults seen (ASign kept t rest) s =
       if not kept || takes_away rest then sign_faults seen rest (misplaced_in t s)
       else sign_faults (seen ++ names_among (bound t)) rest
-      (told_again seen (bound t) (variable_faults t s))
+      (reported_again seen (bound t) (variable_faults t s))
 
   pub field_faults : List Name → Fields → List Fault → List Fault
   field_faults seen NoField s = s
   field_faults seen (AField label at optional t rest) s =
       if optional then field_faults seen rest (misplaced_in t s)
       else field_faults (seen ++ names_among (bound t)) rest
-      (told_again seen (bound t) (variable_faults t s))
+      (reported_again seen (bound t) (variable_faults t s))
 
   pub union_faults : Trees → List Fault → List Fault
   union_faults NoTree s = s
@@ -101,7 +101,8 @@ abbrev mutual
   pub alternative_faults : List Name → Trees → List Fault → List Fault
   alternative_faults names NoTree s = s
   alternative_faults names (ATree t rest) s = alternative_faults names rest
-      (told_if (differ names (names_among (bound t))) (differs (begins t)) (variable_faults t s))
+      (reported_if (differ names (names_among (bound t))) (differs (begins t))
+      (variable_faults t s))
 
   pub regular_faults : Regular → List Fault → List Fault
   regular_faults (regular span kind) s = regular_kind_faults kind s
@@ -111,9 +112,9 @@ abbrev mutual
   regular_kind_faults (Item t) s = variable_faults t s
   regular_kind_faults (Seq all) s = turn_faults [] [] all s
   regular_kind_faults (Alt all) s = choice_faults all s
-  regular_kind_faults (Repeat r post) s = told_of_each repeats (plain r) (regular_faults r s)
-  regular_kind_faults (Capture name r) s = told_again (name ∷ []) (gathered r)
-      (told_again (name ∷ []) (plain r) (regular_faults r s))
+  regular_kind_faults (Repeat r post) s = reported_of_each repeats (plain r) (regular_faults r s)
+  regular_kind_faults (Capture name r) s = reported_again (name ∷ []) (gathered r)
+      (reported_again (name ∷ []) (plain r) (regular_faults r s))
 
   -- those of expressions in turn, after some with these names, of which those are plain
   pub turn_faults : List Name → List Name → Regulars → List Fault → List Fault
@@ -121,7 +122,7 @@ abbrev mutual
   turn_faults seen seen_plain (ARegular r rest) s =
       turn_faults (seen ++ names_among (plain r) ++ names_among (gathered r))
       (seen_plain ++ names_among (plain r)) rest
-      (told_again seen_plain (gathered r) (told_again seen (plain r) (regular_faults r s)))
+      (reported_again seen_plain (gathered r) (reported_again seen (plain r) (regular_faults r s)))
 
   pub choice_faults : Regulars → List Fault → List Fault
   choice_faults NoRegular s = s
@@ -132,5 +133,5 @@ abbrev mutual
   pub other_faults : List Name → Regulars → List Fault → List Fault
   other_faults names NoRegular s = s
   other_faults names (ARegular r rest) s = other_faults names rest
-      (told_if (differ names (names_among (plain r))) (differs (regular_begins r))
+      (reported_if (differ names (names_among (plain r))) (differs (regular_begins r))
       (regular_faults r s))

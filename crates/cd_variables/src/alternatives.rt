@@ -5,16 +5,16 @@ ghost use Rattle.cd_syntax.specs.PlainTree.{plain, plain_trees};
 ghost use Rattle.cd_variables.specs.Occurrences.{bound as bound_by, bound_by_all};
 ghost use Rattle.cd_variables.specs.VariableFaults.{begins, differs};
 ghost use Rattle.cd_variables.specs.FindingVariables.{union_faults, alternative_faults};
-ghost use Rattle.cd_variables.specs.FindingVariables.{told_if, differ, names_among};
+ghost use Rattle.cd_variables.specs.FindingVariables.{reported_if, differ, names_among};
 ghost use Rattle.cd_variables.specs.FindingVariables.{variable_faults};
 ghost use Rattle.cd_variables.specs.PlainOccurrences.{plain_occurrence};
-ghost use Rattle.cd_resolve.specs.PlainTold.{plain_told};
+ghost use Rattle.cd_resolve.specs.PlainTold.{plain_reported};
 
-use crate::name_set::{NameSet, tell_if_differs};
+use crate::name_set::{NameSet, report_if_differs};
 use crate::occurrence::Occurrence;
 use crate::pattern::check_variables;
 use crate::seen::since;
-use cd_resolve::told::Told;
+use cd_resolve::reported::Reported;
 use cd_syntax::type_tree::{Tree, Trees};
 use std::alloc::{AllocError, Global};
 
@@ -24,12 +24,12 @@ pub(crate) fn check_union<'t>(
     alloc: Global,
     trees: &'t Trees,
     bound: &mut Vec<Occurrence<'t>>,
-    faults: &mut Vec<Told<'t>>,
+    faults: &mut Vec<Reported<'t>>,
 ) -> Result<(), AllocError>
     ensures bound { IfOk result (λ _. map plain_occurrence bound.new.items
         ≡ map plain_occurrence bound.old.items ++ bound_by_all (plain_trees trees.now)) }
-    ensures faults { IfOk result (λ _. map plain_told faults.new.items
-        ≡ union_faults (plain_trees trees.now) (map plain_told faults.old.items)) }
+    ensures faults { IfOk result (λ _. map plain_reported faults.new.items
+        ≡ union_faults (plain_trees trees.now) (map plain_reported faults.old.items)) }
 {
     match trees.items() {
         [] => Ok(()),
@@ -49,13 +49,13 @@ fn check_others<'t>(
     names: &NameSet<'t>,
     rest: &'t [Tree],
     bound: &mut Vec<Occurrence<'t>>,
-    faults: &mut Vec<Told<'t>>,
+    faults: &mut Vec<Reported<'t>>,
 ) -> Result<(), AllocError>
     ensures bound { IfOk result (λ _. map plain_occurrence bound.new.items
         ≡ map plain_occurrence bound.old.items ++ bound_by_all (trees_of (map plain rest.now))) }
-    ensures faults { IfOk result (λ _. map plain_told faults.new.items
+    ensures faults { IfOk result (λ _. map plain_reported faults.new.items
         ≡ alternative_faults names.now (trees_of (map plain rest.now))
-        (map plain_told faults.old.items)) }
+        (map plain_reported faults.old.items)) }
 {
     for tree in rest {
         check_other(alloc, names, tree, bound, faults)?;
@@ -70,16 +70,16 @@ fn check_other<'t>(
     names: &NameSet<'t>,
     tree: &'t Tree,
     bound: &mut Vec<Occurrence<'t>>,
-    faults: &mut Vec<Told<'t>>,
+    faults: &mut Vec<Reported<'t>>,
 ) -> Result<(), AllocError>
     ensures bound { IfOk result (λ _. map plain_occurrence bound.new.items
         ≡ map plain_occurrence bound.old.items ++ bound_by (plain tree.now)) }
-    ensures faults { IfOk result (λ _. map plain_told faults.new.items
-        ≡ told_if (differ names.now (names_among (bound_by (plain tree.now))))
+    ensures faults { IfOk result (λ _. map plain_reported faults.new.items
+        ≡ reported_if (differ names.now (names_among (bound_by (plain tree.now))))
         (differs (begins (plain tree.now)))
-        (variable_faults (plain tree.now) (map plain_told faults.old.items))) }
+        (variable_faults (plain tree.now) (map plain_reported faults.old.items))) }
 {
     let from = bound.len();
     check_variables(alloc, tree, bound, faults)?;
-    tell_if_differs(alloc, names, since(bound, from), tree.span.from, faults)
+    report_if_differs(alloc, names, since(bound, from), tree.span.from, faults)
 }

@@ -6,16 +6,16 @@ ghost use Rattle.cd_variables.specs.Occurrences.{plain as plain_ones, plain_of_a
 ghost use Rattle.cd_variables.specs.Occurrences.{gathered as gathered_ones, gathered_of_all};
 ghost use Rattle.cd_variables.specs.VariableFaults.{regular_begins, differs};
 ghost use Rattle.cd_variables.specs.FindingVariables.{choice_faults, other_faults};
-ghost use Rattle.cd_variables.specs.FindingVariables.{told_if, differ, names_among};
+ghost use Rattle.cd_variables.specs.FindingVariables.{reported_if, differ, names_among};
 ghost use Rattle.cd_variables.specs.FindingVariables.{regular_faults};
 ghost use Rattle.cd_variables.specs.PlainOccurrences.{plain_occurrence};
-ghost use Rattle.cd_resolve.specs.PlainTold.{plain_told};
+ghost use Rattle.cd_resolve.specs.PlainTold.{plain_reported};
 
-use crate::name_set::{NameSet, tell_if_differs};
+use crate::name_set::{NameSet, report_if_differs};
 use crate::occurrence::Occurrence;
 use crate::regular::check_regular;
 use crate::seen::since;
-use cd_resolve::told::Told;
+use cd_resolve::reported::Reported;
 use cd_syntax::type_tree::{RegTree, RegTrees};
 use std::alloc::{AllocError, Global};
 
@@ -26,14 +26,14 @@ pub(crate) fn check_choice<'t>(
     all: &'t RegTrees,
     plain: &mut Vec<Occurrence<'t>>,
     gathered: &mut Vec<Occurrence<'t>>,
-    faults: &mut Vec<Told<'t>>,
+    faults: &mut Vec<Reported<'t>>,
 ) -> Result<(), AllocError>
     ensures plain { IfOk result (λ _. map plain_occurrence plain.new.items
         ≡ map plain_occurrence plain.old.items ++ plain_of_all (plain_regulars all.now)) }
     ensures gathered { IfOk result (λ _. map plain_occurrence gathered.new.items
         ≡ map plain_occurrence gathered.old.items ++ gathered_of_all (plain_regulars all.now)) }
-    ensures faults { IfOk result (λ _. map plain_told faults.new.items
-        ≡ choice_faults (plain_regulars all.now) (map plain_told faults.old.items)) }
+    ensures faults { IfOk result (λ _. map plain_reported faults.new.items
+        ≡ choice_faults (plain_regulars all.now) (map plain_reported faults.old.items)) }
 {
     match all.items() {
         [] => Ok(()),
@@ -54,7 +54,7 @@ fn check_others<'t>(
     rest: &'t [RegTree],
     plain: &mut Vec<Occurrence<'t>>,
     gathered: &mut Vec<Occurrence<'t>>,
-    faults: &mut Vec<Told<'t>>,
+    faults: &mut Vec<Reported<'t>>,
 ) -> Result<(), AllocError>
     ensures plain { IfOk result (λ _. map plain_occurrence plain.new.items
         ≡ map plain_occurrence plain.old.items
@@ -62,9 +62,9 @@ fn check_others<'t>(
     ensures gathered { IfOk result (λ _. map plain_occurrence gathered.new.items
         ≡ map plain_occurrence gathered.old.items
         ++ gathered_of_all (regulars_of (map plain_regular rest.now))) }
-    ensures faults { IfOk result (λ _. map plain_told faults.new.items
+    ensures faults { IfOk result (λ _. map plain_reported faults.new.items
         ≡ other_faults names.now (regulars_of (map plain_regular rest.now))
-        (map plain_told faults.old.items)) }
+        (map plain_reported faults.old.items)) }
 {
     for expression in rest {
         check_other(alloc, names, expression, plain, gathered, faults)?;
@@ -80,20 +80,20 @@ fn check_other<'t>(
     expression: &'t RegTree,
     plain: &mut Vec<Occurrence<'t>>,
     gathered: &mut Vec<Occurrence<'t>>,
-    faults: &mut Vec<Told<'t>>,
+    faults: &mut Vec<Reported<'t>>,
 ) -> Result<(), AllocError>
     ensures plain { IfOk result (λ _. map plain_occurrence plain.new.items
         ≡ map plain_occurrence plain.old.items ++ plain_ones (plain_regular expression.now)) }
     ensures gathered { IfOk result (λ _. map plain_occurrence gathered.new.items
         ≡ map plain_occurrence gathered.old.items
         ++ gathered_ones (plain_regular expression.now)) }
-    ensures faults { IfOk result (λ _. map plain_told faults.new.items
-        ≡ told_if (differ names.now (names_among (plain_ones (plain_regular expression.now))))
+    ensures faults { IfOk result (λ _. map plain_reported faults.new.items
+        ≡ reported_if (differ names.now (names_among (plain_ones (plain_regular expression.now))))
         (differs (regular_begins (plain_regular expression.now)))
-        (regular_faults (plain_regular expression.now) (map plain_told faults.old.items))) }
+        (regular_faults (plain_regular expression.now) (map plain_reported faults.old.items))) }
 {
     let from = plain.len();
     check_regular(alloc, expression, plain, gathered, faults)?;
     let at = expression.span.from;
-    tell_if_differs(alloc, names, since(plain, from), at, faults)
+    report_if_differs(alloc, names, since(plain, from), at, faults)
 }

@@ -10,10 +10,10 @@ ghost use Rattle.cd_variables.specs.FindingMisplaced.{misplaced_in_declarations}
 ghost use Rattle.cd_variables.specs.FindingMisplaced.{misplaced_in_regular};
 ghost use Rattle.cd_variables.specs.FindingMisplaced.{misplaced_in_regular_kind};
 ghost use Rattle.cd_variables.specs.FindingMisplaced.{misplaced_in_regulars, one_misplaced};
-ghost use Rattle.cd_resolve.specs.PlainTold.{plain_told};
+ghost use Rattle.cd_resolve.specs.PlainTold.{plain_reported};
 
 use cd_resolve::fault::NameFault;
-use cd_resolve::told::Told;
+use cd_resolve::reported::Reported;
 use cd_syntax::name::Name;
 use cd_syntax::type_tree::{
     Declarations, FieldTrees, RegKind, RegTree, RegTrees, Signed, Tree, TreeKind, Trees,
@@ -22,46 +22,46 @@ use std::alloc::AllocError;
 
 /// Tells of each variable of a tree that it is misplaced.
 #[cycle(misplaced)]
-pub(crate) fn tell_misplaced<'t>(
+pub(crate) fn report_misplaced<'t>(
     tree: &'t Tree,
-    faults: &mut Vec<Told<'t>>,
+    faults: &mut Vec<Reported<'t>>,
 ) -> Result<(), AllocError>
-    ensures { IfOk result (λ _. map plain_told faults.new.items
-        ≡ misplaced_in (plain tree.now) (map plain_told faults.old.items)) }
+    ensures { IfOk result (λ _. map plain_reported faults.new.items
+        ≡ misplaced_in (plain tree.now) (map plain_reported faults.old.items)) }
 {
-    tell_in_kind(&tree.kind, tree.span.from, faults)
+    report_in_kind(&tree.kind, tree.span.from, faults)
 }
 
 // Those of a kind, whose tree begins at this place.
 #[cycle(misplaced)]
-fn tell_in_kind<'t>(
+fn report_in_kind<'t>(
     kind: &'t TreeKind,
     at: usize,
-    faults: &mut Vec<Told<'t>>,
+    faults: &mut Vec<Reported<'t>>,
 ) -> Result<(), AllocError>
-    ensures { IfOk result (λ _. map plain_told faults.new.items
-        ≡ misplaced_in_kind at (plain_kind kind.now) (map plain_told faults.old.items)) }
+    ensures { IfOk result (λ _. map plain_reported faults.new.items
+        ≡ misplaced_in_kind at (plain_kind kind.now) (map plain_reported faults.old.items)) }
 {
     match kind {
         TreeKind::Tuple(trees) | TreeKind::Arrows(trees) | TreeKind::Union(trees) => {
-            tell_in_trees(trees, faults)
+            report_in_trees(trees, faults)
         }
         TreeKind::Meet(first, signs) => {
-            tell_misplaced(first, faults)?;
-            tell_in_signs(signs, faults)
+            report_misplaced(first, faults)?;
+            report_in_signs(signs, faults)
         }
-        TreeKind::Sequence(expression) => tell_in_regular(expression, faults),
-        TreeKind::Record(fields, _) => tell_in_fields(fields, faults),
+        TreeKind::Sequence(expression) => report_in_regular(expression, faults),
+        TreeKind::Record(fields, _) => report_in_fields(fields, faults),
         TreeKind::Xml(tag, attributes, content) => {
-            tell_misplaced(tag, faults)?;
-            tell_misplaced(attributes, faults)?;
-            tell_misplaced(content, faults)
+            report_misplaced(tag, faults)?;
+            report_misplaced(attributes, faults)?;
+            report_misplaced(content, faults)
         }
         TreeKind::Where(body, declarations) => {
-            tell_misplaced(body, faults)?;
-            tell_in_declarations(declarations, faults)
+            report_misplaced(body, faults)?;
+            report_in_declarations(declarations, faults)
         }
-        TreeKind::Variable(name) | TreeKind::Default(name, _) => tell_one(name, at, faults),
+        TreeKind::Variable(name) | TreeKind::Default(name, _) => report_one(name, at, faults),
         TreeKind::Builtin(_)
         | TreeKind::Ints(_, _)
         | TreeKind::Chars(_, _)
@@ -72,111 +72,121 @@ fn tell_in_kind<'t>(
 }
 
 #[cycle(misplaced)]
-pub(crate) fn tell_in_trees<'t>(
+pub(crate) fn report_in_trees<'t>(
     trees: &'t Trees,
-    faults: &mut Vec<Told<'t>>,
+    faults: &mut Vec<Reported<'t>>,
 ) -> Result<(), AllocError>
-    ensures { IfOk result (λ _. map plain_told faults.new.items
-        ≡ misplaced_in_trees (plain_trees trees.now) (map plain_told faults.old.items)) }
+    ensures { IfOk result (λ _. map plain_reported faults.new.items
+        ≡ misplaced_in_trees (plain_trees trees.now) (map plain_reported faults.old.items)) }
 {
     for tree in trees.items() {
-        tell_misplaced(tree, faults)?;
+        report_misplaced(tree, faults)?;
     }
     Ok(())
 }
 
 #[cycle(misplaced)]
-fn tell_in_signs<'t>(signs: &'t Signed, faults: &mut Vec<Told<'t>>) -> Result<(), AllocError>
-    ensures { IfOk result (λ _. map plain_told faults.new.items
+fn report_in_signs<'t>(signs: &'t Signed, faults: &mut Vec<Reported<'t>>) -> Result<(), AllocError>
+    ensures { IfOk result (λ _. map plain_reported faults.new.items
         ≡ misplaced_in_signs (plain_signs signs.now)
-        (map plain_told faults.old.items)) }
+        (map plain_reported faults.old.items)) }
 {
     for sign in signs.items() {
-        tell_misplaced(&sign.tree, faults)?;
+        report_misplaced(&sign.tree, faults)?;
     }
     Ok(())
 }
 
 #[cycle(misplaced)]
-fn tell_in_fields<'t>(fields: &'t FieldTrees, faults: &mut Vec<Told<'t>>) -> Result<(), AllocError>
-    ensures { IfOk result (λ _. map plain_told faults.new.items
+fn report_in_fields<'t>(
+    fields: &'t FieldTrees,
+    faults: &mut Vec<Reported<'t>>,
+) -> Result<(), AllocError>
+    ensures { IfOk result (λ _. map plain_reported faults.new.items
         ≡ misplaced_in_fields (plain_fields fields.now)
-        (map plain_told faults.old.items)) }
+        (map plain_reported faults.old.items)) }
 {
     for field in fields.items() {
-        tell_misplaced(&field.tree, faults)?;
+        report_misplaced(&field.tree, faults)?;
     }
     Ok(())
 }
 
 #[cycle(misplaced)]
-pub(crate) fn tell_in_declarations<'t>(
+pub(crate) fn report_in_declarations<'t>(
     declarations: &'t Declarations,
-    faults: &mut Vec<Told<'t>>,
+    faults: &mut Vec<Reported<'t>>,
 ) -> Result<(), AllocError>
-    ensures { IfOk result (λ _. map plain_told faults.new.items
+    ensures { IfOk result (λ _. map plain_reported faults.new.items
         ≡ misplaced_in_declarations (plain_declarations declarations.now)
-        (map plain_told faults.old.items)) }
+        (map plain_reported faults.old.items)) }
 {
     for declaration in declarations.items() {
-        tell_misplaced(&declaration.tree, faults)?;
+        report_misplaced(&declaration.tree, faults)?;
     }
     Ok(())
 }
 
 #[cycle(misplaced)]
-fn tell_in_regular<'t>(
+fn report_in_regular<'t>(
     expression: &'t RegTree,
-    faults: &mut Vec<Told<'t>>,
+    faults: &mut Vec<Reported<'t>>,
 ) -> Result<(), AllocError>
-    ensures { IfOk result (λ _. map plain_told faults.new.items
+    ensures { IfOk result (λ _. map plain_reported faults.new.items
         ≡ misplaced_in_regular (plain_regular expression.now)
-        (map plain_told faults.old.items)) }
+        (map plain_reported faults.old.items)) }
 {
-    tell_in_regular_kind(&expression.kind, expression.span.from, faults)
+    report_in_regular_kind(&expression.kind, expression.span.from, faults)
 }
 
 #[cycle(misplaced)]
-fn tell_in_regular_kind<'t>(
+fn report_in_regular_kind<'t>(
     kind: &'t RegKind,
     at: usize,
-    faults: &mut Vec<Told<'t>>,
+    faults: &mut Vec<Reported<'t>>,
 ) -> Result<(), AllocError>
-    ensures { IfOk result (λ _. map plain_told faults.new.items
+    ensures { IfOk result (λ _. map plain_reported faults.new.items
         ≡ misplaced_in_regular_kind at (plain_regular_kind kind.now)
-        (map plain_told faults.old.items)) }
+        (map plain_reported faults.old.items)) }
 {
     match kind {
         RegKind::Nothing => Ok(()),
-        RegKind::Item(tree) => tell_misplaced(tree, faults),
-        RegKind::Seq(all) | RegKind::Alt(all) => tell_in_regulars(all, faults),
-        RegKind::Repeat(inner, _) => tell_in_regular(inner, faults),
+        RegKind::Item(tree) => report_misplaced(tree, faults),
+        RegKind::Seq(all) | RegKind::Alt(all) => report_in_regulars(all, faults),
+        RegKind::Repeat(inner, _) => report_in_regular(inner, faults),
         RegKind::Capture(name, inner) => {
-            tell_one(name, at, faults)?;
-            tell_in_regular(inner, faults)
+            report_one(name, at, faults)?;
+            report_in_regular(inner, faults)
         }
     }
 }
 
 #[cycle(misplaced)]
-fn tell_in_regulars<'t>(all: &'t RegTrees, faults: &mut Vec<Told<'t>>) -> Result<(), AllocError>
-    ensures { IfOk result (λ _. map plain_told faults.new.items
+fn report_in_regulars<'t>(
+    all: &'t RegTrees,
+    faults: &mut Vec<Reported<'t>>,
+) -> Result<(), AllocError>
+    ensures { IfOk result (λ _. map plain_reported faults.new.items
         ≡ misplaced_in_regulars (plain_regulars all.now)
-        (map plain_told faults.old.items)) }
+        (map plain_reported faults.old.items)) }
 {
     for expression in all.items() {
-        tell_in_regular(expression, faults)?;
+        report_in_regular(expression, faults)?;
     }
     Ok(())
 }
 
 // Tells of a variable that it is misplaced.
-fn tell_one<'t>(name: &'t Name, at: usize, faults: &mut Vec<Told<'t>>) -> Result<(), AllocError>
-    ensures { IfOk result (λ _. map plain_told faults.new.items
-        ≡ one_misplaced name.now at (map plain_told faults.old.items)) }
+fn report_one<'t>(
+    name: &'t Name,
+    at: usize,
+    faults: &mut Vec<Reported<'t>>,
+) -> Result<(), AllocError>
+    ensures { IfOk result (λ _. map plain_reported faults.new.items
+        ≡ one_misplaced name.now at (map plain_reported faults.old.items)) }
 {
     let fault = NameFault::VariableMisplaced;
     let name = Some(name);
-    faults.push(Told { fault, name, at })?;
+    faults.push(Reported { fault, name, at })?;
     Ok(())
 }

@@ -2,16 +2,16 @@
 ghost use Rattle.std.specs.Prelude.{◌≡◌, ◌++◌, IfOk, map};
 ghost use Rattle.std.specs.List.{list_all};
 ghost use Rattle.cd_variables.specs.VariableFaults.{differs};
-ghost use Rattle.cd_variables.specs.FindingVariables.{has_name, names_among, differ, told_if};
+ghost use Rattle.cd_variables.specs.FindingVariables.{has_name, names_among, differ, reported_if};
 ghost use Rattle.cd_variables.specs.FindingVariables.{HaveSameNames};
 ghost use Rattle.cd_variables.specs.PlainOccurrences.{plain_occurrence};
-ghost use Rattle.cd_resolve.specs.PlainTold.{plain_told};
+ghost use Rattle.cd_resolve.specs.PlainTold.{plain_reported};
 
 use crate::occurrence::Occurrence;
 use crate::seen::has;
 use cd_resolve::NameIndex;
 use cd_resolve::fault::NameFault;
-use cd_resolve::told::Told;
+use cd_resolve::reported::Reported;
 use cd_syntax::name::Name;
 use std::alloc::{AllocError, Global};
 use std::marker::Model;
@@ -91,21 +91,21 @@ fn are_within(names: &[&Name], others: &NameIndex<'_>) -> bool
 
 /// Tells that the alternative at this place binds other variables than the first, which binds
 /// these names, if it does.
-pub(crate) fn tell_if_differs<'t>(
+pub(crate) fn report_if_differs<'t>(
     alloc: Global,
     names: &NameSet<'t>,
     alternative: &[Occurrence<'t>],
     at: usize,
-    faults: &mut Vec<Told<'t>>,
+    faults: &mut Vec<Reported<'t>>,
 ) -> Result<(), AllocError>
-    ensures { IfOk result (λ _. map plain_told faults.new.items
-        ≡ told_if (differ names.now (names_among (map plain_occurrence alternative.now)))
-        (differs at) (map plain_told faults.old.items)) }
+    ensures { IfOk result (λ _. map plain_reported faults.new.items
+        ≡ reported_if (differ names.now (names_among (map plain_occurrence alternative.now)))
+        (differs at) (map plain_reported faults.old.items)) }
 {
     if differ_from(alloc, alternative, names)? {
         let fault = NameFault::VariablesDiffer;
         let name = None;
-        faults.push(Told { fault, name, at })?;
+        faults.push(Reported { fault, name, at })?;
     }
     Ok(())
 }

@@ -6,16 +6,16 @@ ghost use Rattle.cd_variables.specs.Occurrences.{plain as plain_ones, plain_in};
 ghost use Rattle.cd_variables.specs.Occurrences.{gathered as gathered_ones, gathered_in};
 ghost use Rattle.cd_variables.specs.VariableFaults.{repeats};
 ghost use Rattle.cd_variables.specs.FindingVariables.{regular_faults, regular_kind_faults};
-ghost use Rattle.cd_variables.specs.FindingVariables.{told_again, told_of_each};
+ghost use Rattle.cd_variables.specs.FindingVariables.{reported_again, reported_of_each};
 ghost use Rattle.cd_variables.specs.PlainOccurrences.{plain_occurrence};
-ghost use Rattle.cd_resolve.specs.PlainTold.{plain_told};
+ghost use Rattle.cd_resolve.specs.PlainTold.{plain_reported};
 
 use crate::choice::check_choice;
 use crate::occurrence::Occurrence;
 use crate::pattern::check_variables;
-use crate::seen::{since, tell_inside, tell_repeats};
+use crate::seen::{report_inside, report_repeats, since};
 use crate::turn::check_turn;
-use cd_resolve::told::Told;
+use cd_resolve::reported::Reported;
 use cd_syntax::name::Name;
 use cd_syntax::type_tree::{RegKind, RegTree};
 use std::alloc::{AllocError, Global};
@@ -28,15 +28,15 @@ pub(crate) fn check_regular<'t>(
     expression: &'t RegTree,
     plain: &mut Vec<Occurrence<'t>>,
     gathered: &mut Vec<Occurrence<'t>>,
-    faults: &mut Vec<Told<'t>>,
+    faults: &mut Vec<Reported<'t>>,
 ) -> Result<(), AllocError>
     ensures plain { IfOk result (λ _. map plain_occurrence plain.new.items
         ≡ map plain_occurrence plain.old.items ++ plain_ones (plain_regular expression.now)) }
     ensures gathered { IfOk result (λ _. map plain_occurrence gathered.new.items
         ≡ map plain_occurrence gathered.old.items
         ++ gathered_ones (plain_regular expression.now)) }
-    ensures faults { IfOk result (λ _. map plain_told faults.new.items
-        ≡ regular_faults (plain_regular expression.now) (map plain_told faults.old.items)) }
+    ensures faults { IfOk result (λ _. map plain_reported faults.new.items
+        ≡ regular_faults (plain_regular expression.now) (map plain_reported faults.old.items)) }
 {
     check_regular_kind(
         alloc,
@@ -56,15 +56,15 @@ fn check_regular_kind<'t>(
     kind: &'t RegKind,
     plain: &mut Vec<Occurrence<'t>>,
     gathered: &mut Vec<Occurrence<'t>>,
-    faults: &mut Vec<Told<'t>>,
+    faults: &mut Vec<Reported<'t>>,
 ) -> Result<(), AllocError>
     ensures plain { IfOk result (λ _. map plain_occurrence plain.new.items
         ≡ map plain_occurrence plain.old.items ++ plain_in (plain_regular_kind kind.now)) }
     ensures gathered { IfOk result (λ _. map plain_occurrence gathered.new.items
         ≡ map plain_occurrence gathered.old.items
         ++ gathered_in at (plain_regular_kind kind.now)) }
-    ensures faults { IfOk result (λ _. map plain_told faults.new.items
-        ≡ regular_kind_faults (plain_regular_kind kind.now) (map plain_told faults.old.items)) }
+    ensures faults { IfOk result (λ _. map plain_reported faults.new.items
+        ≡ regular_kind_faults (plain_regular_kind kind.now) (map plain_reported faults.old.items)) }
 {
     match kind {
         RegKind::Nothing => Ok(()),
@@ -92,19 +92,19 @@ fn check_repeated<'t>(
     inner: &'t RegTree,
     plain: &mut Vec<Occurrence<'t>>,
     gathered: &mut Vec<Occurrence<'t>>,
-    faults: &mut Vec<Told<'t>>,
+    faults: &mut Vec<Reported<'t>>,
 ) -> Result<(), AllocError>
     ensures plain { IfOk result (λ _. map plain_occurrence plain.new.items
         ≡ map plain_occurrence plain.old.items ++ plain_ones (plain_regular inner.now)) }
     ensures gathered { IfOk result (λ _. map plain_occurrence gathered.new.items
         ≡ map plain_occurrence gathered.old.items ++ gathered_ones (plain_regular inner.now)) }
-    ensures faults { IfOk result (λ _. map plain_told faults.new.items
-        ≡ told_of_each repeats (plain_ones (plain_regular inner.now))
-        (regular_faults (plain_regular inner.now) (map plain_told faults.old.items))) }
+    ensures faults { IfOk result (λ _. map plain_reported faults.new.items
+        ≡ reported_of_each repeats (plain_ones (plain_regular inner.now))
+        (regular_faults (plain_regular inner.now) (map plain_reported faults.old.items))) }
 {
     let from = plain.len();
     check_regular(alloc, inner, plain, gathered, faults)?;
-    tell_repeats(since(plain, from), faults)
+    report_repeats(since(plain, from), faults)
 }
 
 // An expression whose items this variable gathers. It may not stand in the expression.
@@ -115,22 +115,22 @@ fn check_gathered<'t>(
     inner: &'t RegTree,
     plain: &mut Vec<Occurrence<'t>>,
     gathered: &mut Vec<Occurrence<'t>>,
-    faults: &mut Vec<Told<'t>>,
+    faults: &mut Vec<Reported<'t>>,
 ) -> Result<(), AllocError>
     ensures plain { IfOk result (λ _. map plain_occurrence plain.new.items
         ≡ map plain_occurrence plain.old.items ++ plain_ones (plain_regular inner.now)) }
     ensures gathered { IfOk result (λ _. map plain_occurrence gathered.new.items
         ≡ map plain_occurrence gathered.old.items
         ++ (plain_occurrence variable.entry ∷ gathered_ones (plain_regular inner.now))) }
-    ensures faults { IfOk result (λ _. map plain_told faults.new.items
-        ≡ told_again (variable.entry.name.now ∷ []) (gathered_ones (plain_regular inner.now))
-        (told_again (variable.entry.name.now ∷ []) (plain_ones (plain_regular inner.now))
-        (regular_faults (plain_regular inner.now) (map plain_told faults.old.items)))) }
+    ensures faults { IfOk result (λ _. map plain_reported faults.new.items
+        ≡ reported_again (variable.entry.name.now ∷ []) (gathered_ones (plain_regular inner.now))
+        (reported_again (variable.entry.name.now ∷ []) (plain_ones (plain_regular inner.now))
+        (regular_faults (plain_regular inner.now) (map plain_reported faults.old.items)))) }
 {
     gathered.push(variable)?;
     let from = plain.len();
     let after = gathered.len();
     check_regular(alloc, inner, plain, gathered, faults)?;
-    tell_inside(variable.name, since(plain, from), faults)?;
-    tell_inside(variable.name, since(gathered, after), faults)
+    report_inside(variable.name, since(plain, from), faults)?;
+    report_inside(variable.name, since(gathered, after), faults)
 }

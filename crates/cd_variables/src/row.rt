@@ -4,19 +4,19 @@ ghost use Rattle.cd_syntax.specs.TypeTree.{Meet, Xml};
 ghost use Rattle.cd_syntax.specs.PlainTree.{plain, plain_trees, plain_signs, plain_fields};
 ghost use Rattle.cd_variables.specs.Occurrences.{bound as bound_by, bound_in, bound_by_all};
 ghost use Rattle.cd_variables.specs.Occurrences.{bound_by_signs, bound_by_fields};
-ghost use Rattle.cd_variables.specs.FindingVariables.{names_among, told_again};
+ghost use Rattle.cd_variables.specs.FindingVariables.{names_among, reported_again};
 ghost use Rattle.cd_variables.specs.FindingVariables.{variable_faults, kind_faults};
 ghost use Rattle.cd_variables.specs.FindingVariables.{row_faults, sign_faults};
 ghost use Rattle.cd_variables.specs.FindingVariables.{field_faults, sides_in};
 ghost use Rattle.cd_variables.specs.PlainOccurrences.{plain_occurrence};
-ghost use Rattle.cd_resolve.specs.PlainTold.{plain_told};
+ghost use Rattle.cd_resolve.specs.PlainTold.{plain_reported};
 
-use crate::misplaced::tell_misplaced;
+use crate::misplaced::report_misplaced;
 use crate::occurrence::Occurrence;
 use crate::pattern::check_variables;
-use crate::seen::{add_names, since, tell_again};
+use crate::seen::{add_names, report_again, since};
 use cd_resolve::NameIndex;
-use cd_resolve::told::Told;
+use cd_resolve::reported::Reported;
 use cd_syntax::type_tree::{FieldTrees, Signed, Tree, Trees};
 use std::alloc::{AllocError, Global};
 
@@ -27,12 +27,12 @@ pub(crate) fn check_tuple<'t>(
     trees: &'t Trees,
     names: &mut NameIndex<'t>,
     bound: &mut Vec<Occurrence<'t>>,
-    faults: &mut Vec<Told<'t>>,
+    faults: &mut Vec<Reported<'t>>,
 ) -> Result<(), AllocError>
     ensures bound { IfOk result (λ _. map plain_occurrence bound.new.items
         ≡ map plain_occurrence bound.old.items ++ bound_by_all (plain_trees trees.now)) }
-    ensures faults { IfOk result (λ _. map plain_told faults.new.items
-        ≡ row_faults names.old (plain_trees trees.now) (map plain_told faults.old.items)) }
+    ensures faults { IfOk result (λ _. map plain_reported faults.new.items
+        ≡ row_faults names.old (plain_trees trees.now) (map plain_reported faults.old.items)) }
 {
     for tree in trees.items() {
         add_part(alloc, tree, names, bound, faults)?;
@@ -47,20 +47,20 @@ fn add_part<'t>(
     part: &'t Tree,
     names: &mut NameIndex<'t>,
     bound: &mut Vec<Occurrence<'t>>,
-    faults: &mut Vec<Told<'t>>,
+    faults: &mut Vec<Reported<'t>>,
 ) -> Result<(), AllocError>
     ensures bound { IfOk result (λ _. map plain_occurrence bound.new.items
         ≡ map plain_occurrence bound.old.items ++ bound_by (plain part.now)) }
     ensures names { IfOk result (λ _. names.new
         ≡ names.old ++ names_among (bound_by (plain part.now))) }
-    ensures faults { IfOk result (λ _. map plain_told faults.new.items
-        ≡ told_again names.old (bound_by (plain part.now))
-        (variable_faults (plain part.now) (map plain_told faults.old.items))) }
+    ensures faults { IfOk result (λ _. map plain_reported faults.new.items
+        ≡ reported_again names.old (bound_by (plain part.now))
+        (variable_faults (plain part.now) (map plain_reported faults.old.items))) }
 {
     let from = bound.len();
     check_variables(alloc, part, bound, faults)?;
     let own = since(bound, from);
-    tell_again(names, own, faults)?;
+    report_again(names, own, faults)?;
     add_names(names, own)
 }
 
@@ -72,16 +72,16 @@ pub(crate) fn check_record<'t>(
     fields: &'t FieldTrees,
     names: &mut NameIndex<'t>,
     bound: &mut Vec<Occurrence<'t>>,
-    faults: &mut Vec<Told<'t>>,
+    faults: &mut Vec<Reported<'t>>,
 ) -> Result<(), AllocError>
     ensures bound { IfOk result (λ _. map plain_occurrence bound.new.items
         ≡ map plain_occurrence bound.old.items ++ bound_by_fields (plain_fields fields.now)) }
-    ensures faults { IfOk result (λ _. map plain_told faults.new.items
-        ≡ field_faults names.old (plain_fields fields.now) (map plain_told faults.old.items)) }
+    ensures faults { IfOk result (λ _. map plain_reported faults.new.items
+        ≡ field_faults names.old (plain_fields fields.now) (map plain_reported faults.old.items)) }
 {
     for field in fields.items() {
         if field.optional {
-            tell_misplaced(&field.tree, faults)?;
+            report_misplaced(&field.tree, faults)?;
         } else {
             add_part(alloc, &field.tree, names, bound, faults)?;
         }
@@ -98,15 +98,15 @@ pub(crate) fn check_xml<'t>(
     content: &'t Tree,
     names: &mut NameIndex<'t>,
     bound: &mut Vec<Occurrence<'t>>,
-    faults: &mut Vec<Told<'t>>,
+    faults: &mut Vec<Reported<'t>>,
 ) -> Result<(), AllocError>
     requires { names.old ≡ [] }
     ensures bound { IfOk result (λ _. map plain_occurrence bound.new.items
         ≡ map plain_occurrence bound.old.items
         ++ bound_in 0 (Xml (plain tag.now) (plain attributes.now) (plain content.now))) }
-    ensures faults { IfOk result (λ _. map plain_told faults.new.items
+    ensures faults { IfOk result (λ _. map plain_reported faults.new.items
         ≡ kind_faults (Xml (plain tag.now) (plain attributes.now) (plain content.now))
-        (map plain_told faults.old.items)) }
+        (map plain_reported faults.old.items)) }
 {
     add_part(alloc, tag, names, bound, faults)?;
     add_part(alloc, attributes, names, bound, faults)?;
@@ -122,19 +122,19 @@ pub(crate) fn check_meet<'t>(
     signs: &'t Signed,
     names: &mut NameIndex<'t>,
     bound: &mut Vec<Occurrence<'t>>,
-    faults: &mut Vec<Told<'t>>,
+    faults: &mut Vec<Reported<'t>>,
 ) -> Result<(), AllocError>
     requires { names.old ≡ [] }
     ensures bound { IfOk result (λ _. map plain_occurrence bound.new.items
         ≡ map plain_occurrence bound.old.items
         ++ bound_in 0 (Meet (plain first.now) (plain_signs signs.now))) }
-    ensures faults { IfOk result (λ _. map plain_told faults.new.items
+    ensures faults { IfOk result (λ _. map plain_reported faults.new.items
         ≡ kind_faults (Meet (plain first.now) (plain_signs signs.now))
-        (map plain_told faults.old.items)) }
+        (map plain_reported faults.old.items)) }
 {
     let sides = count_sides(signs);
     if sides > 0 {
-        tell_misplaced(first, faults)?;
+        report_misplaced(first, faults)?;
     } else {
         add_part(alloc, first, names, bound, faults)?;
     }
@@ -149,19 +149,19 @@ fn check_signs<'t>(
     sides: usize,
     names: &mut NameIndex<'t>,
     bound: &mut Vec<Occurrence<'t>>,
-    faults: &mut Vec<Told<'t>>,
+    faults: &mut Vec<Reported<'t>>,
 ) -> Result<(), AllocError>
     requires { sides ≡ sides_in (plain_signs signs.now) }
     ensures bound { IfOk result (λ _. map plain_occurrence bound.new.items
         ≡ map plain_occurrence bound.old.items ++ bound_by_signs (plain_signs signs.now)) }
-    ensures faults { IfOk result (λ _. map plain_told faults.new.items
-        ≡ sign_faults names.old (plain_signs signs.now) (map plain_told faults.old.items)) }
+    ensures faults { IfOk result (λ _. map plain_reported faults.new.items
+        ≡ sign_faults names.old (plain_signs signs.now) (map plain_reported faults.old.items)) }
 {
     let mut left = sides;
     for sign in signs.items() {
         if left > 0 {
             left -= 1;
-            tell_misplaced(&sign.tree, faults)?;
+            report_misplaced(&sign.tree, faults)?;
         } else {
             add_part(alloc, &sign.tree, names, bound, faults)?;
         }

@@ -1,15 +1,15 @@
 //! The names of variables that were met.
 ghost use Rattle.std.specs.Prelude.{◌≡◌, ◌++◌, ◌∷◌, [], IfOk, map, drop};
 ghost use Rattle.cd_variables.specs.VariableFaults.{repeats};
-ghost use Rattle.cd_variables.specs.FindingVariables.{has_name, names_among, told_again};
-ghost use Rattle.cd_variables.specs.FindingVariables.{told_of_each};
+ghost use Rattle.cd_variables.specs.FindingVariables.{has_name, names_among, reported_again};
+ghost use Rattle.cd_variables.specs.FindingVariables.{reported_of_each};
 ghost use Rattle.cd_variables.specs.PlainOccurrences.{plain_occurrence};
-ghost use Rattle.cd_resolve.specs.PlainTold.{plain_told};
+ghost use Rattle.cd_resolve.specs.PlainTold.{plain_reported};
 
 use crate::occurrence::Occurrence;
 use cd_resolve::NameIndex;
 use cd_resolve::fault::NameFault;
-use cd_resolve::told::Told;
+use cd_resolve::reported::Reported;
 use cd_syntax::name::Name;
 use std::alloc::AllocError;
 
@@ -46,64 +46,64 @@ pub(crate) fn add_names<'t>(
 }
 
 /// Tells of each variable whose name is one of these that it stands again.
-pub(crate) fn tell_again<'t>(
+pub(crate) fn report_again<'t>(
     seen: &NameIndex<'_>,
     variables: &[Occurrence<'t>],
-    faults: &mut Vec<Told<'t>>,
+    faults: &mut Vec<Reported<'t>>,
 ) -> Result<(), AllocError>
-    ensures { IfOk result (λ _. map plain_told faults.new.items
-        ≡ told_again seen.now (map plain_occurrence variables.now)
-        (map plain_told faults.old.items)) }
+    ensures { IfOk result (λ _. map plain_reported faults.new.items
+        ≡ reported_again seen.now (map plain_occurrence variables.now)
+        (map plain_reported faults.old.items)) }
 {
     for variable in variables {
         if has(seen, variable.name) {
-            tell(NameFault::VariableTwice, variable, faults)?;
+            report(NameFault::VariableTwice, variable, faults)?;
         }
     }
     Ok(())
 }
 
 /// Tells of each variable with this name that it stands again.
-pub(crate) fn tell_inside<'t>(
+pub(crate) fn report_inside<'t>(
     name: &Name,
     variables: &[Occurrence<'t>],
-    faults: &mut Vec<Told<'t>>,
+    faults: &mut Vec<Reported<'t>>,
 ) -> Result<(), AllocError>
-    ensures { IfOk result (λ _. map plain_told faults.new.items
-        ≡ told_again (name.now ∷ []) (map plain_occurrence variables.now)
-        (map plain_told faults.old.items)) }
+    ensures { IfOk result (λ _. map plain_reported faults.new.items
+        ≡ reported_again (name.now ∷ []) (map plain_occurrence variables.now)
+        (map plain_reported faults.old.items)) }
 {
     for variable in variables {
         if name == variable.name {
-            tell(NameFault::VariableTwice, variable, faults)?;
+            report(NameFault::VariableTwice, variable, faults)?;
         }
     }
     Ok(())
 }
 
 /// Tells of each variable that it stands under a postfix.
-pub(crate) fn tell_repeats<'t>(
+pub(crate) fn report_repeats<'t>(
     variables: &[Occurrence<'t>],
-    faults: &mut Vec<Told<'t>>,
+    faults: &mut Vec<Reported<'t>>,
 ) -> Result<(), AllocError>
-    ensures { IfOk result (λ _. map plain_told faults.new.items
-        ≡ told_of_each repeats (map plain_occurrence variables.now)
-        (map plain_told faults.old.items)) }
+    ensures { IfOk result (λ _. map plain_reported faults.new.items
+        ≡ reported_of_each repeats (map plain_occurrence variables.now)
+        (map plain_reported faults.old.items)) }
 {
     for variable in variables {
-        tell(NameFault::VariableRepeats, variable, faults)?;
+        report(NameFault::VariableRepeats, variable, faults)?;
     }
     Ok(())
 }
 
 // Tells a fault of a variable.
-fn tell<'t>(
+fn report<'t>(
     fault: NameFault,
     variable: &Occurrence<'t>,
-    faults: &mut Vec<Told<'t>>,
+    faults: &mut Vec<Reported<'t>>,
 ) -> Result<(), AllocError>
-    ensures { IfOk result (λ _. map plain_told faults.new.items
-        ≡ map plain_told faults.old.items ++ record {
+    ensures { IfOk result (λ _. map plain_reported faults.new.items
+        ≡ map plain_reported faults.old.items ++ record {
           fault = fault;
           name = variable.now.name.now;
           at = variable.now.at;
@@ -111,6 +111,6 @@ fn tell<'t>(
 {
     let Occurrence { name, at } = *variable;
     let name = Some(name);
-    faults.push(Told { fault, name, at })?;
+    faults.push(Reported { fault, name, at })?;
     Ok(())
 }

@@ -3,16 +3,16 @@ ghost use Rattle.std.specs.Prelude.{◌≡◌, ◌++◌, [], IfOk, map};
 ghost use Rattle.cd_syntax.specs.PlainTree.{plain_regular, plain_regulars};
 ghost use Rattle.cd_variables.specs.Occurrences.{plain as plain_ones, plain_of_all};
 ghost use Rattle.cd_variables.specs.Occurrences.{gathered as gathered_ones, gathered_of_all};
-ghost use Rattle.cd_variables.specs.FindingVariables.{names_among, told_again};
+ghost use Rattle.cd_variables.specs.FindingVariables.{names_among, reported_again};
 ghost use Rattle.cd_variables.specs.FindingVariables.{regular_faults, turn_faults};
 ghost use Rattle.cd_variables.specs.PlainOccurrences.{plain_occurrence};
-ghost use Rattle.cd_resolve.specs.PlainTold.{plain_told};
+ghost use Rattle.cd_resolve.specs.PlainTold.{plain_reported};
 
 use crate::occurrence::Occurrence;
 use crate::regular::check_regular;
-use crate::seen::{add_names, since, tell_again};
+use crate::seen::{add_names, report_again, since};
 use cd_resolve::NameIndex;
-use cd_resolve::told::Told;
+use cd_resolve::reported::Reported;
 use cd_syntax::type_tree::{RegTree, RegTrees};
 use std::alloc::{AllocError, Global};
 
@@ -40,20 +40,20 @@ impl<'t> Seen<'t> {
         &mut self,
         plain: &[Occurrence<'t>],
         gathered: &[Occurrence<'t>],
-        faults: &mut Vec<Told<'t>>,
+        faults: &mut Vec<Reported<'t>>,
     ) -> Result<(), AllocError>
         ensures all { IfOk result (λ _. self.new.all
             ≡ self.old.all ++ names_among (map plain_occurrence plain.now)
             ++ names_among (map plain_occurrence gathered.now)) }
         ensures plain { IfOk result (λ _. self.new.plain
             ≡ self.old.plain ++ names_among (map plain_occurrence plain.now)) }
-        ensures faults { IfOk result (λ _. map plain_told faults.new.items
-            ≡ told_again self.old.plain (map plain_occurrence gathered.now)
-            (told_again self.old.all (map plain_occurrence plain.now)
-            (map plain_told faults.old.items))) }
+        ensures faults { IfOk result (λ _. map plain_reported faults.new.items
+            ≡ reported_again self.old.plain (map plain_occurrence gathered.now)
+            (reported_again self.old.all (map plain_occurrence plain.now)
+            (map plain_reported faults.old.items))) }
     {
-        tell_again(&self.all, plain, faults)?;
-        tell_again(&self.plain, gathered, faults)?;
+        report_again(&self.all, plain, faults)?;
+        report_again(&self.plain, gathered, faults)?;
         add_names(&mut self.all, plain)?;
         add_names(&mut self.all, gathered)?;
         add_names(&mut self.plain, plain)
@@ -67,14 +67,14 @@ pub(crate) fn check_turn<'t>(
     all: &'t RegTrees,
     plain: &mut Vec<Occurrence<'t>>,
     gathered: &mut Vec<Occurrence<'t>>,
-    faults: &mut Vec<Told<'t>>,
+    faults: &mut Vec<Reported<'t>>,
 ) -> Result<(), AllocError>
     ensures plain { IfOk result (λ _. map plain_occurrence plain.new.items
         ≡ map plain_occurrence plain.old.items ++ plain_of_all (plain_regulars all.now)) }
     ensures gathered { IfOk result (λ _. map plain_occurrence gathered.new.items
         ≡ map plain_occurrence gathered.old.items ++ gathered_of_all (plain_regulars all.now)) }
-    ensures faults { IfOk result (λ _. map plain_told faults.new.items
-        ≡ turn_faults [] [] (plain_regulars all.now) (map plain_told faults.old.items)) }
+    ensures faults { IfOk result (λ _. map plain_reported faults.new.items
+        ≡ turn_faults [] [] (plain_regulars all.now) (map plain_reported faults.old.items)) }
 {
     let mut seen = Seen::new(alloc);
     check_each(alloc, all, &mut seen, plain, gathered, faults)
@@ -88,15 +88,15 @@ fn check_each<'t>(
     seen: &mut Seen<'t>,
     plain: &mut Vec<Occurrence<'t>>,
     gathered: &mut Vec<Occurrence<'t>>,
-    faults: &mut Vec<Told<'t>>,
+    faults: &mut Vec<Reported<'t>>,
 ) -> Result<(), AllocError>
     ensures plain { IfOk result (λ _. map plain_occurrence plain.new.items
         ≡ map plain_occurrence plain.old.items ++ plain_of_all (plain_regulars all.now)) }
     ensures gathered { IfOk result (λ _. map plain_occurrence gathered.new.items
         ≡ map plain_occurrence gathered.old.items ++ gathered_of_all (plain_regulars all.now)) }
-    ensures faults { IfOk result (λ _. map plain_told faults.new.items
+    ensures faults { IfOk result (λ _. map plain_reported faults.new.items
         ≡ turn_faults seen.old.all seen.old.plain (plain_regulars all.now)
-        (map plain_told faults.old.items)) }
+        (map plain_reported faults.old.items)) }
 {
     for expression in all.items() {
         check_next(alloc, expression, seen, plain, gathered, faults)?;
@@ -112,7 +112,7 @@ fn check_next<'t>(
     seen: &mut Seen<'t>,
     plain: &mut Vec<Occurrence<'t>>,
     gathered: &mut Vec<Occurrence<'t>>,
-    faults: &mut Vec<Told<'t>>,
+    faults: &mut Vec<Reported<'t>>,
 ) -> Result<(), AllocError>
     ensures plain { IfOk result (λ _. map plain_occurrence plain.new.items
         ≡ map plain_occurrence plain.old.items ++ plain_ones (plain_regular expression.now)) }
@@ -124,10 +124,10 @@ fn check_next<'t>(
         ++ names_among (gathered_ones (plain_regular expression.now))) }
     ensures seen_plain { IfOk result (λ _. seen.new.plain
         ≡ seen.old.plain ++ names_among (plain_ones (plain_regular expression.now))) }
-    ensures faults { IfOk result (λ _. map plain_told faults.new.items
-        ≡ told_again seen.old.plain (gathered_ones (plain_regular expression.now))
-        (told_again seen.old.all (plain_ones (plain_regular expression.now))
-        (regular_faults (plain_regular expression.now) (map plain_told faults.old.items)))) }
+    ensures faults { IfOk result (λ _. map plain_reported faults.new.items
+        ≡ reported_again seen.old.plain (gathered_ones (plain_regular expression.now))
+        (reported_again seen.old.all (plain_ones (plain_regular expression.now))
+        (regular_faults (plain_regular expression.now) (map plain_reported faults.old.items)))) }
 {
     let from = plain.len();
     let after = gathered.len();

@@ -5,7 +5,7 @@ use Rattle.cd_syntax.specs.TypeTree.{Tree, Declarations, NoDeclaration}
 use Rattle.cd_model.specs.Formula.{Graph, IsGraph}
 use Rattle.cd_model.specs.StandsFor.{StandsFor}
 use Rattle.cd_model.proofs.StandsKept.{stands_kept}
-use Rattle.cd_resolve.specs.Errors.{IsToldError}
+use Rattle.cd_resolve.specs.Errors.{IsReportedError}
 use Rattle.cd_resolve.specs.Faults.{Fault, IsFaultOfType}
 use Rattle.cd_resolve.specs.declared.error.NameError.TheVariants as error
 use Rattle.cd_resolve.specs.declared.fault.NameFault.{NameFault}
@@ -17,7 +17,7 @@ grown_keeps old new sound (more, grows) = λ id type stands.
 
 pub not_told : (declared : Declarations) (is : Tree) → declared ≡ NoDeclaration
     → ((fault : Fault) → IsFaultOfType NoDeclaration is fault → ⊥) → (fault : NameFault) (name : Name) (at : ℕ)
-    → IsToldError (IsFaultOfType declared is) (error.Fault fault name at) → ⊥
-not_told declared is none sound fault name at told =
+    → IsReportedError (IsFaultOfType declared is) (error.Fault fault name at) → ⊥
+not_told declared is none sound fault name at reported =
     sound (record { fault = fault; name = name; at = at })
-    (subst (λ list. IsFaultOfType list is (record { fault = fault; name = name; at = at })) none told.is)
+    (subst (λ list. IsFaultOfType list is (record { fault = fault; name = name; at = at })) none reported.is)

@@ -15,8 +15,8 @@ use Rattle.cd_syntax.specs.Digits.{AreDigits, decimal_value, BeginsWithNoDigit}
 use Rattle.cd_syntax.specs.Integer.{IsInteger}
 use Rattle.cd_syntax.specs.Signs.{characters, IsLongest, closes}
 use Rattle.cd_syntax.specs.Comments.{begins_pair}
-use Rattle.cd_syntax.specs.Tokens.{is_blank, EndsWord, begins_negative, Writes, word, number, sign, bytes, token_at}
-use Rattle.cd_syntax.specs.Tokens.{blank, Spells, nothing, dropped, token}
+use Rattle.cd_syntax.specs.Tokens.{is_blank, EndsWord, begins_negative, IsLexemeOf, word, number, sign, bytes, token_at}
+use Rattle.cd_syntax.specs.Tokens.{blank, Lexes, nothing, dropped, token}
 use Rattle.cd_lex.specs.Inner.SignTable.{first_sign}
 use Rattle.cd_lex.proofs.Signing.{first_is_longest}
 
@@ -123,13 +123,13 @@ apart true negative is other = absurd (true≢false other)
 apart false negative is other = negated negative is
 
 word_stands : (joined : Bool) (name text : List ℕ) → stands joined (AWord name) text ≡ true
-    → Writes joined name text (Word name)
+    → IsLexemeOf joined name text (Word name)
 word_stands joined name text is =
     let both = and_parts (is_word name) (ends_word text) is in
     word name text both.0 (word_ends text both.1)
 
 mark_stands : (joined : Bool) (is : ASign) (text : List ℕ) → stands joined (AMark is) text ≡ true
-    → Writes joined (characters is) text (Sign is)
+    → IsLexemeOf joined (characters is) text (Sign is)
 mark_stands joined is text so =
     let whole = characters is ++ text in
     let both = and_parts (is_same (first_sign whole) is)
@@ -139,7 +139,7 @@ mark_stands joined is text so =
     (apart joined (begins_negative whole) more.1)
 
 digits_stand : (joined : Bool) (digits text : List ℕ) → stands joined (Digits digits) text ≡ true
-    → Writes joined digits text (Int (pos (decimal_value digits)))
+    → IsLexemeOf joined digits text (Int (pos (decimal_value digits)))
 digits_stand joined digits text is =
     let both = and_parts (list_all is_ascii_digit digits && are_some digits)
     (ends_digits text && nat_le (decimal_value digits) 170141183460469231731687303715884105727) is in
@@ -158,7 +158,7 @@ digits_right joined (c ∷ cs) text are ends small =
 
 -- the text of pieces spells their tokens
 pub spelled : (joined : Bool) (at : ℕ) (pieces : List Piece) → are_right joined pieces ≡ true
-    → Spells joined at (text_of pieces) (tokens_of at pieces)
+    → Lexes joined at (text_of pieces) (tokens_of at pieces)
 spelled joined at [] right = nothing joined at
 spelled joined at (Blank c ∷ rest) right =
     let both = and_parts (is_blank c) (are_right false rest) right in

@@ -4,7 +4,7 @@ use Rattle.std.specs.Prelude.{codes}
 use Rattle.std.specs.Str.{chars}
 use Prim.Native.String.{String}
 use Rattle.cd_syntax.specs.declared.sign.Sign.TheVariants as sign
-use Rattle.cd_syntax.specs.Tokens.{Spells}
+use Rattle.cd_syntax.specs.Tokens.{Lexes}
 use Rattle.cd_lex.specs.Inner.SignTable.{first_sign}
 use Rattle.cd_work.specs.Workload.{program_text}
 use Rattle.cd_work.proofs.ProgramTokens.{program_tokens}
@@ -67,7 +67,7 @@ tokens_are : tokens_of 0 pieces ≡ program_tokens
 unfolding lib.Utf8.encode
 tokens_are = refl
 
-pub program_spelled : Spells false 0 (chars program_text) program_tokens
+pub program_spelled : Lexes false 0 (chars program_text) program_tokens
 program_spelled =
-    subst (λ text. Spells false 0 text program_tokens) text_is
-    (subst (Spells false 0 (text_of pieces)) tokens_are (spelled false 0 pieces pieces_are_right))
+    subst (λ text. Lexes false 0 text program_tokens) text_is
+    (subst (Lexes false 0 (text_of pieces)) tokens_are (spelled false 0 pieces pieces_are_right))

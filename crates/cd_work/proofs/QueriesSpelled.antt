@@ -12,7 +12,7 @@ use Rattle.std.proofs.lemmas.Str.{chars-IsAscii, encodes-IsAscii, IsAscii-append
 use Rattle.std.proofs.lemmas.Str.Ascii.{IsAscii-from_all}
 use Rattle.cd_syntax.specs.declared.sign.Sign.TheVariants as sign
 use Rattle.cd_syntax.specs.Digits.{AreDigits, decimal_value}
-use Rattle.cd_syntax.specs.Tokens.{Spells, bytes}
+use Rattle.cd_syntax.specs.Tokens.{Lexes, bytes}
 use Rattle.cd_lex.specs.Inner.SignTable.{first_sign}
 use Rattle.cd_print.proofs.Decimals.{decimal_is, are_digits}
 use Rattle.cd_replies.specs.Texts.{HasTokens}
@@ -73,6 +73,6 @@ characters_are n small = sym
 
 pub query_spelled : (n : ℕ) → n < 10 ^ 38 → HasTokens (query_text n) (query_tokens (length (decimal n)) n)
 query_spelled n small =
-    subst (λ text. Spells false 0 text (query_tokens (length (decimal n)) n)) (characters_are n small)
-    (subst (Spells false 0 (text_of (pieces (decimal n)))) (tokens_are n small)
+    subst (λ text. Lexes false 0 text (query_tokens (length (decimal n)) n)) (characters_are n small)
+    (subst (Lexes false 0 (text_of (pieces (decimal n)))) (tokens_are n small)
     (spelled false 0 (pieces (decimal n)) (pieces_are_right n small)))

@@ -3,22 +3,22 @@ use Rattle.std.proofs.Common.{◌≡◌, ◌∙◌, List, [], ◌∷◌, ◌++�
 use Rattle.std.specs.Prelude.{codes}
 use Rattle.std.specs.List.{flat_map}
 use Rattle.cd_model.specs.Thing.{Thing}
-use Rattle.cd_model.specs.Canonical.{Text, Part, Other, Piece, Alone, piece_text, pieces_of, Row, row_text, written, canonical}
+use Rattle.cd_model.specs.Canonical.{Text, Part, Other, Piece, Alone, piece_text, pieces_of, Row, row_text, printed, canonical}
 use Rattle.cd_matching.specs.Sequences.{sequence_of}
 use Rattle.cd_work.specs.Workload.{spaced}
 
 -- these things have these texts, and none is a character
 pub data AreWritten : List Thing → List Text → Type 0 where
   nothing : AreWritten [] []
-  one : (first : Thing) (text : Text) (rest : List Thing) (texts : List Text) → (written first).part ≡ Other text
+  one : (first : Thing) (text : Text) (rest : List Thing) (texts : List Text) → (printed first).part ≡ Other text
       → AreWritten rest texts → AreWritten (first ∷ rest) (text ∷ texts)
 
 -- what stands along the right of the sequence
 row_is : (things : List Thing) (texts : List Text) → AreWritten things texts
-    → (written (sequence_of things)).row ≡ record { parts = map Other texts; end = None }
+    → (printed (sequence_of things)).row ≡ record { parts = map Other texts; end = None }
 row_is _ _ nothing = refl
 row_is _ _ (one first text rest texts part are) =
-    ap (λ (part : Part). record { parts = part ∷ (written (sequence_of rest)).row.parts; end = (written (sequence_of rest)).row.end }) part
+    ap (λ (part : Part). record { parts = part ∷ (printed (sequence_of rest)).row.parts; end = (printed (sequence_of rest)).row.end }) part
     ∙ ap (λ (row : Row). record { parts = Other text ∷ row.parts; end = row.end }) (row_is rest texts are)
 
 -- no piece is a run of characters
@@ -48,6 +48,6 @@ pub sequence_text_is : (things : List Thing) (texts : List Text) → AreWritten 
     → canonical (sequence_of things) ≡ codes "[" ++ spaced texts ++ codes "]"
 sequence_text_is _ _ nothing = refl
 sequence_text_is _ _ (one first text rest texts part are) =
-    ap (λ (part : Part). row_text (part ∷ (written (sequence_of rest)).row.parts) (written (sequence_of rest)).row.end) part
+    ap (λ (part : Part). row_text (part ∷ (printed (sequence_of rest)).row.parts) (printed (sequence_of rest)).row.end) part
     ∙ ap (λ (row : Row). row_text (Other text ∷ row.parts) row.end) (row_is rest texts are)
     ∙ row_text_is text texts

@@ -2,7 +2,7 @@
 ghost use Rattle.std.specs.Prelude.{◌≡◌, ◌⊎◌, [], IfOk, IfErr};
 ghost use Rattle.std.specs.Process.{exit_status};
 ghost use Rattle.cd_driver.specs.Command.{texts};
-ghost use Rattle.cd_driver.specs.World.{world};
+ghost use Rattle.cd_driver.specs.Outside.{outside};
 ghost use Rattle.cd_base.specs.Status.{status_number};
 ghost use Rattle.cduce.specs.Exit.{Exits};
 
@@ -25,13 +25,13 @@ pub(crate) fn exit_on<F: Files, S: Sink>(
     err: &mut S,
 ) -> ExitCode
     ensures words { IfOk words (λ words. Exits (texts words.items)
-        (world (F.state files.old) (S.state out.old) (S.state err.old))
-        (world (F.state files.new) (S.state out.new) (S.state err.new)) result) }
+        (outside (F.state files.old) (S.state out.old) (S.state err.old))
+        (outside (F.state files.new) (S.state out.new) (S.state err.new)) result) }
 
     // Where the words could not be had, the process exits as with none, or for want of memory.
     ensures no_words { IfErr words (λ _. (exit_status result ≡ 5) ⊎ Exits []
-        (world (F.state files.old) (S.state out.old) (S.state err.old))
-        (world (F.state files.new) (S.state out.new) (S.state err.new)) result) }
+        (outside (F.state files.old) (S.state out.old) (S.state err.old))
+        (outside (F.state files.new) (S.state out.new) (S.state err.new)) result) }
 {
     match words {
         Ok(words) => exit_with(cduce(alloc, words.as_slice(), files, out, err)),

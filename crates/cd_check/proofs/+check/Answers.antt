@@ -257,7 +257,7 @@ expr::check_call-returns-in-Err-clause-fault t c =
     λ here. subst (λ (error : CheckError). Fails old nodes table (λ types. KindFault scope types here (Call c.args.word e)) error)
     (sym c.placed.ensures)
     (fails_more old nodes table (λ types. WordFault scope types c.args.word e) (λ types. KindFault scope types here (Call c.args.word e))
-    (λ types of at told d is. inr is) (placed_at c.in-Err.stop _ _)
+    (λ types of at reported d is. inr is) (placed_at c.in-Err.stop _ _)
     (word_placed scope old nodes middle e c.in_ok-id.id (known scope old nodes middle e c.in_ok-id.id step.gives step.least) c.args.word table _
     (sym (place_is c.args.operand.now)) c.in-Err.stop c.in-Err.ensures.misfit))
 
@@ -2270,9 +2270,9 @@ test::check_side-returns-in_err-check-clause-fault t c =
     let error = c.in_err-check.field-0.0 in
     let is = err_from_is_err_and c.from_residual-in_err-check.result c.from_residual-in_err-check.ensures.1 in
     rw (is.1, is.2)
-    (fails_more old (seen_by base locals) table (λ types at told d. Fault (scope_of base) types e at told d)
-    (λ types at told d. elements_of old tested (truth value) × Fault (scope_of base) types e at told d)
-    (λ types of at told d fault. (
+    (fails_more old (seen_by base locals) table (λ types at reported d. Fault (scope_of base) types e at reported d)
+    (λ types at reported d. elements_of old tested (truth value) × Fault (scope_of base) types e at reported d)
+    (λ types of at reported d fault. (
       tested_has base old locals c.requires.ready tested c.truth.result value c.truth.ensures (c.in_ok-may_be.ensures.together c.if-branch.true),
       fault,
     ))
@@ -2516,7 +2516,7 @@ branches::check_covering-returns-in_err-cover-clause-fault t c =
     c.divide.ensures.grows c.divide.ensures.sound in
     rw (is.1, is.2)
     (fails_more old nodes table (λ types. IsUncovered scope c.args.at branches (elements_of old matched))
-    (λ types. CoveringFault scope types c.args.at (elements_of old matched) (Nothing scope) branches) (λ types of at told d uncovered. inl uncovered)
+    (λ types. CoveringFault scope types c.args.at (elements_of old matched) (Nothing scope) branches) (λ types of at reported d uncovered. inl uncovered)
     error
     (uncovered_fails scope old nodes middle branches (elements_of old matched) division.division.rest
     (none_takes_earlier old middle later c.requires.ready.sound matched c.requires.matched scope branches division.division.matched
@@ -2539,7 +2539,7 @@ branches::check_covering-returns-in_err-results-clause-fault t c =
     c.divide.ensures.grows c.divide.ensures.sound in
     rw (is.1, is.2)
     (fails_more old nodes table (λ types. BranchFault scope types [] (elements_of old matched) (Nothing scope) branches)
-    (λ types. CoveringFault scope types c.args.at (elements_of old matched) (Nothing scope) branches) (λ types of at told d fault. inr fault) error
+    (λ types. CoveringFault scope types c.args.at (elements_of old matched) (Nothing scope) branches) (λ types of at reported d fault. inr fault) error
     (branches_fail_earlier scope old c.requires.ready.sound nodes c.requires.ready.nodes (graph_of c.divide.new.world) later matched
     c.requires.matched branches (graph_of c.cover.new.world) c.cover.ensures.graph c.in_ok-division.division.matched
     c.in_ok-division.ensures.matched None tt table error c.in_err-results.ensures.fault))
@@ -2741,7 +2741,7 @@ branches::check_map-returns-in_err-need_at-clause-fault t c =
     let is = err_from_is_err_and c.from_residual-in_err-need_at.result c.from_residual-in_err-need_at.ensures.1 in
     rw (is.1, is.2)
     (fails_more old nodes table (λ types. Breaks scope types value IsSequence rule.Sequence)
-    (λ types. KindFault scope types c.args.at (Map value branches)) (λ types of at told d fault. inr (inl fault)) error
+    (λ types. KindFault scope types c.args.at (Map value branches)) (λ types of at reported d fault. inr (inl fault)) error
     (breaks scope old nodes first value list.list (known scope old nodes first value list.list list.ensures.gives list.ensures.least)
     base.tools.sequences IsSequence tools.all_sequences (out-Expr c.args.value.now).span.from (sym (place_is c.args.value.now)) rule.Sequence
     table error c.in_err-need_at.ensures.fault))
@@ -2807,7 +2807,7 @@ branches::check_transform-returns-in_err-need_at-clause-fault t c =
     let is = err_from_is_err_and c.from_residual-in_err-need_at.result c.from_residual-in_err-need_at.ensures.1 in
     rw (is.1, is.2)
     (λ here. fails_more old nodes table (λ types. Breaks scope types value IsSequence rule.Sequence)
-    (λ types. KindFault scope types here (Transform value branches)) (λ types of at told d fault. inr (inl fault)) error
+    (λ types. KindFault scope types here (Transform value branches)) (λ types of at reported d fault. inr (inl fault)) error
     (breaks scope old nodes first value list.list (known scope old nodes first value list.list list.ensures.gives list.ensures.least)
     base.tools.sequences IsSequence tools.all_sequences (out-Expr c.args.value.now).span.from (sym (place_is c.args.value.now)) rule.Sequence
     table error c.in_err-need_at.ensures.fault))

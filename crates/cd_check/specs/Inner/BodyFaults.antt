@@ -28,23 +28,23 @@ module _ (scope : Scope) where
   -- what a body owes where there is a limit
   abbrev pub Owes : Graph → Option Limit → Owed scope
   Owes graph None = Nothing scope
-  Owes graph (Some limit) = λ types e at told d.
-      Breaks scope types e (elements_of graph limit.node) limit.rule at told d
+  Owes graph (Some limit) = λ types e at reported d.
+      Breaks scope types e (elements_of graph limit.node) limit.rule at reported d
 
   -- of a body that some element is the first to come to, or what it owes
   abbrev pub BodyFault : Types → Tree → (matched : Set) → Owed scope → Expr → (at : ℕ) → Rule → Thing
       → Type 0
-  BodyFault types pattern matched owed body at told d = (e : Thing) × (captures : Captures Name)
+  BodyFault types pattern matched owed body at reported d = (e : Thing) × (captures : Captures Name)
       × IsFirst scope [] pattern matched e captures × (own : Types)
       × AreCaptured scope own [] pattern matched
-      × (Fault scope (own ++ types) body at told d ⊎ owed (own ++ types) body at told d)
+      × (Fault scope (own ++ types) body at reported d ⊎ owed (own ++ types) body at reported d)
 
   -- of branches that have to take all that is matched by the form that begins here
   abbrev pub CoveringFault : Types → (here : ℕ) → (matched : Set) → Owed scope → Branches → (at : ℕ)
       → Rule → Thing → Type 0
-  CoveringFault types here matched owed branches at told d =
-      IsUncovered scope here branches matched at told d
-      ⊎ BranchFault scope types [] matched owed branches at told d
+  CoveringFault types here matched owed branches at reported d =
+      IsUncovered scope here branches matched at reported d
+      ⊎ BranchFault scope types [] matched owed branches at reported d
 
   module _ (old : Graph) (nodes : Nodes) (new : Graph) where
     -- the node is the least type of the body, or nothing comes to it

@@ -28,5 +28,6 @@ pub record FaultsOn {A : Type 0} (scope : Scope)
   pub before : Expr
   pub known : IsKnown old nodes scope graph before id
   pub stands : place_of before ≡ place
-  pub faults : (types : Types) (at : ℕ) (told : Rule) (d : Thing) → fault types before left at told d
-      → fault types f all at told d
+  pub faults : (types : Types) (at : ℕ) (reported : Rule) (d : Thing)
+      → fault types before left at reported d
+      → fault types f all at reported d

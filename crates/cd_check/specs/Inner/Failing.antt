@@ -25,12 +25,12 @@ use Rattle.cd_check.specs.Inner.Ready.{scope_of, seen_by}
 module _ (base : Base) (old : Graph) (locals : Nodes) (table : List Thing) where
   abbrev pub ExprFails : Expr → CheckError → Type 0
   ExprFails e = Fails old (seen_by base locals) table
-      (λ types at told d. Fault (scope_of base) types e at told d)
+      (λ types at reported d. Fault (scope_of base) types e at reported d)
 
   -- the form begins here
   abbrev pub KindFails : (here : ℕ) → Kind → CheckError → Type 0
   KindFails here kind = Fails old (seen_by base locals) table
-      (λ types at told d. KindFault (scope_of base) types here kind at told d)
+      (λ types at reported d. KindFault (scope_of base) types here kind at reported d)
 
   -- wherever it begins
   abbrev pub FormFails : Kind → CheckError → Type 0
@@ -38,18 +38,18 @@ module _ (base : Base) (old : Graph) (locals : Nodes) (table : List Thing) where
 
   abbrev pub OperandsFail : Exprs → CheckError → Type 0
   OperandsFail exprs = Fails old (seen_by base locals) table
-      (λ types at told d. ExprsFault (scope_of base) types exprs at told d)
+      (λ types at reported d. ExprsFault (scope_of base) types exprs at reported d)
 
   abbrev pub ItemsFail : Items → CheckError → Type 0
   ItemsFail items = Fails old (seen_by base locals) table
-      (λ types at told d. ItemsFault (scope_of base) types items at told d)
+      (λ types at reported d. ItemsFault (scope_of base) types items at reported d)
 
   abbrev pub ItemFails : Item → CheckError → Type 0
   ItemFails item error = (rest : Items) → ItemsFail (AnItem item rest) error
 
   abbrev pub FieldsFail : Fields → CheckError → Type 0
   FieldsFail fields = Fails old (seen_by base locals) table
-      (λ types at told d. FieldsFault (scope_of base) types fields at told d)
+      (λ types at reported d. FieldsFault (scope_of base) types fields at reported d)
 
   -- What stands before is an expression at this place whose least type is the node
   module _ (self : NodeId) (from : ℕ) where
@@ -59,55 +59,59 @@ module _ (base : Base) (old : Graph) (locals : Nodes) (table : List Thing) where
 
     abbrev pub ArgumentFails : Expr → CheckError → Type 0
     ArgumentFails e error = (f : Expr) → StandsBefore f → Fails old (seen_by base locals) table
-        (λ types at told d. Fault (scope_of base) types e at told d
-        ⊎ ArgumentFault (scope_of base) types f e at told d) error
+        (λ types at reported d. Fault (scope_of base) types e at reported d
+        ⊎ ArgumentFault (scope_of base) types f e at reported d) error
 
     abbrev pub ArgumentsFail : (here : ℕ) → Exprs → CheckError → Type 0
     ArgumentsFail here exprs error = (f : Expr) → StandsBefore f
         → Fails old (seen_by base locals) table
-        (λ types at told d. ArgumentsFault (scope_of base) types here f exprs at told d) error
+        (λ types at reported d. ArgumentsFault (scope_of base) types here f exprs at reported d)
+        error
 
     abbrev pub TailFails : Tail → CheckError → Type 0
     TailFails tail error = (f : Expr) → StandsBefore f → Fails old (seen_by base locals) table
-        (λ types at told d. TailFault (scope_of base) types f tail at told d) error
+        (λ types at reported d. TailFault (scope_of base) types f tail at reported d) error
 
     abbrev pub TailsFail : (here : ℕ) → Tails → CheckError → Type 0
     TailsFail here tails error = (f : Expr) → StandsBefore f → Fails old (seen_by base locals) table
-        (λ types at told d. TailsFault (scope_of base) types here f tails at told d) error
+        (λ types at reported d. TailsFault (scope_of base) types here f tails at reported d) error
 
   -- what is tested may have the truth value
   abbrev pub SideFails : (tested : NodeId) → Bool → Expr → CheckError → Type 0
-  SideFails tested value e = Fails old (seen_by base locals) table (λ types at told d.
-      elements_of old tested (truth value) × Fault (scope_of base) types e at told d)
+  SideFails tested value e = Fails old (seen_by base locals) table (λ types at reported d.
+      elements_of old tested (truth value) × Fault (scope_of base) types e at reported d)
 
   -- branches that have to take all of what is in a node, and branches that need not
   abbrev pub CoveringFails : (here : ℕ) → (matched : NodeId) → Branches → CheckError → Type 0
-  CoveringFails here matched branches = Fails old (seen_by base locals) table (λ types at told d.
+  CoveringFails here matched branches =
+      Fails old (seen_by base locals) table (λ types at reported d.
       CoveringFault (scope_of base) types here (elements_of old matched) (Nothing (scope_of base))
-      branches at told d)
+      branches at reported d)
 
   abbrev pub BranchesFail : (matched : NodeId) → Option Limit → Branches → CheckError → Type 0
-  BranchesFail matched limit branches = Fails old (seen_by base locals) table (λ types at told d.
+  BranchesFail matched limit branches =
+      Fails old (seen_by base locals) table (λ types at reported d.
       BranchFault (scope_of base) types [] (elements_of old matched)
-      (Owes (scope_of base) old limit) branches at told d)
+      (Owes (scope_of base) old limit) branches at reported d)
 
   abbrev pub BodyFails : (matched : NodeId) → Option Limit → Tree → Expr → CheckError → Type 0
-  BodyFails matched limit pattern body = Fails old (seen_by base locals) table (λ types at told d.
+  BodyFails matched limit pattern body =
+      Fails old (seen_by base locals) table (λ types at reported d.
       BodyFault (scope_of base) types pattern (elements_of old matched)
-      (Owes (scope_of base) old limit) body at told d)
+      (Owes (scope_of base) old limit) body at reported d)
 
   -- branches for one arrow of a function that stands here, and for all arrows
   abbrev pub ArrowFails : (here : ℕ) → Branches → NodeId × NodeId → CheckError → Type 0
-  ArrowFails here branches arrow = Fails old (seen_by base locals) table (λ types at told d.
+  ArrowFails here branches arrow = Fails old (seen_by base locals) table (λ types at reported d.
       CoveringFault (scope_of base) types here (elements_of old arrow.0)
-      (AResult (scope_of base) (elements_of old arrow.1)) branches at told d)
+      (AResult (scope_of base) (elements_of old arrow.1)) branches at reported d)
 
   abbrev pub PromiseFails : FunctionTree → CheckError → Type 0
   PromiseFails f = Fails old (seen_by base locals) table
-      (λ types at told d. FunctionFault (scope_of base) types f at told d)
+      (λ types at reported d. FunctionFault (scope_of base) types f at reported d)
 
 -- a node that has to be within a limit, if there is one
 abbrev pub IsBeyond : Graph → List Thing → (id : NodeId) → Option Limit → (at : ℕ) → CheckError → Type 0
-IsBeyond graph table id None at = Reports table (λ place told d. ⊥)
+IsBeyond graph table id None at = Reports table (λ place reported d. ⊥)
 IsBeyond graph table id (Some limit) at =
     IsOutside graph table id limit.node at limit.rule

@@ -28,10 +28,11 @@ module _ (old : Graph) (nodes : Nodes) where
   abbrev pub Fails : List Thing → (fault : Types → (at : ℕ) → Rule → Thing → Type 0) → CheckError
       → Type 0
   Fails table fault = Reports table
-      (λ at told d. (types : Types) → AreOfTypes old nodes types → fault types at told d)
+      (λ at reported d. (types : Types) → AreOfTypes old nodes types → fault types at reported d)
 
 -- the error reports an element of a node that is not in another one, at this place by this rule
 abbrev pub IsOutside : Graph → List Thing → (id needed : NodeId) → (at : ℕ) → Rule → CheckError
     → Type 0
-IsOutside graph table id needed at rule = Reports table (λ place told d. (place ≡ at) × (told ≡ rule)
+IsOutside graph table id needed at rule =
+    Reports table (λ place reported d. (place ≡ at) × (reported ≡ rule)
     × IsElement d × elements_of graph id d × (elements_of graph needed d → ⊥))

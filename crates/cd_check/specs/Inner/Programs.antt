@@ -53,17 +53,20 @@ MainGives graph one = is_main (function_of one) ≡ true
 
 -- a fault of one of the functions
 abbrev pub FunctionsFail : Base → Graph → List Thing → List Promised → CheckError → Type 0
-FunctionsFail base graph table promised = Fails graph (seen_by base []) table (λ types at told d.
-    AnyOf (λ one. FunctionFault (scope_of base) types (function_of one) at told d) promised)
+FunctionsFail base graph table promised =
+    Fails graph (seen_by base []) table (λ types at reported d.
+    AnyOf (λ one. FunctionFault (scope_of base) types (function_of one) at reported d) promised)
 
 -- a result of one of the arrows, which is no data, is reported here
 abbrev pub ResultsFault : Graph → (here : ℕ) → List (NodeId × NodeId) → (at : ℕ) → Rule → Thing → Type 0
-ResultsFault graph here arrows at told d = (at ≡ here) × (told ≡ rule.MainResult) × IsElement d
+ResultsFault graph here arrows at reported d = (at ≡ here) × (reported ≡ rule.MainResult)
+    × IsElement d
     × (elements_of graph DATA d → ⊥) × AnyOf (λ arrow. elements_of graph arrow.1 d) arrows
 
 abbrev pub MainsFault : Graph → List Promised → (at : ℕ) → Rule → Thing → Type 0
-MainsFault graph promised at told d = AnyOf (λ one. (is_main (function_of one) ≡ true)
-    × ResultsFault graph (begins_at (function_of one)) one.promise.arrows.items at told d) promised
+MainsFault graph promised at reported d = AnyOf (λ one. (is_main (function_of one) ≡ true)
+    × ResultsFault graph (begins_at (function_of one)) one.promise.arrows.items at reported d)
+    promised
 
 -- the node holds the atom of this name alone
 pub record IsAtomNode (graph : Graph) (name : Name) (id : NodeId) : Type 0 where

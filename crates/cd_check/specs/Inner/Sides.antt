@@ -24,8 +24,8 @@ truth_node base true = base.yes
 truth_node base false = base.no
 
 -- no element is in both
-abbrev pub AreApart : Set → Set → Type 0
-AreApart one other = (e : Thing) → IsElement e → one e → other e → ⊥
+abbrev pub AreDisjoint : Set → Set → Type 0
+AreDisjoint one other = (e : Thing) → IsElement e → one e → other e → ⊥
 
 -- some element is
 abbrev pub AreTogether : Set → Set → Type 0
@@ -50,5 +50,5 @@ IsInEither graph one other e = IsInSome graph one e ⊎ IsInSome graph other e
 
 -- what is tested may have the value of a node, or no element is in both
 abbrev pub MaySkip : Graph → (tested value : NodeId) → Option NodeId → Type 0
-MaySkip graph tested value None = AreApart (elements_of graph tested) (elements_of graph value)
+MaySkip graph tested value None = AreDisjoint (elements_of graph tested) (elements_of graph value)
 MaySkip graph tested value (Some id) = id ≡ value

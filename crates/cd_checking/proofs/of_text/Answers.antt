@@ -1,6 +1,6 @@
 use Rattle.cd_program.specs.PlainProgram.{plain_program}
 use Rattle.cd_replies.specs.Reply.{refusal}
-use Rattle.cd_replies.specs.Message.{against}
+use Rattle.cd_replies.specs.Message.{text_fault}
 use Rattle.cd_replies.specs.Disk.{Disk, HasText, refused}
 use Rattle.cd_replies.proofs.Messages.{replies}
 use Rattle.cd_checking.specs.CheckAnswer.{CheckAnswer, file_refused}
@@ -19,7 +19,7 @@ returns-in-Err c =
     let file = c.args.file.now in
     let text = c.args.text.now in
     let stands = rw c.in-Err.is at c.in_ok-program.ensures.read in
-    let said = refusal file text (against c.in-Err.refusal) in
+    let said = refusal file text (text_fault c.in-Err.refusal) in
     replies c.refused.result said
     (λ reply. (disk : Disk) → HasText disk file text → CheckAnswer disk file reply) c.refused.ensures
-    (λ disk has. file_refused said (refused text has (against c.in-Err.refusal) stands))
+    (λ disk has. file_refused said (refused text has (text_fault c.in-Err.refusal) stands))

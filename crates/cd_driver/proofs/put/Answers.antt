@@ -1,4 +1,4 @@
-use Rattle.cd_driver.specs.Inner.Telling.{whole, refused, cut}
+use Rattle.cd_driver.specs.Inner.Delivering.{whole, refused, cut}
 use Rattle.cd_driver.proofs.put.Goals as goal
 
 pub returns-in-Ok : goal.returns-in-Ok

@@ -8,18 +8,18 @@ use Rattle.cd_driver.specs.declared.request.Request.TheVariants.{Check as AsksCh
 use Rattle.cd_driver.specs.declared.request.Request.TheVariants.{Run as AsksRun}
 use Rattle.cd_driver.specs.declared.request.Request.TheVariants.{Work as AsksWork}
 use Rattle.cd_replies.specs.Bytes.{Bytes}
-use Rattle.cd_driver.specs.Command.{Sub, SubTypes, Member, Check, Work, IsSize, Give, GiveRun}
+use Rattle.cd_driver.specs.Command.{Sub, SubTypes, Member, Check, Work, IsSize, ParseAs, ParseAsRun}
 
 -- the words give the command that the request stands for
 abbrev pub StandsFor : List Bytes → Request → Type 0
-StandsFor words (AsksSub first second) = Give words (Sub first.now second.now)
+StandsFor words (AsksSub first second) = ParseAs words (Sub first.now second.now)
 StandsFor words (AsksSubTypes file first second) =
-    Give words (SubTypes file.now first.now second.now)
+    ParseAs words (SubTypes file.now first.now second.now)
 StandsFor words (AsksMember file document type) =
-    Give words (Member file.now document.now type.now)
-StandsFor words (AsksCheck file) = Give words (Check file.now)
-StandsFor words (AsksRun file document units) = GiveRun words units file.now document.now
-StandsFor words (AsksWork size) = Give words (Work size)
+    ParseAs words (Member file.now document.now type.now)
+StandsFor words (AsksCheck file) = ParseAs words (Check file.now)
+StandsFor words (AsksRun file document units) = ParseAsRun words units file.now document.now
+StandsFor words (AsksWork size) = ParseAs words (Work size)
 
 -- the word is a size
 abbrev pub WritesSize : Bytes → Type 0

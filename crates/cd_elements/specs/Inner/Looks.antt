@@ -1,7 +1,7 @@
 -- What a look at an element tells of its text.
 use Rattle.std.specs.Prelude.{◌≡◌, ℕ, List, [], ◌∷◌, Option, None, Some, map}
 use Rattle.std.specs.Option.{option_map}
-use Rattle.cd_model.specs.Canonical.{Text, Part, Letter, Other, Row as ARow, written}
+use Rattle.cd_model.specs.Canonical.{Text, Part, Letter, Other, Row as ARow, printed}
 use Rattle.cd_model.specs.Thing as thing
 use Rattle.cd_model.specs.Thing.{Thing}
 use Rattle.cd_elements.specs.declared.shape.ElementId.{ElementId}
@@ -20,8 +20,8 @@ part_by None text = Other text
 abbrev pub GoesOn : List Thing → ElementId → Along → Type 0
 GoesOn table id (Pair first second) =
     element_at table id ≡ thing.Pair (element_at table first) (element_at table second)
-GoesOn table id Nil = (written (element_at table id)).row ≡ record { parts = []; end = None }
-GoesOn table id End = (written (element_at table id)).row
+GoesOn table id Nil = (printed (element_at table id)).row ≡ record { parts = []; end = None }
+GoesOn table id End = (printed (element_at table id)).row
     ≡ record { parts = []; end = Some (text_in table id) }
 
 -- a row of the code as one of texts

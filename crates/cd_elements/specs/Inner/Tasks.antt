@@ -1,6 +1,6 @@
 -- What the tasks of the writing of a text stand for. The last one of a stack is written first.
 use Rattle.std.specs.Prelude.{◌≡◌, List, [], ◌∷◌, ◌++◌, codes}
-use Rattle.cd_model.specs.Canonical.{Text, Part, escaped, canonical, written}
+use Rattle.cd_model.specs.Canonical.{Text, Part, escaped, canonical, printed}
 use Rattle.cd_syntax.specs.Name.{Name}
 use Rattle.cd_model.specs.Thing.{Thing}
 use Rattle.cd_elements.specs.declared.shape.ElementId.{ElementId}
@@ -16,7 +16,7 @@ abbrev pub text_in : List Thing → ElementId → Text
 text_in table id = canonical (element_at table id)
 
 abbrev pub part_in : List Thing → ElementId → Part
-part_in table id = (written (element_at table id)).part
+part_in table id = (printed (element_at table id)).part
 
 -- a field of a record
 abbrev pub field_in : List Thing → Name → ElementId → Text

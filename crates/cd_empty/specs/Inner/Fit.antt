@@ -6,7 +6,7 @@ use Rattle.cd_model.specs.Formula.{Graph}
 use Rattle.cd_model.specs.Thing.{Thing, Pairs}
 use Rattle.cd_elements.specs.declared.shape.ElementId.{ElementId}
 use Rattle.cd_elements.specs.Table.{Names, IsResult, pairs_of}
-use Rattle.cd_normal.specs.ChoicesGoOn.{IsOfNodes}
+use Rattle.cd_normal.specs.ConjunctsGoOn.{IsOfNodes}
 use Rattle.cd_normal.specs.Partials.{partials}
 use Rattle.cd_normal.specs.PlainClause.{plain_clause}
 use Rattle.cd_rules.specs.Clauses.{Clause, Arrows}
@@ -27,7 +27,7 @@ IsFunctionSoFar graph (Some (Arrows wanted refused)) pairs later branches =
 IsFunctionSoFar graph clause pairs later branches = Unit {0}
 
 pub record IsFit (graph : Graph) (table : List Thing) (frame : Frame) : Type 0 where
-  pub choices : AllOf (IsOfNodes (length graph)) (partials frame.choices)
+  pub conjuncts : AllOf (IsOfNodes (length graph)) (partials frame.conjuncts)
   pub named : AllOf (IsPairNamed table) frame.pairs.items
   pub function : IsFunctionSoFar graph (option_map plain_clause frame.clause)
       (pairs_of table frame.pairs.items) (map plain_task frame.later)

@@ -3,7 +3,7 @@ use Rattle.std.specs.Prelude.{◌≡◌, List, [], ◌∷◌, ◌++◌, Option, 
 use Rattle.cd_sets.specs.declared.question.Question.{Question}
 use Rattle.cd_model.specs.AllOf.{AnyOf}
 use Rattle.cd_elements.specs.declared.shape.ElementId.{ElementId}
-use Rattle.cd_rules.specs.Family.{IsCovered}
+use Rattle.cd_rules.specs.Family.{IsSubsumed}
 use Rattle.cd_empty.specs.declared.decider.Decider.{Decider}
 use Rattle.cd_empty.specs.declared.look.Look.{Look}
 use Rattle.cd_empty.specs.declared.look.Look.TheVariants as look
@@ -16,7 +16,7 @@ use Rattle.cd_empty.specs.Kept.{kept}
 use Rattle.cd_empty.specs.Verdicts.{IsKept}
 
 abbrev pub IsSeen : Decider → Question → Look → Type 0
-IsSeen decider question look.Empty = IsCovered question (known decider)
+IsSeen decider question look.Empty = IsSubsumed question (known decider)
 IsSeen decider question (look.Has id) = IsKept (kept decider) question (Inhabited id)
 IsSeen decider question look.Unknown = IsUnknown decider question
 
@@ -29,7 +29,7 @@ HaveElements decider _ _ = ⊥
 
 abbrev pub AreParts : Decider → List Question → Parts → Type 0
 AreParts decider questions Missing =
-    AnyOf (λ question. IsCovered question (known decider)) questions
+    AnyOf (λ question. IsSubsumed question (known decider)) questions
 AreParts decider questions (Unknown question) =
     AnyOf (λ other. other ≡ question) questions × IsUnknown decider question
 AreParts decider questions (Are ids) = HaveElements decider ids.items questions
@@ -38,7 +38,7 @@ AreParts decider questions (Are ids) = HaveElements decider ids.items questions
 abbrev pub AddsPart : Decider → Question → (before after : List ElementId) → Option Parts → Type 0
 AddsPart decider question before after None = (id : ElementId)
     × (after ≡ before ++ id ∷ []) × IsKept (kept decider) question (Inhabited id)
-AddsPart decider question before after (Some Missing) = IsCovered question (known decider)
+AddsPart decider question before after (Some Missing) = IsSubsumed question (known decider)
 AddsPart decider question before after (Some (Unknown other)) = (question ≡ other)
     × IsUnknown decider other
 AddsPart decider question before after (Some (Are ids)) = ⊥

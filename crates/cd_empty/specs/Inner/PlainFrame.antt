@@ -13,7 +13,7 @@ use Rattle.cd_empty.specs.Kept.{kept, witnesses}
 use Rattle.cd_empty.specs.Verdicts.{family}
 
 abbrev pub plain_work : Frame → Work
-plain_work frame = work (partials frame.choices) (option_map plain_clause frame.clause)
+plain_work frame = work (partials frame.conjuncts) (option_map plain_clause frame.clause)
     (map plain_task frame.later) (map plain_task frame.branches)
 
 abbrev pub plain_frame : Frame → machine.Frame

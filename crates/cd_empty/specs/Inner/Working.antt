@@ -11,7 +11,7 @@ use Rattle.cd_rules.specs.Right.{IsWorkOf}
 use Rattle.cd_normal.specs.Partials.{partials}
 use Rattle.cd_rules.specs.Clauses.{Clause, IsInClause}
 use Rattle.cd_rules.specs.Family.{AreAmong, AsksNodes}
-use Rattle.cd_rules.specs.PartialChoices.{Partial, PartialFails}
+use Rattle.cd_rules.specs.PartialConjuncts.{Partial, PartialFails}
 use Rattle.cd_rules.specs.Tasks as rules
 use Rattle.cd_rules.specs.Tasks.{tasks_of}
 use Rattle.cd_sets.specs.declared.question.Question.{Question}
@@ -45,7 +45,7 @@ pub record AddsElements (before after : Decider) : Type 0 where
 abbrev pub AddsPair : Decider → ElementId × Option ElementId → (before after : Frame) → Doing
     → Type 0
 AddsPair decider pair before after Worked = (next : Task) × (before.later ≡ next ∷ after.later)
-    × (after.branches ≡ next ∷ []) × (partials after.choices ≡ partials before.choices)
+    × (after.branches ≡ next ∷ []) × (partials after.conjuncts ≡ partials before.conjuncts)
     × (after.clause ≡ before.clause) × (after.pairs.items ≡ pair ∷ before.pairs.items)
 AddsPair decider pair before after (Found id) = (before.later ≡ [])
     × Names (table decider) id
@@ -72,7 +72,7 @@ IsMember graph table clause id = Names table id × IsElement (element_at table i
 abbrev pub Begins : Decider → Clause → (before after : Frame) → Doing → Type 0
 Begins decider clause before after Worked = (task : rules.Task) × (later : List rules.Task)
     × (tasks_of clause ≡ task ∷ later)
-    × (plain_work after ≡ work (partials before.choices) (Some clause) later (task ∷ []))
+    × (plain_work after ≡ work (partials before.conjuncts) (Some clause) later (task ∷ []))
     × (after.pairs.items ≡ [])
 Begins decider clause before after (Found id) =
     (graph : Graph) → IsMember graph (table decider) clause id

@@ -1,6 +1,6 @@
 -- What stands after an opening quote.
 use Rattle.std.specs.Prelude.{◌≡◌, ℕ, List, ◌∷◌, ◌++◌}
-use Rattle.cd_syntax.specs.Quotes.{Quotes, BreaksEscape, EndsHalf}
+use Rattle.cd_syntax.specs.Quotes.{Quotes, BeginsNoEscape, EndsHalf}
 use Rattle.cd_lex.specs.declared.quoted.Quoted.{Quoted}
 use Rattle.cd_lex.specs.declared.quoted.Quoted.TheVariants.{Closed, Breaks, Ends}
 
@@ -18,7 +18,7 @@ IsClosed quote text characters new = Means quote text characters (quote ∷ new)
 pub record IsBroken (quote : ℕ) (text new : List ℕ) : Type 0 where
   pub characters : List ℕ
   pub means : Means quote text characters new
-  pub breaks : BreaksEscape new
+  pub breaks : BeginsNoEscape new
 
 -- the text ends before a closing quote
 pub record IsOpen (quote : ℕ) (text : List ℕ) : Type 0 where

@@ -1,6 +1,6 @@
 -- What stands after a `\`.
 use Rattle.std.specs.Prelude.{◌≡◌, ℕ, List, [], ◌∷◌, ◌++◌, Option, MatchOption}
-use Rattle.cd_syntax.specs.Quotes.{IsEscapeLetter, Quotes, BreaksEscape, EndsHalf}
+use Rattle.cd_syntax.specs.Quotes.{IsEscapeLetter, Quotes, BeginsNoEscape, EndsHalf}
 use Rattle.cd_lex.specs.declared.quoted.Escape.{Escape}
 use Rattle.cd_lex.specs.declared.quoted.Escape.TheVariants.{Means, Breaks, Ends}
 
@@ -18,5 +18,5 @@ pub record IsEscapeOf (text : List ℕ) (c : ℕ) (new : List ℕ) : Type 0 wher
 -- an escape; or none begins so; or the text ends too early
 abbrev pub IsEscape : List ℕ → Escape → (new : List ℕ) → Type 0
 IsEscape text (Means c) new = IsEscapeOf text c new
-IsEscape text Breaks new = BreaksEscape (92 ∷ text)
+IsEscape text Breaks new = BeginsNoEscape (92 ∷ text)
 IsEscape text Ends new = EndsHalf (92 ∷ text)

@@ -3,25 +3,25 @@ use Rattle.std.specs.Prelude.{◌≡◌, ℕ, ◌-◌, ◌<◌, ◌≤◌, ◌�
 use Rattle.cd_syntax.specs.declared.tokens.Token.{Token as AToken}
 use Rattle.cd_syntax.specs.declared.tokens.LexError.{LexError}
 use Rattle.cd_syntax.specs.declared.tokens.LexError.TheVariants.{Memory}
-use Rattle.cd_syntax.specs.Tokens.{bytes, Spells, joins}
-use Rattle.cd_syntax.specs.Faults.{Fails}
+use Rattle.cd_syntax.specs.Tokens.{bytes, Lexes, joins}
+use Rattle.cd_syntax.specs.Faults.{HasFirstFault}
 use Rattle.cd_lex.specs.declared.lexer.Lexeme.{Lexeme}
 use Rattle.cd_lex.specs.declared.lexer.Lexeme.TheVariants.{Token, End, Fault}
 use Rattle.cd_lex.specs.declared.lexer.Lexer.{Lexer}
-use Rattle.cd_lex.specs.Lexing.{token_with, SpellsOn, FailsOn, left, IsSoundKind}
+use Rattle.cd_lex.specs.Lexing.{token_with, LexesOn, FailsOn, left, IsSoundKind}
 
 -- the end of a text, whose whole ends at this byte, spells these tokens, and has this first fault
-abbrev pub SpellsUpTo : (end : ℕ) (joined : Bool) → List ℕ → List AToken → Type 0
-SpellsUpTo end joined text tokens = Spells joined (end - bytes text) text tokens
+abbrev pub LexesUpTo : (end : ℕ) (joined : Bool) → List ℕ → List AToken → Type 0
+LexesUpTo end joined text tokens = Lexes joined (end - bytes text) text tokens
 
 abbrev pub FailsUpTo : (end : ℕ) (joined : Bool) → List ℕ → LexError → Type 0
-FailsUpTo end joined text fault = Fails joined (end - bytes text) text fault
+FailsUpTo end joined text fault = HasFirstFault joined (end - bytes text) text fault
 
 -- these tokens are read: those of what is left follow them, and its first fault is that of the text
 pub record IsReadTo (end : ℕ) (joined : Bool) (text : List ℕ) (tokens : List AToken)
     (joined_then : Bool) (left : List ℕ) : Type 0 where
-  pub spells : (more : List AToken) → SpellsUpTo end joined_then left more
-      → SpellsUpTo end joined text (tokens ++ more)
+  pub lexes : (more : List AToken) → LexesUpTo end joined_then left more
+      → LexesUpTo end joined text (tokens ++ more)
   pub fails : (fault : LexError) → FailsUpTo end joined_then left fault
       → FailsUpTo end joined text fault
   pub fits : bytes left ≤ end
@@ -37,11 +37,11 @@ abbrev pub IsLexeme : (end : ℕ) (joined : Bool) → List ℕ → Lexeme → (n
     → Type 0
 IsLexeme end joined text (Token is span) new characters =
     IsTokenRead end joined text (token_with is span characters) new
-IsLexeme end joined text End new characters = SpellsUpTo end joined text []
+IsLexeme end joined text End new characters = LexesUpTo end joined text []
 IsLexeme end joined text (Fault fault) new characters =
     (fault ≡ Memory) ⊎ FailsUpTo end joined text fault
 
 -- a lexer has read these tokens of the text
 pub record HasRead (text : List ℕ) (tokens : List AToken) (lexer : Lexer) : Type 0 where
-  pub spells : (more : List AToken) → SpellsOn lexer more → Spells false 0 text (tokens ++ more)
-  pub fails : (fault : LexError) → FailsOn lexer fault → Fails false 0 text fault
+  pub lexes : (more : List AToken) → LexesOn lexer more → Lexes false 0 text (tokens ++ more)
+  pub fails : (fault : LexError) → FailsOn lexer fault → HasFirstFault false 0 text fault

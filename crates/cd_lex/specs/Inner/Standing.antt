@@ -5,8 +5,8 @@ use Rattle.cd_syntax.specs.declared.tokens.TokenKind.{TokenKind}
 use Rattle.cd_syntax.specs.declared.tokens.LexError.{LexError}
 use Rattle.cd_syntax.specs.declared.tokens.LexError.TheVariants.{Memory}
 use Rattle.cd_syntax.specs.Signs.{characters, BeginsWith, IsLongest}
-use Rattle.cd_syntax.specs.Tokens.{IsDropped, Writes}
-use Rattle.cd_syntax.specs.Faults.{Breaks}
+use Rattle.cd_syntax.specs.Tokens.{IsDropped, IsLexemeOf}
+use Rattle.cd_syntax.specs.Faults.{HasFaultHere}
 use Rattle.cd_lex.specs.declared.piece.Piece.{Piece}
 use Rattle.cd_lex.specs.declared.piece.Piece.TheVariants.{Dropped, Token}
 use Rattle.cd_lex.specs.Lexing.{with_characters}
@@ -24,7 +24,7 @@ pub record IsTokenTo (joined : Bool) (text : List ℕ) (kind : TokenKind)
   pub written : List ℕ
   pub is : text ≡ written ++ new
   pub some : 0 < length written
-  pub writes : Writes joined written new kind
+  pub writes : IsLexemeOf joined written new kind
 
 abbrev pub Stands : Bool → List ℕ → Piece → (new characters : List ℕ) → Type 0
 Stands joined text Dropped new spelled = IsDroppedTo text new
@@ -32,8 +32,8 @@ Stands joined text (Token kind) new spelled =
     IsTokenTo joined text (with_characters kind spelled) new
 
 -- memory ran out, or this fault stands at the front of the text, which begins at this byte
-abbrev pub FaultAtFront : Bool → ℕ → List ℕ → LexError → Type 0
-FaultAtFront joined at text error = (error ≡ Memory) ⊎ Breaks joined at text error
+abbrev pub IsErrorHere : Bool → ℕ → List ℕ → LexError → Type 0
+IsErrorHere joined at text error = (error ≡ Memory) ⊎ HasFaultHere joined at text error
 
 -- no sign stands first, but one that begins with `(` or `-`
 abbrev pub BeginsWithNoSign : List ℕ → Type 0

@@ -3,7 +3,7 @@ use Rattle.cd_syntax.specs.PlainTree.{plain_declarations}
 use Rattle.cd_resolve.specs.Named.{declared_by}
 use Rattle.cd_replies.specs.Bytes.{Bytes}
 use Rattle.cd_replies.specs.Disk.{HasText, refused}
-use Rattle.cd_replies.specs.Message.{against}
+use Rattle.cd_replies.specs.Message.{text_fault}
 use Rattle.cd_replies.specs.Naming.{AreNamedWell}
 use Rattle.cd_replies.specs.Reply.{refusal}
 use Rattle.cd_replies.specs.Texts.{Declares}
@@ -36,20 +36,20 @@ returns-in-Ok-2 g c =
 pub returns-in-Err : goal.returns-in-Err
 returns-in-Err g c =
     let file = c.args.file.now in
-    let said = refusal file c.args.types.now (against c.in-Err.refusal) in
+    let said = refusal file c.args.types.now (text_fault c.in-Err.refusal) in
     let stands = rw c.in-Err.is at c.in_ok-declared.ensures.read in
     said_at_once (λ disk reply. HasText disk file c.args.types.now → MemberAnswer disk file c.args.document.now c.args.text.now reply)
     _ c.args.document.now said c.refused.result c.refused.ensures
-    (λ disk has. file_refused said (refused c.args.types.now has (against c.in-Err.refusal) stands))
+    (λ disk has. file_refused said (refused c.args.types.now has (text_fault c.in-Err.refusal) stands))
 
 pub returns : goal.returns
 returns g c =
     let file = c.args.file.now in
     let types = c.args.types.now in
     let declared = plain_declarations c.in-Ok.declared in
-    let said = refusal file types (against c.in-Err-2.fault) in
+    let said = refusal file types (text_fault c.in-Err-2.fault) in
     let writes = rw c.in-Ok.is at c.in_ok-declared.ensures.read in
-    let stands = writes_refused types declared writes (against c.in-Err-2.fault) (rw c.in-Err-2.is at c.in_ok-names.ensures.named) in
+    let stands = writes_refused types declared writes (text_fault c.in-Err-2.fault) (rw c.in-Err-2.is at c.in_ok-names.ensures.named) in
     said_at_once (λ disk reply. HasText disk file types → MemberAnswer disk file c.args.document.now c.args.text.now reply)
     _ c.args.document.now said c.refused-in-Err-2.result c.refused-in-Err-2.ensures
-    (λ disk has. file_refused said (refused types has (against c.in-Err-2.fault) stands))
+    (λ disk has. file_refused said (refused types has (text_fault c.in-Err-2.fault) stands))

@@ -4,7 +4,7 @@ use Rattle.cd_model.specs.Written.{Written}
 use Rattle.cd_graph.specs.Nodes.{nodes}
 use Rattle.cd_resolve.specs.Named.{declared_by}
 use Rattle.cd_replies.specs.Bytes.{Bytes}
-use Rattle.cd_replies.specs.Message.{against}
+use Rattle.cd_replies.specs.Message.{text_fault}
 use Rattle.cd_replies.specs.Reply.{refusal}
 use Rattle.cd_member.specs.MemberAnswer.{FileDeclares, DocumentAnswer, MemberAnswer, type_refused, on_document}
 use Rattle.cd_replies.proofs.TwoFiles.{said_at_once, leads_to}
@@ -32,5 +32,5 @@ returns-in-Err g c =
     let declared = declared_by c.args.names.now in
     let stands = rw c.in-Err.is at c.in_ok-id.ensures in
     said_at_once (λ disk reply. (file : Bytes) → FileDeclares disk file declared → MemberAnswer disk file c.args.document.now c.args.text.now reply)
-    _ c.args.document.now (refusal (codes "T") c.args.text.now (against c.in-Err.refusal)) c.refused.result c.refused.ensures
-    (λ disk file declares. type_refused declared declares (against c.in-Err.refusal) stands)
+    _ c.args.document.now (refusal (codes "T") c.args.text.now (text_fault c.in-Err.refusal)) c.refused.result c.refused.ensures
+    (λ disk file declares. type_refused declared declares (text_fault c.in-Err.refusal) stands)

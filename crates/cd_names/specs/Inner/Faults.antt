@@ -2,7 +2,7 @@
 use Rattle.std.specs.Prelude.{List, Result, OnOk, IfErr}
 use Rattle.cd_syntax.specs.TypeTree.{Tree, Declarations}
 use Rattle.cd_model.specs.AllOf.{AnyOf}
-use Rattle.cd_resolve.specs.Errors.{IsToldError}
+use Rattle.cd_resolve.specs.Errors.{IsReportedError}
 use Rattle.cd_resolve.specs.Faults.{Fault, IsFaultOfType}
 use Rattle.cd_resolve.specs.declared.error.NameError.{NameError}
 
@@ -11,6 +11,6 @@ abbrev pub IsFaultOfOne : Declarations → List Tree → Fault → Type 0
 IsFaultOfOne types trees fault = AnyOf (λ t. IsFaultOfType types t fault) trees
 
 -- what is told of the faults that are such
-pub record Tells (IsSuch : Fault → Type 0) (result : Result (Unit {0}) NameError) : Type 0 where
+pub record Reports (IsSuch : Fault → Type 0) (result : Result (Unit {0}) NameError) : Type 0 where
   pub sound : OnOk result ((fault : Fault) → IsSuch fault → ⊥)
-  pub fault : IfErr result (λ error. IsToldError IsSuch error)
+  pub fault : IfErr result (λ error. IsReportedError IsSuch error)

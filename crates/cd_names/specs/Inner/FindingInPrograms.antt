@@ -27,8 +27,8 @@ pub record Found : Type 0 where
 abbrev pub nothing : Found
 nothing = record { faults = []; trees = [] }
 
-abbrev pub told : NameFault → Name → ℕ → Found → Found
-told fault name at found = record {
+abbrev pub reported : NameFault → Name → ℕ → Found → Found
+reported fault name at found = record {
   faults = found.faults ++ record { fault = fault; name = name; at = at } ∷ [];
   trees = found.trees;
 }
@@ -50,17 +50,17 @@ with_types (arrow ∷ arrows) found =
 -- a name is met at this place
 abbrev pub met : (seen : Bool) → Name → ℕ → Found → Found
 met true name at found = found
-met false name at found = told Unknown name at found
+met false name at found = reported Unknown name at found
 
-abbrev pub told_if : (again : Bool) → Name → ℕ → Found → Found
-told_if true name at found = told Twice name at found
-told_if false name at found = found
+abbrev pub reported_if : (again : Bool) → Name → ℕ → Found → Found
+reported_if true name at found = reported Twice name at found
+reported_if false name at found = found
 
 -- the occurrences of names that stand before, or are among these
 abbrev pub again : List Name → List Occurrence → Found → Found
 again before [] found = found
 again before (o ∷ rest) found =
-    again (before ++ o.name ∷ []) rest (told_if (is_seen before o.name) o.name o.at found)
+    again (before ++ o.name ∷ []) rest (reported_if (is_seen before o.name) o.name o.at found)
 
 abbrev pub labels_of : Fields → List Occurrence
 labels_of NoField = []
@@ -143,7 +143,7 @@ names_declared functions = map (λ occurrence. occurrence.name) (declared_names 
 
 abbrev pub main_found : Bool → (end : ℕ) → Found → Found
 main_found true end found = found
-main_found false end found = told NoMain [] end found
+main_found false end found = reported NoMain [] end found
 
 abbrev pub found_in_functions : Seen → List FunctionTree → Found → Found
 found_in_functions seen [] found = found

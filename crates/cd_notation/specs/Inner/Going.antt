@@ -3,14 +3,14 @@ use Rattle.std.specs.Prelude.{◌≡◌, ℕ, false, List, ◌⊎◌, Result, Ok
 use Rattle.cd_syntax.specs.declared.tokens.Token.{Token}
 use Rattle.cd_syntax.specs.declared.tokens.LexError.{LexError}
 use Rattle.cd_syntax.specs.declared.tokens.LexError.TheVariants as lex
-use Rattle.cd_syntax.specs.Tokens.{Spells}
-use Rattle.cd_syntax.specs.Faults.{Fails}
+use Rattle.cd_syntax.specs.Tokens.{Lexes}
+use Rattle.cd_syntax.specs.Faults.{HasFirstFault}
 use Rattle.cd_documents.specs.Machine.{State, start, run}
 use Rattle.cd_documents.specs.Reading.{most_open}
 use Rattle.cd_cells.specs.declared.values.Values.{Values}
 use Rattle.cd_cells.specs.declared.cell.ValueId.{ValueId}
 use Rattle.cd_lex.specs.declared.lexer.Lexer.{Lexer}
-use Rattle.cd_lex.specs.Lexing.{SpellsOn, FailsOn}
+use Rattle.cd_lex.specs.Lexing.{LexesOn, FailsOn}
 use Rattle.cd_notation.specs.declared.form.Expecting.{Expecting}
 use Rattle.cd_notation.specs.declared.form.Expecting.TheVariants.{Nothing}
 use Rattle.cd_notation.specs.declared.read.NotationError.{NotationError}
@@ -21,7 +21,7 @@ use Rattle.cd_notation.specs.Inner.Leading.{Stands}
 -- the text has tokens, and the machine goes on with the rest of them from this state
 pub record Makes (text : List ℕ) (now : State) (rest : List Token) : Type 0 where
   pub all : List Token
-  pub spells : Spells false 0 text all
+  pub lexes : Lexes false 0 text all
   pub runs : run most_open start all ≡ run most_open now rest
 
 -- what is left of the text, and the state: what the rest spells follows what was read
@@ -29,13 +29,13 @@ pub record Going (text : List ℕ) (lexer : Lexer) (values : Values) (next : Exp
     (reader : Reader) : Type 0 where
   pub now : State
   pub stands : Stands values next reader now
-  pub makes : (rest : List Token) → SpellsOn lexer rest → Makes text now rest
-  pub fails : (fault : LexError) → FailsOn lexer fault → Fails false 0 text fault
+  pub makes : (rest : List Token) → LexesOn lexer rest → Makes text now rest
+  pub fails : (fault : LexError) → FailsOn lexer fault → HasFirstFault false 0 text fault
 
 -- what is left of a text whose tokens alone matter
 pub record Passing (old lexer : Lexer) : Type 0 where
-  pub spells : (rest : List Token) → SpellsOn lexer rest
-      → (all : List Token) × SpellsOn old all
+  pub lexes : (rest : List Token) → LexesOn lexer rest
+      → (all : List Token) × LexesOn old all
   pub fails : (fault : LexError) → FailsOn lexer fault → FailsOn old fault
 
 -- a fault of the lexer; want of memory is none
@@ -45,7 +45,7 @@ of_lexer fault = Lex fault
 
 -- the rest of a text has tokens and the error is this one, or it has none, or memory ran out
 abbrev pub IsRefusal : Lexer → (fault error : NotationError) → Type 0
-IsRefusal lexer fault error = ((error ≡ fault) × (tokens : List Token) × SpellsOn lexer tokens)
+IsRefusal lexer fault error = ((error ≡ fault) × (tokens : List Token) × LexesOn lexer tokens)
     ⊎ (error ≡ Memory) ⊎ ((first : LexError) × (error ≡ Lex first) × FailsOn lexer first)
 
 -- the value at the end of a text

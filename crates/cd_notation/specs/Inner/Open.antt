@@ -27,9 +27,9 @@ pub data AreLabelsAt (names : List Name) : List ℕ → List Name → Type 0 whe
       → AreLabelsAt names (number ∷ numbers) (label ∷ labels)
 
 -- no label stands twice
-abbrev pub AreApart : List Name → Type 0
-AreApart [] = Unit {0}
-AreApart (label ∷ labels) = (is_among label labels ≡ false) × AreApart labels
+abbrev pub AreDistinct : List Name → Type 0
+AreDistinct [] = Unit {0}
+AreDistinct (label ∷ labels) = (is_among label labels ≡ false) × AreDistinct labels
 
 -- a stack with this upper part, under which so many are left
 pub record IsTop {X : Type 0} (from : ℕ) (top below all : List X) : Type 0 where
@@ -49,7 +49,7 @@ pub record HasLabels (names : List Name) (from : ℕ) (numbers below : List ℕ)
   pub top : List ℕ
   pub is : IsTop from top below numbers
   pub at : AreLabelsAt names top labels
-  pub apart : AreApart labels
+  pub apart : AreDistinct labels
 
 -- the forms of a reader, with its items and its labels, the last one of each first
 pub data IsOpen (names : List Name) (table : List Thing)

@@ -2,7 +2,7 @@
 use Rattle.std.specs.Prelude.{ℕ, List, [], ◌∷◌, ◌++◌, Option, None, Some, map, codes}
 use Rattle.std.specs.List.{flat_map}
 use Rattle.cd_model.specs.Canonical.{Text, Part, Letter, Row, escaped, joined, part_text}
-use Rattle.cd_model.specs.Canonical.{pieces_of, piece_text, written, canonical, field_texts}
+use Rattle.cd_model.specs.Canonical.{pieces_of, piece_text, printed, canonical, field_texts}
 use Rattle.cd_cells.specs.declared.cell.Part as cell
 use Rattle.cd_cells.specs.declared.cell.ValueId.{ValueId}
 use Rattle.cd_cells.specs.declared.values.Values.{Values}
@@ -14,10 +14,10 @@ abbrev pub text_at : Values → ValueId → Text
 text_at values id = canonical (thing_at (table values) id.0)
 
 abbrev pub part_at : Values → ValueId → Part
-part_at values id = (written (thing_at (table values) id.0)).part
+part_at values id = (printed (thing_at (table values) id.0)).part
 
 abbrev pub row_at : Values → ValueId → Row
-row_at values id = (written (thing_at (table values) id.0)).row
+row_at values id = (printed (thing_at (table values) id.0)).row
 
 -- fields as texts
 abbrev pub field_texts_at : Values → List cell.Part → List Text

@@ -8,7 +8,7 @@ use Rattle.cd_model.specs.Formula.{Graph, in_node}
 use Rattle.cd_model.specs.Thing.{IsElement}
 use Rattle.cd_rules.specs.Needs.{question}
 use Rattle.cd_rules.specs.Rows.{Cell, Row}
-use Rattle.cd_rows.specs.RecordRows.{AreRecordRows, IsLivingRow, RowAsksNodes}
+use Rattle.cd_rows.specs.RecordRows.{AreRecordRows, RowHasWitnesses, RowAsksNodes}
 
 -- they hold the records of a node
 abbrev pub AreRowsOf : Graph → NodeId → List Row → Type 0
@@ -17,7 +17,7 @@ AreRowsOf graph a rows = AreRecordRows (in_node graph) IsElement (question (a �
 -- they ask nodes of the graph, and each of them has a record
 pub record AreRowsIn (graph : Graph) (rows : List Row) : Type 0 where
   pub asks : AllOf (RowAsksNodes (length graph)) rows
-  pub living : AllOf (IsLivingRow (in_node graph) IsElement) rows
+  pub witnesses : AllOf (RowHasWitnesses (in_node graph) IsElement) rows
 
 -- whether a label has a cell
 abbrev pub has_cell : List (Name × Cell) → Name → Bool

@@ -163,10 +163,10 @@ declare::walk_declared-loop-place-preserved t c =
     let here_found = rw (declaration_is one) at left_found in
     let one_more = rw (ap (λ one. one.name) (declaration_is one)) at
     (one_name_more items declared place one c.items-items.ensures c.index-items-place.is c.loop-place-test.true) in
-    let told = rw c.is_taken.ensures at c.in_ok-tell_twice.ensures in
+    let reported = rw c.is_taken.ensures at c.in_ok-report_twice.ensures in
     let step_found = found_more lists c.args.frame.now.list (take place (names_in declared)) _
     (record { name = one.name; at = one.at; tree = plain one.tree }) rest
-    (plain_found c.loop-place.found) (plain_found c.tell_twice.new.self) (plain_found c.walk.new.found)
+    (plain_found c.loop-place.found) (plain_found c.report_twice.new.self) (plain_found c.walk.new.found)
     c.declares_before-again.result (plain_start c.start_of-start.result) c.declares_before-again.ensures one_more
-    c.start_of-start.ensures told c.in_ok-root.ensures.found in
+    c.start_of-start.ensures reported c.in_ok-root.ensures.found in
     (step_found ∙ sym here_found ∙ c.loop-place.invariant.0, step ∙ sym here ∙ c.loop-place.invariant.1)

@@ -44,11 +44,11 @@ is_cyclic links id = is_held (reached links id) id
 abbrev pub unguarded : Link → Fault
 unguarded link = record { fault = Unguarded; name = link.to.name; at = link.at }
 
-abbrev pub told_cycle : Bool → Link → List Fault → List Fault
-told_cycle true link faults = faults ++ unguarded link ∷ []
-told_cycle false link faults = faults
+abbrev pub reported_cycle : Bool → Link → List Fault → List Fault
+reported_cycle true link faults = faults ++ unguarded link ∷ []
+reported_cycle false link faults = faults
 
-abbrev pub cycles_told : List Link → List Link → List Fault → List Fault
-cycles_told links [] faults = faults
-cycles_told links (link ∷ rest) faults =
-    cycles_told links rest (told_cycle (is_cyclic links link.to) link faults)
+abbrev pub cycles_reported : List Link → List Link → List Fault → List Fault
+cycles_reported links [] faults = faults
+cycles_reported links (link ∷ rest) faults =
+    cycles_reported links rest (reported_cycle (is_cyclic links link.to) link faults)

@@ -43,8 +43,8 @@ pub record State (N : Type 0) : Type 0 where
   pub lists : List N
   pub links : List Link
 
-abbrev pub told : {N : Type 0} → NameFault → Name → ℕ → State N → State N
-told fault name at s = record {
+abbrev pub reported : {N : Type 0} → NameFault → Name → ℕ → State N → State N
+reported fault name at s = record {
   faults = s.faults ++ record { fault = fault; name = name; at = at } ∷ [];
   lists = s.lists;
   links = s.links;
@@ -82,14 +82,14 @@ place_of (frame ∷ outer) name =
 
 -- a name is met at this place, in the tree of this declared name and under no constructor
 abbrev pub met : {N : Type 0} → Option Id → Name → ℕ → Option Place → State N → State N
-met start name at None s = told Unknown name at s
+met start name at None s = reported Unknown name at s
 met None name at (Some place) s = s
 met (Some start) name at (Some place) s = linked start
     (record { list = place.list; name = name }) place.at s
 
-abbrev pub told_if : {N : Type 0} → Bool → Name → ℕ → State N → State N
-told_if true name at s = told Twice name at s
-told_if false name at s = s
+abbrev pub reported_if : {N : Type 0} → Bool → Name → ℕ → State N → State N
+reported_if true name at s = reported Twice name at s
+reported_if false name at s = s
 
 -- a name that is declared again leads nowhere, since uses mean the first
 abbrev pub start_of : Bool → ℕ → Name → Option Id
@@ -100,7 +100,7 @@ start_of false list name = Some (record { list = list; name = name })
 abbrev pub labelled : {N : Type 0} → List Name → Fields → State N → State N
 labelled seen NoField s = s
 labelled seen (AField label at optional is rest) s = labelled (seen ++ label ∷ []) rest
-    (told_if (is_among seen label) label at s)
+    (reported_if (is_among seen label) label at s)
 
 -- the walk over a tree under these lists. `start` is the declared name that leads to the tree
 -- through no constructor, and `keep` is what is kept of a list
@@ -153,7 +153,7 @@ abbrev mutual
   found_in_declared keep frames list seen (ADeclaration name at is rest) s =
       found_in_declared keep frames list (seen ++ name ∷ []) rest
       (found_in keep frames (start_of (is_among seen name) list name) is
-      (told_if (is_among seen name || is_builtin name) name at s))
+      (reported_if (is_among seen name || is_builtin name) name at s))
 
   pub found_in_regular : {N : Type 0} → (Frames → N) → Frames → Regular → State N → State N
   found_in_regular keep frames (regular span kind) s = found_in_regular_kind keep frames kind s

@@ -3,7 +3,7 @@ use Rattle.std.specs.Prelude.{List, Option, map, length}
 use Rattle.std.specs.Option.{option_map}
 use Rattle.cd_syntax.specs.TypeTree.{Declarations}
 use Rattle.cd_syntax.specs.PlainTree.{plain_declarations}
-use Rattle.cd_resolve.specs.PlainTold.{plain_told}
+use Rattle.cd_resolve.specs.PlainTold.{plain_reported}
 use Rattle.cd_resolve.specs.Inner.Finding as walk
 use Rattle.cd_resolve.specs.Inner.Finding.{State}
 use Rattle.cd_resolve.specs.declared.frame.Frame.{Frame}
@@ -35,7 +35,7 @@ plain_place place = option_map (λ one. record { list = one.list; at = one.at })
 
 abbrev pub plain_found : Found → State Declarations
 plain_found found = record {
-  faults = map plain_told found.faults.items;
+  faults = map plain_reported found.faults.items;
   lists = map (λ one. plain_declarations one.now) found.lists.items;
   links = map plain_link found.links.items;
 }

@@ -3,7 +3,7 @@ use Rattle.cd_cells.specs.Table.{table}
 use Rattle.cd_model.proofs.Closures.{data_are_elements}
 use Rattle.cd_program.specs.PlainProgram.{plain_program}
 use Rattle.cd_replies.specs.Disk.{Disk, HasText, refused}
-use Rattle.cd_replies.specs.Message.{against}
+use Rattle.cd_replies.specs.Message.{text_fault}
 use Rattle.cd_replies.specs.Reply.{refusal}
 use Rattle.cd_replies.proofs.DocumentsRead.{writes_data, writes_value}
 use Rattle.cd_replies.proofs.Messages.{replies}
@@ -27,6 +27,6 @@ returns c =
     let text = c.args.text.now in
     let program = plain_program c.args.program.now in
     let stands = rw c.in-Err.is at c.in_ok-value.ensures.read in
-    let said = refusal document text (against c.in-Err.refusal) in
+    let said = refusal document text (text_fault c.in-Err.refusal) in
     replies c.refused.result said (λ reply. (disk : Disk) → HasText disk document text → OnDocument program c.args.units document disk reply) c.refused.ensures
-    (λ disk has file typed. document_refused program typed said (refused text has (against c.in-Err.refusal) stands))
+    (λ disk has file typed. document_refused program typed said (refused text has (text_fault c.in-Err.refusal) stands))

@@ -1,7 +1,7 @@
 use Rattle.std.proofs.Common.{refl}
 use Rattle.cd_program.specs.PlainProgram.{plain_program}
 use Rattle.cd_replies.specs.Disk.{HasText, refused}
-use Rattle.cd_replies.specs.Message.{against, reply_of}
+use Rattle.cd_replies.specs.Message.{text_fault, reply_of}
 use Rattle.cd_replies.specs.Reply.{refusal}
 use Rattle.cd_replies.proofs.TwoFiles.{said_at_once, leads_to}
 use Rattle.cd_running.specs.Inner.OnDocument.{OnDocument}
@@ -34,11 +34,11 @@ returns g c =
     let text = c.args.text.now in
     let program = plain_program c.in-Ok.program in
     let reads = rw c.in-Ok.is at c.in_ok-program.ensures.read in
-    let tells = rw c.in-Some.is at c.in_ok-no_types.ensures in
+    let reports = rw c.in-Some.is at c.in_ok-no_types.ensures in
     let said = reply_of c.in-Some.message in
     said_at_once (λ disk reply. HasText disk file text → RunAnswer disk c.args.units file c.args.document.now reply)
     _ c.args.document.now said _ refl
-    (λ disk has. program_refused text program (record { has = has; reads = reads }) said tells)
+    (λ disk has. program_refused text program (record { has = has; reads = reads }) said reports)
 
 -- or this stands against it
 pub returns-in-Err : goal.returns-in-Err
@@ -46,7 +46,7 @@ returns-in-Err g c =
     let file = c.args.file.now in
     let text = c.args.text.now in
     let stands = rw c.in-Err.is at c.in_ok-program.ensures.read in
-    let said = refusal file text (against c.in-Err.refusal) in
+    let said = refusal file text (text_fault c.in-Err.refusal) in
     said_at_once (λ disk reply. HasText disk file text → RunAnswer disk c.args.units file c.args.document.now reply)
     _ c.args.document.now said c.refused.result c.refused.ensures
-    (λ disk has. file_refused said (refused text has (against c.in-Err.refusal) stands))
+    (λ disk has. file_refused said (refused text has (text_fault c.in-Err.refusal) stands))

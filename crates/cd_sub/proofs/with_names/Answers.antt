@@ -4,7 +4,7 @@ use Rattle.cd_resolve.specs.Named.{AreNamed, plain_names, declared_by}
 use Rattle.cd_resolve.proofs.Kept.{names_kept}
 use Rattle.cd_empty.specs.Seen.{graph_of}
 use Rattle.cd_replies.specs.Reply.{refusal}
-use Rattle.cd_replies.specs.Message.{against}
+use Rattle.cd_replies.specs.Message.{text_fault}
 use Rattle.cd_replies.specs.Naming.{StandsForText}
 use Rattle.cd_replies.proofs.Messages.{replies}
 use Rattle.cd_sub.specs.SubAnswer.{SubAnswer, first_refused, second_refused}
@@ -37,16 +37,16 @@ pub returns-in-Err : goal.returns-in-Err
 returns-in-Err c =
     let declared = declared_by c.args.names.now in
     let stands = rw c.in-Err.is at c.in_ok-left.ensures.read in
-    replies c.refused.result (refusal (codes "T1") c.args.first.now (against c.in-Err.refusal)) (SubAnswer declared c.args.first.now c.args.second.now) c.refused.ensures
-    (first_refused (against c.in-Err.refusal) stands)
+    replies c.refused.result (refusal (codes "T1") c.args.first.now (text_fault c.in-Err.refusal)) (SubAnswer declared c.args.first.now c.args.second.now) c.refused.ensures
+    (first_refused (text_fault c.in-Err.refusal) stands)
 
 pub returns-in-Err-2 : goal.returns-in-Err-2
 returns-in-Err-2 c =
     let declared = declared_by c.args.names.now in
     let first = rw c.in-Ok.is at c.in_ok-left.ensures.read in
     let stands = rw c.in-Err-2.is at c.in_ok-right.ensures.read in
-    replies c.refused-in-Err-2.result (refusal (codes "T2") c.args.second.now (against c.in-Err-2.refusal)) (SubAnswer declared c.args.first.now c.args.second.now) c.refused-in-Err-2.ensures
-    (second_refused first.type first.reads (against c.in-Err-2.refusal) stands)
+    replies c.refused-in-Err-2.result (refusal (codes "T2") c.args.second.now (text_fault c.in-Err-2.refusal)) (SubAnswer declared c.args.first.now c.args.second.now) c.refused-in-Err-2.ensures
+    (second_refused first.type first.reads (text_fault c.in-Err-2.refusal) stands)
 
 pub returns : goal.returns
 returns c =

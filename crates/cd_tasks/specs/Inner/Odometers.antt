@@ -11,15 +11,15 @@ words_left First last members word = all_words (suc last) members
 words_left Below last members word = after last members word
 words_left Later last members word = later last members word
 
-abbrev pub word_told : Next → Word → Option Word
-word_told First word = None
-word_told Below word = Some word
-word_told Later word = Some word
+abbrev pub word_visited : Next → Word → Option Word
+word_visited First word = None
+word_visited Below word = Some word
+word_visited Later word = Some word
 
 -- the words that are still to be told
 abbrev pub rest_of : Odometer → List Word
 rest_of words = words_left words.next words.last words.members words.word.items
 
 -- the word that was told last
-abbrev pub told_of : Odometer → Option Word
-told_of words = word_told words.next words.word.items
+abbrev pub visited_of : Odometer → Option Word
+visited_of words = word_visited words.next words.word.items

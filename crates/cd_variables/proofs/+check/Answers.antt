@@ -8,11 +8,11 @@ use Rattle.cd_variables.specs.Occurrences.{plain_of_all, gathered_of_all}
 use Rattle.cd_variables.specs.Occurrences.{plain as plain_ones, gathered as gathered_ones}
 use Rattle.cd_variables.specs.VariableFaults.{differs, repeats}
 use Rattle.cd_variables.specs.FindingVariables.{sign_faults, field_faults, sides_in}
-use Rattle.cd_variables.specs.FindingVariables.{told_if, told_again, told_of_each, differ}
+use Rattle.cd_variables.specs.FindingVariables.{reported_if, reported_again, reported_of_each, differ}
 use Rattle.cd_variables.specs.FindingVariables.{names_among, variable_faults, union_faults}
 use Rattle.cd_variables.specs.FindingVariables.{alternative_faults, choice_faults, other_faults}
 use Rattle.cd_variables.specs.PlainOccurrences.{plain_occurrence}
-use Rattle.cd_resolve.specs.PlainTold.{plain_told}
+use Rattle.cd_resolve.specs.PlainTold.{plain_reported}
 use Rattle.cd_resolve.proofs.Sizes.{trees_fall, signs_fall, fields_fall, regulars_fall}
 use Rattle.cd_resolve.proofs.Views.{signed_is, field_is, at_item}
 use Rattle.cd_variables.proofs.Views.{tree_begins, regular_starts}
@@ -20,11 +20,11 @@ use Rattle.cd_variables.proofs.Chosen.{first_and_rest, side_bound, kept_bound, s
 use Rattle.cd_variables.proofs.Since.{last_part}
 use Rattle.cd_variables.proofs.Stepping.{optional_step, present_step, side_step, kept_step}
 use Rattle.cd_variables.proofs.+check.Goals as goal
-use Rattle.cd_variables.proofs.+check.Goals.{row::check_record-then-field+in_ok-tell_misplaced}
+use Rattle.cd_variables.proofs.+check.Goals.{row::check_record-then-field+in_ok-report_misplaced}
 use Rattle.cd_variables.proofs.+check.Goals.{row::check_record-else-field+in_ok-add_part}
-use Rattle.cd_variables.proofs.+check.Goals.{row::check_meet-then-sides-gt0+in_ok-tell_misplaced}
+use Rattle.cd_variables.proofs.+check.Goals.{row::check_meet-then-sides-gt0+in_ok-report_misplaced}
 use Rattle.cd_variables.proofs.+check.Goals.{row::check_meet-else-sides-gt0+in_ok-add_part}
-use Rattle.cd_variables.proofs.+check.Goals.{row::check_signs-then-left-gt0+in_ok-tell_misplaced}
+use Rattle.cd_variables.proofs.+check.Goals.{row::check_signs-then-left-gt0+in_ok-report_misplaced}
 use Rattle.cd_variables.proofs.+check.Goals.{row::check_signs-else-left-gt0+in_ok-add_part}
 
 -- each item of a list is smaller than the list
@@ -69,7 +69,7 @@ row::check_record-loop-field-preserved t c =
     let rest = fields_of (map plain_field (drop (c.loop-field.field-index + 1) items)) in
     let all = map plain_occurrence c.loop-field.bound.items in
     let seen = c.loop-field.names in
-    let s = map plain_told c.loop-field.faults.items in
+    let s = map plain_reported c.loop-field.faults.items in
     let bound_left = at_item (λ left. all ++ bound_by_fields (fields_of (map plain_field left))) items
     c.loop-field.field-index one c.field-item.is c.loop-field-test.true in
     let found_left = at_item (λ left. field_faults seen (fields_of (map plain_field left)) s) items
@@ -77,20 +77,20 @@ row::check_record-loop-field-preserved t c =
     let bound_here = rw (field_is one) at bound_left in
     let found_here = rw (field_is one) at found_left in
     elim c.if-field.branch [
-      | row::check_record-then-field+in_ok-tell_misplaced w ↦
+      | row::check_record-then-field+in_ok-report_misplaced w ↦
           let step = optional_step one.label one.at one.optional (plain one.tree) rest all
           (map plain_occurrence c.if-field.bound.items) seen c.if-field.names s
-          (map plain_told c.if-field.faults.items) w.if-field.true
+          (map plain_reported c.if-field.faults.items) w.if-field.true
           (ap (λ bound. map plain_occurrence bound.items) w.bound-is) w.names-is
-          (ap (λ faults. map plain_told faults.items) w.faults-is ∙ w.in_ok-tell_misplaced.ensures) in
+          (ap (λ faults. map plain_reported faults.items) w.faults-is ∙ w.in_ok-report_misplaced.ensures) in
           (step.0 ∙ sym bound_here ∙ c.loop-field.invariant.0, step.1 ∙ sym found_here ∙ c.loop-field.invariant.1)
       | row::check_record-else-field+in_ok-add_part w ↦
           let step = present_step one.label one.at one.optional (plain one.tree) rest all
           (map plain_occurrence c.if-field.bound.items) seen c.if-field.names s
-          (map plain_told c.if-field.faults.items) w.if-field.false
+          (map plain_reported c.if-field.faults.items) w.if-field.false
           (ap (λ bound. map plain_occurrence bound.items) w.bound-is ∙ w.in_ok-add_part.ensures.bound)
           (w.names-is ∙ w.in_ok-add_part.ensures.names)
-          (ap (λ faults. map plain_told faults.items) w.faults-is ∙ w.in_ok-add_part.ensures.faults) in
+          (ap (λ faults. map plain_reported faults.items) w.faults-is ∙ w.in_ok-add_part.ensures.faults) in
           (step.0 ∙ sym bound_here ∙ c.loop-field.invariant.0, step.1 ∙ sym found_here ∙ c.loop-field.invariant.1)
     ]
 
@@ -101,7 +101,7 @@ row::check_signs-loop-sign-preserved t c =
     let rest = signs_of (map plain_signed (drop (c.loop-sign.sign-index + 1) items)) in
     let all = map plain_occurrence c.loop-sign.bound.items in
     let seen = c.loop-sign.names in
-    let s = map plain_told c.loop-sign.faults.items in
+    let s = map plain_reported c.loop-sign.faults.items in
     let sides_left = at_item (λ left. sides_in (signs_of (map plain_signed left))) items
     c.loop-sign.sign-index one c.sign-item.is c.loop-sign-test.true in
     let bound_left = at_item (λ left. all ++ bound_by_signs (signs_of (map plain_signed left))) items
@@ -112,22 +112,22 @@ row::check_signs-loop-sign-preserved t c =
     let bound_here = rw (signed_is one) at bound_left in
     let found_here = rw (signed_is one) at found_left in
     elim c.if-left-gt0.branch [
-      | row::check_signs-then-left-gt0+in_ok-tell_misplaced w ↦
+      | row::check_signs-then-left-gt0+in_ok-report_misplaced w ↦
           let step = side_step one.kept (plain one.tree) rest c.loop-sign.left c.if-left-gt0.left all
           (map plain_occurrence c.if-left-gt0.bound.items) seen c.if-left-gt0.names s
-          (map plain_told c.if-left-gt0.faults.items)
+          (map plain_reported c.if-left-gt0.faults.items)
           (c.loop-sign.invariant.0 ∙ sides_here) (omega (arith, w.if-left-gt0.true)) w.left-is
           (ap (λ bound. map plain_occurrence bound.items) w.bound-is) w.names-is
-          (ap (λ faults. map plain_told faults.items) w.faults-is ∙ w.in_ok-tell_misplaced.ensures) in
+          (ap (λ faults. map plain_reported faults.items) w.faults-is ∙ w.in_ok-report_misplaced.ensures) in
           (step.0, step.1 ∙ sym bound_here ∙ c.loop-sign.invariant.1, step.2 ∙ sym found_here ∙ c.loop-sign.invariant.2)
       | row::check_signs-else-left-gt0+in_ok-add_part w ↦
           let step = kept_step one.kept (plain one.tree) rest c.loop-sign.left c.if-left-gt0.left all
           (map plain_occurrence c.if-left-gt0.bound.items) seen c.if-left-gt0.names s
-          (map plain_told c.if-left-gt0.faults.items)
+          (map plain_reported c.if-left-gt0.faults.items)
           (c.loop-sign.invariant.0 ∙ sides_here) (omega (arith, w.if-left-gt0.false)) w.left-is
           (ap (λ bound. map plain_occurrence bound.items) w.bound-is ∙ w.in_ok-add_part.ensures.bound)
           (w.names-is ∙ w.in_ok-add_part.ensures.names)
-          (ap (λ faults. map plain_told faults.items) w.faults-is ∙ w.in_ok-add_part.ensures.faults) in
+          (ap (λ faults. map plain_reported faults.items) w.faults-is ∙ w.in_ok-add_part.ensures.faults) in
           (step.0, step.1 ∙ sym bound_here ∙ c.loop-sign.invariant.1, step.2 ∙ sym found_here ∙ c.loop-sign.invariant.2)
     ]
 
@@ -137,10 +137,10 @@ alternatives::check_other-returns-clause-faults t c =
     let own = last_part c.args.bound.now.items c.check_variables.new.bound.items c.since.result.now
     c.len-from.result (bound (plain c.args.tree.now)) c.in_ok-check_variables.ensures.bound
     (c.len-from.ensures ∙ c.args.bound.now.ok.0) c.since.ensures in
-    IfOk-weaker c.tell_if_differs.result _ _
-    (λ one same. same ∙ (λ i. told_if (differ c.args.names.now (names_among (own i)))
+    IfOk-weaker c.report_if_differs.result _ _
+    (λ one same. same ∙ (λ i. reported_if (differ c.args.names.now (names_among (own i)))
     (differs (sym (tree_begins c.args.tree.now) i)) (c.in_ok-check_variables.ensures.faults i)))
-    c.tell_if_differs.ensures
+    c.report_if_differs.ensures
 
 pub choice::check_other-returns-clause-faults : goal.choice::check_other-returns-clause-faults
 choice::check_other-returns-clause-faults t c =
@@ -148,10 +148,10 @@ choice::check_other-returns-clause-faults t c =
     c.len-from.result (plain_ones (plain_regular c.args.expression.now))
     c.in_ok-check_regular.ensures.plain (c.len-from.ensures ∙ c.args.plain.now.ok.0)
     c.since.ensures in
-    IfOk-weaker c.tell_if_differs.result _ _
-    (λ one same. same ∙ (λ i. told_if (differ c.args.names.now (names_among (own i)))
+    IfOk-weaker c.report_if_differs.result _ _
+    (λ one same. same ∙ (λ i. reported_if (differ c.args.names.now (names_among (own i)))
     (differs (sym (regular_starts c.args.expression.now) i)) (c.in_ok-check_regular.ensures.faults i)))
-    c.tell_if_differs.ensures
+    c.report_if_differs.ensures
 
 pub regular::check_repeated-returns-clause-faults : goal.regular::check_repeated-returns-clause-faults
 regular::check_repeated-returns-clause-faults t c =
@@ -159,10 +159,10 @@ regular::check_repeated-returns-clause-faults t c =
     c.len-from.result (plain_ones (plain_regular c.args.inner.now))
     c.in_ok-check_regular.ensures.plain (c.len-from.ensures ∙ c.args.plain.now.ok.0)
     c.since.ensures in
-    IfOk-weaker c.tell_repeats.result _ _
+    IfOk-weaker c.report_repeats.result _ _
     (λ one same. same
-    ∙ (λ i. told_of_each repeats (own i) (c.in_ok-check_regular.ensures.faults i)))
-    c.tell_repeats.ensures
+    ∙ (λ i. reported_of_each repeats (own i) (c.in_ok-check_regular.ensures.faults i)))
+    c.report_repeats.ensures
 
 pub regular::check_gathered-returns-clause-faults : goal.regular::check_gathered-returns-clause-faults
 regular::check_gathered-returns-clause-faults t c =
@@ -175,11 +175,11 @@ regular::check_gathered-returns-clause-faults t c =
     c.in_ok-check_regular.ensures.gathered (c.len-after.ensures ∙ c.push.new.self.ok.0)
     c.since-2.ensures in
     let names = c.args.variable.name.now ∷ [] in
-    IfOk-weaker c.tell_inside-2.result _ _
-    (λ one same. same ∙ (λ i. told_again names (other i)
-    ((c.in_ok-tell_inside.ensures
-    ∙ (λ j. told_again names (own j) (c.in_ok-check_regular.ensures.faults j))) i)))
-    c.tell_inside-2.ensures
+    IfOk-weaker c.report_inside-2.result _ _
+    (λ one same. same ∙ (λ i. reported_again names (other i)
+    ((c.in_ok-report_inside.ensures
+    ∙ (λ j. reported_again names (own j) (c.in_ok-check_regular.ensures.faults j))) i)))
+    c.report_inside-2.ensures
 
 pub row::add_part-returns-clause-names : goal.row::add_part-returns-clause-names
 row::add_part-returns-clause-names t c =
@@ -195,8 +195,8 @@ row::add_part-returns-clause-faults t c =
     c.len-from.result (bound (plain c.args.part.now)) c.in_ok-check_variables.ensures.bound
     (c.len-from.ensures ∙ c.args.bound.now.ok.0) c.since-own.ensures in
     IfOk-weaker c.add_names.result _ _
-    (λ one same. c.in_ok-tell_again.ensures
-    ∙ (λ i. told_again c.args.names.now (own i) (c.in_ok-check_variables.ensures.faults i)))
+    (λ one same. c.in_ok-report_again.ensures
+    ∙ (λ i. reported_again c.args.names.now (own i) (c.in_ok-check_variables.ensures.faults i)))
     c.add_names.ensures
 
 -- both parts of what the next of some expressions binds
@@ -234,7 +234,7 @@ turn::check_next-returns-clause-faults t c =
     c.in_ok-check_regular.ensures.gathered (c.len-after.ensures ∙ c.args.gathered.now.ok.0)
     c.since-2.ensures in
     IfOk-weaker c.add.result _ _ (λ one same. same
-    ∙ (λ i. told_again c.args.seen.now.plain (other i) (told_again c.args.seen.now.all (own i)
+    ∙ (λ i. reported_again c.args.seen.now.plain (other i) (reported_again c.args.seen.now.all (own i)
     (c.in_ok-check_regular.ensures.faults i)))) c.add.ensures.faults
 
 -- the first of some alternatives, and the others
@@ -267,7 +267,7 @@ alternatives::check_union-returns-in_ok-names-in-len1-up-clause-faults t c =
     IfOk-weaker c.check_others.result _ _ (λ one same. same
     ∙ (λ i. alternative_faults (names i) rest
     (c.in_ok-check_variables-in-len1-up.ensures.faults i))
-    ∙ ap (λ trees. union_faults trees (map plain_told c.args.faults.now.items)) whole)
+    ∙ ap (λ trees. union_faults trees (map plain_reported c.args.faults.now.items)) whole)
     c.check_others.ensures.faults
 
 pub choice::check_choice-returns-in_ok-names-in-len1-up-clause-plain :
@@ -313,7 +313,7 @@ choice::check_choice-returns-in_ok-names-in-len1-up-clause-faults t c =
     let names = c.in_ok-names-in-len1-up.ensures ∙ ap names_among own in
     IfOk-weaker c.check_others.result _ _ (λ one same. same
     ∙ (λ i. other_faults (names i) rest (c.in_ok-check_regular-in-len1-up.ensures.faults i))
-    ∙ ap (λ list. choice_faults list (map plain_told c.args.faults.now.items)) whole)
+    ∙ ap (λ list. choice_faults list (map plain_reported c.args.faults.now.items)) whole)
     c.check_others.ensures.faults
 
 -- the first tree of a chain is on a side of a `\`, or none is
@@ -324,7 +324,7 @@ row::check_meet-returns-clause-bound t c =
     let all = map plain_occurrence c.args.bound.now.items in
     let after = map plain_occurrence c.if-sides-gt0.bound.items in
     elim c.if-sides-gt0.branch [
-      | row::check_meet-then-sides-gt0+in_ok-tell_misplaced w ↦
+      | row::check_meet-then-sides-gt0+in_ok-report_misplaced w ↦
           IfOk-weaker c.check_signs.result _ _ (λ u same. same ∙ side_bound one signs all after
           (omega (arith, c.count_sides-sides.ensures, w.if-sides-gt0.true))
           (ap (λ bound. map plain_occurrence bound.items) w.bound-is)) c.check_signs.ensures.bound
@@ -339,23 +339,23 @@ pub row::check_meet-returns-clause-faults : goal.row::check_meet-returns-clause-
 row::check_meet-returns-clause-faults t c =
     let signs = plain_signs c.args.signs.now in
     let one = plain c.args.first.now in
-    let s = map plain_told c.args.faults.now.items in
-    let after = map plain_told c.if-sides-gt0.faults.items in
+    let s = map plain_reported c.args.faults.now.items in
+    let after = map plain_reported c.if-sides-gt0.faults.items in
     elim c.if-sides-gt0.branch [
-      | row::check_meet-then-sides-gt0+in_ok-tell_misplaced w ↦
+      | row::check_meet-then-sides-gt0+in_ok-report_misplaced w ↦
           IfOk-weaker c.check_signs.result _ _ (λ u same. same
           ∙ side_found one signs c.if-sides-gt0.names s after
           (omega (arith, c.count_sides-sides.ensures, w.if-sides-gt0.true))
           (w.names-is ∙ c.requires)
-          (ap (λ faults. map plain_told faults.items) w.faults-is
-          ∙ w.in_ok-tell_misplaced.ensures)) c.check_signs.ensures.faults
+          (ap (λ faults. map plain_reported faults.items) w.faults-is
+          ∙ w.in_ok-report_misplaced.ensures)) c.check_signs.ensures.faults
       | row::check_meet-else-sides-gt0+in_ok-add_part w ↦
           IfOk-weaker c.check_signs.result _ _ (λ u same. same
           ∙ kept_found one signs c.if-sides-gt0.names s after
           (omega (arith, c.count_sides-sides.ensures, w.if-sides-gt0.false))
           (w.names-is ∙ w.in_ok-add_part.ensures.names
           ∙ ap (λ names. names ++ names_among (bound one)) c.requires)
-          (ap (λ faults. map plain_told faults.items) w.faults-is ∙ w.in_ok-add_part.ensures.faults
-          ∙ ap (λ names. told_again names (bound one) (variable_faults one s)) c.requires))
+          (ap (λ faults. map plain_reported faults.items) w.faults-is ∙ w.in_ok-add_part.ensures.faults
+          ∙ ap (λ names. reported_again names (bound one) (variable_faults one s)) c.requires))
           c.check_signs.ensures.faults
     ]

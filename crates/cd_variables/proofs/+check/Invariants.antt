@@ -7,7 +7,7 @@ use Rattle.cd_variables.specs.Occurrences.{gathered_of_all}
 use Rattle.cd_variables.specs.FindingVariables.{row_faults, sign_faults, field_faults, sides_in}
 use Rattle.cd_variables.specs.FindingVariables.{alternative_faults, turn_faults, other_faults}
 use Rattle.cd_variables.specs.PlainOccurrences.{plain_occurrence}
-use Rattle.cd_resolve.specs.PlainTold.{plain_told}
+use Rattle.cd_resolve.specs.PlainTold.{plain_reported}
 use Rattle.cd_resolve.proofs.Sizes.{size, size_kind, size_trees, size_signs, size_fields, size_regular}
 use Rattle.cd_resolve.proofs.Sizes.{size_regular_kind, size_regulars}
 use Rattle.cd_variables.proofs.+check.Given as goal
@@ -85,8 +85,8 @@ abbrev pub invariant-row::check_tuple-loop-tree : goal.invariant-row::check_tupl
 invariant-row::check_tuple-loop-tree l =
     (map plain_occurrence l.bound.items ++ bound_by_all (trees_of (map plain (drop l.tree-index l.tree-items)))
     ≡ map plain_occurrence l.fn.bound.items ++ bound_by_all (plain_trees l.trees))
-    × (row_faults l.names (trees_of (map plain (drop l.tree-index l.tree-items))) (map plain_told l.faults.items)
-    ≡ row_faults l.fn.names (plain_trees l.trees) (map plain_told l.fn.faults.items))
+    × (row_faults l.names (trees_of (map plain (drop l.tree-index l.tree-items))) (map plain_reported l.faults.items)
+    ≡ row_faults l.fn.names (plain_trees l.trees) (map plain_reported l.fn.faults.items))
 
 abbrev pub invariant-row::check_record-loop-field : goal.invariant-row::check_record-loop-field
 invariant-row::check_record-loop-field l =
@@ -94,8 +94,8 @@ invariant-row::check_record-loop-field l =
     ++ bound_by_fields (fields_of (map plain_field (drop l.field-index l.field-items)))
     ≡ map plain_occurrence l.fn.bound.items ++ bound_by_fields (plain_fields l.fields))
     × (field_faults l.names (fields_of (map plain_field (drop l.field-index l.field-items)))
-    (map plain_told l.faults.items)
-    ≡ field_faults l.fn.names (plain_fields l.fields) (map plain_told l.fn.faults.items))
+    (map plain_reported l.faults.items)
+    ≡ field_faults l.fn.names (plain_fields l.fields) (map plain_reported l.fn.faults.items))
 
 abbrev pub invariant-row::check_signs-loop-sign : goal.invariant-row::check_signs-loop-sign
 invariant-row::check_signs-loop-sign l =
@@ -104,15 +104,15 @@ invariant-row::check_signs-loop-sign l =
     ++ bound_by_signs (signs_of (map plain_signed (drop l.sign-index l.sign-items)))
     ≡ map plain_occurrence l.fn.bound.items ++ bound_by_signs (plain_signs l.signs))
     × (sign_faults l.names (signs_of (map plain_signed (drop l.sign-index l.sign-items)))
-    (map plain_told l.faults.items)
-    ≡ sign_faults l.fn.names (plain_signs l.signs) (map plain_told l.fn.faults.items))
+    (map plain_reported l.faults.items)
+    ≡ sign_faults l.fn.names (plain_signs l.signs) (map plain_reported l.fn.faults.items))
 
 abbrev pub invariant-alternatives::check_others-loop-tree : goal.invariant-alternatives::check_others-loop-tree
 invariant-alternatives::check_others-loop-tree l =
     (map plain_occurrence l.bound.items ++ bound_by_all (trees_of (map plain (drop l.tree-index l.rest)))
     ≡ map plain_occurrence l.fn.bound.items ++ bound_by_all (trees_of (map plain l.fn.rest)))
-    × (alternative_faults l.names (trees_of (map plain (drop l.tree-index l.rest))) (map plain_told l.faults.items)
-    ≡ alternative_faults l.fn.names (trees_of (map plain l.fn.rest)) (map plain_told l.fn.faults.items))
+    × (alternative_faults l.names (trees_of (map plain (drop l.tree-index l.rest))) (map plain_reported l.faults.items)
+    ≡ alternative_faults l.fn.names (trees_of (map plain l.fn.rest)) (map plain_reported l.fn.faults.items))
 
 abbrev pub invariant-turn::check_each-loop-expression : goal.invariant-turn::check_each-loop-expression
 invariant-turn::check_each-loop-expression l =
@@ -123,8 +123,8 @@ invariant-turn::check_each-loop-expression l =
     ++ gathered_of_all (regulars_of (map plain_regular (drop l.expression-index l.expression-items)))
     ≡ map plain_occurrence l.fn.gathered.items ++ gathered_of_all (plain_regulars l.all))
     × (turn_faults l.seen.all l.seen.plain
-    (regulars_of (map plain_regular (drop l.expression-index l.expression-items))) (map plain_told l.faults.items)
-    ≡ turn_faults l.fn.seen.all l.fn.seen.plain (plain_regulars l.all) (map plain_told l.fn.faults.items))
+    (regulars_of (map plain_regular (drop l.expression-index l.expression-items))) (map plain_reported l.faults.items)
+    ≡ turn_faults l.fn.seen.all l.fn.seen.plain (plain_regulars l.all) (map plain_reported l.fn.faults.items))
 
 abbrev pub invariant-choice::check_others-loop-expression : goal.invariant-choice::check_others-loop-expression
 invariant-choice::check_others-loop-expression l =
@@ -135,5 +135,5 @@ invariant-choice::check_others-loop-expression l =
     ++ gathered_of_all (regulars_of (map plain_regular (drop l.expression-index l.rest)))
     ≡ map plain_occurrence l.fn.gathered.items ++ gathered_of_all (regulars_of (map plain_regular l.fn.rest)))
     × (other_faults l.names (regulars_of (map plain_regular (drop l.expression-index l.rest)))
-    (map plain_told l.faults.items)
-    ≡ other_faults l.fn.names (regulars_of (map plain_regular l.fn.rest)) (map plain_told l.fn.faults.items))
+    (map plain_reported l.faults.items)
+    ≡ other_faults l.fn.names (regulars_of (map plain_regular l.fn.rest)) (map plain_reported l.fn.faults.items))

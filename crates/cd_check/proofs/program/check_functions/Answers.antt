@@ -9,7 +9,7 @@ use Rattle.cd_check.proofs.FunctionsPromised.{promise_kept_earlier, promise_late
 use Rattle.cd_check.proofs.NextOne.{one_left, one_shown}
 use Rattle.std.proofs.lemmas.Result.{err_from_is_err_and}
 use Rattle.cd_empty.specs.Seen.{table_of}
-use Rattle.cd_check.proofs.ToldOfOne.{function_told}
+use Rattle.cd_check.proofs.ReportedOfOne.{function_reported}
 use Rattle.cd_check.proofs.program.check_functions.Goals as goal
 
 pub check_promise-requires-clause-promise : goal.check_promise-requires-clause-promise
@@ -43,6 +43,6 @@ pub returns-in_err-check_promise-clause-fault : goal.returns-in_err-check_promis
 returns-in_err-check_promise-clause-fault c =
     let is = err_from_is_err_and c.from_residual.result c.from_residual.ensures.1 in
     let base = c.args.base.now in
-    rw (is.1, is.2) (function_told c.args.promised.now c.loop-one.one-index c.one-item.result c.one-item.is c.loop-one-test.true
+    rw (is.1, is.2) (function_reported c.args.promised.now c.loop-one.one-index c.one-item.result c.one-item.is c.loop-one-test.true
     (table_of c.check_promise.new.world) c.in_err-check_promise.field-0.0 (scope_of base) (graph_of c.args.world.now) (graph_of c.loop-one.world)
     c.loop-one.invariant.0.later c.requires.ready.sound (seen_by base []) c.requires.ready.nodes function_of c.in_err-check_promise.ensures.fault)

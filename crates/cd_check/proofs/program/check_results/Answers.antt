@@ -10,7 +10,7 @@ use Rattle.cd_check.specs.Inner.Programs.{ResultsFault}
 use Rattle.cd_check.proofs.FunctionsKept.{at_any}
 use Rattle.cd_check.proofs.FunctionsPromised.{within_same}
 use Rattle.cd_check.proofs.NextOne.{left_after, shown_after}
-use Rattle.cd_check.proofs.ToldOfOne.{result_told}
+use Rattle.cd_check.proofs.ReportedOfOne.{result_reported}
 use Rattle.cd_check.proofs.program.check_results.Goals as goal
 
 pub loop-arrow-preserved : goal.loop-arrow-preserved
@@ -37,5 +37,5 @@ returns-in_err-need_at-clause-fault c =
     let table = table_of c.need_at.new.world in
     let error = c.in_err-need_at.field-0.0 in
     rw (is.1, is.2) (subst (λ (graph : Graph). Reports table (ResultsFault graph c.args.at all) error) c.loop-arrow.invariant.0
-    (result_told all index (get_or all index none) (at_any all index none (get_or all index none) c.loop-arrow-test.true) c.loop-arrow-test.true
+    (result_reported all index (get_or all index none) (at_any all index none (get_or all index none) c.loop-arrow-test.true) c.loop-arrow-test.true
     table error (graph_of c.loop-arrow.world) c.args.at c.in_err-need_at.ensures.fault))

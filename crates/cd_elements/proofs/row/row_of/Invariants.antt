@@ -1,5 +1,5 @@
 use Rattle.std.proofs.Common.{◌≡◌, ◌++◌, map, length}
-use Rattle.cd_model.specs.Canonical.{written}
+use Rattle.cd_model.specs.Canonical.{printed}
 use Rattle.cd_elements.specs.Elements.{table}
 use Rattle.cd_elements.specs.Table.{element_at}
 use Rattle.cd_elements.specs.Inner.Tasks.{part_in}
@@ -9,12 +9,12 @@ use Rattle.cd_elements.proofs.row.row_of.Given as goal
 abbrev pub invariant-along : goal.invariant-along
 invariant-along l =
     let all = table l.elements in
-    let left = (written (element_at all l.next)).row in
-    let whole = (written (element_at all l.fn.id)).row in
+    let left = (printed (element_at all l.next)).row in
+    let whole = (printed (element_at all l.fn.id)).row in
     record {
       parts : map (part_in all) l.firsts.items ++ left.parts ≡ whole.parts;
       end : left.end ≡ whole.end;
     }
 
 abbrev pub decreases-along : goal.decreases-along
-decreases-along l = length (written (element_at (table l.elements) l.next)).row.parts
+decreases-along l = length (printed (element_at (table l.elements) l.next)).row.parts

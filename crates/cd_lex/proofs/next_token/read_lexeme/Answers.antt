@@ -34,15 +34,15 @@ pub loop-kind-preserved : goal.loop-kind-preserved
 loop-kind-preserved c =
     let same = sym c.in_default.ensures.0 ∙ c.in-Some-take.ensures in
     let so = c.skip_blanks-joined.ensures.read _ _ _ c.loop-kind.invariant in
-    let front = rw c.in-Dropped.is at c.in-Ok.ensures.piece in
-    drops_at _ _ _ _ _ _ so same _ front
+    let prefix = rw c.in-Dropped.is at c.in-Ok.ensures.piece in
+    drops_at _ _ _ _ _ _ so same _ prefix
 
 pub overflow_sub-to-in-Token : goal.overflow_sub-to-in-Token
 overflow_sub-to-in-Token c =
     let same = sym c.in_default.ensures.0 ∙ c.in-Some-take.ensures in
     let so = c.skip_blanks-joined.ensures.read _ _ _ c.loop-kind.invariant in
-    let front = rw c.in-Token.is at c.in-Ok.ensures.piece in
-    let fits = token_fits _ _ _ _ _ _ so same _ _ front in
+    let prefix = rw c.in-Token.is at c.in-Ok.ensures.piece in
+    let fits = token_fits _ _ _ _ _ _ so same _ _ prefix in
     let bytes = c.bytes-in-Token.ensures in
     omega arith
 
@@ -50,7 +50,7 @@ pub returns-in-Token : goal.returns-in-Token
 returns-in-Token c =
     let same = sym c.in_default.ensures.0 ∙ c.in-Some-take.ensures in
     let so = c.skip_blanks-joined.ensures.read _ _ _ c.loop-kind.invariant in
-    let front = rw c.in-Token.is at c.in-Ok.ensures.piece in
-    reads_at _ _ _ _ _ _ so same _ _ _ _ front
+    let prefix = rw c.in-Token.is at c.in-Ok.ensures.piece in
+    reads_at _ _ _ _ _ _ so same _ _ _ _ prefix
     (ap (λ bytes. c.args.end - bytes) c.bytes.ensures)
     (ap (λ bytes. c.args.end - bytes) c.bytes-in-Token.ensures)

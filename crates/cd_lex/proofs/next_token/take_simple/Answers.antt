@@ -1,8 +1,8 @@
 use Rattle.std.proofs.Common.{ap, subst, sym, ◌∙◌, ◌∷◌}
 use Rattle.cd_syntax.specs.declared.tokens.TokenKind.TheVariants.{Text}
 use Rattle.cd_lex.specs.Inner.Standing.{IsTokenTo}
-use Rattle.cd_lex.proofs.WordFronts.{word_taken_off, word_token, small_number}
-use Rattle.cd_lex.proofs.Fronts.{text_stands}
+use Rattle.cd_lex.proofs.WordPrefixes.{word_taken_off, word_token, small_number}
+use Rattle.cd_lex.proofs.PiecePrefixes.{text_stands}
 use Rattle.cd_lex.proofs.next_token.take_simple.Goals as goal
 
 pub returns-then-begins_word : goal.returns-then-begins_word

@@ -1,7 +1,7 @@
 use Rattle.std.proofs.Common.{inr, subst, sym, ◌∷◌}
 use Rattle.cd_syntax.specs.declared.tokens.TokenKind.TheVariants.{Atom}
 use Rattle.cd_lex.specs.Inner.Standing.{IsTokenTo}
-use Rattle.cd_lex.proofs.WordFronts.{atom_token, no_atom, underscore_alone}
+use Rattle.cd_lex.proofs.WordPrefixes.{atom_token, no_atom, underscore_alone}
 use Rattle.cd_lex.proofs.piece.atom.Goals as goal
 
 pub returns-in-Some-clause-piece : goal.returns-in-Some-clause-piece

@@ -1,5 +1,5 @@
 use Rattle.std.proofs.Common.{true≢false, sym, ◌∙◌}
-use Rattle.cd_lex.proofs.Fronts.{minus_stands, lone_minus_stands}
+use Rattle.cd_lex.proofs.PiecePrefixes.{minus_stands, lone_minus_stands}
 use Rattle.cd_lex.proofs.piece.minus.Goals as goal
 
 pub returns-then-joined-clause-piece : goal.returns-then-joined-clause-piece

@@ -1,5 +1,5 @@
 use Rattle.std.proofs.Common.{inr}
-use Rattle.cd_lex.proofs.Fronts.{no_sign}
+use Rattle.cd_lex.proofs.PiecePrefixes.{no_sign}
 use Rattle.cd_lex.proofs.piece.no_token.Goals as goal
 
 pub returns : goal.returns

@@ -2,7 +2,7 @@ use Rattle.std.proofs.Common.{inr, subst, sym, ◌∷◌}
 use Rattle.cd_syntax.specs.declared.sign.Sign.TheVariants as sign
 use Rattle.cd_syntax.specs.declared.tokens.TokenKind.TheVariants.{Sign}
 use Rattle.cd_lex.specs.Inner.Standing.{IsTokenTo}
-use Rattle.cd_lex.proofs.Fronts.{parenthesis_stands, comment_closes, comment_ends}
+use Rattle.cd_lex.proofs.PiecePrefixes.{parenthesis_stands, comment_closes, comment_ends}
 use Rattle.cd_lex.proofs.piece.parenthesis.Goals as goal
 
 pub returns-then-not-take_this-clause-piece : goal.returns-then-not-take_this-clause-piece

@@ -1,5 +1,5 @@
 use Rattle.std.proofs.Common.{inr, ap, ◌-◌, arith}
-use Rattle.cd_lex.proofs.Fronts.{quoted_read, broken_within, text_open, text_breaks, a_quote}
+use Rattle.cd_lex.proofs.PiecePrefixes.{quoted_read, broken_within, text_open, text_breaks, a_quote}
 use Rattle.cd_lex.proofs.piece.quoted.Goals as goal
 
 pub overflow_sub-result : goal.overflow_sub-result

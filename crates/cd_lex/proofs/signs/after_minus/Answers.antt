@@ -1,5 +1,5 @@
 use Rattle.std.proofs.Common.{◌∙◌, sym}
-use Rattle.cd_lex.proofs.SignFronts.{to_stands}
+use Rattle.cd_lex.proofs.SignPrefixes.{to_stands}
 use Rattle.cd_lex.proofs.signs.after_minus.Goals as goal
 
 pub returns : goal.returns

@@ -1,6 +1,6 @@
 use Rattle.std.proofs.Common.{subst}
 use Rattle.cd_lex.specs.Inner.Prefixes.{BeginsWithOther}
-use Rattle.cd_lex.proofs.Fronts.{parenthesis_stands}
+use Rattle.cd_lex.proofs.PiecePrefixes.{parenthesis_stands}
 use Rattle.cd_lex.proofs.signs.open_parenthesis.Goals as goal
 
 pub returns : goal.returns

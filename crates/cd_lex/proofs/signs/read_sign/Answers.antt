@@ -2,8 +2,8 @@ use Rattle.std.proofs.Common.{◌≡◌, sym, subst, ◌∷◌, MatchOption}
 use Rattle.cd_syntax.specs.Signs.{BeginsWith}
 use Rattle.cd_syntax.specs.declared.sign.Sign.{Sign as ASign}
 use Rattle.cd_lex.specs.Inner.Standing.{IsSignTo}
-use Rattle.cd_lex.proofs.SignFronts.{either_stands}
-use Rattle.cd_lex.proofs.SignFronts as sign
+use Rattle.cd_lex.proofs.SignPrefixes.{either_stands}
+use Rattle.cd_lex.proofs.SignPrefixes as sign
 use Rattle.cd_lex.proofs.signs.read_sign.Goals as goal
 
 pub returns-in-58 : goal.returns-in-58

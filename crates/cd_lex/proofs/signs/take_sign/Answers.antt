@@ -1,4 +1,4 @@
-use Rattle.cd_lex.proofs.Fronts.{sign_taken, parenthesis_taken}
+use Rattle.cd_lex.proofs.PiecePrefixes.{sign_taken, parenthesis_taken}
 use Rattle.cd_lex.proofs.signs.take_sign.Goals as goal
 
 pub returns : goal.returns

@@ -1,7 +1,7 @@
 use Rattle.std.proofs.Common.{subst, sym, ◌≡◌, ◌∷◌, []}
 use Rattle.std.specs.Prelude.{MatchBool, ◌≢◌}
 use Rattle.std.specs.Str.{chars}
-use Rattle.cd_lex.proofs.WordFronts.{underscore_by}
+use Rattle.cd_lex.proofs.WordPrefixes.{underscore_by}
 use Rattle.cd_lex.proofs.word.is_underscore.Goals as goal
 
 pub returns : goal.returns

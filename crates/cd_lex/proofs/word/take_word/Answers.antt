@@ -1,5 +1,5 @@
 use Rattle.std.proofs.Common.{sym, ◌∙◌}
-use Rattle.cd_lex.proofs.WordFronts.{word_taken_off}
+use Rattle.cd_lex.proofs.WordPrefixes.{word_taken_off}
 use Rattle.cd_lex.proofs.word.take_word.Goals as goal
 
 pub returns-in-Some : goal.returns-in-Some

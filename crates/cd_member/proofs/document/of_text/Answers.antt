@@ -1,7 +1,7 @@
 use Rattle.cd_cells.specs.Cells.{thing_at}
 use Rattle.cd_cells.specs.Table.{table}
 use Rattle.cd_graph.specs.Nodes.{nodes}
-use Rattle.cd_replies.specs.Message.{against}
+use Rattle.cd_replies.specs.Message.{text_fault}
 use Rattle.cd_replies.proofs.DocumentsRead.{writes_data, writes_value}
 use Rattle.cd_member.proofs.Documents.{document_is_refused, document_is_answered}
 use Rattle.cd_member.proofs.document.of_text.Goals as goal
@@ -20,5 +20,5 @@ returns-in-Ok c =
 
 pub returns : goal.returns
 returns c =
-    document_is_refused c.args.document.now c.args.text.now (nodes c.args.graph.now) c.args.node (against c.in-Err.refusal)
+    document_is_refused c.args.document.now c.args.text.now (nodes c.args.graph.now) c.args.node (text_fault c.in-Err.refusal)
     (rw c.in-Err.is at c.in_ok-id.ensures.read) c.refused.result c.refused.ensures

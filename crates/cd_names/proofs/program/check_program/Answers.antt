@@ -5,13 +5,13 @@ use Rattle.cd_model.specs.AllOf.{AllOf}
 use Rattle.cd_resolve.specs.Named.{declared_by}
 use Rattle.cd_names.specs.ProgramFaults.{IsFaultOfProgram}
 use Rattle.cd_variables.specs.VariableFaults.{IsOneIn}
-use Rattle.cd_names.specs.Inner.Faults.{IsFaultOfOne, Tells}
+use Rattle.cd_names.specs.Inner.Faults.{IsFaultOfOne, Reports}
 use Rattle.cd_resolve.specs.Least.{first_of}
 use Rattle.cd_names.specs.Inner.PlainFound.{plain_found, plain_trees}
-use Rattle.cd_resolve.specs.PlainTold.{plain_told}
-use Rattle.cd_names.proofs.FirstTold.{list_told}
+use Rattle.cd_resolve.specs.PlainTold.{plain_reported}
+use Rattle.cd_names.proofs.FirstReported.{list_reported}
 use Rattle.cd_names.proofs.FoundMade.{made_program}
-use Rattle.cd_names.proofs.ProgramTold.{program_told}
+use Rattle.cd_names.proofs.ProgramReported.{program_reported}
 use Rattle.cd_variables.proofs.VariablesFound.{variables_found}
 use Rattle.cd_names.proofs.program.check_program.Goals as goal
 
@@ -23,38 +23,38 @@ check_trees-requires c =
     (made_program (plain_program c.args.program.now) c.requires))
 
 -- what is told of all that is found
-told_of_all : (c : goal.After-drop-found-3)
-    → Tells (IsFaultOfProgram (plain_program c.args.program.now)) c.first_of.result
-told_of_all c =
+reported_of_all : (c : goal.After-drop-found-3)
+    → Reports (IsFaultOfProgram (plain_program c.args.program.now)) c.first_of.result
+reported_of_all c =
     let program = plain_program c.args.program.now in
     let found = plain_found c.in_ok-found.found in
-    let faults = list_told (map plain_told c.as_slice.result.now) c.tell_least.result
-    c.tell_least.ensures.sound c.tell_least.ensures.fault in
-    let one = subst (λ all. Tells (λ f. IsOneIn f (map plain_told all)) c.tell_least.result)
+    let faults = list_reported (map plain_reported c.as_slice.result.now) c.report_least.result
+    c.report_least.ensures.sound c.report_least.ensures.fault in
+    let one = subst (λ all. Reports (λ f. IsOneIn f (map plain_reported all)) c.report_least.result)
     c.as_slice.ensures.value faults in
     let names = c.in_ok-names.ensures in
     let types = declared_by c.in_ok-names.names in
-    let trees : Tells (IsFaultOfOne types (plain_trees c.as_slice-2.result.now))
+    let trees : Reports (IsFaultOfOne types (plain_trees c.as_slice-2.result.now))
     c.check_trees.result =
     record { sound = c.check_trees.ensures.sound; fault = c.check_trees.ensures.fault } in
-    let of_trees = subst (λ types. Tells (IsFaultOfOne types found.trees) c.check_trees.result)
+    let of_trees = subst (λ types. Reports (IsFaultOfOne types found.trees) c.check_trees.result)
     names
-    (subst (λ all. Tells (IsFaultOfOne types (plain_trees all)) c.check_trees.result)
+    (subst (λ all. Reports (IsFaultOfOne types (plain_trees all)) c.check_trees.result)
     c.as_slice-2.ensures.value trees) in
-    let all = program_told variables_found program found c.in_ok-found.ensures
+    let all = program_reported variables_found program found c.in_ok-found.ensures
     c.check_declarations-declared.result
-    c.tell_least.result c.check_trees.result
+    c.report_least.result c.check_trees.result
     (record {
       sound = c.check_declarations-declared.ensures.sound;
       fault =
           c.check_declarations-declared.ensures.fault;
     })
     one of_trees in
-    subst (Tells (IsFaultOfProgram program)) (sym (c.first_of.ensures
-    ∙ ap (λ first. first_of first c.check_trees.result) c.first_of-told.ensures)) all
+    subst (Reports (IsFaultOfProgram program)) (sym (c.first_of.ensures
+    ∙ ap (λ first. first_of first c.check_trees.result) c.first_of-reported.ensures)) all
 
 pub returns-clause-sound : goal.returns-clause-sound
-returns-clause-sound c = (told_of_all c).sound
+returns-clause-sound c = (reported_of_all c).sound
 
 pub returns-clause-fault : goal.returns-clause-fault
-returns-clause-fault c = (told_of_all c).fault
+returns-clause-fault c = (reported_of_all c).fault

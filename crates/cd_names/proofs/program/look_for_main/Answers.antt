@@ -23,5 +23,5 @@ pub returns : goal.returns
 returns c =
     let seen = is_found c.args.functions.now c.in_ok-name.name c.is_some.result c.in_ok-name.ensures
     (c.is_some.ensures ∙ ap is_some c.find.ensures) ∙ c.if-is_some.false in
-    subst (λ seen. OnOk c.tell_no_main.result (plain_found c.tell_no_main.new.self
-    ≡ main_found seen c.args.end (plain_found c.args.found.now))) (sym seen) c.tell_no_main.ensures
+    subst (λ seen. OnOk c.report_no_main.result (plain_found c.report_no_main.new.self
+    ≡ main_found seen c.args.end (plain_found c.args.found.now))) (sym seen) c.report_no_main.ensures

@@ -2,7 +2,7 @@ use Rattle.std.proofs.Common.{◌≡◌, map, drop}
 use Rattle.cd_model.specs.Formula.{formulas_of}
 use Rattle.cd_graph.specs.PlainFormula.{plain, plain_formulas}
 use Rattle.cd_graph.proofs.Sizes.{size, size_list}
-use Rattle.cd_normal.specs.Inner.NextChoices.{are_flat}
+use Rattle.cd_normal.specs.Inner.NextConjuncts.{are_flat}
 use Rattle.cd_normal.proofs.going_on.+are_flat.Given as goal
 
 -- each formula is smaller than the one or the list that it stands in

@@ -2,7 +2,7 @@ use Rattle.std.proofs.Common.{rules, ◌-◌, ◌++◌, ◌∙◌, ap, map, arit
 use Rattle.cd_model.specs.Formula.{formulas_of}
 use Rattle.cd_graph.specs.PlainFormula.{plain}
 use Rattle.cd_graph.proofs.Sizes.{items_fall}
-use Rattle.cd_normal.specs.Inner.NextChoices.{with_choices, wanted_of}
+use Rattle.cd_normal.specs.Inner.NextConjuncts.{with_conjuncts, wanted_of}
 use Rattle.cd_normal.specs.Inner.PlainPartial.{plain_partial, plain_partials}
 use Rattle.cd_normal.proofs.Lists.{all_left}
 use Rattle.cd_normal.proofs.going_on.+choose_copies.Goals as goal
@@ -20,5 +20,5 @@ pub choose_copies-returns : goal.choose_copies-returns
 choose_copies-returns t c =
     let top = plain_partial c.args.top.now in
     c.loop-index.invariant.1
-    ∙ ap (λ left. with_choices (wanted_of top.kind (formulas_of left)) top ++ plain_partials c.args.choices.now.items)
+    ∙ ap (λ left. with_conjuncts (wanted_of top.kind (formulas_of left)) top ++ plain_partials c.args.conjuncts.now.items)
     (ap (map plain) (all_left c.items-formulas.result.now c.loop-index.index c.loop-index-test.false) ∙ c.items-formulas.ensures)

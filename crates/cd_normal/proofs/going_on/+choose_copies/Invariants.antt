@@ -2,7 +2,7 @@ use Rattle.std.proofs.Common.{◌≡◌, ◌≤◌, ◌++◌, map, drop, length}
 use Rattle.cd_model.specs.Formula.{formulas_of}
 use Rattle.cd_graph.specs.PlainFormula.{plain, plain_formulas}
 use Rattle.cd_graph.proofs.Sizes.{size, size_list}
-use Rattle.cd_normal.specs.Inner.NextChoices.{with_choices, wanted_of}
+use Rattle.cd_normal.specs.Inner.NextConjuncts.{with_conjuncts, wanted_of}
 use Rattle.cd_normal.specs.Inner.PlainPartial.{plain_partial, plain_partials}
 use Rattle.cd_normal.proofs.going_on.+choose_copies.Given as goal
 
@@ -16,9 +16,9 @@ decreases-choose_copies l = size_list (plain_formulas l.formulas.now)
 -- the choices for the formulas from the index on stand on the others
 abbrev pub invariant-choose_copies-loop-index : goal.invariant-choose_copies-loop-index
 invariant-choose_copies-loop-index l =
-    (l.index ≤ length l.formulas) × (plain_partials l.choices.items
-    ≡ with_choices (wanted_of (plain_partial l.top).kind (formulas_of (map plain (drop l.index l.formulas)))) (plain_partial l.top)
-    ++ plain_partials l.fn.choices.items)
+    (l.index ≤ length l.formulas) × (plain_partials l.conjuncts.items
+    ≡ with_conjuncts (wanted_of (plain_partial l.top).kind (formulas_of (map plain (drop l.index l.formulas)))) (plain_partial l.top)
+    ++ plain_partials l.fn.conjuncts.items)
 
 abbrev pub decreases-choose_copies-loop-index : goal.decreases-choose_copies-loop-index
 decreases-choose_copies-loop-index l = l.index

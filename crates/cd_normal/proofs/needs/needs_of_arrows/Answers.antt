@@ -1,5 +1,5 @@
 use Rattle.std.proofs.lemmas.Result.{IfOk-weaker}
-use Rattle.cd_normal.proofs.NeedsOfChoices.{arguments_are}
+use Rattle.cd_normal.proofs.NeedsOfConjuncts.{arguments_are}
 use Rattle.cd_normal.proofs.needs.needs_of_arrows.Goals as goal
 
 -- each of them is the question of an argument

@@ -2,8 +2,8 @@ use Rattle.std.proofs.Common.{◌≡◌, ◌++◌, map, drop}
 use Rattle.cd_model.specs.Formula.{formulas_of}
 use Rattle.cd_graph.specs.PlainFormula.{plain, plain_formulas}
 use Rattle.cd_graph.proofs.Sizes.{size, size_list}
-use Rattle.cd_normal.specs.Inner.NextChoices.{refused_of}
-use Rattle.cd_normal.specs.Inner.PlainChoice.{plain_choice}
+use Rattle.cd_normal.specs.Inner.NextConjuncts.{refused_of}
+use Rattle.cd_normal.specs.Inner.PlainConjunct.{plain_conjunct}
 use Rattle.cd_normal.specs.Inner.PlainKind.{plain_kind}
 use Rattle.cd_normal.proofs.partial.+add_refused.Given as goal
 
@@ -17,5 +17,5 @@ decreases-add_refused l = size_list (plain_formulas l.formulas.now)
 -- with those of the formulas that are left it is the whole
 abbrev pub invariant-add_refused-loop-formula : goal.invariant-add_refused-loop-formula
 invariant-add_refused-loop-formula l =
-    plain_choice l.choice.items ++ refused_of (plain_kind l.kind) (formulas_of (map plain (drop l.formula-index l.formulas)))
-    ≡ plain_choice l.fn.choice.items ++ refused_of (plain_kind l.kind) (formulas_of (map plain l.formulas))
+    plain_conjunct l.conjunct.items ++ refused_of (plain_kind l.kind) (formulas_of (map plain (drop l.formula-index l.formulas)))
+    ≡ plain_conjunct l.fn.conjunct.items ++ refused_of (plain_kind l.kind) (formulas_of (map plain l.formulas))

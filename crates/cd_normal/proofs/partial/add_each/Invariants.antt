@@ -1,7 +1,7 @@
 use Rattle.std.proofs.Common.{◌≡◌, ◌≤◌, ◌++◌, map, drop, length}
 use Rattle.cd_model.specs.Formula.{formulas_of}
 use Rattle.cd_graph.specs.PlainFormula.{plain}
-use Rattle.cd_rules.specs.PartialChoices.{each_signed}
+use Rattle.cd_rules.specs.PartialConjuncts.{each_signed}
 use Rattle.cd_normal.specs.Inner.PlainPartial.{plain_left}
 use Rattle.cd_normal.proofs.partial.add_each.Given as goal
 

@@ -1,11 +1,11 @@
 use Rattle.std.proofs.Common.{◌≡◌, ◌++◌, drop}
 use Rattle.cd_needs.specs.RecordType.{record_types}
 use Rattle.cd_rules.specs.Clauses.{parts_in, record_of}
-use Rattle.cd_normal.specs.Inner.PlainChoice.{plain_choice}
+use Rattle.cd_normal.specs.Inner.PlainConjunct.{plain_conjunct}
 use Rattle.cd_normal.proofs.side.records.Given as goal
 
 -- the parts so far, and those of the literals that are left, are all
 abbrev pub invariant-loop-literal : goal.invariant-loop-literal
 invariant-loop-literal l =
-    record_types l.parts.items ++ parts_in record_of l.wanted (plain_choice (drop l.literal-index l.choice))
-    ≡ parts_in record_of l.wanted (plain_choice l.choice)
+    record_types l.parts.items ++ parts_in record_of l.wanted (plain_conjunct (drop l.literal-index l.conjunct))
+    ≡ parts_in record_of l.wanted (plain_conjunct l.conjunct)

@@ -1,9 +1,9 @@
 use Rattle.std.proofs.Common.{◌≡◌, ◌++◌, true, drop}
 use Rattle.cd_rules.specs.Clauses.{parts_in, xml_of}
-use Rattle.cd_normal.specs.Inner.PlainChoice.{plain_choice}
+use Rattle.cd_normal.specs.Inner.PlainConjunct.{plain_conjunct}
 use Rattle.cd_normal.proofs.side.wanted_xmls.Given as goal
 
 -- the parts so far, and those of the literals that are left, are all
 abbrev pub invariant-loop-literal : goal.invariant-loop-literal
 invariant-loop-literal l =
-    l.parts.items ++ parts_in xml_of true (plain_choice (drop l.literal-index l.choice)) ≡ parts_in xml_of true (plain_choice l.choice)
+    l.parts.items ++ parts_in xml_of true (plain_conjunct (drop l.literal-index l.conjunct)) ≡ parts_in xml_of true (plain_conjunct l.conjunct)

@@ -39,5 +39,5 @@ record_of-requires-clause-rising c =
     subst (λ (entries : List (Name × Entry)). AreRising None (map (λ one. one.0) entries))
     (sym (ap (map plain_said) c.as_slice.ensures.value ∙ c.in_ok-said.ensures))
     (subst (AreRising None) (sym (merged_names first second (merged_labels first second)))
-    (labels_rise (nodes c.args.graph.now) first second c.requires.first.living
-    c.requires.second.living))
+    (labels_rise (nodes c.args.graph.now) first second c.requires.first.witnesses
+    c.requires.second.witnesses))

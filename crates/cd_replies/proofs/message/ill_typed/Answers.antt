@@ -11,5 +11,5 @@ pub returns : goal.returns
 returns c =
     let said = c.as_str.ensures.value ∙ c.in_ok-message.ensures.ok
     ∙ sym (append_assoc c.args.rule.now (codes ": ") c.args.element.now) in
-    subst (λ message. IfOk c.at_place.result (λ told. reply_of told ≡ at_place IllTyped c.args.origin.now c.args.text.now c.args.at message))
+    subst (λ message. IfOk c.at_place.result (λ reported. reply_of reported ≡ at_place IllTyped c.args.origin.now c.args.text.now c.args.at message))
     said c.at_place.ensures

@@ -11,5 +11,5 @@ pub returns : goal.returns
 returns c =
     let name = encoded _ _ c.as_str.utf8 c.as_str.ensures in
     let said = c.as_str-2.ensures.value ∙ c.in_ok-message.ensures ∙ ap (naming_message c.args.fault) name in
-    subst (λ message. IfOk c.at_place.result (λ told. reply_of told ≡ at_place Naming c.args.origin.now c.args.text.now c.args.at message))
+    subst (λ message. IfOk c.at_place.result (λ reported. reply_of reported ≡ at_place Naming c.args.origin.now c.args.text.now c.args.at message))
     said c.at_place.ensures

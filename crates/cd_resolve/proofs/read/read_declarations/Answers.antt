@@ -3,7 +3,7 @@ use Rattle.cd_syntax.specs.PlainTree.{plain_declarations}
 use Rattle.cd_resolve.specs.Inner.Check.{all_faults}
 use Rattle.cd_resolve.specs.Least.{least_from, IsLeast}
 use Rattle.cd_resolve.specs.Inner.Finding.{innermost, found_in_list}
-use Rattle.cd_resolve.proofs.Checking.{declared_sound, declared_told}
+use Rattle.cd_resolve.proofs.Checking.{declared_sound, declared_reported}
 use Rattle.cd_resolve.proofs.TypesArePatterns.{declarations_are_patterns}
 use Rattle.cd_resolve.proofs.read.read_declarations.Goals as goal
 
@@ -21,5 +21,5 @@ pub returns-clause-fault : goal.returns-clause-fault
 returns-clause-fault c =
     let declared = plain_declarations c.args.declared.now in
     let found = c.in_ok-frame.ensures.found ∙ ap (found_in_list innermost [] declared) c.new-found.ensures in
-    declared_told declared c.in-Err.error
+    declared_reported declared c.in-Err.error
     (subst (λ found. IsLeast (least_from None (all_faults found)) c.in-Err.error) found c.in-Err.ensures.fault)

@@ -3,4 +3,4 @@ use Rattle.cd_rows.proofs.RecordsOfRows.{has_picked}
 use Rattle.cd_rows.proofs.laws.rows_pick.Goals as goal
 
 pub returns : goal.returns
-returns c graph row label e living = has_picked (in_node graph) row living label e
+returns c graph row label e witnesses = has_picked (in_node graph) row witnesses label e

@@ -25,7 +25,7 @@ returns-in_ok-text-in-Inhabited c =
     let graph = graph_of c.args.world.now in
     let name = c.in_ok-text-in-Inhabited.ensures ∙ ap (λ table. canonical (element_at table id)) c.elements.ensures.table in
     let text = encoded _ _ c.as_str-in-Inhabited.utf8 c.as_str-in-Inhabited.ensures ∙ ap encode_utf8_all name in
-    let told = subst (λ text. IfOk c.no.result (λ message. reply_of message ≡ says No (codes "no: " ++ text))) text c.no.ensures in
+    let reported = subst (λ text. IfOk c.no.result (λ message. reply_of message ≡ says No (codes "no: " ++ text))) text c.no.ensures in
     replies c.no.result (says No (codes "no: " ++ encode_utf8_all (canonical (element_at table id))))
-    (ComparesNodes graph c.args.first c.args.second) told
+    (ComparesNodes graph c.args.first c.args.second) reported
     (found graph table c.args.first c.args.second id exact)

@@ -4,7 +4,7 @@ use Rattle.cd_cells.specs.Cells.{thing_at}
 use Rattle.cd_cells.specs.Table.{table}
 use Rattle.cd_documents.specs.Reading.{WritesValue}
 use Rattle.cd_replies.specs.Documents.{RefusesDocument}
-use Rattle.cd_replies.specs.Message.{against}
+use Rattle.cd_replies.specs.Message.{text_fault}
 use Rattle.cd_work.specs.Workload.{document_text}
 use Rattle.cd_work.proofs.DocumentWrites.{one_document, document_is_not_refused}
 use Rattle.cd_work.proofs.runs.document_value.Goals as goal
@@ -13,8 +13,8 @@ use Rattle.cd_work.proofs.runs.document_value.Goals as goal
 pub unreachable-requires : goal.unreachable-requires
 unreachable-requires c =
     let text : c.as_str.result.now ≡ document_text c.args.size = c.as_str.ensures.value ∙ c.in_ok-text.ensures in
-    document_is_not_refused c.args.size c.requires.most (against c.in-Err.field-0)
-    (subst (λ (text : List ℕ). RefusesDocument text (against c.in-Err.field-0)) text (rw c.in-Err.is at c.in_ok-value.ensures.read))
+    document_is_not_refused c.args.size c.requires.most (text_fault c.in-Err.field-0)
+    (subst (λ (text : List ℕ). RefusesDocument text (text_fault c.in-Err.field-0)) text (rw c.in-Err.is at c.in_ok-value.ensures.read))
 
 -- which is this one
 pub returns-clause-is : goal.returns-clause-is

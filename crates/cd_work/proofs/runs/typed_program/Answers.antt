@@ -2,7 +2,7 @@ use Rattle.std.proofs.Common.{sym, subst}
 use Rattle.cd_program.specs.PlainProgram.{plain_program}
 use Rattle.cd_typing.specs.Typed.{IsTyped}
 use Rattle.cd_checking.proofs.FaultsUntyped.{fault_untyped}
-use Rattle.cd_replies.specs.Message.{against, reply_of}
+use Rattle.cd_replies.specs.Message.{text_fault, reply_of}
 use Rattle.cd_running.proofs.TypedPrograms.{typed_program}
 use Rattle.std.specs.Prelude.{codes}
 use Rattle.cd_work.specs.Workload.{program_text}
@@ -12,7 +12,7 @@ use Rattle.cd_work.proofs.runs.typed_program.Goals as goal
 
 -- the text reads as a program
 pub unreachable-requires : goal.unreachable-requires
-unreachable-requires c = program_is_not_refused (against c.in-Err.field-0) (rw c.in-Err.is at c.in_ok-program.ensures.read)
+unreachable-requires c = program_is_not_refused (text_fault c.in-Err.field-0) (rw c.in-Err.is at c.in_ok-program.ensures.read)
 
 -- which is this one
 pub returns-clause-is : goal.returns-clause-is

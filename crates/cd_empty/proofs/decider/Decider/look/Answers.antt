@@ -2,7 +2,7 @@ use Rattle.std.proofs.Common.{sym, subst, ◌∙◌}
 use Rattle.cd_empty.specs.Inner.PlainFrame.{known}
 use Rattle.cd_empty.specs.Kept.{kept}
 use Rattle.cd_empty.specs.Verdicts.{IsKept}
-use Rattle.cd_empty.proofs.LooksAtQuestions.{empty_is_known, listed_is_known, not_listed, contradiction_is_covered}
+use Rattle.cd_empty.proofs.LooksAtQuestions.{empty_is_known, listed_is_known, not_listed, contradiction_is_subsumed}
 use Rattle.cd_empty.proofs.decider.Decider.look.Goals as goal
 
 -- a question without elements is settled, or in the list
@@ -18,5 +18,5 @@ returns-in-None-find c = (c.in-None.ensures, not_listed c.args.self.now.list c.a
 
 -- so is one that contradicts itself
 pub returns-then-contradicts_itself : goal.returns-then-contradicts_itself
-returns-then-contradicts_itself c = contradiction_is_covered (known c.args.self.now) c.args.question.now
+returns-then-contradicts_itself c = contradiction_is_subsumed (known c.args.self.now) c.args.question.now
     (sym c.contradicts_itself.ensures ∙ c.if-contradicts_itself.true)

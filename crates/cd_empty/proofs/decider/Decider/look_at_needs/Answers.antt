@@ -19,7 +19,7 @@ looked c = subst (λ (questions : List Question). AreParts c.args.self.now quest
 pub returns-in-Missing : goal.returns-in-Missing
 returns-in-Missing c =
     let needed = rw c.in-Some.is at c.in_ok-questions.ensures.needed in
-    cut_by (known c.args.self.now) (partials c.args.choices.now) (partials c.cut.new.self) c.in-Some.questions.items c.cut.ensures needed
+    cut_by (known c.args.self.now) (partials c.args.conjuncts.now) (partials c.cut.new.self) c.in-Some.questions.items c.cut.ensures needed
     (subst (AreParts c.args.self.now c.in-Some.questions.items) c.in-Missing.is (looked (goal.at.returns-in-Missing c).In_ok-parts))
 
 pub returns-in-Unknown : goal.returns-in-Unknown

@@ -2,11 +2,11 @@ use Rattle.std.proofs.Common.{ℕ, suc, List, add-one, take, sym, subst}
 use Rattle.cd_elements.specs.declared.shape.ElementId.{ElementId}
 use Rattle.cd_empty.specs.Inner.Doing.{IsUnknown}
 use Rattle.cd_empty.specs.Inner.Looking.{HaveElements}
-use Rattle.cd_empty.proofs.LooksAtQuestions.{one_covered, one_there, have_one_more}
+use Rattle.cd_empty.proofs.LooksAtQuestions.{one_subsumed, one_there, have_one_more}
 use Rattle.cd_empty.proofs.decider.Decider.parts.Goals as goal
 
 pub returns-in-Empty : goal.returns-in-Empty
-returns-in-Empty c = one_covered c.args.self.now c.args.questions.now c.loop-question.question-index
+returns-in-Empty c = one_subsumed c.args.self.now c.args.questions.now c.loop-question.question-index
     c.question-item.result c.question-item.result c.loop-question-test.true c.question-item.is c.in-Empty.ensures
 
 pub returns-in-Unknown : goal.returns-in-Unknown

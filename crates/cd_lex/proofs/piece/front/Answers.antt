@@ -1,6 +1,0 @@
-use Rattle.std.proofs.Common.{refl}
-use Rattle.std.proofs.lemmas.Result.{IfOk-weaker}
-use Rattle.cd_lex.proofs.piece.front.Goals as goal
-
-pub returns-then-is_ascii_digit-clause-piece : goal.returns-then-is_ascii_digit-clause-piece
-returns-then-is_ascii_digit-clause-piece c = IfOk-weaker c.number.result _ _ (λ piece stands. (stands c.args.buffer.now).0 c.args.joined refl) c.number.ensures.piece

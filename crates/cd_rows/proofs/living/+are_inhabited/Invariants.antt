@@ -1,6 +1,0 @@
-use Rattle.std.proofs.Common.{length}
-use Rattle.cd_rows.proofs.living.+are_inhabited.Given as goal
-
--- the questions that are left
-abbrev pub decreases-are_inhabited : goal.decreases-are_inhabited
-decreases-are_inhabited l = length l.questions.now

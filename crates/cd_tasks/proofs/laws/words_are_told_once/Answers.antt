@@ -1,8 +1,0 @@
-use Rattle.cd_tasks.proofs.ToldOnce.{each_is_told, words_differ}
-use Rattle.cd_tasks.proofs.laws.words_are_told_once.Goals as goal
-
-pub returns-clause-once : goal.returns-clause-once
-returns-clause-once c = words_differ
-
-pub returns-clause-each : goal.returns-clause-each
-returns-clause-each c = each_is_told
