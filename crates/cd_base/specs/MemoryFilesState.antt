@@ -1,4 +1,4 @@
--- Files in memory: what they hold, and the reads that they were told to refuse.
+-- Files in memory: what they hold, and the reads that they are to refuse.
 use Rattle.std.specs.Prelude.{◌≡◌, ℕ, List, Option, None, String, Vec, map, find, string_bytes, ◌⊎◌}
 use Rattle.std.specs.Prelude.{Contains}
 use Rattle.std.specs.Global.{Global}
@@ -23,7 +23,7 @@ contents files = map (λ file. (string_bytes file.0, file.1.items)) files
 abbrev pub held : List (List ℕ × List ℕ) → List ℕ → Option (List ℕ)
 held files name = option_map (λ file. file.1) (find (λ file. bytes_eq file.0 name) files)
 
--- what such files tell: all that they hold
+-- what is known of such files: all that they hold
 abbrev pub memory_files : MemoryFilesState → FilesState
 memory_files f = record { known = held f.files; faults = f.faults; last = f.last }
 

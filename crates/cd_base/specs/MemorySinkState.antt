@@ -1,4 +1,4 @@
--- A sink in memory: what it holds, and the puts that it was told to refuse.
+-- A sink in memory: what it holds, and the puts that it is to refuse.
 use Rattle.std.specs.Prelude.{◌≡◌, ℕ, ◌==◌, List, ◌++◌, Option, Some, take, find}
 use Rattle.std.specs.Option.{option_map}
 use Rattle.cd_base.specs.SinkState.{SinkState}
@@ -11,7 +11,7 @@ pub record MemorySinkState : Type 0 where
   pub puts : ℕ
   pub faults : ℕ
 
--- what such a sink tells: all that it holds
+-- what is known of such a sink: all that it holds
 abbrev pub sink_state : MemorySinkState → SinkState
 sink_state s = record { known = Some s.bytes; faults = s.faults }
 

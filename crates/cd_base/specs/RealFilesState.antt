@@ -1,4 +1,4 @@
--- The files of the system: they tell no bytes.
+-- The files of the system; their bytes are not known.
 use Rattle.std.specs.Prelude.{ℕ, List, Option, None}
 use Rattle.cd_base.specs.FilesState.{FilesState}
 

@@ -5,7 +5,7 @@ use Rattle.cd_base.specs.Faults.{Rose}
 use Rattle.cd_base.specs.declared.sink.PutError.{PutError}
 use Rattle.cd_base.specs.declared.sink.PutError.TheVariants.{Failed, Memory}
 
--- the bytes that were written, where they are told, and the count of faults, which never falls
+-- the bytes that were written, where they are known, and the count of faults, which never falls
 pub record SinkState : Type 0 where
   pub known : Option (List ℕ)
   pub faults : ℕ

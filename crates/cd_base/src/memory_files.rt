@@ -9,7 +9,7 @@ use crate::files::{Files, ReadError};
 use std::alloc::Global;
 use std::marker::Model;
 
-/// Files that are kept in memory, some of whose reads fail as they were told to.
+/// Files that are kept in memory, some of whose reads fail as set up.
 #[derive(Drop)]
 pub struct MemoryFiles {
     files: Vec<(String, Vec<u8>)>,

@@ -7,7 +7,7 @@ use crate::sink::{PutError, Sink};
 use std::alloc::Global;
 use std::marker::Model;
 
-/// A sink that keeps what is put in memory, and refuses the puts that it was told to refuse.
+/// A sink that keeps what is put in memory, and refuses the puts that it is to refuse.
 #[derive(Drop)]
 pub struct MemorySink {
     bytes: Vec<u8>,

@@ -10,7 +10,7 @@ use std::io::{ErrorKind, Read};
 use std::marker::Model;
 use std::{io, rt};
 
-/// The files of the system, reached through the runtime. They tell nothing of their bytes, and
+/// The files of the system, reached through the runtime. Their bytes are not known, and
 /// count each error of the system as a fault, unless memory ran out.
 #[derive(Drop)]
 pub struct RealFiles<R> {
@@ -71,7 +71,7 @@ impl<R: rt::Files> Files for RealFiles<R> {
     }
 }
 
-// The front of a file.
+// The first bytes of a file.
 fn read_prefix<R: rt::Files>(
     alloc: Global,
     runtime: &R,

@@ -14,7 +14,7 @@ enum Stream {
     Errors(Stderr),
 }
 
-/// Standard output or standard error. It tells nothing of what was written, and counts each error
+/// Standard output or standard error. What was written is not known, and counts each error
 /// of the stream as a fault.
 #[derive(Drop)]
 pub struct RealSink {

@@ -32,7 +32,7 @@ pub same_frame : (frame : Frame) (branches : List Task) → frame.branches ≡ b
 same_frame frame branches same = λ i. record frame { branches = same i }
 
 module _ (graph : Graph) (decider : Decider) (frame : Frame) (branch : Task) where
-  -- a question of the branch is covered
+  -- a question of the branch is subsumed
   pub dropped : IsFit graph (table decider) (with_branch branch frame)
       → AnyOf (λ question. IsSubsumed question (known decider)) (questions_of (plain_task branch))
       → IsDoing graph decider (with_branch branch frame) frame Worked

@@ -1,4 +1,5 @@
--- What is done for the first choice of a frame without branches is something that the machine does.
+-- What is done for the first conjunct of a frame without branches is something that the machine
+-- does.
 use Rattle.std.proofs.Common.{◌≡◌, List, [], ◌∷◌, Option, Some, length, map, sym, ap, subst, ◌∙◌}
 use Rattle.std.specs.Option.{option_map}
 use Rattle.cd_model.specs.AllOf.{AllOf}
@@ -32,7 +33,7 @@ use Rattle.cd_empty.specs.Kept.{table}
 use Rattle.cd_empty.proofs.FunctionsSoFar.{function_begins}
 
 module _ (graph : Graph) (decider : Decider) (frame : Frame) where
-  -- the frame with other choices fits where these are of the graph
+  -- the frame with other conjuncts fits where these are of the graph
   with_conjuncts : (conjuncts : Conjuncts) → IsFit graph (table decider) frame → AllOf (IsOfNodes (length graph)) (partials conjuncts)
       → IsFit graph (table decider) (record frame { conjuncts = conjuncts })
   with_conjuncts conjuncts fit are = record { conjuncts = are; named = fit.named; function = fit.function }
@@ -60,13 +61,13 @@ module _ (graph : Graph) (decider : Decider) (frame : Frame) where
   looked_at after Nothing fit is = absurd is
   looked_at after (Found id) fit is = absurd is
 
-  -- no choice is left
+  -- no conjunct is left
   pub nothing_left : (after : Conjuncts) → GoesBy (partials frame.conjuncts) (partials after) advance.Nothing → frame.branches ≡ []
       → IsFit graph (table decider) frame → IsDoing graph decider frame (record frame { conjuncts = after }) Nothing
   nothing_left after (before_none, after_none) none fit =
       (stays after (after_none ∙ sym before_none) fit, (after_none, ap (map plain_task) none))
 
-  -- the first choice goes on by its next formula
+  -- the first conjunct goes on by its next formula
   pub went_on : (after : Conjuncts) → TopGoesOn (partials frame.conjuncts) (partials after) → IsFit graph (table decider) frame
       → AllOf (IsOfNodes (length graph)) (partials after) → IsDoing graph decider frame (record frame { conjuncts = after }) Worked
   went_on after (first, more, rest, before_is, after_is, goes) fit are =
@@ -83,7 +84,7 @@ module _ (graph : Graph) (decider : Decider) (frame : Frame) where
 module _ (graph : Graph) (decider : Decider) (frame : Frame) (conjuncts : Conjuncts) (clause : CodeClause)
     (fit : IsFit graph (table decider) frame) (are : AllOf (IsOfNodes (length graph)) (partials conjuncts))
     (none : frame.branches ≡ []) where
-  -- the clause of a complete choice is begun
+  -- the clause of a complete conjunct is begun
   is_begun : (after : Frame) (kind : Kind) (conjunct : Conjunct) → partials frame.conjuncts ≡ partial kind conjunct [] ∷ partials conjuncts
       → plain_clause clause ≡ clause_by kind conjunct
       → Begins decider (plain_clause clause) (record frame { conjuncts = conjuncts }) after Worked

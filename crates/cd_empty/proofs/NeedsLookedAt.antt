@@ -1,4 +1,4 @@
--- What comes of a look at the needs of the first choice.
+-- What comes of a look at the needs of the first conjunct.
 use Rattle.std.proofs.Common.{◌≡◌, List, ◌∷◌, Option, Some, None, refl, sym, ap, ◌∙◌, drop}
 use Rattle.cd_sets.specs.declared.question.Question.{Question}
 use Rattle.cd_model.specs.AllOf.{AllOf, AnyOf}
@@ -12,7 +12,7 @@ use Rattle.cd_empty.specs.declared.decider.Decider.{Decider}
 use Rattle.cd_empty.specs.declared.doing.Doing.{Doing}
 use Rattle.cd_empty.specs.Inner.Working.{IsLook}
 
--- the first choice fails, and is taken away
+-- the first conjunct fails, and is taken away
 abbrev pub IsCut : (known : List Question) (before after : List Partial) → Type 0
 IsCut known before after = (first : Partial) × (before ≡ first ∷ after)
     × ((family : List Question) → AreAmong known family → PartialFails family first)
@@ -31,7 +31,7 @@ cut_by known before after questions cut needed subsumed =
     one_leads (λ question. IsSubsumed question known × IsNeededByTop before question) (cut_by_one known before after cut) questions
     (one_with_each (λ question. IsSubsumed question known) (IsNeededByTop before) questions subsumed needed)
 
--- where it gave nothing, the choices are as they were
+-- where it gave nothing, the conjuncts are as they were
 pub looked_on : (graph : Graph) (decider : Decider) (before after : List Partial) (found : Option Doing)
     → ((doing : Doing) → found ≡ Some doing → ⊥) → IsLook graph decider before after found → after ≡ before
 looked_on graph decider before after None not_some is = is

@@ -22,7 +22,7 @@ pub(crate) struct Frame<'g> {
     /// The place of the question in the list of those that are assumed.
     pub(crate) place: usize,
     pub(crate) question: Question,
-    /// The choices whose clauses are not begun.
+    /// The conjuncts whose clauses are not begun.
     pub(crate) conjuncts: Conjuncts<'g>,
     /// The clause that is begun.
     pub(crate) clause: Option<Clause<'g>>,
@@ -35,7 +35,7 @@ pub(crate) struct Frame<'g> {
 }
 
 impl<'g> Frame<'g> {
-    /// A frame with these choices, of which none is begun.
+    /// A frame with these conjuncts, of which none is begun.
     pub(crate) fn new(
         alloc: Global,
         place: usize,

@@ -66,7 +66,7 @@ impl Decider {
         Ok(())
     }
 
-    // Goes on until an element of some question is found, and tells whether one is. If none is,
+    // Goes on until an element of some question is found, and says whether one is. If none is,
     // nothing is left to do.
     fn to_element<'g>(
         &mut self,
@@ -198,7 +198,7 @@ impl Decider {
     }
 
     // Keeps an integer, a character or an atom that is in a question of which nothing is known, and
-    // tells whether there is one.
+    // says whether there is one.
     fn know(&mut self, graph: &Graph, question: &Question) -> Result<bool, AllocError>
         requires sound { IsSound (nodes graph.now) self.old }
         requires unknown { IsUnknown self.old question.now }

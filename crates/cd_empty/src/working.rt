@@ -187,7 +187,7 @@ impl Decider {
         self.elements.make(Shape::Fun(Pairs::of(pairs)))
     }
 
-    // Does one thing for the first choice of a frame without branches.
+    // Does one thing for the first conjunct of a frame without branches.
     fn work_at_conjunct<'g>(
         &mut self,
         graph: &Graph,
@@ -211,7 +211,8 @@ impl Decider {
         }
     }
 
-    // Looks at the needs of the first choice, which is taken away where one of them has no element.
+    // Looks at the needs of the first conjunct, which is taken away where one of them has no
+    // element.
     fn look_at_needs(
         &self,
         graph: &Graph,

@@ -1,4 +1,4 @@
--- Blanks at the front of a text are read.
+-- Blanks at the start of a text are read.
 use Rattle.std.proofs.Common.{◌≡◌, ℕ, ◌≤◌, Bool, true, false, List, [], ◌∷◌, ◌++◌, length, refl, sym, ap, subst, ◌∙◌, arith}
 use Rattle.std.specs.Prelude.{take_while, ◌&&◌, ◌==◌}
 use Rattle.std.specs.List.{list_all}
@@ -62,7 +62,7 @@ pub never_joined : (joined : Bool) (blanks : List ℕ) → joined ≡ false
 never_joined joined [] apart = refl
 never_joined joined (c ∷ cs) apart = apart
 
--- the blanks at the front
+-- the blanks at the start
 parted : (text new : List ℕ) → new ≡ after is_blank text → take_while is_blank text ++ new ≡ text
 parted text new new_is = ap (λ rest. take_while is_blank text ++ rest) new_is
     ∙ sym (taken_and_rest is_blank text)

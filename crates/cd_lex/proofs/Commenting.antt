@@ -1,4 +1,4 @@
--- The machine finds exactly the front that closes a comment.
+-- The machine finds exactly the prefix that closes a comment.
 use Rattle.std.proofs.Common.{◌≡◌, ℕ, zero, suc, ◌≤◌, false, List, [], ◌∷◌, ◌++◌, Option, Some, None, refl, sym, ap, subst, ◌∙◌, inl, inr, ◌⊎◌, arith, length, take, drop}
 use Rattle.std.specs.Prelude.{◌==◌, ◌&&◌, if◌then◌else◌, MatchOption}
 use Rattle.std.specs.Option.{option_map, option_map_or}
@@ -90,7 +90,7 @@ finds around _ rest (character _ c written no_open no_close closes) = on written
     on [] no_open no_close closes found = let some = closed_by_some _ _ closes in absurd (omega arith)
     on (d ∷ ds) no_open no_close closes found = more _ _ (unpaired around c (d ∷ ds ++ rest) no_open no_close ∙ found)
 
--- what stands so far, and the front of the text, close the comments
+-- what stands so far, and the prefix of the text, close the comments
 record IsClosing (around : ℕ) (before : Before) (text : List ℕ) (n : ℕ) : Type 0 where
   fits : n ≤ length text
   closes : Closes (suc around) (pending before ++ take n text)
@@ -156,7 +156,7 @@ module _ (c : ℕ) (text : List ℕ) (on : (around : ℕ) (before : Before) (n :
           let rest = on around Nothing one.0 one.1 in
           rw one.2 (record { fits = omega arith; closes = close around (take one.0 text) rest.closes })
 
--- the front that the machine finds closes the comments
+-- the prefix that the machine finds closes the comments
 closing : (text : List ℕ) (around : ℕ) (before : Before) (n : ℕ) → length_from (at around before) text ≡ Some n → IsClosing around before text n
 closing [] around before n found = absurd cc
 closing (c ∷ cs) around Nothing n found = alone c cs (closing cs) around n found

@@ -1,4 +1,4 @@
--- Each text spells tokens or has a first fault.
+-- Each text lexes or has a first fault.
 use Rattle.std.proofs.Common.{◌≡◌, ℕ, ℤ, pos, neg_ℤ, zero, suc, ◌+◌, ◌-◌, ◌≤◌, Bool, true, false, true≢false, List, [], ◌∷◌, Option, Some, None, refl, sym, ap, subst, ◌∙◌, inl, inr, ◌⊎◌, arith, length}
 use Rattle.std.specs.Prelude.{◌==◌, int_le}
 use Rattle.std.specs.Char.{is_ascii_digit}
@@ -30,7 +30,7 @@ use Rattle.cd_lex.proofs.WordPrefixes.{word_prefix, number_prefix, negative_pref
 use Rattle.cd_lex.proofs.PiecePrefixes.{blank_stands, comment_closes, comment_ends, text_stands, chars_stand, text_open, text_breaks, sign_stands, no_sign, other_by}
 use Rattle.cd_lex.proofs.DecidingQuotes.{AfterQuote, closed, broken, unended, after_quote}
 
--- what stands at the front of a text
+-- what stands at the start of a text
 data Prefix (joined : Bool) (at : ℕ) (text : List ℕ) : Type 0 where
   falls_away : (rest : List ℕ) → IsDroppedTo text rest → Prefix joined at text
   stands : (kind : TokenKind) (rest : List ℕ) → IsTokenTo joined text kind rest → Prefix joined at text
@@ -175,7 +175,7 @@ prefix_decided joined at c rest = elim (cases_Bool (begins_pair 40 42 (c ∷ res
 abbrev pub Read : Bool → ℕ → List ℕ → Type 0
 Read joined at text = ((list : List Token) × Lexes joined at text list) ⊎ ((fault : LexError) × HasFirstFault joined at text fault)
 
--- what is left after a front is read
+-- what is left after a prefix is read
 reads_on : (n : ℕ) (joined : Bool) (at : ℕ) (text : List ℕ) → length text ≤ suc n → ((joined : Bool) (at : ℕ) (rest : List ℕ) → length rest ≤ n → Read joined at rest)
     → Prefix joined at text → Read joined at text
 reads_on n joined at text fits on (is_fault fault breaks) = inr (fault, faults.here joined at text fault breaks)

@@ -1,4 +1,4 @@
--- What stands at the front of a text is one: a class by its first characters, and for each class one outcome.
+-- What stands at the start of a text is one: a class by its first characters, and for each class one outcome.
 use Rattle.std.proofs.Common.{◌≡◌, ◌≢◌, ℕ, ℤ, pos, neg_ℤ, ◌+◌, ◌≤◌, ◌<◌, Bool, true, false, true≢false, List, [], ◌∷◌, ◌++◌, Option, Some, None, refl, sym, ap, subst, ◌∙◌, inl, inr, ◌⊎◌, arith, length, take, drop, append-nil}
 use Rattle.std.specs.Prelude.{◌==◌, ◌&&◌, ◌||◌, not, if◌then◌else◌, take_while, IsTrue}
 use Rattle.std.specs.Char.{is_ascii_digit}

@@ -1,4 +1,4 @@
--- A text spells one list of tokens at most, or has one first fault, and not both.
+-- A text lexes to one list of tokens at most, or has one first fault, and not both.
 use Rattle.std.proofs.Common.{◌≡◌, ℕ, ◌+◌, Bool, false, List, [], ◌∷◌, ◌++◌, refl, inl, inr}
 use Rattle.cd_syntax.specs.declared.tokens.Token.{Token}
 use Rattle.cd_syntax.specs.declared.tokens.LexError.{LexError}
@@ -20,7 +20,7 @@ ReadsText = Reads State Result (List Token) PrefixStep push
 one_result : (state : State) (a b : Result) → ReadsText state a → ReadsText state b → a ≡ b
 one_result = once State Result (List Token) PrefixStep push prefix_once
 
--- what is spelled is read
+-- what lexes is read
 spells_read : (joined : Bool) (at : ℕ) (text : List ℕ) (list : List Token) → Lexes joined at text list → ReadsText (joined, at, text) (inl list)
 spells_read _ _ _ _ (tokens.nothing joined at) = stop (joined, at, []) (inl []) refl
 spells_read _ _ _ _ (tokens.dropped joined at written text list drops on) =

@@ -1,4 +1,4 @@
--- The bytes at the front of a text that belong to a run are those of the characters there that do.
+-- The bytes at the start of a text that belong to a run are those of the characters there that do.
 use Rattle.std.proofs.Common.{◌≡◌, ◌∙◌, sym, ap, subst, refl, ℕ, suc, ◌<◌, ◌≤◌, ◌⊎◌, inl, inr, Bool, true, false, List, [], ◌∷◌, ◌++◌, length, drop, get_or, arith, append-nil, encode_utf8}
 use Rattle.std.specs.Prelude.{encode_utf8_all, take_while, not, ◌==◌, ◌&&◌}
 use Rattle.std.specs.List.{list_all, prefix_len}
@@ -19,7 +19,7 @@ use Rattle.cd_lex.specs.Inner.Runs.{belongs, HasAsciiQuote, EndsRun}
 use Rattle.cd_lex.proofs.Wording.{neither, taken_first, taken_none, left}
 use Rattle.cd_lex.proofs.Prefixing.{after_one, after_none}
 
--- characters at the front and those after them are characters
+-- characters at the start and those after them are characters
 scalars_apart : (p : ℕ → Bool) (cs : List ℕ) → scalars cs ≡ true
     → (scalars (take_while p cs) ≡ true) × (scalars (after p cs) ≡ true)
 scalars_apart p [] are = (refl, refl)

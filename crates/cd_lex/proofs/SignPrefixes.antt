@@ -1,4 +1,4 @@
--- Which sign stands at the front of a text, by its first characters.
+-- Which sign stands at the start of a text, by its first characters.
 use Rattle.std.proofs.Common.{◌≡◌, ℕ, true, false, List, [], ◌∷◌, ◌++◌, Some, refl, sym, ap, subst, ◌∙◌, inl, inr}
 use Rattle.std.specs.Prelude.{◌&&◌, eqb, if◌then◌else◌}
 use Rattle.std.proofs.lemmas.Bool.{ne_eqb}

@@ -20,7 +20,7 @@ begins_so text is so = (drop (length (characters is)) text, (starts_is Decides-e
 so_begins : (text : List ℕ) (is : Sign) → BeginsWith text is → begins_with text is ≡ true
 so_begins text is begins = (starts_is Decides-eqb text (characters is) (begins_with text is) refl).1 begins.0 begins.1
 
--- what is found at the front, and past it
+-- what is found at the start, and past it
 at_prefix : (test : Sign → Bool) (s : Sign) (rest : List Sign) (is : Sign) → test s ≡ true → find test (s ∷ rest) ≡ Some is → s ≡ is
 at_prefix test s rest is passes found =
     let it : Some s ≡ Some is = sym (cond-true (test s) _ _ passes) ∙ found in
@@ -161,7 +161,7 @@ first_stands text is found =
     let longest = first_is_longest text is found in
     (longest.stands.0, record { written = longest.stands.1; longest = longest })
 
--- the characters of a sign that stands at the front
+-- the characters of a sign that stands at the start
 prefix_is : (text : List ℕ) (is : Sign) → BeginsWith text is → take (length (characters is)) text ≡ characters is
 prefix_is text is begins = ap (take (length (characters is))) begins.1 ∙ take-append_seam (characters is) begins.0
 

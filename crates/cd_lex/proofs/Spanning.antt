@@ -41,7 +41,7 @@ in_order _ _ _ _ (spells_token joined at written text kind tokens writes lexes) 
     let some = written_bytes joined written text kind writes in
     (omega arith, omega arith, in_order (joins kind) (at + bytes written) text tokens lexes)
 
--- behind a front that ends at this byte, the tokens are slices of the whole
+-- behind a prefix that ends at this byte, the tokens are slices of the whole
 pub are_slices : (whole prefix : List ℕ) (joined : Bool) (at : ℕ) (text : List ℕ) (tokens : List Token) → whole ≡ prefix ++ text → at ≡ bytes prefix
     → Lexes joined at text tokens → AreSlices whole tokens
 are_slices whole prefix _ _ _ _ is from (spells_nothing joined at) = tt

@@ -1,4 +1,4 @@
--- One character off the front of a text.
+-- One character off the start of a text.
 use Rattle.std.proofs.Common.{◌≡◌, ◌∙◌, sym, ap, subst, ◌<◌, ◌≤◌, drop, get_or, ℕ, List, [], ◌∷◌, ◌++◌, length, Option, Some, None, MatchOption, arith, refl, append-nil, append_assoc}
 use Rattle.std.specs.Prelude.{encode_utf8, encode_utf8_all}
 use Rattle.std.specs.Str.{chars, IsUtf8}

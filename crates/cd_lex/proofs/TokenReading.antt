@@ -56,7 +56,7 @@ module _ (end : ℕ) (joined : Bool) (text : List ℕ) where
         within = omega arith;
       }
 
-  -- what is left after a front
+  -- what is left after a prefix
   pub drops : (now : Bool) (left new : List ℕ) → IsReadTo end joined text [] now left → IsDroppedTo left new → IsReadTo end joined text [] false new
   drops now left new so is =
       let ends = piece_ends end left is.written new so.fits is.is in

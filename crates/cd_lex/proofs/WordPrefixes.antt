@@ -1,4 +1,4 @@
--- The tokens at the front of a text that begin with a word or a digit, and atoms.
+-- The tokens at the start of a text that begin with a word or a digit, and atoms.
 use Rattle.std.proofs.Common.{◌≡◌, ◌≢◌, ℕ, ℤ, pos, neg_ℤ, ◌<◌, ◌^◌, ◌==◌, inr, Bool, true, false, true≢false, List, [], ◌∷◌, ◌++◌, refl, sym, ap, subst, ◌∙◌, length, drop, arith, bytes_eq}
 use Rattle.std.specs.Prelude.{IsTrue, MatchBool}
 use Rattle.std.specs.Str.{chars, IsUtf8}
@@ -208,7 +208,7 @@ no_backquote sign.Dot rest = refl
 no_backquote sign.Splice rest = refl
 no_backquote sign.At rest = refl
 
--- the word at the front is the only one that may stand there; where an atom has none, its backquote begins nothing
+-- the word at the start is the only one that may stand there; where an atom has none, its backquote begins nothing
 pub lone_backquote : (joined : Bool) (at : ℕ) (text : List ℕ) → (IsLabel (first_word text) → ⊥) → HasFaultHere joined at (96 ∷ text) (BadChar at)
 lone_backquote joined at text unlike = breaks_character 96 text refl
     (λ is begins. true≢false (ap begins_backquote begins.1 ∙ no_backquote is begins.0))

@@ -1,4 +1,4 @@
--- What stands at the front of a text: its first digits, its first word.
+-- What stands at the start of a text: its first digits, its first word.
 use Rattle.std.proofs.Common.{◌≡◌, ◌≢◌, ℕ, suc, ◌+◌, Bool, true, false, true≢false, List, [], ◌∷◌, ◌++◌, ◌||◌, refl, sym, ap, subst, ◌∙◌, length, drop, arith}
 use Rattle.std.specs.Prelude.{take_while, IsTrue}
 use Rattle.std.specs.Char.{is_ascii_digit}

@@ -30,7 +30,7 @@ is_joined lexer = lexer.joined
 abbrev pub spelled : Lexer → List ℕ
 spelled lexer = lexer.buffer
 
--- what is left spells these tokens, and has this first fault
+-- what is left lexes to these tokens, and has this first fault
 abbrev pub LexesOn : Lexer → List Token → Type 0
 LexesOn lexer tokens = Lexes (is_joined lexer) (place lexer) (left lexer) tokens
 

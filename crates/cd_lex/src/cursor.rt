@@ -89,7 +89,7 @@ impl<'t> Cursor<'t> {
         }
     }
 
-    /// The characters at the front that belong to a run, which are taken off.
+    /// The characters at the start that belong to a run, which are taken off.
     #[inline(always)]
     pub(crate) fn take_run(&mut self, run: Run) -> &'t str
         requires { HasAsciiQuote run }
@@ -114,7 +114,7 @@ fn first<'t>(text: &'t str) -> (Option<char>, &'t str)
     (found, left.as_str())
 }
 
-// The text without this character, which is ASCII, at its front, if it stands there.
+// The text without this character, which is ASCII, at its start, if it stands there.
 #[inline(always)]
 fn without<'t>(text: &'t str, c: char) -> Option<&'t str>
     requires { c < 128 }
@@ -132,7 +132,7 @@ fn without<'t>(text: &'t str, c: char) -> Option<&'t str>
     }
 }
 
-// The characters at the front of a text that belong to a run, and the rest.
+// The characters at the start of a text that belong to a run, and the rest.
 #[inline(always)]
 fn split<'t>(text: &'t str, run: Run) -> (&'t str, &'t str)
     requires { HasAsciiQuote run }

@@ -6,7 +6,7 @@ ghost use Rattle.cd_syntax.specs.Tokens.{Lexes};
 ghost use Rattle.cd_syntax.specs.Faults.{HasFirstFault};
 ghost use Rattle.cd_lex.specs.Spans.{AreInOrder, AreSlices};
 
-/// A text spells one list of tokens at most and has one first fault at most, and never both.
+/// A text lexes to one list of tokens at most and has one first fault at most, and never both.
 pub fn reading_is_one()
     ensures tokens { (text : List ℕ) (first second : List Token) → Lexes false 0 text first
         → Lexes false 0 text second → first ≡ second }
@@ -16,7 +16,7 @@ pub fn reading_is_one()
         → Lexes false 0 text tokens → HasFirstFault false 0 text fault → ⊥ }
 {}
 
-/// Each text spells tokens or has a first fault.
+/// Each text lexes or has a first fault.
 pub fn reading_is_decided()
     ensures { (text : List ℕ)
         → ((tokens : List Token) × Lexes false 0 text tokens)

@@ -73,7 +73,7 @@ pub(crate) fn read_lexeme<'t>(
     }
 }
 
-// Takes the word, the sign, the number or the text at the front off, but no sign that begins with
+// Takes the word, the sign, the number or the text at the start off, but no sign that begins with
 // `-`, no number of many digits, and no text with an escape.
 #[inline(always)]
 fn take_simple<'t>(cursor: &mut Cursor<'t>, buffer: &mut Buffer<'t>) -> Option<Kind>
@@ -106,7 +106,7 @@ fn take_simple<'t>(cursor: &mut Cursor<'t>, buffer: &mut Buffer<'t>) -> Option<K
     Some(Kind::Text)
 }
 
-// Takes the blanks at the front off, and says whether what stands after them is joined: where the
+// Takes the blanks at the start off, and says whether what stands after them is joined: where the
 // text is, and has none.
 #[inline(always)]
 fn skip_blanks(cursor: &mut Cursor<'_>, joined: bool) -> bool

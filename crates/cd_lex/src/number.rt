@@ -6,7 +6,7 @@ ghost use Rattle.cd_lex.specs.Inner.Number.{number_after, with_sign, FindsIntege
 
 use crate::cursor::Cursor;
 
-/// The number of the digits at the front of a text, of which the first was taken off before, with
+/// The number of the digits at the start of a text, of which the first was taken off before, with
 /// a minus or without, if it fits 128 bits.
 pub(crate) fn read_number(cursor: &mut Cursor<'_>, negative: bool, first: char) -> Option<i128>
     requires { is_ascii_digit first ≡ true }
@@ -34,7 +34,7 @@ fn read_digits(cursor: &mut Cursor<'_>, first: char) -> Option<u128>
     read_more_digits(cursor, u128::from(digit(first)))
 }
 
-/// The number of the digits at the front of a text, of which the first was taken off before, if
+/// The number of the digits at the start of a text, of which the first was taken off before, if
 /// they are few.
 #[inline(always)]
 pub(crate) fn take_small(cursor: &mut Cursor<'_>, first: char) -> Option<u64>

@@ -18,7 +18,7 @@ use crate::word::{is_underscore, take_word};
 use cd_syntax::sign::Sign;
 use cd_syntax::tokens::LexError;
 
-/// What stands at the front of a text.
+/// What stands at the start of a text.
 #[derive(Clone, Copy)]
 pub(crate) enum Piece {
     /// A comment.
@@ -27,7 +27,7 @@ pub(crate) enum Piece {
     Token(Kind),
 }
 
-/// Takes off what stands at the front of a text, of which this character was taken off before: no
+/// Takes off what stands at the start of a text, of which this character was taken off before: no
 /// blank, no word, and no sign but one that begins with `(` or `-`. The text begins at this byte of
 /// one that ends at that byte. It is joined where the token before it ends right here and keeps a
 /// `-` from being the sign of a number.

@@ -25,7 +25,7 @@ impl Run {
         }
     }
 
-    /// How many bytes at the front belong to the run.
+    /// How many bytes at the start belong to the run.
     #[inline(always)]
     pub(crate) fn length(self, bytes: &[u8]) -> usize
         ensures { result ≡ prefix_len (belongs self) bytes.now }

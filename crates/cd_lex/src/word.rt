@@ -6,7 +6,7 @@ ghost use Rattle.cd_lex.specs.Inner.Prefixes.{BeginsWithNoWord, IsWordTo};
 use crate::cursor::Cursor;
 use crate::run::Run;
 
-/// The word at the front of a text, which is taken off, if one stands there.
+/// The word at the start of a text, which is taken off, if one stands there.
 pub(crate) fn take_word<'t>(cursor: &mut Cursor<'t>) -> Option<&'t str>
     ensures { MatchOption result ((cursor.new ≡ cursor.old) × BeginsWithNoWord cursor.old)
         (λ word. IsWordTo cursor.old (chars word.now) cursor.new) }

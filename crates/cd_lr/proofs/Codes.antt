@@ -14,7 +14,7 @@ packed_opens state opens small = omega (arith, small)
 packed_state : (state opens : ℕ) → opens < 2 → ((((state + state) + opens) + 2) - 2) / 2 ≡ state
 packed_state state opens small = omega (arith, small)
 
--- the tests that tell apart the kinds of actions, in their order
+-- the tests that distinguish the kinds of actions, in their order
 tested : (n : ℕ) (zero_is one_is small : Bool) → nat_eq n 0 ≡ zero_is → nat_eq n 1 ≡ one_is → nat_lt n 2000 ≡ small
     → decode n
     ≡ (if zero_is then Refuse else if one_is then Accept

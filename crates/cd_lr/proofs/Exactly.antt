@@ -8,7 +8,7 @@ use Rattle.cd_lr.specs.Reading.{Answer, Read, Begin, BeginNone, IsAnswer, whole,
 use Rattle.cd_lr.proofs.Unique.{one_value}
 
 module _ {Token Value : Type 0} (g : Grammar Token Value) (most : ℕ) where
-  -- where no whole begins with a front of the tokens, none begins with the tokens
+  -- where no whole begins with a prefix of the tokens, none begins with the tokens
   pub not_none : (depth n : ℕ) (tokens : List Token) → BeginNone g most depth (take n tokens)
       → Begin g most depth tokens → ⊥
   not_none depth n tokens none (more, v, free, is) =

@@ -1,5 +1,5 @@
 -- What a reader answers at the formulas of built-in types, whether it reads an element or a value. The lemmas on pairs, XML
--- and records are told what it means that a part is in its node.
+-- and records are given what it means that a part is in its node.
 use Rattle.std.proofs.Common.{◌≡◌, ℕ, ◌<◌, ℤ, true, [], ◌∷◌, ◌⊎◌, ◌↔◌, arith}
 use Rattle.std.specs.Prelude.{codes}
 use Rattle.std.specs.Char.{IsScalar}

@@ -1,4 +1,4 @@
--- What is told of two kinds of faults is told of both.
+-- What is reported of two kinds of faults is reported of both.
 use Rattle.std.proofs.Common.{◌≡◌, ◌⊎◌, inl, inr, ◌↔◌, List, [], ◌∷◌, sym, true, false, cond, None, Result, Ok}
 use Rattle.std.proofs.Common.{Err, OnOk, IfErr}
 use Rattle.std.proofs.lemmas.Bool.{cases_Bool}

@@ -1,4 +1,4 @@
--- What is told of what is found in a program, and of its types, is told of the program.
+-- What is reported of what is found in a program, and of its types, is reported of the program.
 use Rattle.std.proofs.Common.{◌≡◌, ◌⊎◌, inl, inr, List, [], ◌∷◌, Result}
 use Rattle.cd_syntax.specs.TypeTree.{Tree, Declarations}
 use Rattle.cd_program.specs.Expr.{Program}

@@ -118,7 +118,7 @@ fn walk_under<'t>(
     Ok(())
 }
 
-// The variables that a pattern binds. Its faults are told, and it is kept.
+// The variables that a pattern binds. Its faults are reported, and it is kept.
 fn look_at<'t>(
     alloc: Global,
     pattern: &'t Tree,

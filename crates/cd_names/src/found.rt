@@ -48,7 +48,7 @@ impl<'t> Found<'t> {
         Ok(())
     }
 
-    /// Tells of a name that stands again, if it does.
+    /// Reports a name that stands again, if it does.
     pub(crate) fn report_twice(
         &mut self,
         again: bool,
@@ -64,7 +64,7 @@ impl<'t> Found<'t> {
         Ok(())
     }
 
-    /// Tells of a name that is met, unless it is seen.
+    /// Reports a name that is met, unless it is seen.
     pub(crate) fn meet(&mut self, seen: bool, name: &'t Name, at: usize) -> Result<(), AllocError>
         ensures { IfOk result (λ _.
             plain_found self.new ≡ met seen name.now at (plain_found self.old)) }

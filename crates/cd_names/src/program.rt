@@ -60,7 +60,7 @@ fn walk_program<'t>(alloc: Global, program: &'t Program) -> Result<Found<'t>, Al
     Ok(found)
 }
 
-// Adds the names of functions to these, and tells of those that are declared again.
+// Adds the names of functions to these, and reports those that are declared again.
 fn declare_all<'t>(
     declared: &'t FunctionTrees,
     functions: &mut NameIndex<'t>,

@@ -79,7 +79,7 @@ fn report_labels<'t>(
     Ok(())
 }
 
-// Tells of a label that is one of these, and adds it to them.
+// Reports a label that is one of these, and adds it to them.
 fn report_label<'t>(
     field: &'t FieldExpr,
     labels: &mut NameIndex<'t>,

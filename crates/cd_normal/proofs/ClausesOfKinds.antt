@@ -1,4 +1,5 @@
--- The clauses of the code for the choices of each kind are those of the question, but for the basic ones.
+-- The clauses of the code for the conjuncts of each kind are those of the question, but for the
+-- basic ones.
 use Rattle.std.proofs.Common.{◌≡◌, ◌⊎◌, Option, true, false, List, [], ◌∷◌, map, inl, inr, sym, ap, ap₂, subst}
 use Rattle.cd_sets.specs.declared.question.Question.{Question}
 use Rattle.cd_model.specs.AllOf.{AllOf, AnyOf}
@@ -24,7 +25,7 @@ use Rattle.cd_normal.specs.PlainClause.{plain_clause}
 use Rattle.cd_normal.specs.Inner.ClausesOfKinds.{clauses_of_kind, clauses_of_kinds, clauses_of_all}
 
 module _ (graph : Graph) (question : Question) where
-  -- what a choice of a kind says of it is a clause of the question
+  -- what a conjunct of a kind says of it is a clause of the question
   same_parts : {X : Type 0} (parts_of : Formula → Option X) (all : List Conjunct) (conjunct : Conjunct) → AnyOf (λ other. other ≡ conjunct) all
       → AnyOf (HasParts parts_of (parts_in parts_of true conjunct) (parts_in parts_of false conjunct)) all
   same_parts parts_of all conjunct = one_weaker (λ other. other ≡ conjunct)
@@ -51,7 +52,7 @@ module _ (graph : Graph) (question : Question) where
       (each_of_map (clause_by (plain_kind kind)) Is conjuncts (each_of_its (λ conjunct. Is (clause_by (plain_kind kind) conjunct)) conjuncts (clause_in kind)))
       (all_in some)
 
-  -- and each clause of a kind is what one of its choices says
+  -- and each clause of a kind is what one of its conjuncts says
   abbrev Among : List Clause → Clause → Type 0
   Among clauses is = AnyOf (λ one. one ≡ is) clauses
 

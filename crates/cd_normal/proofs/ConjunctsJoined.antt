@@ -1,4 +1,4 @@
--- One choice more is joined with the others.
+-- One conjunct more is joined with the others.
 use Rattle.std.proofs.Common.{◌≡◌, ℕ, suc, ◌+◌, ◌<◌, List, ◌∷◌, ◌++◌, map, drop, length, get_or, drop-cons, append_assoc, sym, ap, ap₂, ◌∙◌, arith}
 use Rattle.std.specs.declared.alloc.Global.{Global}
 use Rattle.std.specs.declared.vec.Vec.{Vec}

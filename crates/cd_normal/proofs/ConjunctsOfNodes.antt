@@ -1,4 +1,4 @@
--- Choices of formulas of a graph go on to such.
+-- Conjuncts of formulas of a graph go on to such.
 use Rattle.std.proofs.Common.{ℕ, zero, suc, Bool, true, false, not, List, [], ◌∷◌, ◌++◌, map, subst, sym}
 use Rattle.std.specs.List.{slice_get}
 use Rattle.std.specs.Option.{unwrap_or}
@@ -26,7 +26,7 @@ module _ (nodes : ℕ) where
   abbrev IsSigned : Signed → Type 0
   IsSigned one = IsFormula nodes one.0
 
-  -- choices of such literals, joined with others
+  -- conjuncts of such literals, joined with others
   with_others : (conjunct : Conjunct) (others : List Conjunct) → AllOf IsLiteral conjunct → AllOf (AllOf IsLiteral) others
       → AllOf (AllOf IsLiteral) (map (λ other. conjunct ++ other) others)
   with_others conjunct others each those = each_of_map (λ other. conjunct ++ other) (AllOf IsLiteral) others
@@ -49,7 +49,7 @@ module _ (nodes : ℕ) where
   literals_are false true is whole = tt
   literals_are false false is whole = (tt, tt)
 
-  -- the choices of such a formula for a kind
+  -- the conjuncts of such a formula for a kind
   mutual
     dnf_is : (kind : Kind) (is : Formula) (wanted : Bool) → IsFormula nodes is → AllOf (AllOf IsLiteral) (kind_dnf kind is wanted)
     dnf_is kind formula.Nothing wanted whole = when_are (not wanted)
@@ -99,7 +99,7 @@ module _ (nodes : ℕ) where
   disjuncts_are _ _ (wants_one formulas) whole = members_are formulas true whole
   disjuncts_are _ _ (refuses_one formulas) whole = members_are formulas false whole
 
-  -- so choices go on to such
+  -- so conjuncts go on to such
   goes_on_of_nodes : (first : Partial) (more : List Partial) → GoesOn first more → IsOfNodes nodes first → AllOf (IsOfNodes nodes) more
   goes_on_of_nodes _ _ (unfolds kind conjunct one members left is) whole =
       ((whole.0, each_of_lists IsSigned members left (conjuncts_are one members is whole.1.0) whole.1.1), tt)
@@ -125,7 +125,7 @@ module _ (nodes : ℕ) where
   goes_of_nodes before after Went goes each = top_of_nodes before after goes each
   goes_of_nodes before after (Complete clause) (kind, conjunct, was, is) each = (subst (AllOf (IsOfNodes nodes)) was each).1
 
-  -- and the choices of a question of such a graph are such
+  -- and the conjuncts of a question of such a graph are such
   formula_is : (graph : Graph) (id : ℕ) → AllOf (IsFormula nodes) graph
       → IsFormula nodes (unwrap_or (slice_get graph id) formula.Nothing)
   formula_is [] id each = tt

@@ -1,4 +1,5 @@
--- The questions that must have elements for a choice: it fails where one of them is covered, and they ask nodes of the graph.
+-- The questions that must have elements for a conjunct: it fails where one of them is subsumed, and
+-- they ask nodes of the graph.
 use Rattle.std.proofs.Common.{◌≡◌, ◌≤◌, ℕ, Bool, true, false, Option, Some, None, IfSome, List, [], ◌∷◌, map, inl, inr, sym, subst, ap}
 use Rattle.cd_sets.specs.declared.question.Question.{Question}
 use Rattle.cd_model.specs.AllOf.{AllOf, AnyOf}
@@ -53,7 +54,7 @@ module _ (nodes : ℕ) where
   abbrev IsLiteral : Literal → Type 0
   IsLiteral literal = IsFormula nodes literal.is
 
-  -- what the parts of each formula have, the parts of a choice have
+  -- what the parts of each formula have, the parts of a conjunct have
   module _ {X : Type 0} (has : X → Type 0) where
     one_more_has : (sign wanted : Bool) (part : Option X) (rest : List X) → IfSome part has → AllOf has rest
         → AllOf has (one_more sign wanted part rest)

@@ -1,4 +1,4 @@
--- What a choice becomes by its next formula is how it goes on.
+-- What a conjunct becomes by its next formula is how it goes on.
 use Rattle.std.proofs.Common.{◌≡◌, Bool, true, false, not, List, [], ◌∷◌, ◌++◌, refl}
 use Rattle.cd_model.specs.Formula as formula
 use Rattle.cd_model.specs.Formula.{Formula}

@@ -1,5 +1,5 @@
--- Literals, and unions of such, that are refused together have one choice: the literals of the kind. Where one is wanted there is a
--- choice for each of the kind.
+-- Literals, and unions of such, that are refused together have one conjunct: the literals of the
+-- kind. Where one is wanted there is a choice for each of the kind.
 use Rattle.std.proofs.Common.{◌≡◌, Bool, true, false, List, [], ◌∷◌, ◌++◌, map, refl, ap₂, subst, if◌then◌else◌}
 use Rattle.cd_model.specs.Formula as formula
 use Rattle.cd_model.specs.Formula.{Formula, Formulas, NoFormula, AFormula}
@@ -68,7 +68,7 @@ mutual
       let both = both_hold (is_flat is) (are_flat rest) flat in
       ap₂ (λ (one others : List Conjunct). one ++ others) (wanted_conjuncts kind is both.0) (wanted_apart kind rest both.1)
 
--- a choice goes on by such, or they are unfolded
+-- a conjunct goes on by such, or they are unfolded
 pub goes_on_refusing : (is : Partial) (formulas : Formulas) (test : Bool) → are_flat formulas ≡ test
     → GoesOn (partial is.kind is.conjunct ((formula.Or formulas, false) ∷ is.left))
     (if test then partial is.kind (is.conjunct ++ refused_of is.kind formulas) is.left ∷ [] else with_left (each_signed formulas false) is ∷ [])

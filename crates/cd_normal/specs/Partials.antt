@@ -1,4 +1,4 @@
--- What a contract sees of choices in the making.
+-- What a contract sees of conjuncts in the making.
 use Rattle.std.specs.Prelude.{List}
 use Rattle.cd_rules.specs.PartialConjuncts.{Partial}
 use Rattle.cd_normal.specs.declared.conjuncts.Conjuncts.{Conjuncts}

@@ -1,9 +1,9 @@
 use crate::clause::Clause;
 
-/// What became of the choice on the top.
+/// What became of the conjunct on the top.
 #[derive(Drop)]
 pub enum Advance<'g> {
-    /// There was no choice.
+    /// There was no conjunct.
     Nothing,
     /// It went on by its next formula.
     Went,

@@ -1,4 +1,4 @@
-//! The choices of formulas and of questions for one kind.
+//! The conjuncts of formulas and of questions for one kind.
 ghost use Rattle.std.specs.Prelude.{◌≡◌, ◌<◌, ◌∷◌, ◌++◌, [], true, false, length, map, IfOk};
 ghost use Rattle.cd_graph.specs.Nodes.{nodes};
 ghost use Rattle.cd_graph.specs.PlainFormula.{plain, plain_list, plain_formulas};
@@ -18,7 +18,7 @@ use cd_sets::node_id::NodeId;
 use cd_sets::question::Question;
 use std::alloc::{AllocError, Global};
 
-/// The choices of a question for a kind.
+/// The conjuncts of a question for a kind.
 pub(crate) fn dnf_of<'g>(
     alloc: Global,
     graph: &'g Graph,
@@ -35,7 +35,7 @@ pub(crate) fn dnf_of<'g>(
     joined(alloc, inside.as_slice(), outside.as_slice())
 }
 
-// One choice of each of these nodes.
+// One conjunct of each of these nodes.
 fn dnf_at<'g>(
     alloc: Global,
     graph: &'g Graph,
@@ -57,7 +57,7 @@ fn dnf_at<'g>(
     Ok(all)
 }
 
-// The choices of a formula for a kind.
+// The conjuncts of a formula for a kind.
 #[cycle(dnf)]
 fn dnf<'g>(
     alloc: Global,
@@ -86,7 +86,7 @@ fn dnf<'g>(
     }
 }
 
-// One choice of each of the formulas.
+// One conjunct of each of the formulas.
 #[cycle(dnf)]
 fn of_each<'g>(
     alloc: Global,
@@ -108,7 +108,7 @@ fn of_each<'g>(
     Ok(all)
 }
 
-// The choices of one of the formulas.
+// The conjuncts of one of the formulas.
 #[cycle(dnf)]
 fn of_one<'g>(
     alloc: Global,
@@ -130,7 +130,7 @@ fn of_one<'g>(
     Ok(all)
 }
 
-// These choices, and then the others.
+// These conjuncts, and then the others.
 fn before<'g>(
     dnf: Vec<Vec<Literal<'g>>>,
     others: Vec<Vec<Literal<'g>>>,
@@ -145,8 +145,8 @@ fn before<'g>(
     Ok(all)
 }
 
-// The choices of a literal: of a formula of another kind none where it is wanted, and one that asks
-// for nothing where it is refused.
+// The conjuncts of a literal: of a formula of another kind none where it is wanted, and one that
+// asks for nothing where it is refused.
 fn literal<'g>(
     alloc: Global,
     kind: Kind,
@@ -163,7 +163,7 @@ fn literal<'g>(
     }
 }
 
-// The choice of this literal alone.
+// The conjunct of this literal alone.
 fn only<'g>(alloc: Global, literal: Literal<'g>) -> Result<Vec<Vec<Literal<'g>>>, AllocError>
     ensures { IfOk result (λ dnf.
         plain_conjuncts dnf.items ≡ (plain_literal literal.entry ∷ []) ∷ []) }
@@ -175,7 +175,7 @@ fn only<'g>(alloc: Global, literal: Literal<'g>) -> Result<Vec<Vec<Literal<'g>>>
     Ok(dnf)
 }
 
-// The choice that asks for nothing, or none.
+// The conjunct that asks for nothing, or none.
 fn when<'g>(alloc: Global, holds: bool) -> Result<Vec<Vec<Literal<'g>>>, AllocError>
     ensures { IfOk result (λ dnf. plain_conjuncts dnf.items ≡ conjuncts_when holds) }
 {

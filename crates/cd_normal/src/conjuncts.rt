@@ -1,4 +1,4 @@
-//! Choices in the making.
+//! Conjuncts in the making.
 ghost use Rattle.std.specs.Prelude.{◌≡◌, ◌<◌, ◌≤◌, ℕ, [], ◌∷◌, ◌++◌, length, map, drop};
 ghost use Rattle.std.specs.Prelude.{IfOk, OnOk, IfSome};
 ghost use Rattle.cd_graph.specs.Nodes.{nodes};
@@ -23,7 +23,7 @@ use cd_sets::node_id::NodeId;
 use cd_sets::question::Question;
 use std::alloc::{AllocError, Global};
 
-/// Choices of a question for the kinds of things that have parts, in the making.
+/// Conjuncts of a question for the kinds of things that have parts, in the making.
 #[derive(Drop)]
 pub struct Conjuncts<'g> {
     // The one that is worked at, which is the first for callers, is the last.
@@ -31,7 +31,7 @@ pub struct Conjuncts<'g> {
 }
 
 impl<'g> Conjuncts<'g> {
-    /// A choice of each kind, of which nothing is chosen yet.
+    /// A conjunct of each kind, of which nothing is chosen yet.
     ///
     /// # Errors
     ///
@@ -53,8 +53,8 @@ impl<'g> Conjuncts<'g> {
         Ok(Conjuncts { items })
     }
 
-    /// Goes on with the first choice by its next formula. Where none is left, the choice is taken
-    /// away, and its clause is given.
+    /// Goes on with the first conjunct by its next formula. Where none is left, the conjunct is
+    /// taken away, and its clause is given.
     ///
     /// # Errors
     ///
@@ -67,8 +67,8 @@ impl<'g> Conjuncts<'g> {
         go_on(&mut self.items)
     }
 
-    /// Questions each of which has to have an element, or the first choice fails: those of what is
-    /// chosen. None where nothing was chosen since they were looked at.
+    /// Questions each of which has to have an element, or the first conjunct fails: those of what
+    /// is chosen. None where nothing was chosen since they were looked at.
     ///
     /// # Errors
     ///
@@ -83,7 +83,7 @@ impl<'g> Conjuncts<'g> {
         needs_of_last(self.items.as_slice())
     }
 
-    /// Keeps in mind that the needs of the first choice were looked at.
+    /// Keeps in mind that the needs of the first conjunct were looked at.
     pub fn look(&mut self)
         ensures { partials self.new ≡ partials self.old }
     {
@@ -93,7 +93,7 @@ impl<'g> Conjuncts<'g> {
         }
     }
 
-    /// Takes the first choice away, if there is one.
+    /// Takes the first conjunct away, if there is one.
     pub fn cut(&mut self)
         ensures { partials self.new ≡ drop 1 (partials self.old) }
     {
@@ -101,7 +101,7 @@ impl<'g> Conjuncts<'g> {
     }
 }
 
-// A choice of each kind that is to meet these formulas.
+// A conjunct of each kind that is to meet these formulas.
 fn of_each_kind<'g>(left: Vec<Literal<'g>>) -> Result<Vec<PartialConjunct<'g>>, AllocError>
     ensures { IfOk result (λ conjuncts. plain_partials conjuncts.items
         ≡ map (λ kind. partial kind [] (plain_left left.entry.items))
@@ -159,7 +159,7 @@ fn add_formulas<'g>(
     Ok(())
 }
 
-// The needs of the last choice, where something was chosen since it was looked at.
+// The needs of the last conjunct, where something was chosen since it was looked at.
 fn needs_of_last(conjuncts: &[PartialConjunct<'_>]) -> Result<Option<Vec<Question>>, AllocError>
     ensures { IfOk result (λ found. IfSome found
         (λ questions. AreNeedsOfFirst (plain_partials conjuncts.now) questions.items)) }

@@ -1,4 +1,4 @@
-//! How choices in the making go on. Of a list of them the last is worked at.
+//! How conjuncts in the making go on. Of a list of them the last is worked at.
 ghost use Rattle.std.specs.Prelude.{◌≡◌, [], ◌∷◌, ◌++◌, true, map, IfOk, OnOk};
 ghost use Rattle.std.specs.Prelude.{if◌then◌else◌};
 ghost use Rattle.cd_graph.specs.PlainFormula.{plain, plain_formulas};
@@ -21,7 +21,7 @@ use crate::partial::PartialConjunct;
 use cd_graph::{Formula, Formulas};
 use std::alloc::AllocError;
 
-/// Goes on with the last choice by its next formula. Where none is left of it, it is taken away,
+/// Goes on with the last conjunct by its next formula. Where none is left of it, it is taken away,
 /// and its clause is given.
 pub(crate) fn go_on<'g>(conjuncts: &mut Vec<PartialConjunct<'g>>) -> Result<Advance<'g>, AllocError>
     ensures { IfOk result
@@ -33,7 +33,7 @@ pub(crate) fn go_on<'g>(conjuncts: &mut Vec<PartialConjunct<'g>>) -> Result<Adva
     }
 }
 
-// Goes on with a choice that was taken off the others.
+// Goes on with a conjunct that was taken off the others.
 fn go_on_with<'g>(
     conjuncts: &mut Vec<PartialConjunct<'g>>,
     top: PartialConjunct<'g>,
@@ -55,7 +55,7 @@ fn go_on_with<'g>(
     }
 }
 
-// Puts on the others what a choice becomes by its next formula.
+// Puts on the others what a conjunct becomes by its next formula.
 fn meet<'g>(
     conjuncts: &mut Vec<PartialConjunct<'g>>,
     top: PartialConjunct<'g>,
@@ -115,7 +115,7 @@ fn is_flat(formula: &Formula) -> bool
     }
 }
 
-// Puts a choice on the others, or drops it.
+// Puts a conjunct on the others, or drops it.
 fn keep_if<'g>(
     conjuncts: &mut Vec<PartialConjunct<'g>>,
     top: PartialConjunct<'g>,
@@ -131,7 +131,7 @@ fn keep_if<'g>(
     Ok(())
 }
 
-// Puts a choice on the others that has these formulas before those that are left.
+// Puts a conjunct on the others that has these formulas before those that are left.
 fn unfold<'g>(
     conjuncts: &mut Vec<PartialConjunct<'g>>,
     top: PartialConjunct<'g>,
@@ -147,7 +147,7 @@ fn unfold<'g>(
     Ok(conjuncts.push(top)?)
 }
 
-// Puts a choice on the others that refuses each of these literals.
+// Puts a conjunct on the others that refuses each of these literals.
 fn refuse_each<'g>(
     conjuncts: &mut Vec<PartialConjunct<'g>>,
     top: PartialConjunct<'g>,
@@ -165,7 +165,7 @@ fn refuse_each<'g>(
     Ok(conjuncts.push(top)?)
 }
 
-// Puts a choice on the others that has this formula before those that are left.
+// Puts a conjunct on the others that has this formula before those that are left.
 fn ask<'g>(
     conjuncts: &mut Vec<PartialConjunct<'g>>,
     top: PartialConjunct<'g>,
@@ -181,8 +181,8 @@ fn ask<'g>(
     Ok(conjuncts.push(top)?)
 }
 
-// Puts a choice on the others for each of the formulas, of which one is wanted. Of literals, and of
-// unions of such, only the literals of the kind get one.
+// Puts a conjunct on the others for each of the formulas, of which one is wanted. Of literals, and
+// of unions of such, only the literals of the kind get one.
 fn want_one<'g>(
     conjuncts: &mut Vec<PartialConjunct<'g>>,
     top: PartialConjunct<'g>,
@@ -199,7 +199,7 @@ fn want_one<'g>(
     }
 }
 
-// Puts a copy of a choice on the others for each literal of the kind in these, with that literal.
+// Puts a copy of a conjunct on the others for each literal of the kind in these, with that literal.
 #[cycle(choose_copies)]
 fn choose_copies<'g>(
     conjuncts: &mut Vec<PartialConjunct<'g>>,
@@ -248,7 +248,7 @@ fn choose_copies_in<'g>(
     }
 }
 
-// Puts a copy of a choice on the others with this literal, if it is of the kind.
+// Puts a copy of a conjunct on the others with this literal, if it is of the kind.
 fn choose_copy<'g>(
     conjuncts: &mut Vec<PartialConjunct<'g>>,
     top: &PartialConjunct<'g>,
@@ -266,7 +266,7 @@ fn choose_copy<'g>(
     Ok(())
 }
 
-// Puts a choice on the others for each of the formulas, with that of the first at the end.
+// Puts a conjunct on the others for each of the formulas, with that of the first at the end.
 fn divide<'g>(
     conjuncts: &mut Vec<PartialConjunct<'g>>,
     top: PartialConjunct<'g>,
@@ -286,7 +286,7 @@ fn divide<'g>(
     }
 }
 
-// Puts a copy of a choice on the others for each of the formulas, likewise.
+// Puts a copy of a conjunct on the others for each of the formulas, likewise.
 fn ask_copies<'g>(
     conjuncts: &mut Vec<PartialConjunct<'g>>,
     top: &PartialConjunct<'g>,
@@ -309,7 +309,7 @@ fn ask_copies<'g>(
     Ok(())
 }
 
-// Puts on the others a choice that meets a literal: where its formula is of another kind it is
+// Puts on the others a conjunct that meets a literal: where its formula is of another kind it is
 // dropped, if the literal is wanted, and else stays as it is.
 fn extend<'g>(
     conjuncts: &mut Vec<PartialConjunct<'g>>,
@@ -329,7 +329,7 @@ fn extend<'g>(
     }
 }
 
-// Puts on the others a choice with this literal.
+// Puts on the others a conjunct with this literal.
 fn choose<'g>(
     conjuncts: &mut Vec<PartialConjunct<'g>>,
     top: PartialConjunct<'g>,

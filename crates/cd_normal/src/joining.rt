@@ -1,4 +1,4 @@
-//! Choices joined with others.
+//! Conjuncts joined with others.
 ghost use Rattle.std.specs.Prelude.{◌≡◌, ◌++◌, map, IfOk, OnOk};
 ghost use Rattle.cd_rules.specs.Dnf.{joined as joined_conjuncts};
 ghost use Rattle.cd_normal.specs.Inner.PlainConjunct.{plain_conjunct, plain_conjuncts};
@@ -6,7 +6,7 @@ ghost use Rattle.cd_normal.specs.Inner.PlainConjunct.{plain_conjunct, plain_conj
 use crate::literal::Literal;
 use std::alloc::{AllocError, Global};
 
-/// Each of these choices with each of the others.
+/// Each of these conjuncts with each of the others.
 pub(crate) fn joined<'g>(
     alloc: Global,
     conjuncts: &[Vec<Literal<'g>>],
@@ -23,7 +23,7 @@ pub(crate) fn joined<'g>(
     Ok(all)
 }
 
-// Adds the choice with each of the others.
+// Adds the conjunct with each of the others.
 fn add_joined<'g>(
     all: &mut Vec<Vec<Literal<'g>>>,
     conjunct: &[Literal<'g>],
@@ -39,7 +39,7 @@ fn add_joined<'g>(
     Ok(())
 }
 
-// The literals of both choices.
+// The literals of both conjuncts.
 fn both<'g>(
     alloc: Global,
     conjunct: &[Literal<'g>],

@@ -1,4 +1,4 @@
-//! The questions that must have elements for a choice.
+//! The questions that must have elements for a conjunct.
 ghost use Rattle.std.specs.Prelude.{◌≡◌, ◌<◌, ◌&&◌, not, [], ◌∷◌, length, map, take, IfOk, OnOk};
 ghost use Rattle.std.specs.List.{list_any};
 ghost use Rattle.cd_model.specs.AllOf.{AllOf};
@@ -21,8 +21,8 @@ use cd_sets::question::Question;
 use cd_syntax::name::Name;
 use std::alloc::{AllocError, Global};
 
-/// Questions each of which has to have an element, or each choice for the kind with these literals
-/// fails.
+/// Questions each of which has to have an element, or each conjunct for the kind with these
+/// literals fails.
 pub(crate) fn needs_of(
     alloc: Global,
     kind: Kind,

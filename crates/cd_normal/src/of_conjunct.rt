@@ -1,4 +1,4 @@
-//! The clause of one choice.
+//! The clause of one conjunct.
 ghost use Rattle.std.specs.Prelude.{◌≡◌, IfOk};
 ghost use Rattle.cd_model.specs.Kinds.{APair, AnXml, ARecord, AFunction};
 ghost use Rattle.cd_rules.specs.PartialConjuncts.{clause_by};
@@ -13,7 +13,7 @@ use crate::side::{arrows, pairs, records, xmls};
 use std::alloc::{AllocError, Global};
 use std::rc::Rc;
 
-/// What a choice says of the things of a kind.
+/// What a conjunct says of the things of a kind.
 pub(crate) fn clause_of<'g>(
     alloc: Global,
     kind: Kind,

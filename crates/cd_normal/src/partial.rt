@@ -1,4 +1,4 @@
-//! One choice in the making.
+//! One conjunct in the making.
 ghost use Rattle.std.specs.Prelude.{◌≡◌, [], ◌∷◌, ◌++◌, true, false, IfOk, OnOk};
 ghost use Rattle.std.specs.Prelude.{if◌then◌else◌};
 ghost use Rattle.cd_graph.specs.PlainFormula.{plain, plain_formulas};
@@ -14,18 +14,18 @@ use crate::literal::Literal;
 use cd_graph::{Formula, Formulas};
 use std::alloc::{AllocError, Global};
 
-/// A choice in the making. The next one of the formulas that are left is the last of their list.
+/// A conjunct in the making. The next one of the formulas that are left is the last of their list.
 #[derive(Drop)]
 pub(crate) struct PartialConjunct<'g> {
     pub(crate) kind: Kind,
     pub(crate) conjunct: Vec<Literal<'g>>,
     pub(crate) left: Vec<Literal<'g>>,
-    /// Whether something was chosen since the choice was looked at.
+    /// Whether something was chosen since the conjunct was looked at.
     pub(crate) changed: bool,
 }
 
 impl<'g> PartialConjunct<'g> {
-    /// A choice of which nothing is chosen yet.
+    /// A conjunct of which nothing is chosen yet.
     pub(crate) fn of(kind: Kind, left: Vec<Literal<'g>>) -> PartialConjunct<'g>
         ensures { plain_partial result
             ≡ partial (plain_kind kind) [] (plain_left left.entry.items) }
@@ -38,7 +38,7 @@ impl<'g> PartialConjunct<'g> {
         }
     }
 
-    /// The same choice, with this formula before those that are left.
+    /// The same conjunct, with this formula before those that are left.
     pub(crate) fn copy_with(&self, next: Literal<'g>) -> Result<PartialConjunct<'g>, AllocError>
         ensures { IfOk result (λ copy. plain_partial copy
             ≡ with_left (signed next.entry ∷ []) (plain_partial self.now)) }
@@ -56,7 +56,7 @@ impl<'g> PartialConjunct<'g> {
         })
     }
 
-    /// The same choice, with this formula, which is wanted, in what is chosen.
+    /// The same conjunct, with this formula, which is wanted, in what is chosen.
     pub(crate) fn copy_choosing(
         &self,
         formula: &'g Formula,
@@ -129,8 +129,8 @@ impl<'g> PartialConjunct<'g> {
     }
 }
 
-// Whether a literal of the things of this kind may change what the choice needs: a wanted one, and
-// of functions a refused one.
+// Whether a literal of the things of this kind may change what the conjunct needs: a wanted one,
+// and of functions a refused one.
 fn is_looked_at(kind: Kind, wanted: bool) -> bool {
     match kind {
         Kind::Pair | Kind::Xml | Kind::Record => wanted,

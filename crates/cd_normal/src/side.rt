@@ -1,4 +1,4 @@
-//! The parts of the wanted literals of a choice, and of the refused ones.
+//! The parts of the wanted literals of a conjunct, and of the refused ones.
 ghost use Rattle.std.specs.Prelude.{◌≡◌, ◌++◌, [], true, false, IfOk, OnOk};
 ghost use Rattle.std.specs.Option.{option_map};
 ghost use Rattle.cd_needs.specs.RecordType.{record_type, record_types};

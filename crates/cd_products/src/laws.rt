@@ -48,7 +48,7 @@ pub fn pieces_are_inhabited()
 {}
 
 /// The pieces of the clauses of a question of pairs are its products: of elements they are exact,
-/// and of values they cover.
+/// and of values they subsume.
 pub fn products_are_exact()
     ensures elements { (graph : Graph) (inhabited : List Question → Bool) (question : Question)
         (clauses : List QuestionClause) → DropsEmpty (in_node graph) IsElement inhabited

@@ -1,4 +1,4 @@
--- What is told of a type, and of type declarations, is the least of their faults.
+-- What is reported of a type, and of type declarations, is the least of their faults.
 use Rattle.std.proofs.Common.{◌≡◌, ℕ, zero, suc, ◌<◌, ◌≤◌, ◌⊎◌, inl, inr, List, [], ◌∷◌, length, Some, None, refl, sym}
 use Rattle.std.proofs.Common.{ap, ◌∙◌, arith}
 use Rattle.std.specs.List.{slice_get as nth}

@@ -86,7 +86,7 @@ reported_once : (b : Bool) (name : Name) (at : ℕ) (s : State Frames) → b ≡
 reported_once true name at s is = in_last (twice name at) s.faults
 reported_once false name at s is = absurd cc
 
--- a label that is among those before is told
+-- a label that is among those before is reported
 label_reported : (label : Name) (at : ℕ) (is : Tree) (fields : Fields) (seen : List Name) (s : State Frames)
     → IsField label at is fields → IsIn label seen
     → IsIn (twice label at) (labelled seen fields s).faults
@@ -106,7 +106,7 @@ again_reported label at _ seen s (fault.LabelAgain.here _ _ there optional is ot
 again_reported label at _ seen s (fault.LabelAgain.later _ other _ there optional is rest on) =
     again_reported label at rest (seen ++ other ∷ []) (reported_if (is_among seen other) other there s) on
 
--- a name that is declared again, or is built in, is told
+-- a name that is declared again, or is built in, is reported
 abbrev IsTaken : List Name → Name → Type 0
 IsTaken seen name = IsIn name seen ⊎ (is_builtin name ≡ true)
 

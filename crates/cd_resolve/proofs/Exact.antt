@@ -329,7 +329,7 @@ loop_reported outer least IsWhole t walk one loop =
         rw (fault_equal one link kind (name_is ∙ sym to_name) (at_is ∙ sym same_node.at_is)) at
         (cycles_have t.links t.links link t.faults is_in (rw to (leads_cyclic t.links id leads)))
 
--- the faults that are told are those of the whole
+-- the faults that are reported are those of the whole
 pub all_sound : (outer : Scope) (least : ℕ) (IsWhole : Fault → Type 0) (t : State Frames) → IsWalk outer least IsWhole t
     → (one : Fault) → IsIn one (cycles_reported t.links t.links t.faults) → IsWhole one
 all_sound outer least IsWhole t walk one is = by (in_cycles t.links t.links one t.faults is)

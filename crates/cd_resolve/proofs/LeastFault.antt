@@ -115,7 +115,7 @@ some_is_least (x ∷ rest) s none = by (cases_Bool (goes_before x s)) (λ other.
     by (inl goes) on = on x (rw goes at none)
     by (inr stays) on = on s (rw stays at none)
 
--- what is told, where the list has just the faults that are such
+-- what is reported, where the list has just the faults that are such
 pub nothing_reported : (faults : List Fault) (IsSuch : Fault → Type 0) → ((one : Fault) → IsSuch one → IsIn one faults)
     → least_from None faults ≡ None → (one : Fault) → IsSuch one → ⊥
 nothing_reported [] IsSuch has none one is = has one is

@@ -16,7 +16,7 @@ use Rattle.cd_model.specs.Scope.{Scope, declared_as}
 use Rattle.cd_model.specs.Guarded.{IsOneOf, IsSigned, LeadsTo}
 use Rattle.cd_model.specs.Written.{kind_of}
 
--- a fault, the name that it is told of, and its place
+-- a fault, the name that it is reported of, and its place
 pub record Fault : Type 0 where
   pub fault : NameFault
   pub name : Name
@@ -152,7 +152,7 @@ IsFaultOfType declared is fault = IsFault (declared ∷ []) (declared ∷ []) is
 abbrev pub IsFaultOfDeclarations : Declarations → Fault → Type 0
 IsFaultOfDeclarations declared fault = IsFaultOfList [] (declared ∷ []) declared fault
 
--- of two faults the one with the lesser place is told, and at one place that of the lesser rank
+-- of two faults the one with the lesser place is reported, and at one place that of the lesser rank
 abbrev pub rank : NameFault → ℕ
 rank Unknown = 0
 rank Twice = 1

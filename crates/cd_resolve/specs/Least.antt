@@ -1,4 +1,4 @@
--- The fault that is told of several.
+-- The fault that is reported of several.
 use Rattle.std.specs.Prelude.{◌≡◌, ℕ, ◌==◌, nat_lt, Bool, true, false, ◌&&◌, ◌||◌, List, [], ◌∷◌}
 use Rattle.std.specs.Prelude.{Option, Some, None}
 use Rattle.std.specs.Prelude.{Result, Ok, Err, if◌then◌else◌}
@@ -7,7 +7,7 @@ use Rattle.cd_resolve.specs.declared.error.NameError.{NameError}
 use Rattle.cd_resolve.specs.declared.fault.NameFault.{NameFault}
 use Rattle.cd_resolve.specs.declared.error.NameError.TheVariants as error
 
--- what stands here is told rather than what stands there
+-- what stands here is reported rather than what stands there
 abbrev pub comes_first : (at : ℕ) → NameFault → (there : ℕ) → NameFault → Bool
 comes_first at fault there other = nat_lt at there || at == there
     && nat_lt (rank fault) (rank other)
@@ -29,7 +29,7 @@ IsLeast least (error.Fault fault name at) = least
     ≡ Some (record { fault = fault; name = name; at = at })
 IsLeast least error.Memory = Unit {0}
 
--- of two errors want of memory is told, or else the fault that goes before
+-- of two errors want of memory is reported, or else the fault that goes before
 abbrev pub goes_first : NameError → NameError → Bool
 goes_first error.Memory other = true
 goes_first (error.Fault fault name at) error.Memory = false

@@ -49,7 +49,7 @@ pub fn check_declarations(alloc: Global, declared: &Declarations) -> Result<(), 
 /// # Errors
 ///
 /// Of all naming faults of the tree the one with the least place, at one place in the order of
-/// `NameFault`; or want of memory. Faults of what declares the names are not told here, nor are
+/// `NameFault`; or want of memory. Faults of what declares the names are not reported here, nor are
 /// those of the tree's variables.
 pub fn check_tree(alloc: Global, names: &Names<'_>, tree: &Tree) -> Result<(), NameError>
     requires { IsWellMadePattern (plain tree.now) }

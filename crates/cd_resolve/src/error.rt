@@ -6,7 +6,7 @@ use thiserror::Error;
 /// Why the names of what is written are refused.
 #[derive(Debug, Drop, Error)]
 pub enum NameError {
-    /// A fault, the name that it is told of, and its place.
+    /// A fault, the name that it is reported of, and its place.
     #[error("{fault}: {name}")]
     Fault {
         /// What is wrong.

@@ -72,7 +72,7 @@ impl<'t> Found<'t> {
         Ok(())
     }
 
-    /// Tells of a name that stands twice, if it does.
+    /// Reports a name that stands twice, if it does.
     pub(crate) fn report_twice(
         &mut self,
         twice: bool,

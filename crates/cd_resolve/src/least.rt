@@ -1,4 +1,4 @@
-//! The fault that is told of several.
+//! The fault that is reported of several.
 ghost use Rattle.std.specs.Prelude.{◌≡◌, map, None, Some, OnOk, IfOk, IfErr};
 ghost use Rattle.std.specs.Option.{option_map};
 ghost use Rattle.cd_resolve.specs.Faults.{rank as rank_of};
@@ -58,7 +58,7 @@ fn goes_before(one: &Reported<'_>, other: &Reported<'_>) -> bool
     comes_first(one.at, one.fault, other.at, other.fault)
 }
 
-// Whether what stands here is told rather than what stands there.
+// Whether what stands here is reported rather than what stands there.
 fn comes_first(at: usize, fault: NameFault, there: usize, other: NameFault) -> bool
     ensures { result ≡ comes_first_of at fault there other }
 {
@@ -80,7 +80,7 @@ fn rank(fault: NameFault) -> usize
     }
 }
 
-// The error that tells a fault.
+// The error that reports a fault.
 fn error_of(alloc: Global, reported: &Reported<'_>) -> NameError
     ensures { IsLeast (Some (plain_reported reported.now)) result }
 {
@@ -94,7 +94,7 @@ fn error_of(alloc: Global, reported: &Reported<'_>) -> NameError
     }
 }
 
-// The name that a fault is told of, or one with no characters.
+// The name that a fault is reported of, or one with no characters.
 fn name_of(alloc: Global, name: Option<&Name>) -> Result<Name, AllocError>
     ensures { IfOk result (λ copy.
         copy ≡ name_or_none (option_map (λ name. name.now) name.entry)) }
@@ -105,7 +105,7 @@ fn name_of(alloc: Global, name: Option<&Name>) -> Result<Name, AllocError>
     }
 }
 
-/// What is told of two results: want of memory, or the lesser of their faults.
+/// What is reported of two results: want of memory, or the lesser of their faults.
 pub fn first_of(one: Result<(), NameError>, other: Result<(), NameError>) -> Result<(), NameError>
     ensures { result ≡ first_of_results one other }
 {

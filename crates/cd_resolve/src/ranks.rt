@@ -1,4 +1,4 @@
-//! Ranks of names, with which links are told apart that no name leads back to itself by.
+//! Ranks of names, with which links are distinguished that no name leads back to itself by.
 ghost use Rattle.std.specs.Prelude.{◌≡◌, IfOk, map, true, []};
 ghost use Rattle.cd_resolve.specs.Inner.Ranks.{rank_of, link_falls, all_fall as all_links_fall};
 ghost use Rattle.cd_resolve.specs.Inner.PlainFound.{plain_link};

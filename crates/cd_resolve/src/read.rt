@@ -78,7 +78,7 @@ pub(crate) fn read_declarations<'t>(
 /// # Errors
 ///
 /// Of all naming faults of the type the one with the least place, at one place in the order of
-/// `NameFault`; or want of memory. Faults of what declares the names are not told here.
+/// `NameFault`; or want of memory. Faults of what declares the names are not reported here.
 pub(crate) fn read_type(
     alloc: Global,
     first: usize,
@@ -108,7 +108,7 @@ pub(crate) fn read_type(
 }
 
 /// The equations of types, which see these names beside those of their own `where`, from the node
-/// of this number on, and the nodes of the types. Their faults are not told.
+/// of this number on, and the nodes of the types. Their faults are not reported.
 pub(crate) fn read_types(
     alloc: Global,
     first: usize,

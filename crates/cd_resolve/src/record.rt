@@ -24,8 +24,8 @@ use cd_syntax::name::Name;
 use cd_syntax::type_tree::FieldTrees;
 use std::alloc::{AllocError, Global};
 
-/// A record type, of which the labels that stand twice are told first, and whose fields are walked
-/// over in turn.
+/// A record type, of which the labels that stand twice are reported first, and whose fields are
+/// walked over in turn.
 #[cycle(walk)]
 pub(crate) fn walk_record<'t>(
     base: &Base<'_, '_>,

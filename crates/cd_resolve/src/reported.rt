@@ -7,7 +7,7 @@ use cd_syntax::name::Name;
 pub struct Reported<'t> {
     /// What is wrong.
     pub fault: NameFault,
-    /// The name that it is told of, if it is told of one.
+    /// The name that it is reported of, if it is reported of one.
     pub name: Option<&'t Name>,
     /// Its place.
     pub at: usize,

@@ -84,7 +84,7 @@ pub fn resolve<'t>(
 /// # Errors
 ///
 /// Of all naming faults of the type the one with the least place, at one place in the order of
-/// `NameFault`; or want of memory. Faults of the declarations are not told here.
+/// `NameFault`; or want of memory. Faults of the declarations are not reported here.
 pub fn resolve_type(
     alloc: Global,
     graph: &Graph,

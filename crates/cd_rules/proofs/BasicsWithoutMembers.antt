@@ -1,4 +1,5 @@
--- Where no integer, no character and no atom is in a question, nothing is in its basic clauses: these need what has no way, and are broken.
+-- Where no integer, no character and no atom is in a question, nothing is in its basic clauses:
+-- these need what has no way, and are refuted.
 use Rattle.std.proofs.Common.{true, List, [], ◌∷◌, inl, refl}
 use Rattle.cd_sets.specs.declared.question.Question.{Question}
 use Rattle.cd_model.specs.Thing as thing
@@ -33,7 +34,7 @@ module _ (graph : Graph) (question : Question) (none : HasNoBasic graph question
   )
   nothing_needed _ of basic = absurd basic
 
-  -- each family breaks them
+  -- each family refutes them
   pub basic_refutes : (family : List Question) (is : Clause) → IsClauseOfQuestion graph question is → IsBasic is → Refutes family is
   basic_refutes family (Ints wanted refused) of basic = ([] ∷ [], nothing_needed (Ints wanted refused) of basic, inl tt)
   basic_refutes family (Chars wanted refused) of basic = ([] ∷ [], nothing_needed (Chars wanted refused) of basic, inl tt)

@@ -1,4 +1,4 @@
--- A thing of a kind that is in a clause of a choice meets the choice.
+-- A thing of a kind that is in a clause of a conjunct meets the conjunct.
 use Rattle.std.proofs.Common.{◌≡◌, Bool, true, false, List, [], ◌∷◌, Option, Some, None, refl, subst}
 use Rattle.cd_model.specs.AllOf.{AllOf}
 use Rattle.cd_model.specs.Formula as formula

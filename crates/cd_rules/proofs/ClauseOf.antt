@@ -1,4 +1,4 @@
--- A thing of a kind that meets a choice is in the choice's clause of that kind.
+-- A thing of a kind that meets a conjunct is in the conjunct's clause of that kind.
 use Rattle.std.proofs.Common.{◌≡◌, ℕ, ℤ, Bool, true, false, List, [], ◌∷◌, Option, Some, None, IfSome, refl, subst}
 use Rattle.std.proofs.lemmas.Bool.{true≢false}
 use Rattle.cd_syntax.specs.Name.{Name}
@@ -31,7 +31,7 @@ ReadAlike reader parts_of formula_of =
     (is : Formula) (answer : Bool) → reader is answer → IfSome (parts_of is) (λ parts. reader (formula_of parts) answer)
 
 module _ (reader : Reader) where
-  -- all wanted literals of a choice that is met are of the thing's kind
+  -- all wanted literals of a conjunct that is met are of the thing's kind
   all_of : (kind : Kind) → IsOfKind kind reader → (conjunct : Conjunct) → Meets reader conjunct → AllOfKind kind conjunct
   all_of kind of_kind [] meets = tt
   all_of kind of_kind (literal ∷ rest) meets = (
@@ -39,7 +39,7 @@ module _ (reader : Reader) where
     all_of kind of_kind rest meets.1,
   )
 
-  -- and the parts of its literals of a kind read as the choice asks
+  -- and the parts of its literals of a kind read as the conjunct asks
   module _ {X : Type 0} (parts_of : Formula → Option X) (formula_of : X → Formula) where
     read_one : (sign wanted : Bool) (is : Option X) (rest : List X) → IfSome is (λ parts. reader (formula_of parts) wanted)
         → AllOf (λ parts. reader (formula_of parts) sign) rest
@@ -86,7 +86,8 @@ module _ (reader : Reader) where
   arrows_alike (formula.Arrow argument result) answer is = is
   arrows_alike _ answer is = tt
 
-  -- the clause of a choice for each kind, and that its wanted and its refused formulas are read so
+  -- the clause of a conjunct for each kind, and that its wanted and its refused formulas are read
+  -- so
   pub in_integers : IsOfKind AnInteger reader → (conjunct : Conjunct) → Meets reader conjunct
       → IsClauseOf conjunct (Ints (parts_in integers_of true conjunct) (parts_in integers_of false conjunct))
       × AllOf (λ set. reader (formula.Ints set) true) (parts_in integers_of true conjunct)

@@ -1,4 +1,5 @@
--- Where each clause of a question has all it needs or is broken, all of them are broken or one has all it needs.
+-- Where each clause of a question has all it needs or is refuted, all of them are refuted or one
+-- has all it needs.
 use Rattle.std.proofs.Common.{◌≡◌, Bool, true, false, List, [], ◌∷◌, ◌⊎◌, inl, inr, refl, sym, ap, subst, true≢false, Option, Some, None}
 use Rattle.std.proofs.lemmas.Option.{none-some, same_Some}
 use Rattle.cd_sets.specs.declared.question.Question.{Question}
@@ -41,11 +42,11 @@ kind_or_not kind =
     each_or_not (λ literal. literal.wanted ≡ true → kind_of_formula literal.is ≡ Some kind) (literal_or_not kind)
 
 module _ (fact : Question → Type 0) (family : List Question) where
-  -- a clause has all it needs or is broken
+  -- a clause has all it needs or is refuted
   abbrev pub Settles : Clause → Type 0
   Settles clause = IsSupplied fact clause ⊎ Refutes family clause
 
-  -- the clauses that are such are broken, or one of them has all it needs
+  -- the clauses that are such are refuted, or one of them has all it needs
   abbrev pub Answer : (Clause → Type 0) → Type 0
   Answer IsSuch = ((clause : Clause) → IsSuch clause → Refutes family clause) ⊎ ((clause : Clause) × IsSuch clause × IsSupplied fact clause)
 
@@ -77,7 +78,7 @@ module _ (fact : Question → Type 0) (family : List Question) where
         by_kind (inl all) = by_clause all (settles wanted refused (all, refl, refl))
         by_kind (inr not) = inl (λ others rest of. absurd (not of.0))
 
-  -- those of a choice
+  -- those of a conjunct
   module _ (conjunct : Conjunct) where
     all_refuted : ((wanted refused : _) → IsOfParts AnInteger integers_of conjunct wanted refused → Refutes family (Ints wanted refused))
         → ((wanted refused : _) → IsOfParts ACharacter characters_of conjunct wanted refused → Refutes family (Chars wanted refused))
@@ -118,7 +119,7 @@ module _ (fact : Question → Type 0) (family : List Question) where
         (part_answer ARecord record_of Records conjunct (λ wanted refused. settles (Records wanted refused)))
         (part_answer AFunction arrow_of Arrows conjunct (λ wanted refused. settles (Arrows wanted refused)))
 
-  -- those of some choices
+  -- those of some conjuncts
   abbrev IsOfOne : List Conjunct → Clause → Type 0
   IsOfOne conjuncts clause = AnyOf (λ conjunct. IsClauseOf conjunct clause) conjuncts
 

@@ -1,5 +1,5 @@
--- Where no integer, no character and no atom is in a question, the choices of the other kinds account for its clauses; and
--- each clause that they may become is one of the question.
+-- Where no integer, no character and no atom is in a question, the conjuncts of the other kinds
+-- account for its clauses; and each clause that they may become is one of the question.
 use Rattle.std.proofs.Common.{◌≡◌, Bool, true, false, List, [], ◌∷◌, inl, inr, sym, subst, ap}
 use Rattle.cd_sets.specs.declared.question.Question.{Question}
 use Rattle.cd_model.specs.AllOf.{AllOf, AnyOf}
@@ -17,7 +17,8 @@ use Rattle.cd_rules.proofs.ClausesOfKind.{pairs_of_kind, xmls_of_kind, records_o
 use Rattle.cd_rules.proofs.Completions.{completions_of_question}
 use Rattle.cd_model.proofs.Ones.{one_weaker}
 
--- a fact of each clause that a choice with nothing yet may become is one of each of the question's choices of the kind, and back
+-- a fact of each clause that a conjunct with nothing yet may become is one of each of the
+-- question's conjuncts of the kind, and back
 module _ (fact : Clause → Type 0) (kind : Kind) (graph : Graph) (question : Question) where
   of_question : EachClause fact (partial kind [] (signed graph question))
       → AllOf (λ conjunct. fact (clause_by kind conjunct)) (kind_dnf_of kind graph question)
@@ -27,7 +28,7 @@ module _ (fact : Clause → Type 0) (kind : Kind) (graph : Graph) (question : Qu
       → EachClause fact (partial kind [] (signed graph question))
   to_question = subst (AllOf (λ conjunct. fact (clause_by kind conjunct))) (sym (completions_of_question kind graph question))
 
--- the clause of one of some choices
+-- the clause of one of some conjuncts
 refuted_one : {X : Type 0} (clause_of : (wanted refused : List X) → Clause) (parts : Bool → Conjunct → List X) (family : List Question)
     (wanted refused : List X) (all : List Conjunct) → AllOf (λ conjunct. Refutes family (clause_of (parts true conjunct) (parts false conjunct))) all
     → AnyOf (λ conjunct. (wanted ≡ parts true conjunct) × (refused ≡ parts false conjunct)) all → Refutes family (clause_of wanted refused)
@@ -54,7 +55,7 @@ accounts_for_clauses graph base question none family larger fail (Arrows wanted 
     ((arrows_of_kind graph question wanted refused).0 of)
 accounts_for_clauses graph base question none family larger fail is of = basic_refutes graph question none family is of tt
 
--- each choice of such a kind is a clause of the question
+-- each conjunct of such a kind is a clause of the question
 each_of_kind : {X : Type 0} (kind : Kind) (clause_of : (wanted refused : List X) → Clause) (parts : Bool → Conjunct → List X) (graph : Graph)
     (question : Question) → ((wanted refused : List X)
     → AnyOf (λ conjunct. (wanted ≡ parts true conjunct) × (refused ≡ parts false conjunct)) (kind_dnf_of kind graph question)

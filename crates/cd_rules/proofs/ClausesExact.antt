@@ -1,4 +1,4 @@
--- A thing is in a question just where it is in one of its clauses.
+-- A thing is in a question exactly when it is in one of its clauses.
 use Rattle.std.proofs.Common.{ℕ, true, List, [], ◌∷◌, inl, inr, ◌↔◌}
 use Rattle.cd_sets.specs.declared.question.Question.{Question}
 use Rattle.cd_model.specs.AllOf.{AnyOf}
@@ -16,11 +16,11 @@ use Rattle.cd_model.proofs.Ones.{one_weaker}
 use Rattle.cd_rules.proofs.Things.{reader_of, answers_of}
 
 module _ (kind : Kind) (reader : Reader) where
-  -- a clause of one of some choices, and the thing is in it
+  -- a clause of one of some conjuncts, and the thing is in it
   abbrev InOneOf : List Conjunct → Type 0
   InOneOf conjuncts = (clause : Clause) × AnyOf (λ conjunct. IsClauseOf conjunct clause) conjuncts × IsInClause kind reader clause
 
-  -- what meets one of some choices is in a clause of one of them
+  -- what meets one of some conjuncts is in a clause of one of them
   clause_of_one : IsOfKind kind reader → (conjuncts : List Conjunct) → AnyOf (Meets reader) conjuncts → InOneOf conjuncts
   clause_of_one of_kind [] one = elim one [ ]
   clause_of_one of_kind (conjunct ∷ conjuncts) (inl meets) =
@@ -28,12 +28,12 @@ module _ (kind : Kind) (reader : Reader) where
   clause_of_one of_kind (conjunct ∷ conjuncts) (inr later) =
       let is = clause_of_one of_kind conjuncts later in (is.0, inr is.1, is.2)
 
-  -- and what is in such a clause meets the choice
+  -- and what is in such a clause meets the conjunct
   one_of_clause : IsOutsideOtherKinds kind reader → (conjuncts : List Conjunct) → InOneOf conjuncts → AnyOf (Meets reader) conjuncts
   one_of_clause elsewhere conjuncts is = one_weaker (λ conjunct. IsClauseOf conjunct is.0) (Meets reader)
       (λ conjunct of. clause_back kind reader elsewhere conjunct is.0 of is.2) conjuncts is.1
 
-  -- a thing of one kind is in a question just where it is in one of the question's clauses
+  -- a thing of one kind is in a question exactly when it is in one of the question's clauses
   pub clauses_exact : IsOfKind kind reader → IsOutsideOtherKinds kind reader → (graph : Graph) (question : Question)
       → asked (at_nodes graph reader) question true
       ↔ ((clause : Clause) × IsClauseOfQuestion graph question clause × IsInClause kind reader clause)
@@ -42,7 +42,7 @@ module _ (kind : Kind) (reader : Reader) where
     λ is. (question_exact reader graph question).1 (one_of_clause elsewhere (dnf_of graph question) is),
   )
 
--- a thing is in a question just where it is in one of the question's clauses
+-- a thing is in a question exactly when it is in one of the question's clauses
 pub thing_exact : (graph : Graph) (closed : ℕ → Mapping) (question : Question) (is : Thing)
     → asked (answers_of graph closed is) question true
     ↔ ((clause : Clause) × IsClauseOfQuestion graph question clause × IsInClause (kind_of is) (reader_of graph closed is) clause)

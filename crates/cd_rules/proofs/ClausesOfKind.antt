@@ -1,4 +1,4 @@
--- The clauses of a question of one kind are what the choices of the kind want and refuse.
+-- The clauses of a question of one kind are what the conjuncts of the kind want and refuse.
 use Rattle.std.proofs.Common.{◌≡◌, ◌↔◌, true, false, List, Option, Some, None, refl, sym, true≢false}
 use Rattle.cd_sets.specs.declared.question.Question.{Question}
 use Rattle.cd_model.specs.AllOf.{AnyOf}
@@ -12,7 +12,7 @@ use Rattle.cd_rules.specs.KindDnf.{is_of, kind_dnf_of}
 use Rattle.cd_rules.proofs.KindDnfExact.{clause_of_kind}
 use Rattle.cd_rules.proofs.KindDnfBack.{kind_clause_of}
 
--- a choice wants and refuses these
+-- a conjunct wants and refuses these
 abbrev pub HasParts : {X : Type 0} → (Formula → Option X) → (wanted refused : List X) → Conjunct → Type 0
 HasParts parts_of wanted refused conjunct = (wanted ≡ parts_in parts_of true conjunct) × (refused ≡ parts_in parts_of false conjunct)
 

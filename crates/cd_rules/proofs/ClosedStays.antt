@@ -1,4 +1,4 @@
--- A question has the same choices in each longer graph, so a closed family stays closed.
+-- A question has the same conjuncts in each longer graph, so a closed family stays closed.
 use Rattle.std.proofs.Common.{◌≡◌, ◌<◌, Bool, true, false, List, [], ◌∷◌, ◌++◌, length, refl, sym, ap, subst}
 use Rattle.std.proofs.Math.Path.{ap₂}
 use Rattle.cd_sets.specs.declared.node_id.NodeId.{NodeId}

@@ -1,4 +1,5 @@
--- What a partial choice may become: by one more formula, where it is complete, and for a question.
+-- What a partial conjunct may become: by one more formula, where it is complete, and for a
+-- question.
 use Rattle.std.proofs.Common.{◌≡◌, Bool, true, false, List, [], ◌∷◌, ◌++◌, map, refl, sym, ap, subst, ◌∙◌, append_assoc, append-nil}
 use Rattle.cd_sets.specs.declared.node_id.NodeId.{NodeId}
 use Rattle.cd_sets.specs.declared.question.Question.{Question}
@@ -30,7 +31,8 @@ module _ (Fact : Conjunct → Type 0) where
       (map_of_each (λ other. conjunct ++ other) Fact others both.0, joined_each some others both.1)
 
 module _ (fact : Clause → Type 0) (kind : Kind) where
-  -- a fact of each clause that the extensions may become is one of each that the choice may become, and back
+  -- a fact of each clause that the extensions may become is one of each that the conjunct may
+  -- become, and back
   of_extensions : (conjunct : Conjunct) (one : Signed) (left : List Signed) → AllOf (EachClause fact) (extensions kind conjunct one left)
       → EachClause fact (partial kind conjunct (one ∷ left))
   of_extensions conjunct one left each = each_joined (λ rest. fact (clause_by kind (conjunct ++ rest))) (kind_dnf kind one.0 one.1)
@@ -51,7 +53,7 @@ module _ (fact : Clause → Type 0) (kind : Kind) where
       (kind_dnf kind one.0 one.1)
       (joined_each (λ rest. fact (clause_by kind (conjunct ++ rest))) (kind_dnf kind one.0 one.1) (completions kind left) each))
 
-  -- a complete choice becomes its own clause
+  -- a complete conjunct becomes its own clause
   pub of_complete : (conjunct : Conjunct) → EachClause fact (partial kind conjunct []) → fact (clause_by kind conjunct)
   of_complete conjunct each = subst (λ conjunct. fact (clause_by kind conjunct)) (append-nil conjunct) each.0
 
@@ -95,7 +97,7 @@ joined_assoc (conjunct ∷ some) more others = joined_both (with_each conjunct m
     ∙ ap (λ first. first ++ joined (joined some more) others) (joined_with_each conjunct more others)
     ∙ ap (λ rest. with_each conjunct (joined more others) ++ rest) (joined_assoc some more others)
 
--- so the choices of a question are the completions of the one that has nothing yet
+-- so the conjuncts of a question are the completions of the one that has nothing yet
 module _ (kind : Kind) where
   completions_of_both : (some others : List Signed)
       → completions kind (some ++ others) ≡ joined (completions kind some) (completions kind others)
@@ -131,7 +133,7 @@ module _ (kind : Kind) where
 
 module _ (fact : Clause → Type 0) (kind : Kind) (conjunct : Conjunct) (one : Signed) (members left : List Signed)
     (are : IsConjunction one members) where
-  -- so what a choice may become stays, where the formulas of a conjunction take its place
+  -- so what a conjunct may become stays, where the formulas of a conjunction take its place
   of_members : EachClause fact (partial kind conjunct (members ++ left)) → EachClause fact (partial kind conjunct (one ∷ left))
   of_members = subst (AllOf (λ rest. fact (clause_by kind (conjunct ++ rest)))) (completions_unfold kind one members left are)
 
@@ -146,7 +148,7 @@ module _ (fact : Clause → Type 0) (kind : Kind) (conjunct : Conjunct) (left : 
   abbrev IsOfRest : Conjunct → Type 0
   IsOfRest rest = fact (clause_by kind (conjunct ++ rest))
 
-  -- the choices of one of some formulas are those of each, one after the other
+  -- the conjuncts of one of some formulas are those of each, one after the other
   of_each_one : (formulas : Formulas) (wanted : Bool) → AllOf (EachClause fact) (divided kind conjunct left (each_signed formulas wanted))
       → AllOf IsOfRest (joined (kind_of_one kind formulas wanted) (completions kind left))
   of_each_one NoFormula wanted each = tt
@@ -164,7 +166,8 @@ module _ (fact : Clause → Type 0) (kind : Kind) (conjunct : Conjunct) (left : 
       (subst (AllOf IsOfRest) (joined_both (kind_dnf kind is wanted) (kind_of_one kind rest wanted) (completions kind left)) each) in
       (both.0, to_each_one rest wanted both.1)
 
-  -- so what a choice may become stays, where there is a choice for each formula of a disjunction
+  -- so what a conjunct may become stays, where there is a conjunct for each formula of a
+  -- disjunction
   of_divided : (one : Signed) (members : List Signed) → IsDisjunction one members → AllOf (EachClause fact) (divided kind conjunct left members)
       → EachClause fact (partial kind conjunct (one ∷ left))
   of_divided _ _ (wants_one formulas) = of_each_one formulas true
@@ -175,7 +178,8 @@ module _ (fact : Clause → Type 0) (kind : Kind) (conjunct : Conjunct) (left : 
   to_divided _ _ (wants_one formulas) = to_each_one formulas true
   to_divided _ _ (refuses_one formulas) = to_each_one formulas false
 
--- a fact of each clause that a choice may become stays where it goes on, and is so before where it is so after
+-- a fact of each clause that a conjunct may become stays where it goes on, and is so before where
+-- it is so after
 module _ (fact : Clause → Type 0) where
   pub of_more : (first : Partial) (more : List Partial) → GoesOn first more → AllOf (EachClause fact) more → EachClause fact first
   of_more _ _ (unfolds kind conjunct one members left are) each = of_members fact kind conjunct one members left are each.0

@@ -1,4 +1,4 @@
--- A thing is in a formula, or in a question, just where it meets one of its choices.
+-- A thing is in a formula, or in a question, exactly when it meets one of its conjuncts.
 use Rattle.std.proofs.Common.{◌≡◌, Bool, true, false, not, List, [], ◌∷◌, ◌++◌, map, ◌⊎◌, inl, inr, ◌↔◌, refl, sym}
 use Rattle.std.proofs.lemmas.Bool.{true≢false}
 use Rattle.cd_sets.specs.declared.node_id.NodeId.{NodeId}
@@ -54,7 +54,7 @@ one_of_both fact (x ∷ xs) ys = by_rest (one_of_both fact xs ys)
     )
 
 module _ (reader : Reader) where
-  -- one of the choices that begin with this one is met where this one is, and one of the others
+  -- one of the conjuncts that begin with this one is met where this one is, and one of the others
   one_with : (conjunct : Conjunct) (others : List Conjunct)
       → AnyOf (Meets reader) (map (λ other. conjunct ++ other) others) ↔ (Meets reader conjunct × AnyOf (Meets reader) others)
   one_with conjunct [] = (λ none. absurd none, λ both. both.1)
@@ -73,7 +73,7 @@ module _ (reader : Reader) where
         λ both. elim both.1 [ inl is ↦ inl (first.1 (both.0, is)) | inr is ↦ inr (rest.1 (both.0, is)) ],
       )
 
-  -- one of the joined choices is met where one of these is, and one of those
+  -- one of the joined conjuncts is met where one of these is, and one of those
   pub joined_exact : (first second : List Conjunct)
       → AnyOf (Meets reader) (joined first second) ↔ (AnyOf (Meets reader) first × AnyOf (Meets reader) second)
   joined_exact [] second = (λ none. absurd none, λ both. both.0)
@@ -90,7 +90,7 @@ module _ (reader : Reader) where
         λ both. elim both.0 [ inl is ↦ inl (one.1 (is, both.1)) | inr is ↦ inr (rest.1 (is, both.1)) ],
       )
 
-  -- a formula that is no connective has one choice of one literal
+  -- a formula that is no connective has one conjunct of one literal
   leaf_exact : {fact : Type 0} → fact ↔ ((fact × Unit {0}) ⊎ ⊥)
   leaf_exact = (λ is. inl (is, tt), λ one. elim one [ inl is ↦ is.0 | inr none ↦ absurd none ])
 
@@ -120,7 +120,7 @@ module _ (reader : Reader) where
     dnf_exact (formula.Or formulas) false = each_exact formulas false
     dnf_exact (formula.Not is) wanted = dnf_exact is (not wanted)
 
-    -- one choice of each of these, and a choice of one of them
+    -- one conjunct of each of these, and a conjunct of one of them
     pub each_exact : (formulas : Formulas) (wanted : Bool)
         → each_holds reader formulas wanted ↔ AnyOf (Meets reader) (dnf_of_each formulas wanted)
     each_exact NoFormula wanted = (λ _. inl tt, λ _. tt)
@@ -134,7 +134,7 @@ module _ (reader : Reader) where
         (means_back (one_of_both (Meets reader) (dnf is wanted) (dnf_of_one rest wanted)))
 
   module _ (graph : Graph) where
-    -- a thing answers so at each of some nodes where it meets one choice of each
+    -- a thing answers so at each of some nodes where it meets one conjunct of each
     pub nodes_exact : (ids : List NodeId) (wanted : Bool)
         → AllOf (λ id. holds reader (formula_at graph id) wanted) ids ↔ AnyOf (Meets reader) (dnf_at graph ids wanted)
     nodes_exact [] wanted = (λ _. inl tt, λ _. tt)
@@ -142,7 +142,7 @@ module _ (reader : Reader) where
         (both_mean (dnf_exact (formula_at graph id) wanted) (nodes_exact ids wanted))
         (means_back (joined_exact (dnf (formula_at graph id) wanted) (dnf_at graph ids wanted)))
 
-    -- it is in a question where it meets one of the question's choices
+    -- it is in a question where it meets one of the question's conjuncts
     pub question_exact : (question : Question)
         → asked (at_nodes graph reader) question true ↔ AnyOf (Meets reader) (dnf_of graph question)
     question_exact question = means_so (both_mean (nodes_exact question.pos true) (nodes_exact question.neg false))

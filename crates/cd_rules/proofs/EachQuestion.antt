@@ -112,7 +112,7 @@ module _ (graph more : Graph) (begins : graph ≡ built_ins ++ more) (sound : Is
     all_settled (Records wanted refused) within = each_weaker (RowAsks nodes) (HasSettledRow (HasElement graph) family) row_settled
         (rows_of wanted refused) (rows_ask nodes wanted refused within)
 
-    -- each clause of a question is broken, or the question has an element
+    -- each clause of a question is refuted, or the question has an element
     abbrev IsRefuted : Question → Type 0
     IsRefuted one = (clause : Clause) → IsClauseOfQuestion graph one clause → Refutes family clause
 
@@ -180,7 +180,7 @@ module _ (graph more : Graph) (begins : graph ≡ built_ins ++ more) (sound : Is
   closed : HasClosed
   closed = closed_of (length (all_questions nodes)) (all_questions nodes) (omega arith) (λ one there. inr there)
 
-  -- so a question has an element, or the family covers that of the same nodes
+  -- so a question has an element, or the family subsumes that of the same nodes
   has_or_subsumed : (one : Question) → HasElement graph one ⊎ IsSubsumed (of_nodes graph more begins one) closed.0
   has_or_subsumed one = by_settled (closed.2 (of_nodes graph more begins one)
       (among_all nodes (map (named graph more begins) one.pos) (map (named graph more begins) one.neg) (asks_nodes graph more begins one)))

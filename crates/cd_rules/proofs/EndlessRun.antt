@@ -1,4 +1,5 @@
--- The machine decides that no pair is an integer and such a pair again: the question itself covers the second part.
+-- The machine decides that no pair is an integer and such a pair again: the question itself
+-- subsumes the second part.
 use Rattle.std.proofs.Common.{true, List, [], ◌∷◌, Some, None, inl, inr, refl}
 use native.Mathlib.Omega.{arith}
 use Rattle.cd_sets.specs.declared.question.Question.{Question}
@@ -18,7 +19,8 @@ use Rattle.cd_rules.specs.Machine.{Works, goes_further, begins, drops}
 abbrev question : Question
 question = asks (14 ∷ []) []
 
--- its one formula, as one of a choice of each kind, and as the choice and the clause that it gives
+-- its one formula, as one of a conjunct of each kind, and as the conjunct and the clause that it
+-- gives
 abbrev formula : Signed
 formula = (Pair INT (node 14), true)
 
@@ -40,7 +42,7 @@ start = state [] [] []
 abbrev at : Work → State
 at left = state [] (question ∷ []) (frame 0 question left ∷ [])
 
--- the work at the question, from the choices of all kinds to the end
+-- the work at the question, from the conjuncts of all kinds to the end
 abbrev opened : Work
 opened = work (of_kind APair ∷ of_kind AnXml ∷ of_kind ARecord ∷ of_kind AFunction ∷ []) None [] []
 
@@ -56,7 +58,7 @@ dropped conjuncts = work conjuncts (Some clause) [] []
 works_on : (before after : Work) → Works (question ∷ []) before after → Steps endless [] start (at before) → Steps endless [] start (at after)
 works_on before after step steps = one_more start (at before) (at after) steps (works [] (question ∷ []) 0 question before after [] step)
 
--- a formula that gives no choice of a kind
+-- a formula that gives no conjunct of a kind
 no_conjunct : (kind : Kind) (rest : List Partial) → GoesOn (of_kind kind) []
     → Steps endless [] start (at (dropped (of_kind kind ∷ rest))) → Steps endless [] start (at (dropped rest))
 no_conjunct kind rest goes = works_on (dropped (of_kind kind ∷ rest)) (dropped rest)

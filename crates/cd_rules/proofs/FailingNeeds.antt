@@ -1,4 +1,4 @@
--- A need is broken where a tree of cases shows that each way has a covered question.
+-- A need is refuted where a tree of cases shows that each way has a subsumed question.
 use Rattle.std.proofs.Common.{◌≡◌, ◌⊎◌, List, [], ◌∷◌, map, inl, inr}
 use Rattle.cd_sets.specs.declared.node_id.NodeId.{NodeId}
 use Rattle.cd_sets.specs.declared.question.Question.{Question}
@@ -81,7 +81,8 @@ all_three_fail {X} Fact comes all tree = each_of_its Fact (splits_in_three all) 
     (among_itself sides.0) (among_itself sides.1) (among_itself sides.2)) ([], [], []) tree tt tt tt)
 
 module _ (family : List Question) where
-  -- a family covers the question that wants and refuses more, where it covers the one that wants and refuses less
+  -- a family subsumes the question that wants and refuses more, where it subsumes the one that
+  -- wants and refuses less
   asks_further : (pos neg more_pos more_neg : List NodeId) → AreAmong pos more_pos → AreAmong neg more_neg
       → IsSubsumed (question pos neg) family → IsSubsumed (question more_pos more_neg) family
   asks_further pos neg more_pos more_neg wanted refused =

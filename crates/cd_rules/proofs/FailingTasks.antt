@@ -1,5 +1,5 @@
--- What is to do fails where a question of it is covered, and where each case of a member fails; a larger family keeps it; and a clause of whose
--- tasks one fails is broken.
+-- What is to do fails where a question of it is subsumed, and where each case of a member fails; a
+-- larger family keeps it; and a clause of whose tasks one fails is refuted.
 use Rattle.std.proofs.Common.{◌≡◌, ◌⊎◌, true, false, List, [], ◌∷◌, ◌++◌, map, Some, None, inl, inr, refl, subst}
 use Rattle.std.proofs.lemmas.Bool.{cases_Bool}
 use Rattle.cd_sets.specs.declared.question.Question.{Question}
@@ -20,7 +20,7 @@ use Rattle.cd_rules.proofs.CasesAreTasks.{taken_one}
 use Rattle.cd_rules.proofs.FailingNeeds.{pair_need_fails, xml_need_fails, arrow_need_fails}
 use Rattle.cd_rules.proofs.FailingRows.{records_fail}
 
--- a covered question of a cell that may not be absent breaks the row
+-- a subsumed question of a cell that may not be absent refutes the row
 present_refutes : (family : List Question) (cells : List (Name × Cell)) → AnyOf (λ question. IsSubsumed question family) (present cells)
     → AnyOf (λ cell. (cell.1.absent ≡ false) × IsSubsumed cell.1.value family) cells
 present_refutes family [] is = elim is [ ]
@@ -43,7 +43,7 @@ present_refutes family (cell ∷ cells) is = by_absent (cases_Bool cell.1.absent
         by_one (inl subsumed) = inl (has, subsumed)
         by_one (inr there) = inr (rest there)
 
--- a question that the family covers
+-- a question that the family subsumes
 pub subsumed_fails : (family : List Question) (task : Task) → AnyOf (λ question. IsSubsumed question family) (questions_of task)
     → TaskFails family task
 subsumed_fails family (PairTask wanted refused given left) is = seen given is
@@ -79,7 +79,7 @@ cases_fail family _ _ (record_cases wanted refused given left rest type taken) i
     (map_of_each (λ reason. RecordTask wanted refused ((type, reason) ∷ given) rest) (TaskFails family)
     (None ∷ map Some (labels_of (wanted ++ refused))) fail) one)
 
--- a clause of whose tasks one fails is broken
+-- a clause of whose tasks one fails is refuted
 pub task_refutes : (family : List Question) (clause : Clause) → AnyOf (TaskFails family) (tasks_of clause) → Refutes family clause
 task_refutes family (Pairs wanted refused) (inl fails) =
     (map (pair_way wanted) (splits refused) ∷ [], refl, inl (pair_need_fails family wanted refused fails))

@@ -34,7 +34,7 @@ module _ (graph : Graph) where
     longer : (list more : List Question) → AreAmong (settled ++ list) (settled ++ (list ++ more))
     longer list more = subst (AreAmong (settled ++ list)) (append_assoc settled list more) (among_longer (settled ++ list) more)
 
-    -- a list that goes on with questions that are broken
+    -- a list that goes on with questions that are refuted
     goes_longer : (list : List Question) (frames : List Frame) (more : List Question)
         → AllOf (IsRefuted graph (settled ++ (list ++ more))) more → AreFrames graph settled list frames
         → AreFrames graph settled (list ++ more) frames
@@ -81,7 +81,7 @@ module _ (graph : Graph) where
         (subst (λ list. AllOf (IsRefuted graph (settled ++ list)) (last.question ∷ done)) list_is
         (done_is_refuted (settled ++ list) last.question last.work is is_done, refuted)) are)
 
-    -- each larger family breaks the clauses of the questions of a closed one
+    -- each larger family refutes the clauses of the questions of a closed one
     closed_is_refuted : IsClosed graph settled → (base : List Question) → AreAmong settled base → AllOf (IsRefuted graph base) settled
     closed_is_refuted closed base among = each_weaker
         (λ question. (clause : Clause) → IsClauseOfQuestion graph question clause → Refutes settled clause) (IsRefuted graph base)

@@ -1,4 +1,5 @@
--- What is at a label is in the cell of some types just where it is as the wanted ones say, and as the refused ones do not.
+-- What is at a label is in the cell of some types exactly when it is as the wanted ones say, and as
+-- the refused ones do not.
 use Rattle.std.proofs.Common.{◌≡◌, Bool, true, false, not, ◌&&◌, List, [], ◌∷◌, map, Option, Some, None, refl, ap}
 use Rattle.std.specs.List.{list_all}
 use Rattle.cd_model.specs.AllOf.{AllOf}

@@ -1,4 +1,4 @@
--- What a choice of a kind wants and refuses is a clause of the question.
+-- What a conjunct of a kind wants and refuses is a clause of the question.
 use Rattle.std.proofs.Common.{◌≡◌, ◌&&◌, ◌⊎◌, Bool, true, false, List, [], ◌∷◌, Option, Some, None, if◌then◌else◌, inl, inr, refl, subst, ◌∙◌}
 use Rattle.std.proofs.lemmas.Bool.{cases_Bool}
 use Rattle.cd_sets.specs.declared.question.Question.{Question}

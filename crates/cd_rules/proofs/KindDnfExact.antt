@@ -1,4 +1,5 @@
--- The choices of a kind are what all choices are for the kind: so each clause of the kind is that of one of them.
+-- The conjuncts of a kind are what all conjuncts are for the kind: so each clause of the kind is
+-- that of one of them.
 use Rattle.std.proofs.Common.{◌≡◌, ◌&&◌, ◌⊎◌, Bool, true, false, not, List, [], ◌∷◌, ◌++◌, Option, Some, None, map, if◌then◌else◌, inl, inr, refl, sym, ap, subst, ◌∙◌}
 use Rattle.std.proofs.lemmas.Bool.{cases_Bool}
 use Rattle.cd_sets.specs.declared.node_id.NodeId.{NodeId}
@@ -44,7 +45,7 @@ module _ (kind : Kind) where
       by_test true rest = ap (λ more. of_kind kind conjunct ∷ more) rest
       by_test false rest = rest
 
-  -- one choice with each of the others
+  -- one conjunct with each of the others
   abbrev with_each : (fitting : Bool) → Conjunct → List Conjunct → List Conjunct
   with_each true conjunct others = map (λ other. conjunct ++ other) others
   with_each false conjunct others = []
@@ -134,7 +135,7 @@ module _ (kind : Kind) where
       ∙ ap (joined (for_kind kind (dnf_at graph question.pos true))) (at_exact graph question.neg false)
       ∙ sym (for_joined (dnf_at graph question.pos true) (dnf_at graph question.neg false))
 
-  -- a choice that has a clause of the kind fits it
+  -- a conjunct that has a clause of the kind fits it
   all_fit : ((is : Formula) → kind_of_formula is ≡ Some kind → is_of kind is ≡ true) → (conjunct : Conjunct) → AllOfKind kind conjunct → fits kind conjunct ≡ true
   all_fit says [] all = refl
   all_fit says (literal ∷ conjunct) all = by_test literal.wanted (λ is. says literal.is (all.0 is)) (all_fit says conjunct all.1)
@@ -162,7 +163,7 @@ module _ (kind : Kind) where
         by_test (inl is) rest = rw is (ap (one_more sign literal.wanted (parts_of literal.is)) rest)
         by_test (inr other) rest = rw other (rw (others literal.is other) (rest ∙ none_more sign literal.wanted (parts_in parts_of sign conjunct)))
 
-    -- the parts of a choice
+    -- the parts of a conjunct
     abbrev pub HasParts : (wanted refused : List X) → Conjunct → Type 0
     HasParts wanted refused conjunct = (wanted ≡ parts_in parts_of true conjunct) × (refused ≡ parts_in parts_of false conjunct)
 

@@ -1,4 +1,5 @@
--- A living row gives a record that is in each wanted type and outside each refused one.
+-- A row whose questions have witnesses gives a record that is in each wanted type and outside each
+-- refused one.
 use Rattle.std.proofs.Common.{◌≡◌, Bool, true, false, if◌then◌else◌, List, [], ◌∷◌, ◌++◌, map, bytes_eq, ◌⊎◌, refl}
 use Rattle.std.specs.List.{list_any}
 use Rattle.cd_syntax.specs.Name.{Name, IsLabel}
@@ -70,7 +71,8 @@ row_has graph wanted refused wanted_labels refused_labels (reasons, witnesses, k
       ),
     )
 
--- A living row gives a record that is in each wanted type and outside each refused one
+-- A row whose questions have witnesses gives a record that is in each wanted type and outside each
+-- refused one
 pub records_have : (graph : Graph) (wanted refused : List RecordType) → HaveLabels wanted → HaveLabels refused
     → AnyOf (HasWitnesses (HasElement graph)) (rows_of wanted refused) → HasMember graph (Records wanted refused)
 records_have graph wanted refused wanted_labels refused_labels witnesses =

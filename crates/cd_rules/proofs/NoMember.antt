@@ -1,4 +1,5 @@
--- No element and no value is in a question that a closed family covers, by recursion on things whose closures are out of it.
+-- No element and no value is in a question that a closed family subsumes, by recursion on things
+-- whose closures are out of it.
 use Rattle.std.proofs.Common.{◌≡◌, ℕ, ℤ, true, false, List, [], ◌∷◌, ◌++◌, map, inl, inr, refl, sym, subst}
 use Rattle.std.proofs.lemmas.Bool.{true≢false}
 use Rattle.std.specs.Char.{IsScalar}
@@ -35,12 +36,12 @@ use Rattle.cd_model.proofs.Ones.{each_weaker}
 use Rattle.cd_rules.proofs.Refuted.{IsRefuted, refuted_one, IsOut, AskedOut, need_out, member_out, pair_out, xml_out, record_out}
 use Rattle.cd_rules.proofs.Things.{answers_of, labelled_of, mapping_of}
 
--- a function that is in some arrows is not outside another one whose need is broken
+-- a function that is in some arrows is not outside another one whose need is refuted
 abbrev RefutesNone : List Question → Mapping → Type 0
 RefutesNone family maps = (wanted : List Pair) (refused : Pair) → AllOf (IsInArrow maps) wanted → maps refused.0 refused.1 false
     → RefutesNeed family (map (arrow_way refused) (splits wanted)) → ⊥
 
--- so it is in no question that is broken
+-- so it is in no question that is refuted
 arrows_out : (family : List Question) (maps : Mapping) → RefutesNone family maps → IsRefuted family (function_reader maps) → ⊥
 arrows_out family maps none refuted =
     let in_clause = in_arrows (function_reader maps) (kind_of_function maps) refuted.conjunct refuted.meets in
@@ -69,8 +70,8 @@ module _ (graph : Graph) (begins : (more : Graph) × (graph ≡ built_ins ++ mor
 
 module _ (graph : Graph) (begins : (more : Graph) × (graph ≡ built_ins ++ more)) (family : List Question)
     (is_closed : IsClosed graph family) where
-  -- A thing in a question of the family meets a choice whose clauses are all broken. So where there are none such, it is in no question of
-  -- the family, and in none that asks no less
+  -- A thing in a question of the family meets a conjunct whose clauses are all refuted. So where
+  -- there are none such, it is in no question of the family, and in none that asks no less
   refuted_of : (reader : Reader) → Apart (at_nodes graph reader) → (IsRefuted family reader → ⊥) → AskedOut family (at_nodes graph reader)
   refuted_of reader apart out question is subsumed = of_subsumed IsNotAsked family question
       (λ other asks none is. none (asked_less (at_nodes graph reader) question other asks is))

@@ -24,9 +24,9 @@ use Rattle.cd_rules.proofs.Asking.{each_of_map, each_of_set}
 use Rattle.cd_model.proofs.Ones.{each_weaker, each_of_all, each_of_lists, one_with_each, one_leads}
 use Rattle.cd_rules.specs.Within.{IsPairWithin, IsXmlWithin, IsTypeWithin, IsWithin}
 
--- what each literal of these choices and of those has, each of the joined choices has
+-- what each literal of these conjuncts and of those has, each of the joined conjuncts has
 module _ (fact : Literal → Type 0) where
-  -- one choice with each of those
+  -- one conjunct with each of those
   joined_with : (conjunct : Conjunct) (others : List Conjunct) → AllOf fact conjunct → AllOf (AllOf fact) others
       → AllOf (AllOf fact) (map (λ other. conjunct ++ other) others)
   joined_with conjunct [] each those = tt
@@ -41,19 +41,19 @@ module _ (fact : Literal → Type 0) where
       each_of_lists (AllOf fact) (map (λ other. conjunct ++ other) second) (joined first second)
       (joined_with conjunct second these.0 those) (joined_have first second these.1 those)
 
-  -- a choice that asks for nothing has no literal
+  -- a conjunct that asks for nothing has no literal
   always_or_not : (wanted : Bool) → AllOf (AllOf fact) (when wanted)
   always_or_not true = (tt, tt)
   always_or_not false = tt
 
 -- the formulas of a graph with so many nodes
 module _ (nodes : ℕ) where
-  -- the literals of a formula's choices are formulas of the graph
+  -- the literals of a formula's conjuncts are formulas of the graph
   abbrev IsLiteral : Literal → Type 0
   IsLiteral literal = IsFormula nodes literal.is
 
   mutual
-    -- each literal of the choices of a formula is one of the graph
+    -- each literal of the conjuncts of a formula is one of the graph
     conjuncts_are : (is : Formula) (wanted : Bool) → IsFormula nodes is → AllOf (AllOf IsLiteral) (dnf is wanted)
     conjuncts_are formula.Nothing wanted whole = always_or_not IsLiteral (not wanted)
     conjuncts_are formula.Everything wanted whole = always_or_not IsLiteral wanted
@@ -64,7 +64,7 @@ module _ (nodes : ℕ) where
     conjuncts_are (formula.Not is) wanted whole = conjuncts_are is (not wanted) whole
     conjuncts_are is wanted whole = ((whole, tt), tt)
 
-    -- so it is of a choice of each formula
+    -- so it is of a conjunct of each formula
     dnf_of_each_are : (formulas : Formulas) (wanted : Bool) → AreFormulas nodes formulas
         → AllOf (AllOf IsLiteral) (dnf_of_each formulas wanted)
     dnf_of_each_are NoFormula wanted whole = (tt, tt)
@@ -72,7 +72,7 @@ module _ (nodes : ℕ) where
         joined_have IsLiteral (dnf is wanted) (dnf_of_each rest wanted)
         (conjuncts_are is wanted whole.0) (dnf_of_each_are rest wanted whole.1)
 
-    -- and of a choice of one of them
+    -- and of a conjunct of one of them
     dnf_of_one_are : (formulas : Formulas) (wanted : Bool) → AreFormulas nodes formulas
         → AllOf (AllOf IsLiteral) (dnf_of_one formulas wanted)
     dnf_of_one_are NoFormula wanted whole = tt
@@ -86,7 +86,7 @@ module _ (nodes : ℕ) where
   formula_is (is ∷ graph) zero each = each.0
   formula_is (is ∷ graph) (suc id) each = formula_is graph id each.1
 
-  -- so the literals of a choice of each node are of the graph
+  -- so the literals of a conjunct of each node are of the graph
   dnf_at_are : (graph : Graph) → AllOf (IsFormula nodes) graph → (ids : List NodeId) (wanted : Bool)
       → AllOf (AllOf IsLiteral) (dnf_at graph ids wanted)
   dnf_at_are graph whole [] wanted = (tt, tt)
@@ -94,14 +94,14 @@ module _ (nodes : ℕ) where
       joined_have IsLiteral (dnf (formula_at graph id) wanted) (dnf_at graph ids wanted)
       (conjuncts_are (formula_at graph id) wanted (formula_is graph id.0 whole)) (dnf_at_are graph whole ids wanted)
 
-  -- and those of a question's choices
+  -- and those of a question's conjuncts
   dnf_of_question_are : (graph : Graph) → AllOf (IsFormula nodes) graph → (question : Question)
       → AllOf (AllOf IsLiteral) (dnf_of graph question)
   dnf_of_question_are graph whole question =
       joined_have IsLiteral (dnf_at graph question.pos true) (dnf_at graph question.neg false)
       (dnf_at_are graph whole question.pos true) (dnf_at_are graph whole question.neg false)
 
-  -- what the parts of each formula have, the parts of a choice have
+  -- what the parts of each formula have, the parts of a conjunct have
   module _ {X : Type 0} (has : X → Type 0) where
     -- of one more literal
     one_more_has : (sign wanted : Bool) (part : Option X) (rest : List X) → IfSome part has → AllOf has rest
@@ -117,7 +117,7 @@ module _ (nodes : ℕ) where
     abbrev PartsHave : (Formula → Option X) → Type 0
     PartsHave parts_of = (is : Formula) → IsFormula nodes is → IfSome (parts_of is) has
 
-    -- of all literals of a choice
+    -- of all literals of a conjunct
     parts_in_have : (parts_of : Formula → Option X) → PartsHave parts_of → (sign : Bool) (conjunct : Conjunct)
         → AllOf IsLiteral conjunct → AllOf has (parts_in parts_of sign conjunct)
     parts_in_have parts_of have sign [] each = tt
@@ -154,7 +154,7 @@ module _ (nodes : ℕ) where
   arrow_is_within (formula.Arrow argument result) whole = whole
   arrow_is_within _ whole = tt
 
-  -- a clause of a choice of formulas of the graph has its parts among the nodes
+  -- a clause of a conjunct of formulas of the graph has its parts among the nodes
   within_by_conjunct : (clause : Clause) (conjunct : Conjunct) → IsClauseOf conjunct clause → AllOf IsLiteral conjunct
       → IsWithin nodes clause
   within_by_conjunct (Pairs wanted refused) conjunct is each =
@@ -178,7 +178,7 @@ module _ (nodes : ℕ) where
   record_names_labels (formula.Record named rest) whole = rising_are_labels None named whole.0
   record_names_labels _ whole = tt
 
-  -- and so does a clause of a choice of formulas of the graph
+  -- and so does a clause of a conjunct of formulas of the graph
   labels_by_conjunct : (clause : Clause) (conjunct : Conjunct) → IsClauseOf conjunct clause → AllOf IsLiteral conjunct
       → NamesLabels clause
   labels_by_conjunct (Records wanted refused) conjunct is each =
@@ -186,7 +186,7 @@ module _ (nodes : ℕ) where
       conjunct wanted refused is each
   labels_by_conjunct _ conjunct is each = tt
 
--- a clause of a question has a fact that each of its choices gives
+-- a clause of a question has a fact that each of its conjuncts gives
 by_conjuncts : (Fact : Clause → Type 0) (graph : Graph) → IsGraph graph → (question : Question) (clause : Clause)
     → ((conjunct : Conjunct) → IsClauseOf conjunct clause → AllOf (IsLiteral (length graph)) conjunct → Fact clause)
     → IsClauseOfQuestion graph question clause → Fact clause

@@ -1,4 +1,4 @@
--- What a family breaks has no member whose parts are in no question that the family covers.
+-- What a family refutes has no member whose parts are in no question that the family subsumes.
 use Rattle.std.proofs.Common.{◌≡◌, true, false, List, [], ◌∷◌, map, ◌⊎◌, inl, inr, sym, subst, ◌∙◌, true≢false}
 use Rattle.cd_sets.specs.declared.question.Question.{Question}
 use Rattle.cd_syntax.specs.Name.{Name}
@@ -18,7 +18,8 @@ use Rattle.cd_rules.proofs.XmlsForward.{xmls_forward}
 use Rattle.cd_rules.proofs.RecordsForward.{HasAt, records_forward}
 use Rattle.cd_rules.proofs.Things.{IsAskedFact}
 
--- a thing that is in a question all of whose clauses are broken meets a choice whose clauses are broken
+-- a thing that is in a question all of whose clauses are refuted meets a conjunct whose clauses are
+-- refuted
 pub record IsRefuted (family : List Question) (reader : Reader) : Type 0 where
   pub conjunct : Conjunct
   pub meets : Meets reader conjunct
@@ -37,7 +38,7 @@ module _ (family : List Question) where
   abbrev pub IsOut : Question → Type 0
   IsOut question = IsSubsumed question family → ⊥
 
-  -- a way all of whose questions are out is not broken
+  -- a way all of whose questions are out is not refuted
   way_out : (way : Way) → AllOf IsOut way → AnyOf (λ question. IsSubsumed question family) way → ⊥
   way_out [] out one = elim one [ ]
   way_out (question ∷ way) out (inl is) = out.0 is
@@ -59,7 +60,7 @@ module _ (family : List Question) where
   member_out IsMember x is needs (inl empty) refuted = empty.0 x is
   member_out IsMember x is needs (inr member) refuted = elim (subst (AnyOf (RefutesNeed family)) member.2 refuted) [ ]
 
-  -- a row that lives is not broken
+  -- a row whose questions have witnesses is not refuted
   cells_out : (cells : List (Name × Cell)) → AllOf (λ cell. (cell.1.absent ≡ true) ⊎ IsOut cell.1.value) cells
       → AnyOf (λ cell. (cell.1.absent ≡ false) × IsSubsumed cell.1.value family) cells → ⊥
   cells_out [] lives one = elim one [ ]

@@ -1,4 +1,5 @@
--- A record is in each wanted type and outside each refused one just where it is in one of the rows of these.
+-- A record is in each wanted type and outside each refused one exactly when it is in one of the
+-- rows of these.
 use Rattle.std.proofs.Common.{◌≡◌, Bool, true, false, true≢false, List, [], ◌∷◌, ◌++◌, map, Option, Some, None, bytes_eq}
 use Rattle.std.proofs.Common.{◌⊎◌, inl, inr, ◌↔◌, refl, sym, subst, ◌∙◌}
 use Rattle.std.proofs.lemmas.Bool.{cases_Bool}
@@ -289,6 +290,7 @@ module _ {X : Type 0} (answers : X → Answers) (at : Name → Option X) (wanted
           → AreReasons (IsReason answers at labels wanted) reasons
       outside = refused_in_row answers at labels wanted (λ label none. (unnamed label none).0)
 
-  -- a record is in each wanted type and outside each refused one just where it is in one of their rows
+  -- a record is in each wanted type and outside each refused one exactly when it is in one of their
+  -- rows
   pub rows_exact : IsInTypes ↔ AnyOf (IsInRow answers at) (rows_of wanted refused)
   rows_exact = (into_rows, out_of_rows)

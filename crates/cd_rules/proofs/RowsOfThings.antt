@@ -1,4 +1,4 @@
--- A record is in a clause of records just where it is in one of the clause's rows.
+-- A record is in a clause of records exactly when it is in one of the clause's rows.
 use Rattle.std.proofs.Common.{◌≡◌, ℕ, Bool, true, false, List, Option, Some, bytes_eq, if◌then◌else◌, ◌↔◌, refl, sym, subst}
 use Rattle.cd_syntax.specs.Name.{Name}
 use Rattle.cd_model.specs.Thing as thing
@@ -21,7 +21,7 @@ field_says answers true is other Others field answer same = refl
 field_says answers false is other Others field answer same = same
 
 module _ {X : Type 0} (answers : X → Answers) (at : Name → Option X) (wanted refused : List RecordType) where
-  -- that a record is in the clause of these types just where it is in a row
+  -- that a record is in the clause of these types exactly when it is in a row
   abbrev IsExact : Labelled → Type 0
   IsExact said = IsInClause ARecord (record_reader said) (Records wanted refused)
       ↔ AnyOf (IsInRow answers at) (rows_of wanted refused)

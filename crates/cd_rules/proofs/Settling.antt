@@ -1,4 +1,5 @@
--- A clause all of whose questions have a fact or are covered by a family has all that it needs, or is broken.
+-- A clause all of whose questions have a fact or are subsumed by a family has all that it needs, or
+-- is refuted.
 use Rattle.std.proofs.Common.{◌≡◌, true, false, List, [], ◌∷◌, ◌⊎◌, inl, inr}
 use Rattle.std.proofs.lemmas.Bool.{cases_Bool}
 use Rattle.cd_sets.specs.declared.question.Question.{Question}
@@ -31,19 +32,19 @@ module _ (fact : Question → Type 0) (family : List Question) where
   abbrev HasOne : Way → Type 0
   HasOne way = AnyOf (λ question. IsSubsumed question family) way
 
-  -- a need is met, or broken
+  -- a need is met, or refuted
   need_settled : (need : Need) → AreSettled fact family need → IsMet fact need ⊎ RefutesNeed family need
   need_settled need settled = turned (each_or_one HasOne (λ way. AllOf fact way) need
       (each_weaker (λ way. AllOf (IsSettled fact family) way) (λ way. HasOne way ⊎ AllOf fact way)
       (λ way each. turned (each_or_one fact (λ question. IsSubsumed question family) way each)) need settled))
 
-  -- all needs are met, or one is broken
+  -- all needs are met, or one is refuted
   needs_settled : (needs : List Need) → AllOf (AreSettled fact family) needs
       → AllOf (IsMet fact) needs ⊎ AnyOf (RefutesNeed family) needs
   needs_settled needs settled = each_or_one (IsMet fact) (RefutesNeed family) needs
       (each_weaker (AreSettled fact family) (λ need. IsMet fact need ⊎ RefutesNeed family need) need_settled needs settled)
 
-  -- a cell may be absent, or has the fact, or has to be there and is covered
+  -- a cell may be absent, or has the fact, or has to be there and is subsumed
   cell_settled : (cell : Name × Cell) → IsSettled fact family cell.1.value
       → ((cell.1.absent ≡ true) ⊎ fact cell.1.value) ⊎ ((cell.1.absent ≡ false) × IsSubsumed cell.1.value family)
   cell_settled cell settled = by_absent (cases_Bool cell.1.absent) settled

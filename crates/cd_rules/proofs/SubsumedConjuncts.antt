@@ -1,5 +1,5 @@
--- A partial choice fails where what it wants, or refuses, so far has a covered question: each clause of a choice with its
--- literals is broken. So it need not be joined with others.
+-- A partial conjunct fails where what it wants, or refuses, so far has a subsumed question: each
+-- clause of a conjunct with its literals is refuted. So it need not be joined with others.
 use Rattle.std.proofs.Common.{◌≡◌, Bool, true, false, ◌&&◌, ◌⊎◌, List, [], ◌∷◌, ◌++◌, Option, Some, None, map, inl, inr, refl, sym, ap, subst, ◌∙◌}
 use Rattle.std.proofs.lemmas.Bool.{true≢false}
 use Rattle.std.specs.List.{list_all}
@@ -26,7 +26,7 @@ use Rattle.cd_rules.proofs.FailingTasks.{subsumed_fails, task_refutes}
 use Rattle.cd_rules.proofs.LabelsNamed.{IsUnnamed, named_or_unnamed, unnamed_parts}
 use Rattle.cd_model.proofs.Ones.{one_weaker, one_of_map, each_of_all}
 
--- the parts of a longer choice are those of both
+-- the parts of a longer conjunct are those of both
 one_more_longer : {X : Type 0} (sign wanted : Bool) (is : Option X) (some others : List X)
     → one_more sign wanted is (some ++ others) ≡ one_more sign wanted is some ++ others
 one_more_longer true true (Some x) some others = refl
@@ -78,7 +78,7 @@ asked_is_named label types others asked = by_both (named_or_unnamed (types ++ ot
     by_both (inr unnamed) = absurd (none_asks types (unnamed_parts types others label unnamed).0 asked)
 
 module _ (family : List Question) where
-  -- the question of a part is covered where it is of a choice that wants less
+  -- the question of a part is subsumed where it is of a conjunct that wants less
   stays_subsumed : {X : Type 0} (parts_of : Formula → Option X) (part : X → NodeId) (before : List NodeId) (conjunct rest : Conjunct)
       → IsSubsumed (question (before ++ map part (parts_in parts_of true conjunct)) []) family
       → IsSubsumed (question (before ++ map part (parts_in parts_of true (conjunct ++ rest))) []) family
@@ -89,7 +89,7 @@ module _ (family : List Question) where
       (map part (parts_in parts_of true conjunct)) (map part (parts_in parts_of true (conjunct ++ rest)))
       (among_map part (parts_in parts_of true conjunct) (parts_in parts_of true (conjunct ++ rest)) (parts_among parts_of true conjunct rest))) tt)
 
-  -- so whatever completes the choice, its clause is broken
+  -- so whatever completes the conjunct, its clause is refuted
   cut : (kind : Kind) (conjunct : Conjunct) (left : List Signed) → ((rest : Conjunct) → Refutes family (clause_by kind (conjunct ++ rest)))
       → PartialFails family (partial kind conjunct left)
   cut kind conjunct left refutes = each_of_all (λ rest. Refutes family (clause_by kind (conjunct ++ rest))) refutes (completions kind left)

@@ -34,7 +34,7 @@ asked_less answers question other asks is = (
   each_of_among (λ id. answers id false) other.neg question.neg asks.1 is.1,
 )
 
--- a family covers its own questions
+-- a family subsumes its own questions
 pub subsumes_own : (family : List Question) (question : Question) → IsOfFamily question family → IsSubsumed question family
 subsumes_own family question is = inl (one_weaker (λ other. other ≡ question) (IsSubsumedBy question)
     (λ other same. subst (IsSubsumedBy question) (sym same) (asks_itself question)) family is)
@@ -53,7 +53,7 @@ contradicts_none answers one_way question is asking =
     one_leads (λ id. AnyOf (λ other. other ≡ id) question.neg × answers id true)
     (λ id here. one_way id here.1 (of_each (λ id. answers id false) question.neg id asking.1 here.0)) question.pos both
 
--- and what asks no less than a question that it covers
+-- and what asks no less than a question that it subsumes
 pub subsumes_more : (family : List Question) (more question : Question) → IsSubsumedBy more question → IsSubsumed question family
     → IsSubsumed more family
 subsumes_more family more question asks (inl subsumed) = inl (one_weaker (IsSubsumedBy question) (IsSubsumedBy more)
@@ -61,7 +61,7 @@ subsumes_more family more question asks (inl subsumed) = inl (one_weaker (IsSubs
 subsumes_more family more question asks (inr contradicts) = inr (contradicts_more more question asks contradicts)
 
 -- what is so of each question of a family, and comes from a question to each that asks no less, and is so of each that contradicts
--- itself, is so of each that the family covers
+-- itself, is so of each that the family subsumes
 pub of_subsumed : (Fact : Question → Type 0) (family : List Question) (question : Question)
     → ((other : Question) → IsSubsumedBy question other → Fact other → Fact question)
     → (ContradictsItself question → Fact question) → AllOf Fact family → IsSubsumed question family → Fact question
@@ -69,7 +69,7 @@ of_subsumed Fact family question comes nothing each (inl subsumed) = one_leads (
     (λ other both. comes other both.0 both.1) family (one_with_each (IsSubsumedBy question) Fact family subsumed each)
 of_subsumed Fact family question comes nothing each (inr contradicts) = nothing contradicts
 
--- a family covers each of some questions, as where they are all of it
+-- a family subsumes each of some questions, as where they are all of it
 abbrev pub AreSubsumed : (some all : List Question) → Type 0
 AreSubsumed some all = AllOf (λ question. IsSubsumed question all) some
 
@@ -77,7 +77,7 @@ pub subsumed_where : (some all : List Question) → AreAmong some all → AreSub
 subsumed_where some all among =
     each_weaker (λ question. IsOfFamily question all) (λ question. IsSubsumed question all) (subsumes_own all) some among
 
--- then it covers what they cover, and breaks what they break
+-- then it subsumes what they subsume, and refutes what they refute
 module _ (some all : List Question) (subsumed : AreSubsumed some all) where
   pub subsumes_on : (question : Question) → IsSubsumed question some → IsSubsumed question all
   subsumes_on question is = of_subsumed (λ question. IsSubsumed question all) some question (subsumes_more all question) (λ contradicts. inr contradicts) subsumed is
@@ -105,7 +105,7 @@ module _ (some all : List Question) (subsumed : AreSubsumed some all) where
   refutes_on (Xmls wanted refused) refuted = refuted_on (Xmls wanted refused) refuted
   refutes_on (Arrows wanted refused) refuted = refuted_on (Arrows wanted refused) refuted
 
--- so a family that has all questions of another breaks what the other breaks
+-- so a family that has all questions of another refutes what the other refutes
 pub refutes_more : (some all : List Question) → ((question : Question) → IsOfFamily question some → IsOfFamily question all)
     → (clause : Clause) → Refutes some clause → Refutes all clause
 refutes_more some all within = refutes_on some all (subsumed_where some all (each_of_its (λ question. IsOfFamily question all) some within))

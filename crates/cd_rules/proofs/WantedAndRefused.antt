@@ -1,5 +1,5 @@
--- A clause that wants and refuses the same pair, XML formula or arrow is broken: each way to give that to a side asks something that
--- contradicts itself.
+-- A clause that wants and refuses the same pair, XML formula or arrow is refuted: each way to give
+-- that to a side asks something that contradicts itself.
 use Rattle.std.proofs.Common.{◌≡◌, List, [], ◌∷◌, map, inl, inr, refl, sym, subst}
 use Rattle.cd_sets.specs.declared.node_id.NodeId.{NodeId}
 use Rattle.cd_sets.specs.declared.question.Question.{Question}

@@ -55,7 +55,7 @@ cases_fall _ _ (record_cases wanted refused given left rest type taken) =
     (sum_of task_weight (map (λ reason. RecordTask wanted refused ((type, reason) ∷ given) rest) (map Some labels)))
     (some_length labels) whole others
 
--- each task and each choice weighs something
+-- each task and each conjunct weighs something
 weighs : (sides members : ℕ) → 0 < weight sides members
 weighs sides zero = omega arith
 weighs sides (suc members) = omega arith
@@ -66,7 +66,7 @@ task_weighs (XmlTask wanted refused given left) = weighs 3 (length left)
 task_weighs (ArrowTask refused wanted given left) = weighs 2 (length left)
 task_weighs (RecordTask wanted refused given left) = weighs (suc (length (labels_of (wanted ++ refused)))) (length left)
 
--- as many choices are joined as there are of the one for each of the other
+-- as many conjuncts are joined as there are of the one for each of the other
 length_joined : (some others : List Conjunct) → length (joined some others) ≡ length some * length others
 length_joined [] others = omega arith
 length_joined (conjunct ∷ some) others = length-append (map (λ other. conjunct ++ other) others) (joined some others)
@@ -100,7 +100,8 @@ module _ (kind : Kind) where
   unfolding_falls _ _ left (refuses_each formulas) = let same = joining_each formulas false left in omega arith
   unfolding_falls _ _ left (denies is wanted) = omega arith
 
-  -- what each clause has that one of the extensions may become is what each has that the choice may become
+  -- what each clause has that one of the extensions may become is what each has that the conjunct
+  -- may become
   module _ (conjunct : Conjunct) (left : List Signed) where
     abbrev weight_with : Conjunct → ℕ
     weight_with rest = clause_weight (clause_by kind (conjunct ++ rest))
@@ -157,7 +158,7 @@ module _ (kind : Kind) where
     dividing_falls _ _ (wants_one formulas) = let same = weight_of_divided formulas true in omega arith
     dividing_falls _ _ (refuses_one formulas) = let same = weight_of_divided formulas false in omega arith
 
--- a formula weighs something, and a choice
+-- a formula weighs something, and a conjunct
 formula_weighs : (kind : Kind) (is : Formula) (wanted : Bool) → 0 < formula_weight kind is wanted
 formula_weighs kind (And formulas) true = omega arith
 formula_weighs kind (Or formulas) false = omega arith
@@ -168,7 +169,7 @@ joining_weighs : (kind : Kind) (left : List Signed) → 0 < joining_weight kind 
 joining_weighs kind [] = omega arith
 joining_weighs kind (one ∷ left) = let first = formula_weighs kind one.0 one.1 in omega arith
 
--- where a choice goes on, what comes of it weighs less
+-- where a conjunct goes on, what comes of it weighs less
 more_falls : (first : Partial) (more : List Partial) → GoesOn first more → sum_of partial_weight more < partial_weight first
 more_falls _ _ (unfolds kind conjunct one members left are) =
     let less = unfolding_falls kind one members left are in

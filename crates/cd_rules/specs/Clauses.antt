@@ -1,4 +1,4 @@
--- The clauses of a choice: what it says of the things of one kind.
+-- The clauses of a conjunct: what it says of the things of one kind.
 use Rattle.std.specs.Prelude.{◌≡◌, Bool, true, false, List, [], ◌∷◌, Option, Some, None}
 use Rattle.cd_sets.specs.declared.node_id.NodeId.{NodeId}
 use Rattle.cd_sets.specs.declared.interval.Interval.{Interval}
@@ -80,7 +80,7 @@ abbrev pub arrow_of : Formula → Option Pair
 arrow_of (formula.Arrow argument result) = Some (argument, result)
 arrow_of is = None
 
--- those of the wanted literals of a choice, or of the refused ones
+-- those of the wanted literals of a conjunct, or of the refused ones
 abbrev pub one_more : {X : Type 0} → (sign wanted : Bool) → Option X → List X → List X
 one_more true true (Some x) rest = x ∷ rest
 one_more false false (Some x) rest = x ∷ rest
@@ -91,7 +91,7 @@ parts_in parts_of sign [] = []
 parts_in parts_of sign (literal ∷ rest) =
     one_more sign literal.wanted (parts_of literal.is) (parts_in parts_of sign rest)
 
--- A choice has a clause of each kind to which all its wanted literals belong: its wanted and its
+-- A conjunct has a clause of each kind to which all its wanted literals belong: its wanted and its
 -- refused literals of that kind
 abbrev pub IsOfParts : {X : Type 0} → Kind → (Formula → Option X) → Conjunct
     → (wanted refused : List X) → Type 0
@@ -108,7 +108,7 @@ IsClauseOf conjunct (Xmls wanted refused) = IsOfParts AnXml xml_of conjunct want
 IsClauseOf conjunct (Records wanted refused) = IsOfParts ARecord record_of conjunct wanted refused
 IsClauseOf conjunct (Arrows wanted refused) = IsOfParts AFunction arrow_of conjunct wanted refused
 
--- a question has the clauses of its choices
+-- a question has the clauses of its conjuncts
 abbrev pub IsClauseOfQuestion : Graph → Question → Clause → Type 0
 IsClauseOfQuestion graph question clause =
     AnyOf (λ conjunct. IsClauseOf conjunct clause) (dnf_of graph question)

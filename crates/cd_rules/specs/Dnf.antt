@@ -1,4 +1,4 @@
--- The choices of a formula and of a question: the ways in which a thing can be in it, as lists of
+-- The conjuncts of a formula and of a question: the ways in which a thing can be in it, as lists of
 -- literals.
 use Rattle.std.specs.Prelude.{Bool, true, false, not, List, [], ◌∷◌, ◌++◌, map}
 use Rattle.cd_sets.specs.declared.node_id.NodeId.{NodeId}
@@ -8,7 +8,7 @@ use Rattle.cd_model.specs.Formula as formula
 use Rattle.cd_model.specs.Formula.{Formula, Formulas, NoFormula, AFormula, Graph, formula_at}
 use Rattle.cd_model.specs.Membership.{Reader}
 
--- a formula, and whether a thing is to be in it or outside it; choices have none of connectives
+-- a formula, and whether a thing is to be in it or outside it; conjuncts have none of connectives
 pub record Literal : Type 0 where
   pub wanted : Bool
   pub is : Formula
@@ -22,11 +22,11 @@ abbrev pub joined : List Conjunct → List Conjunct → List Conjunct
 joined [] others = []
 joined (conjunct ∷ dnf) others = map (λ other. conjunct ++ other) others ++ joined dnf others
 
--- one choice that asks for nothing
+-- one conjunct that asks for nothing
 abbrev pub always : List Conjunct
 always = [] ∷ []
 
--- that one, or no choice
+-- that one, or no conjunct
 abbrev pub when : Bool → List Conjunct
 when true = always
 when false = []
@@ -42,7 +42,7 @@ abbrev mutual
   dnf (formula.Not is) wanted = dnf is (not wanted)
   dnf is wanted = (record { wanted = wanted; is = is } ∷ []) ∷ []
 
-  -- one choice of each of these, and a choice of one of them
+  -- one conjunct of each of these, and a conjunct of one of them
   pub dnf_of_each : Formulas → Bool → List Conjunct
   dnf_of_each NoFormula wanted = always
   dnf_of_each (AFormula is rest) wanted =
@@ -52,7 +52,7 @@ abbrev mutual
   dnf_of_one NoFormula wanted = []
   dnf_of_one (AFormula is rest) wanted = dnf is wanted ++ dnf_of_one rest wanted
 
--- one choice of each of these nodes
+-- one conjunct of each of these nodes
 abbrev pub dnf_at : Graph → List NodeId → (wanted : Bool) → List Conjunct
 dnf_at graph [] wanted = always
 dnf_at graph (id ∷ ids) wanted =
@@ -62,6 +62,6 @@ abbrev pub dnf_of : Graph → Question → List Conjunct
 dnf_of graph question =
     joined (dnf_at graph question.pos true) (dnf_at graph question.neg false)
 
--- a thing meets a choice where it answers as each literal asks
+-- a thing meets a conjunct where it answers as each literal asks
 abbrev pub Meets : Reader → Conjunct → Type 0
 Meets reader conjunct = AllOf (λ literal. reader literal.is literal.wanted) conjunct

@@ -1,5 +1,5 @@
--- Closed families: lists of questions, each of whose clauses is broken by questions that the list
--- covers, so that none has a member.
+-- Closed families: lists of questions, each of whose clauses is refuted by questions that the list
+-- subsumes, so that none has a member.
 use Rattle.std.specs.Prelude.{◌≡◌, ◌⊎◌, ℕ, ◌<◌, false, List}
 use Rattle.cd_sets.specs.declared.question.Question.{Question}
 use Rattle.cd_model.specs.AllOf.{AllOf, AnyOf}
@@ -28,23 +28,23 @@ IsSubsumedBy question other = AreAmong other.pos question.pos × AreAmong other.
 abbrev pub ContradictsItself : Question → Type 0
 ContradictsItself question = AnyOf (λ id. AnyOf (λ other. other ≡ id) question.neg) question.pos
 
--- a family covers a question that asks no less than one of its questions, and each one that
+-- a family subsumes a question that asks no less than one of its questions, and each one that
 -- contradicts itself
 abbrev pub IsSubsumed : Question → List Question → Type 0
 IsSubsumed question family = AnyOf (IsSubsumedBy question) family ⊎ ContradictsItself question
 
--- a need is broken where each of its ways has a question that the family covers
+-- a need is refuted where each of its ways has a question that the family subsumes
 abbrev pub RefutesNeed : List Question → Need → Type 0
 RefutesNeed family need = AllOf (λ way. AnyOf (λ question. IsSubsumed question family) way) need
 
--- a row is broken where a field has to be there and its question is covered, or a question of
+-- a row is refuted where a field has to be there and its question is subsumed, or a question of
 -- `some` is
 abbrev pub RefutesRow : List Question → Row → Type 0
 RefutesRow family row = AnyOf
     (λ cell. (cell.1.absent ≡ false) × IsSubsumed cell.1.value family) row.cells
     ⊎ AnyOf (λ question. IsSubsumed question family) row.some
 
--- a clause is broken where one of its needs is; and a clause of records where each of its rows is
+-- a clause is refuted where one of its needs is; and a clause of records where each of its rows is
 abbrev pub HasRefutedNeed : List Question → Clause → Type 0
 HasRefutedNeed family clause = (needs : List Need) × AreNeeds clause needs
     × AnyOf (RefutesNeed family) needs
@@ -53,7 +53,7 @@ abbrev pub Refutes : List Question → Clause → Type 0
 Refutes family (Records wanted refused) = AllOf (RefutesRow family) (rows_of wanted refused)
 Refutes family clause = HasRefutedNeed family clause
 
--- a family is closed where it breaks each clause of each of its questions
+-- a family is closed where it refutes each clause of each of its questions
 abbrev pub IsClosed : Graph → List Question → Type 0
 IsClosed graph family = AllOf
     (λ question. (clause : Clause) → IsClauseOfQuestion graph question clause

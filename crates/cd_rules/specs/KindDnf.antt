@@ -1,4 +1,4 @@
--- The choices of one kind alone: those whose wanted literals are all of the kind, without their
+-- The conjuncts of one kind alone: those whose wanted literals are all of the kind, without their
 -- refused literals of other kinds.
 use Rattle.std.specs.Prelude.{Bool, true, false, not, ◌&&◌, List, [], ◌∷◌, ◌++◌, is_some}
 use Rattle.std.specs.Prelude.{if◌then◌else◌}
@@ -22,7 +22,7 @@ is_of AnXml is = is_some (xml_of is)
 is_of ARecord is = is_some (record_of is)
 is_of AFunction is = is_some (arrow_of is)
 
--- a literal of a formula of the kind; of another one no choice, where it is wanted, or one that
+-- a literal of a formula of the kind; of another one no conjunct, where it is wanted, or one that
 -- asks for nothing
 abbrev pub literal_by : (of_kind wanted : Bool) → Formula → List Conjunct
 literal_by true wanted is = (record { wanted = wanted; is = is } ∷ []) ∷ []
@@ -59,7 +59,7 @@ abbrev pub kind_dnf_of : Kind → Graph → Question → List Conjunct
 kind_dnf_of kind graph question =
     joined (kind_at kind graph question.pos true) (kind_at kind graph question.neg false)
 
--- what a choice is for a kind
+-- what a conjunct is for a kind
 abbrev pub of_kind : Kind → Conjunct → Conjunct
 of_kind kind [] = []
 of_kind kind (literal ∷ conjunct) =

@@ -16,7 +16,7 @@ use Rattle.cd_rules.specs.PartialConjuncts.{Partial, GoesOn, partial, clause_by,
 use Rattle.cd_rules.specs.PartialConjuncts.{IsPartialOf, AccountForClauses}
 use Rattle.cd_rules.specs.Tasks.{Task, tasks_of, questions_of, AreCases}
 
--- What is left to do for a question: the choices whose clauses are not begun, the clause that is
+-- What is left to do for a question: the conjuncts whose clauses are not begun, the clause that is
 -- begun, its tasks that are not begun, and the branches of the one that is
 pub record Work : Type 0 where
   pub conjuncts : List Partial
@@ -57,24 +57,24 @@ state witnesses list frames = record { witnesses = witnesses; list = list; frame
 
 -- one thing is done for a question, where these questions are settled or listed
 pub data Works (known : List Question) : (before after : Work) → Type 0 where
-  -- a choice goes on by its next formula
+  -- a conjunct goes on by its next formula
   goes_further : (first : Partial) (more conjuncts : List Partial) (clause : Option Clause)
       (later branches : List Task) → GoesOn first more
       → Works known (work (first ∷ conjuncts) clause later branches)
       (work (more ++ conjuncts) clause later branches)
-  -- a choice goes that fails by what is known
+  -- a conjunct goes that fails by what is known
   cuts : (conjunct : Partial) (conjuncts : List Partial) (clause : Option Clause)
       (later branches : List Task)
       → ((family : List Question) → AreAmong known family → PartialFails family conjunct)
       → Works known (work (conjunct ∷ conjuncts) clause later branches)
       (work conjuncts clause later branches)
-  -- the clause of a complete choice is begun, where no branch is left of the one before
+  -- the clause of a complete conjunct is begun, where no branch is left of the one before
   begins : (kind : Kind) (conjunct : Conjunct) (conjuncts : List Partial) (before : Option Clause)
       (late : List Task) (task : Task) (later : List Task)
       → tasks_of (clause_by kind conjunct) ≡ task ∷ later
       → Works known (work (partial kind conjunct [] ∷ conjuncts) before late [])
       (work conjuncts (Some (clause_by kind conjunct)) later (task ∷ []))
-  -- a branch ends by a question that is covered
+  -- a branch ends by a question that is subsumed
   drops : (conjuncts : List Partial) (clause : Option Clause) (later : List Task) (task : Task)
       (branches : List Task)
       → AnyOf (λ question. IsSubsumed question known) (questions_of task)

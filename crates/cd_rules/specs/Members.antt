@@ -21,7 +21,7 @@ abbrev pub HasWitnesses : (Question → Type 0) → Row → Type 0
 HasWitnesses fact row = AllOf (λ cell. (cell.1.absent ≡ true) ⊎ fact cell.1.value) row.cells
     × AllOf fact row.some
 
--- all needs of a clause are met; of a clause of records one row lives
+-- all needs of a clause are met; of a clause of records the questions of one row have witnesses
 abbrev pub HasAllNeeds : (Question → Type 0) → Clause → Type 0
 HasAllNeeds fact clause = (needs : List Need) × AreNeeds clause needs × AllOf (IsMet fact) needs
 

@@ -1,4 +1,4 @@
--- A choice of one kind in the making: its literals so far, and the formulas of which it has none
+-- A conjunct of one kind in the making: its literals so far, and the formulas of which it has none
 -- yet.
 use Rattle.std.specs.Prelude.{Bool, true, false, not, List, [], ◌∷◌, ◌++◌, map}
 use Rattle.cd_sets.specs.declared.question.Question.{Question}
@@ -14,7 +14,7 @@ use Rattle.cd_rules.specs.Clauses.{atoms_of, pair_of, xml_of, record_of, arrow_o
 use Rattle.cd_rules.specs.Family.{AreAmong, Refutes}
 use Rattle.cd_rules.specs.KindDnf.{kind_dnf}
 
--- what a choice says of the things of a kind
+-- what a conjunct says of the things of a kind
 abbrev pub clause_by : Kind → Conjunct → Clause
 clause_by AnInteger conjunct =
     Ints (parts_in integers_of true conjunct) (parts_in integers_of false conjunct)
@@ -46,12 +46,12 @@ abbrev pub completions : Kind → List Signed → List Conjunct
 completions kind [] = always
 completions kind (one ∷ left) = joined (kind_dnf kind one.0 one.1) (completions kind left)
 
--- a fact of the clause of each choice that it may become
+-- a fact of the clause of each conjunct that it may become
 abbrev pub EachClause : (Clause → Type 0) → Partial → Type 0
 EachClause fact is = AllOf (λ rest. fact (clause_by is.kind (is.conjunct ++ rest)))
     (completions is.kind is.left)
 
--- it fails in a family that breaks each of these clauses
+-- it fails in a family that refutes each of these clauses
 abbrev pub PartialFails : List Question → Partial → Type 0
 PartialFails family = EachClause (Refutes family)
 
@@ -75,13 +75,13 @@ pub data IsDisjunction : Signed → List Signed → Type 0 where
   refuses_one : (formulas : Formulas)
       → IsDisjunction (And formulas, false) (each_signed formulas false)
 
--- with one more formula each choice becomes some
+-- with one more formula each conjunct becomes some
 abbrev pub extensions : Kind → Conjunct → Signed → List Signed → List Partial
 extensions kind conjunct one left =
     map (λ more. partial kind (conjunct ++ more) left) (kind_dnf kind one.0 one.1)
 
--- A choice goes on by its next formula: the members of a conjunction take its place; of a
--- disjunction there is a choice for each member; or there is one for each way to meet the formula
+-- A conjunct goes on by its next formula: the members of a conjunction take its place; of a
+-- disjunction there is a conjunct for each member; or there is one for each way to meet the formula
 pub data GoesOn : Partial → List Partial → Type 0 where
   unfolds : (kind : Kind) (conjunct : Conjunct) (one : Signed) (members left : List Signed)
       → IsConjunction one members
@@ -93,7 +93,7 @@ pub data GoesOn : Partial → List Partial → Type 0 where
   extends : (kind : Kind) (conjunct : Conjunct) (one : Signed) (left : List Signed)
       → GoesOn (partial kind conjunct (one ∷ left)) (extensions kind conjunct one left)
 
--- the formulas of a question, and a choice of each kind that is made of parts, with nothing of it
+-- the formulas of a question, and a conjunct of each kind that is made of parts, with nothing of it
 -- yet
 abbrev pub signed : Graph → Question → List Signed
 signed graph question = map (λ id. (formula_at graph id, true)) question.pos
@@ -108,7 +108,7 @@ module _ (graph : Graph) where
   abbrev pub IsPartialOf : Question → Partial → Type 0
   IsPartialOf question = EachClause (IsClauseOfQuestion graph question)
 
-  -- where these choices fail in a family that has all of `base`, it breaks each clause of the
+  -- where these conjuncts fail in a family that has all of `base`, it refutes each clause of the
   -- question
   abbrev pub AccountForClauses : (base : List Question) → Question → List Partial → Type 0
   AccountForClauses base question conjuncts = (family : List Question) → AreAmong base family

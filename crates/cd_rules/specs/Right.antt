@@ -10,7 +10,7 @@ use Rattle.cd_rules.specs.PartialConjuncts.{PartialFails, IsPartialOf, AccountFo
 use Rattle.cd_rules.specs.Tasks.{Task, TaskFails, IsTaskOf}
 use Rattle.cd_rules.specs.Machine.{Work, Frame, State, IsWitness, NotIn, all_questions}
 
--- the clause that is begun, if there is one, is broken
+-- the clause that is begun, if there is one, is refuted
 abbrev pub RefutesBegun : List Question → Option Clause → Type 0
 RefutesBegun family None = Unit {0}
 RefutesBegun family (Some clause) = Refutes family clause
@@ -23,8 +23,8 @@ module _ (graph : Graph) where
       IsClauseOfQuestion graph question clause × AllOf (IsTaskOf clause) tasks
 
   -- What is left to do is enough: in each family that has all of `base`, the clauses of the
-  -- question are broken where the begun one is and the choices fail; and the begun one is where all
-  -- branches fail, or one of the later tasks. And it is of the question
+  -- question are refuted where the begun one is and the conjuncts fail; and the begun one is where
+  -- all branches fail, or one of the later tasks. And it is of the question
   pub record IsWorkOf (base : List Question) (question : Question) (left : Work) : Type 0 where
     pub conjuncts_fail : (family : List Question) → AreAmong base family
         → RefutesBegun family left.clause → AllOf (PartialFails family) left.conjuncts
@@ -37,7 +37,7 @@ module _ (graph : Graph) where
     pub branches_are : AreTasksOf question left.clause left.branches
     pub later_are : AreTasksOf question left.clause left.later
 
-  -- each clause of the question is broken in each family that has all of `base`
+  -- each clause of the question is refuted in each family that has all of `base`
   abbrev pub IsRefuted : (base : List Question) → Question → Type 0
   IsRefuted base question = AccountForClauses graph base question []
 

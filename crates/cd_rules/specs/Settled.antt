@@ -1,4 +1,4 @@
--- Clauses all of whose questions are settled: each has a fact, or is covered by a family.
+-- Clauses all of whose questions are settled: each has a fact, or is subsumed by a family.
 use Rattle.std.specs.Prelude.{◌⊎◌, List}
 use Rattle.cd_sets.specs.declared.question.Question.{Question}
 use Rattle.cd_model.specs.AllOf.{AllOf}

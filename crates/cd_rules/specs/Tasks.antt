@@ -40,7 +40,7 @@ questions_of (ArrowTask refused wanted given left) = arrow_way refused given
 questions_of (RecordTask wanted refused given left) =
     present (row_of_given wanted refused given).cells ++ (row_of_given wanted refused given).some
 
--- some way has a question that the family covers
+-- some way has a question that the family subsumes
 abbrev pub HasSubsumed : List Question → Way → Type 0
 HasSubsumed family way = AnyOf (λ question. IsSubsumed question family) way
 

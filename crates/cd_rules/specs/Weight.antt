@@ -31,7 +31,7 @@ sum_of weight_of (x ∷ xs) = weight_of x + sum_of weight_of xs
 abbrev pub clause_weight : Clause → ℕ
 clause_weight clause = sum_of task_weight (tasks_of clause)
 
--- to join the choices of a formula takes a step, to unfold a conjunction one more than to join
+-- to join the conjuncts of a formula takes a step, to unfold a conjunction one more than to join
 -- those of its members, one after the other, and to divide a disjunction one more than to join
 -- those of each member
 abbrev mutual
@@ -58,7 +58,7 @@ joining_weight kind [] = 1
 joining_weight kind (one ∷ left) = formula_weight kind one.0 one.1
     + length (kind_dnf kind one.0 one.1) * joining_weight kind left
 
--- a choice has this for the formulas that are left, and what each clause has that it may become
+-- a conjunct has this for the formulas that are left, and what each clause has that it may become
 abbrev pub partial_weight : Partial → ℕ
 partial_weight is = joining_weight is.kind is.left
     + sum_of (λ rest. clause_weight (clause_by is.kind (is.conjunct ++ rest)))

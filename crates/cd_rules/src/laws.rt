@@ -30,7 +30,7 @@ ghost use Rattle.cd_rules.specs.BasicSets.{question_passes, integer_test, charac
 ghost use Rattle.cd_rules.specs.BasicSets.{atom_test};
 ghost use Rattle.cd_rules.specs.Dnf.{dnf, dnf_of, Meets};
 
-/// A question holds just what meets one of its choices.
+/// A question holds just what meets one of its conjuncts.
 pub fn dnf_is_exact()
     ensures elements { (graph : Graph) (question : Question) (e : Thing)
         → asked (answers graph e) question true
@@ -65,7 +65,7 @@ pub fn basic_sets_are_exact()
         ↔ (question_passes (atom_test name) graph question ≡ true) }
 {}
 
-/// A record is in a clause just where it is in one of the clause's rows.
+/// A record is in a clause exactly when it is in one of the clause's rows.
 pub fn rows_are_exact()
     ensures elements { (graph : Graph) (wanted refused : List RecordType) (fields : thing.Fields)
         → IsInClause ARecord (reader graph (thing.Record fields)) (Records wanted refused)
@@ -78,8 +78,8 @@ pub fn rows_are_exact()
         (rows_of wanted refused) }
 {}
 
-/// No element is in a question that a closed family covers, nor is a value, whatever arrows of the
-/// graph its closures have.
+/// No element is in a question that a closed family subsumes, nor is a value, whatever arrows of
+/// the graph its closures have.
 pub fn closed_families_are_empty()
     ensures elements { (graph more : Graph) (family : List Question) (question : Question)
         (e : Thing) → graph ≡ built_ins ++ more
@@ -98,7 +98,7 @@ pub fn closed_families_stay()
         → IsClosed (graph ++ more) family }
 {}
 
-/// A clause has a member just where each of its needs has a way all of whose questions have
+/// A clause has a member exactly when each of its needs has a way all of whose questions have
 /// elements, or, of records, where one of its rows lives: where each label may be absent or its
 /// question has an element, and each of the other questions has one.
 pub fn needs_are_exact()
@@ -109,14 +109,14 @@ pub fn needs_are_exact()
         → HasMember graph clause }
 {}
 
-/// A family covers the questions of it.
+/// A family subsumes the questions of it.
 pub fn families_subsume()
     ensures { (family : List Question) (question : Question) → IsOfFamily question family
         → IsSubsumed question family }
 {}
 
-/// A clause all of whose questions have elements or are covered by a family has all that it needs,
-/// or is broken.
+/// A clause all of whose questions have elements or are subsumed by a family has all that it needs,
+/// or is refuted.
 pub fn clauses_are_settled()
     ensures { (graph : Graph) (family : List Question) (clause : Clause)
         → IsSettledClause (HasElement graph) family clause
@@ -183,7 +183,7 @@ pub fn ways_are_exact()
         (map (xml_way wanted) (splits_in_three refused)) }
 {}
 
-/// Choices, ways and rows of small cases.
+/// Conjuncts, ways and rows of small cases.
 pub fn worked_examples()
     ensures sets { set_of (map node (3 ∷ 1 ∷ 3 ∷ [])) ≡ map node (1 ∷ 3 ∷ []) }
     ensures dnf { dnf example.not_both true

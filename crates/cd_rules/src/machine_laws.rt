@@ -83,8 +83,8 @@ pub fn first_question_is_kept()
         → HasFirst question before → HasFirst question after }
 {}
 
-/// An element of the clause whose branches are worked at, or of the clause of a complete choice, is
-/// an element of the question.
+/// An element of the clause whose branches are worked at, or of the clause of a complete conjunct,
+/// is an element of the question.
 pub fn members_are_witnesses()
     ensures begun { (graph : Graph) (base : List Question) (question : Question) (left : Work)
         (clause : Clause) (e : Thing)

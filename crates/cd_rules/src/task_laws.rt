@@ -1,4 +1,4 @@
-//! Laws of what is to do for a question: of its choices in the making, and of the tasks of a
+//! Laws of what is to do for a question: of its conjuncts in the making, and of the tasks of a
 //! clause.
 ghost use Rattle.std.specs.Prelude.{◌≡◌, ◌++◌, ◌↔◌, ◌⊎◌, Bool, true, false, List, [], ◌∷◌, length};
 ghost use Rattle.std.specs.Prelude.{map};
@@ -31,7 +31,7 @@ ghost use Rattle.cd_rules.specs.Tasks.{Task, PairTask, XmlTask, ArrowTask, Recor
 ghost use Rattle.cd_rules.specs.Tasks.{IsTaskOf, tasks_of, questions_of, row_of_given, AreCases};
 ghost use Rattle.cd_rules.specs.Tasks.{TaskFails, IsTaskOfNodes};
 
-/// Where no element of a basic kind is in a question, the choices of the other kinds account for
+/// Where no element of a basic kind is in a question, the conjuncts of the other kinds account for
 /// its clauses; and each clause that they may become is one of the question.
 pub fn partial_conjuncts_account_for_clauses()
     ensures all { (graph : Graph) (base : List Question) (question : Question)
@@ -41,7 +41,7 @@ pub fn partial_conjuncts_account_for_clauses()
         → AllOf (IsPartialOf graph question) (partial_conjuncts graph question) }
 {}
 
-/// A partial choice fails where a question of it is covered, whatever formulas are left: that of
+/// A partial conjunct fails where a question of it is subsumed, whatever formulas are left: that of
 /// what it wants of a part of pairs or of XML things, or of a field that a type asks for, or that
 /// of the argument of an arrow that it refuses.
 pub fn partial_conjuncts_are_cut()
@@ -79,8 +79,8 @@ pub fn cases_are_tasks()
         → IsTaskOf clause task → IsTaskOfNodes (length graph) task }
 {}
 
-/// A task fails where one of its questions is covered, or where each of its cases fails; and a
-/// clause is broken where one of its tasks fails.
+/// A task fails where one of its questions is subsumed, or where each of its cases fails; and a
+/// clause is refuted where one of its tasks fails.
 pub fn failing_tasks_refute_clauses()
     ensures subsumed { (family : List Question) (task : Task)
         → AnyOf (λ question. IsSubsumed question family) (questions_of task)
@@ -153,7 +153,7 @@ pub fn tasks_make_functions()
         × IsInClause AFunction (reader graph (thing.Function pairs)) (Arrows wanted refused) }
 {}
 
-/// A clause that wants and refuses the same pair, XML formula or arrow is broken by each family.
+/// A clause that wants and refuses the same pair, XML formula or arrow is refuted by each family.
 pub fn wanted_and_refused_is_refuted()
     ensures pairs { (family : List Question) (wanted refused : List Pair) (parts : Pair)
         → AnyOf (λ other. other ≡ parts) wanted → AnyOf (λ other. other ≡ parts) refused

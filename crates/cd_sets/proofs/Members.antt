@@ -1,4 +1,4 @@
--- A list that rises strictly is told by its members.
+-- A list that rises strictly is known by its members.
 use Rattle.std.proofs.Common.{◌≡◌, ℕ, ◌<◌, ◌≤◌, ◌==◌, ◌||◌, true, false, List, [], ◌∷◌, Option, Some, inl, inr, refl, sym, ap, ◌∙◌, arith, true≢false}
 use Rattle.std.proofs.lemmas.Bool.{cases_order, cases_eq}
 use Rattle.cd_sets.specs.declared.node_id.NodeId.{NodeId}

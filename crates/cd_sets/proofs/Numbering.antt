@@ -125,7 +125,7 @@ kept_of_characters operation kept left right rising exact left_are right_are =
     below : (z : ℤ) → holds kept z ≡ true → pos 0 ≤ℤ z
     below z h = by_lt_z z (pos 0) (λ out. absurd (true≢false (sym h ∙ none z (inl out)))) (λ within. within)
 
--- what an operation keeps is told by the characters
+-- what an operation keeps is known by the characters
 pub kept_characters : (operation : Operation) (kept left right : List Interval) (c : ℕ) → AreOfCharacters kept
     → ((z : ℤ) → holds kept z ≡ keeps_of operation (holds left z) (holds right z))
     → AreOfCharacters left → AreOfCharacters right → IsScalar c

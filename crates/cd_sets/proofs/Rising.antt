@@ -18,7 +18,7 @@ pub rises_append : (from : ℤ) (xs : List Interval) (to : ℤ) (x : Interval) �
 rises_append from [] to x rises low high = (omega (arith, ints), high, omega (arith, ints))
 rises_append from (y ∷ ys) to x rises low high = (rises.0, rises.1, rises_append (y.high +ℤ pos 2) ys to x rises.2 low high)
 
--- the end may be told later
+-- the end may be known later
 pub rises_later : (from : ℤ) (xs : List Interval) (to later : ℤ) → Rises from xs to → to ≤ℤ later → Rises from xs later
 rises_later from [] to later rises le = omega (arith, ints)
 rises_later from (x ∷ xs) to later rises le = (rises.0, rises.1, rises_later (x.high +ℤ pos 2) xs to later rises.2 le)

@@ -23,7 +23,7 @@ is_quote c = (c == 34) || (c == 39)
 abbrev pub is_other : ℕ → Bool
 is_other c = not (is_blank c || begins_word c || is_ascii_digit c || is_quote c)
 
--- the text, which begins at this byte, has a fault at its front
+-- the text, which begins at this byte, has a fault at its start
 pub data HasFaultHere (joined : Bool) (at : ℕ) : List ℕ → LexError → Type 0 where
   -- a character that begins no token
   character : (c : ℕ) (text : List ℕ) → is_other c ≡ true
@@ -37,7 +37,7 @@ pub data HasFaultHere (joined : Bool) (at : ℕ) : List ℕ → LexError → Typ
   open_text : (quote : ℕ) (written characters text : List ℕ) → is_quote quote ≡ true
       → Quotes quote written characters → EndsHalf text
       → HasFaultHere joined at (quote ∷ written ++ text) (OpenText at)
-  -- no front of the text is a comment
+  -- no prefix of the text is a comment
   open_comment : (text : List ℕ)
       → ((written rest : List ℕ) → 40 ∷ 42 ∷ text ≡ written ++ rest → IsComment written → ⊥)
       → HasFaultHere joined at (40 ∷ 42 ∷ text) (OpenComment at)

@@ -1,4 +1,4 @@
--- The signs, and which of them stands at the front of a text.
+-- The signs, and which of them stands at the start of a text.
 use Rattle.std.specs.Prelude.{◌≡◌, ℕ, ◌≤◌, Bool, true, false, List, ◌++◌, length, codes}
 use Rattle.cd_syntax.specs.declared.sign.Sign.{Sign}
 use Rattle.cd_syntax.specs.declared.sign.Sign.TheVariants as sign

@@ -75,7 +75,7 @@ token_at at written kind = record {
   span = record { from = at; to = at + bytes written };
 }
 
--- the text, which begins at this byte, spells these tokens
+-- the text, which begins at this byte, lexes to these tokens
 pub data Lexes : (joined : Bool) (at : ℕ) → List ℕ → List Token → Type 0 where
   nothing : (joined : Bool) (at : ℕ) → Lexes joined at [] []
   dropped : (joined : Bool) (at : ℕ) (written text : List ℕ) (tokens : List Token)

@@ -1,4 +1,5 @@
-//! What is written: names, tokens and the trees of types, and how texts spell tokens. The definitions stand in `specs/`.
+//! What is written: names, tokens and the trees of types, and how texts lex to tokens. The
+//! definitions stand in `specs/`.
 #![tactic(auto)]
 
 pub mod builtin;

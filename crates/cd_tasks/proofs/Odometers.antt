@@ -1,4 +1,4 @@
--- What an odometer tells next, and what it skips.
+-- What an odometer visits next, and what it skips.
 use Rattle.std.proofs.Common.{◌≡◌, ◌∙◌, ap, sym, refl, ℕ, ◌<◌, ◌≤◌, [], ◌∷◌, ◌++◌, length, true≢false}
 use Rattle.std.specs.Option.{IfSome, IsSome}
 use Rattle.cd_tasks.specs.Assignments.{Word, without_those_from}
@@ -15,7 +15,7 @@ pub past_full : (last members : ℕ) (word : Word) → length word ≤ members �
 past_full last members word short full =
     ap (λ words. words ++ later last members word) (nothing_below last members word full) ∙ later_is last members word short
 
--- the words that do not begin with the one that was told
+-- the words that do not begin with the one that was visited
 pub skipped : (next : Next) (last members : ℕ) (word : Word)
     → IfSome (word_visited next word) (λ visited. later last members word ≡ without_those_from visited (words_left next last members word))
 skipped First last members word = tt

@@ -17,21 +17,21 @@ wanted_of walk = record_types walk.wanted.value.items
 abbrev pub refused_of : RowWalk → List RecordType
 refused_of walk = record_types walk.refused.value.items
 
--- the words that are still to be told, and the one that was told last
+-- the words that are still to be visited, and the one that was visited last
 abbrev pub rest : RowWalk → List Word
 rest walk = rest_of walk.words
 
 abbrev pub visited : RowWalk → Option Word
 visited walk = visited_of walk.words
 
--- this word is told, and its row is this
+-- this word is visited, and its row is this
 pub record IsVisited (before after : RowWalk) (word : Word) (row : Row) : Type 0 where
   pub left : rest before ≡ word ∷ rest after
   pub word_is : visited after ≡ Some word
   pub row_is : row ≡ row_by (wanted_of before) (refused_of before) word
 
--- The first word of those that are left is told. It gives some refused types a reason, or all; or
--- none is left, and nothing is told
+-- The first word of those that are left is visited. It gives some refused types a reason, or all;
+-- or none is left, and nothing is visited
 abbrev pub IsStep : (before after : RowWalk) → RowStep → Type 0
 IsStep before after (Partial row) = (word : Word) × IsVisited before after word (plain_row row)
     × (length word < length (refused_of before))

@@ -16,21 +16,21 @@ clause_of walk = plain_clause walk.clause
 abbrev pub need_of : Walk → ℕ
 need_of walk = walk.need
 
--- the words that are still to be told, and the one that was told last
+-- the words that are still to be visited, and the one that was visited last
 abbrev pub rest : Walk → List Word
 rest walk = rest_of walk.words
 
 abbrev pub visited : Walk → Option Word
 visited walk = visited_of walk.words
 
--- this word is told, and its way is this
+-- this word is visited, and its way is this
 pub record IsVisited (before after : Walk) (word : Word) (way : Way) : Type 0 where
   pub left : rest before ≡ word ∷ rest after
   pub word_is : visited after ≡ Some word
   pub way_is : way ≡ way_of (clause_of before) (need_of before) word
 
--- The first word of those that are left is told. It gives some members to sides, or all; or none is
--- left, and nothing is told
+-- The first word of those that are left is visited. It gives some members to sides, or all; or none
+-- is left, and nothing is visited
 abbrev pub IsStep : (before after : Walk) → Step → Type 0
 IsStep before after (Partial way) = (word : Word) × IsVisited before after word way
     × (length word < members_of (clause_of before))

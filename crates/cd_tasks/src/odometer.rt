@@ -8,24 +8,24 @@ ghost use Rattle.cd_tasks.specs.Inner.AfterWords.{words_from};
 
 use std::alloc::{AllocError, Global};
 
-/// Where the words that are still to be told begin.
+/// Where the words that are still to be visited begin.
 #[derive(Clone, Copy)]
 pub(crate) enum Next {
     /// At the word of no members.
     First,
-    /// At the longer words that begin with the one that was told.
+    /// At the longer words that begin with the one that was visited.
     Below,
     /// After these.
     Later,
 }
 
-/// The words of some sides and members, each told before those that begin with it.
+/// The words of some sides and members, each visited before those that begin with it.
 #[derive(Drop)]
 pub(crate) struct Odometer {
     // the last side
     last: usize,
     members: usize,
-    // the word that was told
+    // the word that was visited
     word: Vec<usize>,
     next: Next,
     ghost short: { length word.items ≤ members },
@@ -34,7 +34,7 @@ pub(crate) struct Odometer {
 impl Odometer {
     ghost use Rattle.cd_tasks.specs.Inner.Odometers.{rest_of, visited_of};
 
-    /// All words, none of which is told.
+    /// All words, none of which is visited.
     pub(crate) fn new(alloc: Global, sides: usize, members: usize) -> Odometer
         requires { 0 < sides }
         ensures members { result.members ≡ members }
@@ -69,7 +69,7 @@ impl Odometer {
         }
     }
 
-    // The word that was told, with the first side for one member more.
+    // The word that was visited, with the first side for one member more.
     fn longer(&self) -> Result<Vec<usize>, AllocError>
         ensures { IfOk result (λ longer. longer.items ≡ self.now.word.items ++ 0 ∷ []) }
     {
@@ -78,7 +78,7 @@ impl Odometer {
         Ok(longer)
     }
 
-    // The next word that does not begin with the one that was told, if there is one.
+    // The next word that does not begin with the one that was visited, if there is one.
     fn later(&self) -> Result<Option<Vec<usize>>, AllocError>
         ensures { IfOk result (λ found. option_map (λ word. word.items) found
             ≡ next_later_of self.now.last self.now.word.items) }
@@ -104,7 +104,7 @@ impl Odometer {
         self.next = Next::Below;
     }
 
-    /// Skips the words that begin with the one that was told.
+    /// Skips the words that begin with the one that was visited.
     pub(crate) fn skip(&mut self)
         requires { IsSome (visited_of self.old) }
         ensures members { self.new.members ≡ self.old.members }

@@ -16,7 +16,7 @@ use cd_syntax::name::Name;
 use std::alloc::{AllocError, Global};
 use std::rc::Rc;
 
-/// What a step of a walk over rows told.
+/// What a step of a walk over rows gave.
 #[derive(Drop)]
 pub enum RowStep {
     /// The row of a word that gives not all refused types a reason. Each row of a word that begins
@@ -80,7 +80,7 @@ impl<'g> RowWalk<'g> {
     ///
     /// # Errors
     ///
-    /// Want of memory. Then nothing is told.
+    /// Want of memory. Then nothing is visited.
     pub fn step(&mut self) -> Result<RowStep, AllocError>
         ensures visited { IfOk result (λ step. IsStep self.old self.new step) }
         ensures wanted { wanted_of self.new ≡ wanted_of self.old }
@@ -113,7 +113,7 @@ impl<'g> RowWalk<'g> {
         row(alloc, labels, self.wanted.as_slice(), reasons.as_slice())
     }
 
-    /// Skips the words that begin with the one that was told last.
+    /// Skips the words that begin with the one that was visited last.
     pub fn skip(&mut self)
         requires visited { IsSome (visited self.old) }
         ensures rest { IfSome (visited self.old)

@@ -11,7 +11,7 @@ use cd_normal::clause::Clause;
 use cd_sets::question::Questions;
 use std::alloc::{AllocError, Global};
 
-/// What a step of a walk over ways told.
+/// What a step of a walk over ways gave.
 #[derive(Drop)]
 pub enum Step {
     /// The questions of a word that gives not all members to sides. Each way of a word that begins
@@ -62,7 +62,7 @@ impl<'g> Walk<'g> {
     ///
     /// # Errors
     ///
-    /// Want of memory. Then nothing is told.
+    /// Want of memory. Then nothing is visited.
     pub fn step(&mut self) -> Result<Step, AllocError>
         ensures visited { IfOk result (λ step. IsStep self.old self.new step) }
         ensures clause { clause_of self.new ≡ clause_of self.old }
@@ -85,7 +85,7 @@ impl<'g> Walk<'g> {
         }
     }
 
-    /// Skips the words that begin with the one that was told last.
+    /// Skips the words that begin with the one that was visited last.
     pub fn skip(&mut self)
         requires visited { IsSome (visited self.old) }
         ensures rest { IfSome (visited self.old)

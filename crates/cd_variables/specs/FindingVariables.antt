@@ -20,7 +20,7 @@ has_name names name = list_any (λ other. bytes_eq other name) names
 abbrev pub names_among : List Occurrence → List Name
 names_among all = map (λ occurrence. occurrence.name) all
 
--- a fault is told if this holds
+-- a fault is reported if this holds
 abbrev pub reported_if : Bool → Fault → List Fault → List Fault
 reported_if true fault s = s ++ fault ∷ []
 reported_if false fault s = s

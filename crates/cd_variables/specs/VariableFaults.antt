@@ -27,7 +27,7 @@ begins (tree span kind) = span.from
 abbrev pub regular_begins : Regular → ℕ
 regular_begins (regular span kind) = span.from
 
--- the faults that are told of an occurrence, and of an alternative
+-- the faults that are reported of an occurrence, and of an alternative
 abbrev pub twice : Occurrence → Fault
 twice o = record { fault = VariableTwice; name = o.name; at = o.at }
 

@@ -63,7 +63,7 @@ fn check_others<'t>(
     Ok(())
 }
 
-// Adds one of these, and tells if it binds other names.
+// Adds one of these, and reports it if it binds other names.
 #[cycle(check)]
 fn check_other<'t>(
     alloc: Global,

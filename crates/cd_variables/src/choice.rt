@@ -72,7 +72,7 @@ fn check_others<'t>(
     Ok(())
 }
 
-// Adds one of these, and tells if its plain variables have other names.
+// Adds one of these, and reports it if its plain variables have other names.
 #[cycle(check)]
 fn check_other<'t>(
     alloc: Global,

@@ -20,7 +20,7 @@ use cd_syntax::type_tree::{
 };
 use std::alloc::AllocError;
 
-/// Tells of each variable of a tree that it is misplaced.
+/// Reports that each variable of a tree is misplaced.
 #[cycle(misplaced)]
 pub(crate) fn report_misplaced<'t>(
     tree: &'t Tree,
@@ -176,7 +176,7 @@ fn report_in_regulars<'t>(
     Ok(())
 }
 
-// Tells of a variable that it is misplaced.
+// Reports that a variable is misplaced.
 fn report_one<'t>(
     name: &'t Name,
     at: usize,

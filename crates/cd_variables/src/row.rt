@@ -40,7 +40,7 @@ pub(crate) fn check_tuple<'t>(
     Ok(())
 }
 
-// Adds the variables of a part and their names, and tells of those that stand again.
+// Adds the variables of a part and their names, and reports those that stand again.
 #[cycle(check)]
 fn add_part<'t>(
     alloc: Global,

@@ -45,7 +45,7 @@ pub(crate) fn add_names<'t>(
     Ok(())
 }
 
-/// Tells of each variable whose name is one of these that it stands again.
+/// Reports that each variable whose name is one of these stands again.
 pub(crate) fn report_again<'t>(
     seen: &NameIndex<'_>,
     variables: &[Occurrence<'t>],
@@ -63,7 +63,7 @@ pub(crate) fn report_again<'t>(
     Ok(())
 }
 
-/// Tells of each variable with this name that it stands again.
+/// Reports that each variable with this name stands again.
 pub(crate) fn report_inside<'t>(
     name: &Name,
     variables: &[Occurrence<'t>],
@@ -81,7 +81,7 @@ pub(crate) fn report_inside<'t>(
     Ok(())
 }
 
-/// Tells of each variable that it stands under a postfix.
+/// Reports that each variable stands under a postfix.
 pub(crate) fn report_repeats<'t>(
     variables: &[Occurrence<'t>],
     faults: &mut Vec<Reported<'t>>,

@@ -35,7 +35,7 @@ impl<'t> Seen<'t> {
         }
     }
 
-    // Adds those of the next expression, and tells of its variables that stand again.
+    // Adds those of the next expression, and reports its variables that stand again.
     fn add(
         &mut self,
         plain: &[Occurrence<'t>],

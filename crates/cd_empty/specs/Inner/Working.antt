@@ -53,7 +53,7 @@ AddsPair decider pair before after (Found id) = (before.later ≡ [])
     ≡ Function (pairs_of (table decider) (pair ∷ before.pairs.items)))
 AddsPair decider pair before after _ = ⊥
 
--- what is answered by a look at the needs of the first choice: it fails, and is taken away; or a
+-- what is answered by a look at the needs of the first conjunct: it fails, and is taken away; or a
 -- question is wanted; or nothing
 abbrev pub IsLook : Graph → Decider → (before after : List Partial) → Option Doing → Type 0
 IsLook graph decider before after None = (after ≡ before)

@@ -1,4 +1,4 @@
--- What stands at the front of a text, and what is left after it.
+-- What stands at the start of a text, and what is left after it.
 use Rattle.std.specs.Prelude.{◌≡◌, ◌≢◌, ℕ, Bool, false, List, [], ◌∷◌, ◌++◌, length, drop}
 use Rattle.std.specs.Prelude.{take_while, IsTrue}
 use Rattle.std.specs.Char.{is_ascii_digit}
@@ -19,24 +19,24 @@ abbrev pub BeginsWithNoBlank : List ℕ → Type 0
 BeginsWithNoBlank [] = Unit {0}
 BeginsWithNoBlank (c ∷ cs) = is_blank c ≡ false
 
--- a word stands at the front, and this is left after it
+-- a word stands at the start, and this is left after it
 pub record IsWordTo (text word new : List ℕ) : Type 0 where
   pub is : text ≡ word ++ new
   pub stands : IsTrue (is_word word)
   pub ends : EndsWord new
 
--- what is left after the characters at the front that pass
+-- what is left after the characters at the start that pass
 abbrev pub after : (ℕ → Bool) → List ℕ → List ℕ
 after p text = drop (length (take_while p text)) text
 
--- the characters of a word that stand at the front, and what is left after them
+-- the characters of a word that stand at the start, and what is left after them
 abbrev pub first_word : List ℕ → List ℕ
 first_word text = take_while goes_on_word text
 
 abbrev pub after_word : List ℕ → List ℕ
 after_word text = after goes_on_word text
 
--- the digits that stand at the front, and what is left after them
+-- the digits that stand at the start, and what is left after them
 abbrev pub first_digits : List ℕ → List ℕ
 first_digits text = take_while is_ascii_digit text
 

@@ -10,7 +10,7 @@ use Rattle.cd_lex.specs.declared.lexer.Lexeme.TheVariants.{Token, End, Fault}
 use Rattle.cd_lex.specs.declared.lexer.Lexer.{Lexer}
 use Rattle.cd_lex.specs.Lexing.{token_with, LexesOn, FailsOn, left, IsSoundKind}
 
--- the end of a text, whose whole ends at this byte, spells these tokens, and has this first fault
+-- the end of a text, whose whole ends at this byte, lexes to these tokens, and has this first fault
 abbrev pub LexesUpTo : (end : ℕ) (joined : Bool) → List ℕ → List AToken → Type 0
 LexesUpTo end joined text tokens = Lexes joined (end - bytes text) text tokens
 

@@ -1,4 +1,4 @@
--- The signs, longest first, and the first of them that stands at the front of a text.
+-- The signs, longest first, and the first of them that stands at the start of a text.
 use Rattle.std.specs.Prelude.{◌≡◌, ◌⊎◌, ℕ, Bool, List, [], ◌∷◌, Option, eqb, find}
 use Rattle.std.specs.List.{starts_with}
 use Rattle.cd_syntax.specs.Signs.{characters}

@@ -1,4 +1,4 @@
--- What stands at the front of a text, and what is left after it.
+-- What stands at the start of a text, and what is left after it.
 use Rattle.std.specs.Prelude.{◌≡◌, ℕ, ◌<◌, Bool, List, [], ◌∷◌, ◌++◌, length, ◌⊎◌}
 use Rattle.cd_syntax.specs.declared.sign.Sign.{Sign}
 use Rattle.cd_syntax.specs.declared.tokens.TokenKind.{TokenKind}
@@ -31,7 +31,7 @@ Stands joined text Dropped new spelled = IsDroppedTo text new
 Stands joined text (Token kind) new spelled =
     IsTokenTo joined text (with_characters kind spelled) new
 
--- memory ran out, or this fault stands at the front of the text, which begins at this byte
+-- memory ran out, or this fault stands at the start of the text, which begins at this byte
 abbrev pub IsErrorHere : Bool → ℕ → List ℕ → LexError → Type 0
 IsErrorHere joined at text error = (error ≡ Memory) ⊎ HasFaultHere joined at text error
 

@@ -1,4 +1,4 @@
--- The faults of which the least is told.
+-- The faults of which the least is reported.
 use Rattle.std.specs.Prelude.{List, Result, OnOk, IfErr}
 use Rattle.cd_syntax.specs.TypeTree.{Tree, Declarations}
 use Rattle.cd_model.specs.AllOf.{AnyOf}
@@ -10,7 +10,7 @@ use Rattle.cd_resolve.specs.declared.error.NameError.{NameError}
 abbrev pub IsFaultOfOne : Declarations → List Tree → Fault → Type 0
 IsFaultOfOne types trees fault = AnyOf (λ t. IsFaultOfType types t fault) trees
 
--- what is told of the faults that are such
+-- what is reported of the faults that are such
 pub record Reports (IsSuch : Fault → Type 0) (result : Result (Unit {0}) NameError) : Type 0 where
   pub sound : OnOk result ((fault : Fault) → IsSuch fault → ⊥)
   pub fault : IfErr result (λ error. IsReportedError IsSuch error)

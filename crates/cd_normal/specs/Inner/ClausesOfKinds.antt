@@ -1,4 +1,4 @@
--- The clauses of the choices of each kind.
+-- The clauses of the conjuncts of each kind.
 use Rattle.std.specs.Prelude.{List, [], ◌∷◌, ◌++◌, map}
 use Rattle.cd_sets.specs.declared.question.Question.{Question}
 use Rattle.cd_model.specs.Formula.{Graph}

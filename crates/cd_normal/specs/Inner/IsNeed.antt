@@ -1,4 +1,4 @@
--- The questions that must have elements for a choice of a kind.
+-- The questions that must have elements for a conjunct of a kind.
 use Rattle.std.specs.Prelude.{◌≡◌, true, false, List, [], ◌∷◌, map}
 use Rattle.cd_sets.specs.declared.question.Question.{Question}
 use Rattle.cd_syntax.specs.Name.{Name}
@@ -27,7 +27,7 @@ IsNeed AFunction conjunct asked =
     AnyOf (λ parts. question (parts.0 ∷ []) [] ≡ asked) (parts_in arrow_of false conjunct)
 IsNeed _ conjunct asked = ⊥
 
--- there is a first choice, and each of these is such a question for it
+-- there is a first conjunct, and each of these is such a question for it
 abbrev pub AreNeedsOfFirst : List Partial → List Question → Type 0
 AreNeedsOfFirst conjuncts asked = (first : Partial) × (rest : List Partial)
     × (conjuncts ≡ first ∷ rest) × AllOf (IsNeed first.kind first.conjunct) asked

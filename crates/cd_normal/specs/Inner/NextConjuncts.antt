@@ -1,4 +1,4 @@
--- What a choice in the making becomes by its next formula.
+-- What a conjunct in the making becomes by its next formula.
 use Rattle.std.specs.Prelude.{Bool, true, false, not, ◌&&◌, List, [], ◌∷◌, ◌++◌, map}
 use Rattle.std.specs.Prelude.{if◌then◌else◌}
 use Rattle.cd_model.specs.Formula as formula
@@ -8,15 +8,15 @@ use Rattle.cd_rules.specs.Dnf.{Conjunct}
 use Rattle.cd_rules.specs.KindDnf.{is_of}
 use Rattle.cd_rules.specs.PartialConjuncts.{Partial, Signed, partial, each_signed, extensions}
 
--- the choice with these formulas before those that are left
+-- the conjunct with these formulas before those that are left
 abbrev pub with_left : List Signed → Partial → Partial
 with_left more is = partial is.kind is.conjunct (more ++ is.left)
 
--- the choice with more literals, for each of some choices
+-- the conjunct with more literals, for each of some conjuncts
 abbrev pub with_conjuncts : List Conjunct → Partial → List Partial
 with_conjuncts conjuncts is = map (λ more. partial is.kind (is.conjunct ++ more) is.left) conjuncts
 
--- the choice with each of these formulas as its next one
+-- the conjunct with each of these formulas as its next one
 abbrev pub with_each : List Signed → Partial → List Partial
 with_each members is = map (λ member. partial is.kind is.conjunct (member ∷ is.left)) members
 
@@ -44,7 +44,7 @@ abbrev mutual
   refused_of kind NoFormula = []
   refused_of kind (AFormula is rest) = refused_in kind is ++ refused_of kind rest
 
--- a choice for each one of them, wanted
+-- a conjunct for each one of them, wanted
 abbrev mutual
   pub wanted_in : Kind → Formula → List Conjunct
   wanted_in kind (formula.Or formulas) = wanted_of kind formulas
@@ -55,7 +55,7 @@ abbrev mutual
   wanted_of kind NoFormula = []
   wanted_of kind (AFormula is rest) = wanted_in kind is ++ wanted_of kind rest
 
--- what a choice becomes by a formula that it is to meet before those that are left: literals that
+-- what a conjunct becomes by a formula that it is to meet before those that are left: literals that
 -- are refused together are met at once, and of those of which one is wanted only the ones of the
 -- kind are met
 abbrev pub next_conjuncts : Partial → Formula → (wanted : Bool) → List Partial

@@ -1,4 +1,4 @@
--- The literals and choices of the code as plain data.
+-- The literals and conjuncts of the code as plain data.
 use Rattle.std.specs.Prelude.{List, map}
 use Rattle.std.specs.declared.alloc.Global.{Global}
 use Rattle.std.specs.declared.vec.Vec.{Vec}

@@ -1,4 +1,4 @@
--- Choices in the making as those of the rules.
+-- Conjuncts in the making as those of the rules.
 use Rattle.std.specs.Prelude.{List, map, reverse}
 use Rattle.cd_graph.specs.PlainFormula.{plain}
 use Rattle.cd_rules.specs.PartialConjuncts.{Partial, Signed, partial}

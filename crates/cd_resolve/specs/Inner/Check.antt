@@ -1,4 +1,4 @@
--- What is told of a type, and of type declarations, from one walk over it.
+-- What is reported of a type, and of type declarations, from one walk over it.
 use Rattle.std.specs.Prelude.{List, [], ◌∷◌, None}
 use Rattle.cd_syntax.specs.TypeTree.{Tree, Declarations}
 use Rattle.cd_resolve.specs.Faults.{Fault}

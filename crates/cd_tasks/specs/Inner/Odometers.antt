@@ -1,4 +1,4 @@
--- What an odometer has told, and what it has not.
+-- What an odometer has visited, and what it has not.
 use Rattle.std.specs.Prelude.{ℕ, suc, List, Option, Some, None}
 use Rattle.cd_tasks.specs.Assignments.{Word, all_words}
 use Rattle.cd_tasks.specs.Inner.AfterWords.{after, later}
@@ -16,10 +16,10 @@ word_visited First word = None
 word_visited Below word = Some word
 word_visited Later word = Some word
 
--- the words that are still to be told
+-- the words that are still to be visited
 abbrev pub rest_of : Odometer → List Word
 rest_of words = words_left words.next words.last words.members words.word.items
 
--- the word that was told last
+-- the word that was visited last
 abbrev pub visited_of : Odometer → Option Word
 visited_of words = word_visited words.next words.word.items

@@ -22,7 +22,7 @@ check_trees-requires c =
     (subst (λ found. AllOf IsWellMadePattern found.trees) (sym c.in_ok-found.ensures)
     (made_program (plain_program c.args.program.now) c.requires))
 
--- what is told of all that is found
+-- what is reported of all that is found
 reported_of_all : (c : goal.After-drop-found-3)
     → Reports (IsFaultOfProgram (plain_program c.args.program.now)) c.first_of.result
 reported_of_all c =

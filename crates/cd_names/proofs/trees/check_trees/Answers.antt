@@ -9,7 +9,7 @@ check_tree-requires c = tree_made c.args.trees.now c.loop-tree.tree-index c.tree
     c.tree-item.is
     c.loop-tree-test.true c.requires
 
--- the next tree is told of too
+-- what is found in the next tree is reported too
 pub loop-tree-preserved : goal.loop-tree-preserved
 loop-tree-preserved c = subst (Reports _) (sym c.first_of-reported.ensures)
     (one_more (declared_by c.args.names.now) c.args.trees.now c.loop-tree.tree-index

@@ -22,7 +22,7 @@ of_one-dnf-requires t c =
     (omega (arith, c.loop-index-test.true, c.loop-index.invariant.0))) in
     search (rules, fall, c.decreases)
 
--- the choices of all formulas from the first on are all
+-- the conjuncts of all formulas from the first on are all
 pub of_each-returns : goal.of_each-returns
 of_each-returns t c = c.loop-index.invariant.1 ∙ ap (λ left. kind_of_each (plain_kind c.args.kind) (formulas_of left) c.args.wanted)
     (ap (map plain) (all_left c.items-formulas.result.now c.loop-index.index c.loop-index-test.false) ∙

@@ -17,7 +17,7 @@ decreases-of_each l = size_list (plain_formulas l.formulas.now)
 abbrev pub decreases-of_one : goal.decreases-of_one
 decreases-of_one l = size_list (plain_formulas l.formulas.now)
 
--- the choices are those of the formulas from the index on
+-- the conjuncts are those of the formulas from the index on
 abbrev pub invariant-of_each-loop-index : goal.invariant-of_each-loop-index
 invariant-of_each-loop-index l =
     (l.index ≤ length l.formulas) ×

@@ -5,7 +5,7 @@ use Rattle.cd_rules.specs.KindDnf.{kind_at}
 use Rattle.cd_normal.specs.Inner.PlainKind.{plain_kind}
 use Rattle.cd_normal.proofs.conjunct.dnf_at.Given as goal
 
--- the choices are those of the nodes from the index on
+-- the conjuncts are those of the nodes from the index on
 abbrev pub invariant-loop-index : goal.invariant-loop-index
 invariant-loop-index l =
     (l.index ≤ length l.ids) × (plain_conjuncts l.all.items ≡ kind_at (plain_kind l.kind) (nodes l.graph) (drop l.index l.ids) l.wanted)

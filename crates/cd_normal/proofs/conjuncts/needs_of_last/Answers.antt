@@ -3,7 +3,7 @@ use Rattle.cd_normal.specs.Inner.PlainPartial.{plain_partial}
 use Rattle.cd_normal.proofs.Stacks.{top_is}
 use Rattle.cd_normal.proofs.conjuncts.needs_of_last.Goals as goal
 
--- the last choice is the first for callers
+-- the last conjunct is the first for callers
 pub returns-in_ok-needs_of-in-Some : goal.returns-in_ok-needs_of-in-Some
 returns-in_ok-needs_of-in-Some c =
     let conjuncts = c.args.conjuncts.now in

@@ -15,7 +15,7 @@ choose_copies-choose_copies_in-requires t c =
     (omega (arith, c.loop-index-test.true, c.loop-index.invariant.0))) in
     search (rules, fall, c.decreases)
 
--- the choices for all formulas from the first on are all
+-- the conjuncts for all formulas from the first on are all
 pub choose_copies-returns : goal.choose_copies-returns
 choose_copies-returns t c =
     let top = plain_partial c.args.top.now in

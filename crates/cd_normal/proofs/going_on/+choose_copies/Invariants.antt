@@ -13,7 +13,7 @@ decreases-choose_copies_in l = size (plain l.formula.now)
 abbrev pub decreases-choose_copies : goal.decreases-choose_copies
 decreases-choose_copies l = size_list (plain_formulas l.formulas.now)
 
--- the choices for the formulas from the index on stand on the others
+-- the conjuncts for the formulas from the index on stand on the others
 abbrev pub invariant-choose_copies-loop-index : goal.invariant-choose_copies-loop-index
 invariant-choose_copies-loop-index l =
     (l.index ≤ length l.formulas) × (plain_partials l.conjuncts.items

@@ -6,7 +6,7 @@ use Rattle.cd_normal.specs.Inner.NextConjuncts.{with_each}
 use Rattle.cd_normal.specs.Inner.PlainPartial.{plain_partial, plain_partials}
 use Rattle.cd_normal.proofs.going_on.ask_copies.Given as goal
 
--- the choices for the formulas from the index on stand on the others
+-- the conjuncts for the formulas from the index on stand on the others
 abbrev pub invariant-loop-index : goal.invariant-loop-index
 invariant-loop-index l =
     (l.index ≤ length l.formulas) × (plain_partials l.conjuncts.items

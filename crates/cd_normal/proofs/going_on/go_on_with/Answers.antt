@@ -8,7 +8,7 @@ use Rattle.cd_normal.proofs.NextConjuncts.{top_goes_on}
 use Rattle.cd_normal.proofs.Stacks.{top_put}
 use Rattle.cd_normal.proofs.going_on.go_on_with.Goals as goal
 
--- the choice goes on by the formula that was taken off
+-- the conjunct goes on by the formula that was taken off
 pub returns : goal.returns
 returns c =
     let top = c.args.top in

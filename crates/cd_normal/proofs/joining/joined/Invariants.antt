@@ -3,7 +3,7 @@ use Rattle.cd_rules.specs.Dnf.{joined}
 use Rattle.cd_normal.specs.Inner.PlainConjunct.{plain_conjuncts}
 use Rattle.cd_normal.proofs.joining.joined.Given as goal
 
--- the choices so far, and those of the choices that are left, are all
+-- the conjuncts so far, and those of the conjuncts that are left, are all
 abbrev pub invariant-loop-conjunct : goal.invariant-loop-conjunct
 invariant-loop-conjunct l =
     plain_conjuncts l.all.items ++ joined (plain_conjuncts (drop l.conjunct-index l.conjuncts)) (plain_conjuncts l.others)

@@ -7,7 +7,7 @@ use Rattle.cd_normal.specs.Inner.ClausesOfKinds.{clauses_of_kind}
 use Rattle.cd_normal.specs.Inner.PlainKind.{plain_kind}
 use Rattle.cd_normal.proofs.normal.add_clauses.Given as goal
 
--- the clauses so far, and those of the choices that are left, are all
+-- the clauses so far, and those of the conjuncts that are left, are all
 abbrev pub invariant-loop-conjunct : goal.invariant-loop-conjunct
 invariant-loop-conjunct l =
     map plain_clause l.found.items ++ map (clause_by (plain_kind l.kind)) (plain_conjuncts (drop l.conjunct-index l.conjunct-items))

@@ -10,7 +10,7 @@ use Rattle.cd_resolve.proofs.read.read_declarations.Goals as goal
 pub walk_list-requires : goal.walk_list-requires
 walk_list-requires c = declarations_are_patterns (plain_declarations c.args.declared.now) c.requires
 
--- where no fault is told there is none, and one that is told is the least
+-- where no fault is reported there is none, and one that is reported is the least
 pub returns-in-Ok-clause-sound : goal.returns-in-Ok-clause-sound
 returns-in-Ok-clause-sound c =
     let declared = plain_declarations c.args.declared.now in

@@ -6,7 +6,7 @@ use Rattle.cd_resolve.specs.Least.{least_from, IsLeast}
 use Rattle.cd_resolve.proofs.Checking.{type_sound, type_reported}
 use Rattle.cd_resolve.proofs.read.read_type.Goals as goal
 
--- where no fault is told there is none, and one that is told is the least
+-- where no fault is reported there is none, and one that is reported is the least
 pub returns-in-Ok-clause-sound : goal.returns-in-Ok-clause-sound
 returns-in-Ok-clause-sound c = type_sound (declared_by c.args.names.now) (plain c.args.tree.now)
     (subst (λ found. least_from None (all_faults found) ≡ None) c.in_ok-root.ensures.found c.in-Ok.ensures.sound)

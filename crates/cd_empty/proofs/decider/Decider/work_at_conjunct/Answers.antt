@@ -19,7 +19,7 @@ returns-in-Some-clause-doing c =
     looked_at graph c.args.self.now frame c.look_at_needs.new.conjuncts c.in-Some.doing c.requires.ready.fit
     (subst (IsLook graph c.args.self.now (partials frame.conjuncts) (partials c.look_at_needs.new.conjuncts)) c.in-Some.is c.in_ok-doing.ensures)
 
--- the look left the choices as they were
+-- the look left the conjuncts as they were
 same : (c : In_ok-advance) → partials c.look_at_needs.new.conjuncts ≡ partials c.args.frame.now.conjuncts
 same c = looked_on (nodes c.args.graph.now) c.args.self.now (partials c.args.frame.now.conjuncts) (partials c.look_at_needs.new.conjuncts)
     c.in_ok-doing.field-0 c.in_default.not-Some c.in_ok-doing.ensures

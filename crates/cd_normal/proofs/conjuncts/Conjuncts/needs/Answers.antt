@@ -6,7 +6,7 @@ use Rattle.cd_normal.specs.Inner.PlainPartial.{plain_partials}
 use Rattle.cd_normal.proofs.NeedsOfConjuncts.{are_needed, needs_ask}
 use Rattle.cd_normal.proofs.conjuncts.Conjuncts.needs.Goals as goal
 
--- the choice fails where one of its needs is covered
+-- the conjunct fails where one of its needs is subsumed
 pub returns-clause-needed : goal.returns-clause-needed
 returns-clause-needed c =
     let items = c.args.self.now.items.items in
