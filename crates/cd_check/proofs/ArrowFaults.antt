@@ -1,4 +1,4 @@
--- What is told of branches for an arrow, by their patterns and by their bodies.
+-- What is reported of branches for an arrow, by their patterns and by their bodies.
 use Rattle.std.proofs.Common.{inl, inr, ℕ, List, [], Some}
 use Rattle.cd_sets.specs.declared.node_id.NodeId.{NodeId}
 use Rattle.cd_model.specs.Formula.{Graph}

@@ -24,8 +24,7 @@ use Rattle.cd_check.specs.Inner.Following.{Follows}
 use Rattle.cd_check.specs.Inner.Known.{IsKnown, Fails}
 use Rattle.cd_check.proofs.KnownTypes.{fails_earlier}
 use Rattle.cd_check.proofs.Loops.{left_is}
-use Rattle.cd_check.proofs.TypesEarlier.{known_then}
-use Rattle.cd_check.proofs.TypesLater.{types_later}
+use Rattle.cd_check.proofs.TypesLater.{types_later, known_then}
 
 -- what is known of what stands before, and where it stands
 abbrev pub StandsAs : Nodes → Scope → Graph → (self : NodeId) → (from : ℕ) → Expr → Type 0

@@ -70,7 +70,6 @@ mod StopsPlaced
 mod Tests
 mod ReportedOfOne
 mod TruthNodes
-mod TypesEarlier
 mod TypesLater
 mod Uncovered
 mod Variables

@@ -1,17 +1,15 @@
 -- Operands that an operator refuses break its rule.
 use Rattle.std.proofs.Common.{◌≡◌, ◌⊎◌, ◌∙◌, inl, inr, refl, ap, ℕ, List}
 use Rattle.cd_sets.specs.declared.node_id.NodeId.{NodeId}
-use Rattle.cd_syntax.specs.Name.{Name}
 use Rattle.cd_elements.specs.Table.{Names, element_at}
 use Rattle.cd_elements.specs.declared.shape.ElementId.{ElementId}
 use Rattle.cd_model.specs.BuiltIns.{INT, RECORD, DATA}
 use Rattle.cd_model.specs.Formula.{Graph}
 use Rattle.cd_model.specs.Scope.{Scope}
 use Rattle.cd_model.specs.Thing.{Thing}
-use Rattle.cd_program.specs.Expr.{Expr, Operand, Without, Select}
+use Rattle.cd_program.specs.Expr.{Expr, Operand}
 use Rattle.cd_program.specs.declared.operator.Op.{Op}
 use Rattle.cd_program.specs.declared.operator.Op.TheVariants as op
-use Rattle.cd_meaning.specs.Records.{HasFieldAt}
 use Rattle.cd_meaning.specs.Sequences.{IsSequence}
 use Rattle.cd_meaning.specs.Sets.{Set, ◌⊆◌, elements_of}
 use Rattle.cd_typing.specs.Typ.{BuiltIn, In, Types}
@@ -149,23 +147,12 @@ module _ (scope : Scope) (old : Graph) (nodes : Nodes) (graph : Graph) (table : 
   )
   operand_fails first second self id known_first known_second at e_at stands e_stands is met stop.Memory fits = tt
 
-  -- and of one that takes fields
-  pub without_fails : (f : Expr) (self : NodeId) → IsKnown old nodes scope graph f self → (at : ℕ) → at ≡ place_of f → (label : Name)
-      → (stopped : Stop) → IsMisfitOf graph table side.First self (BuiltIn RECORD) rule.Record stopped
-      → Fails old nodes table (λ types at reported d. TailFault scope types f (Without label) at reported d) (placed_at stopped at at)
-  without_fails f self known at stands label (stop.Misfit misfit) fits = (
+  -- and of one that takes fields: of its operand a rule needs this
+  pub part_fails : (f : Expr) (self : NodeId) → IsKnown old nodes scope graph f self → (at : ℕ) → at ≡ place_of f → (needed : Set) (is : Rule)
+      → (stopped : Stop) → IsMisfitOf graph table side.First self needed is stopped
+      → Fails old nodes table (λ types at reported d. Breaks scope types f needed is at reported d) (placed_at stopped at at)
+  part_fails f self known at stands needed is (stop.Misfit misfit) fits = (
     fits.2.named,
-    missing_breaks f self known (BuiltIn RECORD) rule.Record misfit.element fits.2 misfit.rule fits.1 (place_at misfit.side at at)
-        (one_place misfit.side at ∙ stands),
+    missing_breaks f self known needed is misfit.element fits.2 misfit.rule fits.1 (place_at misfit.side at at) (one_place misfit.side at ∙ stands),
   )
-  without_fails f self known at stands label stop.Memory fits = tt
-
-  pub select_fails : (f : Expr) (self : NodeId) → IsKnown old nodes scope graph f self → (at : ℕ) → at ≡ place_of f → (label : Name)
-      → (stopped : Stop) → IsMisfitOf graph table side.First self (HasFieldAt label) rule.Field stopped
-      → Fails old nodes table (λ types at reported d. TailFault scope types f (Select label) at reported d) (placed_at stopped at at)
-  select_fails f self known at stands label (stop.Misfit misfit) fits = (
-    fits.2.named,
-    missing_breaks f self known (HasFieldAt label) rule.Field misfit.element fits.2 misfit.rule fits.1 (place_at misfit.side at at)
-        (one_place misfit.side at ∙ stands),
-  )
-  select_fails f self known at stands label stop.Memory fits = tt
+  part_fails f self known at stands needed is stop.Memory fits = tt

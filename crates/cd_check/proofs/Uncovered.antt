@@ -1,4 +1,4 @@
--- What is left of what is matched, where no branch takes it, is told as not covered.
+-- What is left of what is matched, where no branch takes it, is reported as not covered.
 use Rattle.std.proofs.Common.{◌≡◌, ℕ, List}
 use Rattle.cd_sets.specs.declared.node_id.NodeId.{NodeId}
 use Rattle.cd_model.specs.BuiltIns.{EMPTY}

@@ -1,23 +1,26 @@
 -- What operators make of operands is within what they give for wider ones.
-use Rattle.std.proofs.Common.{◌≡◌, ◌+ℤ◌, ℤ, [], codes, inl, inr, refl, sym, true≢false}
+use Rattle.std.proofs.Common.{◌≡◌, ◌⊎◌, ◌+ℤ◌, ℤ, [], codes, inl, inr, refl, subst, sym, true≢false}
 use Rattle.std.proofs.lemmas.Slice.Eq.{bytes_eq-Decides}
 use Rattle.cd_syntax.specs.Name.{IsLabel}
-use Rattle.cd_model.specs.BuiltIns.{INT, RECORD, EMPTY}
+use Rattle.cd_model.specs.BuiltIns.{INT, BOOL, RECORD, EMPTY}
 use Rattle.cd_model.specs.Kinds.{kind_of, AnInteger, ARecord, Kind}
 use Rattle.cd_model.specs.Thing.{Thing, Integer, Record, IsElement}
 use Rattle.cd_model.specs.Types.{no_closure}
 use Rattle.cd_model.proofs.BuiltIns.{elements_are_sound, integers_are, records_are, nothing_is_empty}
 use Rattle.cd_model.proofs.SoundBuiltIns.{a_label}
 use Rattle.cd_program.specs.declared.operator.BuiltIn.TheVariants as word
+use Rattle.cd_program.specs.declared.operator.Op.{Op}
+use Rattle.cd_program.specs.declared.operator.Op.TheVariants as op
 use Rattle.cd_meaning.specs.Integers.{IsResultOf}
 use Rattle.cd_meaning.specs.Records.{IsMergeOf}
 use Rattle.cd_meaning.specs.Sequences.{IsListOf, IsItemOf}
 use Rattle.cd_meaning.specs.Sets.{Set, ◌⊆◌}
-use Rattle.cd_typing.specs.Operators.{IsPlus, WordGives}
+use Rattle.cd_typing.specs.Operators.{AreIntegers, IsPlus, Operates, WordGives}
 use Rattle.cd_typing.specs.Typ.{In, BuiltIn}
 use Rattle.cd_typing.proofs.Subsets.{through}
 use Rattle.cd_least.proofs.Monotone.{merges_grow, lists_grow}
 use Rattle.cd_least.proofs.Refuted.{item_within}
+use Rattle.cd_operators.specs.ResultTypes.{IsLeastResult}
 
 -- results for integers of two sets are results for those of wider ones
 pub results_grow : (compute : ℤ → ℤ → ℤ) (one other more last : Set) → one ⊆ more → other ⊆ last
@@ -83,3 +86,82 @@ module _ (operand wider lists inner result : Set) (fewer : operand ⊆ wider)
       inner_within : inner ⊆ In item
       inner_within = through inner (IsItemOf lists) (In item) are_inner
           (item_within [] lists (In item) lists_within)
+
+-- an operator that gives what another one does has the same least results
+pub likewise : (is like : Op) (first second result : Set)
+    → ((one other given : Set) → Operates is one other given → Operates like one other given)
+    → ((one other given : Set) → Operates like one other given → Operates is one other given)
+    → IsLeastResult is first second result → IsLeastResult like first second result
+likewise is like first second result there back least = record {
+  gives = there first second result least.gives;
+  within = λ wider other given fewer few gives. least.within wider other given fewer few
+      (back (In wider) (In other) (In given) gives);
+}
+
+pub unequal_like_equal : (first second result : Set) → IsLeastResult op.Equal first second result
+    → IsLeastResult op.Unequal first second result
+unequal_like_equal first second result =
+    likewise op.Equal op.Unequal first second result (λ one other given gives. gives)
+    (λ one other given gives. gives)
+
+pub mod_like_div : (first second result : Set) → IsLeastResult op.Div first second result
+    → IsLeastResult op.Mod first second result
+mod_like_div first second result =
+    likewise op.Div op.Mod first second result (λ one other given gives. gives)
+    (λ one other given gives. gives)
+
+-- `&&` and `||` give their second operand, where it is met
+pub second_least : (is : Op) → (is ≡ op.Or) ⊎ (is ≡ op.And) → (first second : Set)
+    → IsLeastResult is first second second
+second_least is one first second = by_operator one
+  where
+    either : IsLeastResult op.Or first second second
+    either = record {
+      gives = λ e element inside. inside;
+      within = λ wider other given fewer few gives e element inside.
+          gives e element (few e element inside);
+    }
+
+    by_operator : (is ≡ op.Or) ⊎ (is ≡ op.And) → IsLeastResult is first second second
+    by_operator (inl same) = subst (λ (o : Op). IsLeastResult o first second second) (sym same) either
+    by_operator (inr same) = subst (λ (o : Op). IsLeastResult o first second second) (sym same)
+        (likewise op.Or op.And first second second (λ one other given gives. gives)
+        (λ one other given gives. gives) either)
+
+-- comparisons of integers give truth values, and a product of integers is an integer
+module _ (first second result : Set) (integers : AreIntegers first second) where
+  pub truths_least : (is : Op) → (is ≡ op.Less) ⊎ (is ≡ op.AtMost) ⊎ (is ≡ op.Greater) ⊎ (is ≡ op.AtLeast)
+      → BuiltIn BOOL ⊆ result → result ⊆ BuiltIn BOOL → IsLeastResult is first second result
+  truths_least is one has only = by_operator one
+    where
+      less : IsLeastResult op.Less first second result
+      less = record {
+        gives = (integers, has);
+        within = λ wider other given fewer few gives e element inside.
+            gives.1 e element (only e element inside);
+      }
+
+      like : (o : Op) → is ≡ o
+          → ((a b given : Set) → Operates op.Less a b given → Operates o a b given)
+          → ((a b given : Set) → Operates o a b given → Operates op.Less a b given)
+          → IsLeastResult is first second result
+      like o same there back = subst (λ (o : Op). IsLeastResult o first second result) (sym same)
+          (likewise op.Less o first second result there back less)
+
+      by_operator : (is ≡ op.Less) ⊎ (is ≡ op.AtMost) ⊎ (is ≡ op.Greater) ⊎ (is ≡ op.AtLeast)
+          → IsLeastResult is first second result
+      by_operator (inl same) = subst (λ (o : Op). IsLeastResult o first second result) (sym same) less
+      by_operator (inr (inl same)) =
+          like op.AtMost same (λ a b given gives. gives) (λ a b given gives. gives)
+      by_operator (inr (inr (inl same))) =
+          like op.Greater same (λ a b given gives. gives) (λ a b given gives. gives)
+      by_operator (inr (inr (inr same))) =
+          like op.AtLeast same (λ a b given gives. gives) (λ a b given gives. gives)
+
+  pub product_least : BuiltIn INT ⊆ result → result ⊆ BuiltIn INT
+      → IsLeastResult op.Times first second result
+  product_least has only = record {
+    gives = (integers, has);
+    within = λ wider other given fewer few gives e element inside.
+        gives.1 e element (only e element inside);
+  }

@@ -1,5 +1,4 @@
 -- What serves private functions. No public clause speaks of it.
-pub mod Sums
 pub mod Bounds
 pub mod Combined
 pub mod Results

@@ -1,3 +1,4 @@
 pub mod Tools
 pub mod Misfits
+pub mod ResultTypes
 pub mod Inner

@@ -7,8 +7,8 @@ pub mod misfit;
 mod need;
 mod operation;
 mod operators;
+mod results;
 mod select;
-mod sums;
 pub mod tools;
 mod word;
 

@@ -1,19 +1,21 @@
 //! Operators between two operands.
 ghost use Rattle.std.specs.Prelude.{◌≡◌, ◌<◌, [], ◌∷◌, length, IfOk, IfErr, true, false, OnOk};
 ghost use Rattle.cd_model.specs.Formula.{IsGraph};
-ghost use Rattle.cd_meaning.specs.Sets.{◌⊆◌, elements_of};
-ghost use Rattle.cd_typing.specs.Operators.{Operates, AreIntegers};
-ghost use Rattle.cd_typing.specs.Typ.{Typ, In, BuiltIn};
+ghost use Rattle.cd_meaning.specs.Sets.{elements_of};
+ghost use Rattle.cd_typing.specs.Operators.{AreIntegers};
+ghost use Rattle.cd_typing.specs.Typ.{BuiltIn};
 ghost use Rattle.cd_rules.specs.Needs.{question};
 ghost use Rattle.cd_empty.specs.Growth.{Grows};
 ghost use Rattle.cd_empty.specs.Seen.{graph_of, table_of};
 ghost use Rattle.cd_empty.specs.Verdicts.{IsExact};
 ghost use Rattle.cd_operators.specs.Misfits.{IsMisfit, IsMisfitOfBoth, AreRecords};
+ghost use Rattle.cd_operators.specs.ResultTypes.{IsLeastResult};
 ghost use Rattle.cd_operators.specs.Tools.{AreTools};
 
 use crate::misfit::{Misfit, Side, Stop};
 use crate::need::{need_both, outside};
-use crate::sums::{differences, sums};
+use crate::operation::Operation;
+use crate::results::results;
 use crate::tools::Tools;
 use cd_empty::{Verdict, World};
 use cd_graph::built_in::{BOOL, DATA, INT, RECORD};
@@ -42,13 +44,9 @@ pub fn operate(
     requires tools { AreTools (graph_of world.old) tools.now }
     requires first { first.0 < length (graph_of world.old) }
     requires second { second.0 < length (graph_of world.old) }
-    ensures gives { IfOk result (λ id. Operates op (elements_of (graph_of world.old) first)
-        (elements_of (graph_of world.old) second) (elements_of (graph_of world.new) id)) }
-    ensures least { IfOk result (λ id. (wider other result : Typ)
-        → elements_of (graph_of world.old) first ⊆ In wider
-        → elements_of (graph_of world.old) second ⊆ In other
-        → Operates op (In wider) (In other) (In result)
-        → elements_of (graph_of world.new) id ⊆ In result) }
+    ensures least { IfOk result (λ id. IsLeastResult op
+        (elements_of (graph_of world.old) first) (elements_of (graph_of world.old) second)
+        (elements_of (graph_of world.new) id)) }
     ensures node { IfOk result (λ id. id.0 < length (graph_of world.new)) }
     ensures misfit { IfErr result
         (IsMisfit (graph_of world.old) (table_of world.new) op first second) }
@@ -96,13 +94,9 @@ fn integers(world: &mut World, first: NodeId, second: NodeId) -> Result<(), Stop
 fn compare(world: &mut World, first: NodeId, second: NodeId) -> Result<NodeId, Stop>
     requires first { first.0 < length (graph_of world.old) }
     requires second { second.0 < length (graph_of world.old) }
-    ensures gives { IfOk result (λ id. Operates Op.Equal (elements_of (graph_of world.old) first)
-        (elements_of (graph_of world.old) second) (elements_of (graph_of world.new) id)) }
-    ensures least { IfOk result (λ id. (wider other result : Typ)
-        → elements_of (graph_of world.old) first ⊆ In wider
-        → elements_of (graph_of world.old) second ⊆ In other
-        → Operates Op.Equal (In wider) (In other) (In result)
-        → elements_of (graph_of world.new) id ⊆ In result) }
+    ensures least { IfOk result (λ id. IsLeastResult Op.Equal
+        (elements_of (graph_of world.old) first) (elements_of (graph_of world.old) second)
+        (elements_of (graph_of world.new) id)) }
     ensures node { IfOk result (λ id. id.0 < length (graph_of world.new)) }
     ensures misfit { IfErr result
         (IsMisfit (graph_of world.old) (table_of world.new) Op.Equal first second) }
@@ -126,13 +120,9 @@ fn concatenate(
     requires tools { AreTools (graph_of world.old) tools.now }
     requires first { first.0 < length (graph_of world.old) }
     requires second { second.0 < length (graph_of world.old) }
-    ensures gives { IfOk result (λ id. Operates Op.Concat (elements_of (graph_of world.old) first)
-        (elements_of (graph_of world.old) second) (elements_of (graph_of world.new) id)) }
-    ensures least { IfOk result (λ id. (wider other result : Typ)
-        → elements_of (graph_of world.old) first ⊆ In wider
-        → elements_of (graph_of world.old) second ⊆ In other
-        → Operates Op.Concat (In wider) (In other) (In result)
-        → elements_of (graph_of world.new) id ⊆ In result) }
+    ensures least { IfOk result (λ id. IsLeastResult Op.Concat
+        (elements_of (graph_of world.old) first) (elements_of (graph_of world.old) second)
+        (elements_of (graph_of world.new) id)) }
     ensures node { IfOk result (λ id. id.0 < length (graph_of world.new)) }
     ensures misfit { IfErr result
         (IsMisfit (graph_of world.old) (table_of world.new) Op.Concat first second) }
@@ -149,13 +139,9 @@ fn concatenate(
 fn add(alloc: Global, world: &mut World, first: NodeId, second: NodeId) -> Result<NodeId, Stop>
     requires first { first.0 < length (graph_of world.old) }
     requires second { second.0 < length (graph_of world.old) }
-    ensures gives { IfOk result (λ id. Operates Op.Plus (elements_of (graph_of world.old) first)
-        (elements_of (graph_of world.old) second) (elements_of (graph_of world.new) id)) }
-    ensures least { IfOk result (λ id. (wider other result : Typ)
-        → elements_of (graph_of world.old) first ⊆ In wider
-        → elements_of (graph_of world.old) second ⊆ In other
-        → Operates Op.Plus (In wider) (In other) (In result)
-        → elements_of (graph_of world.new) id ⊆ In result) }
+    ensures least { IfOk result (λ id. IsLeastResult Op.Plus
+        (elements_of (graph_of world.old) first) (elements_of (graph_of world.old) second)
+        (elements_of (graph_of world.new) id)) }
     ensures node { IfOk result (λ id. id.0 < length (graph_of world.new)) }
     ensures misfit { IfErr result
         (IsMisfit (graph_of world.old) (table_of world.new) Op.Plus first second) }
@@ -166,7 +152,7 @@ fn add(alloc: Global, world: &mut World, first: NodeId, second: NodeId) -> Resul
         return Ok(merged(alloc, world, first, second)?);
     }
     integers(world, first, second)?;
-    Ok(sums(alloc, world, first, second)?)
+    Ok(results(alloc, world, Operation::Sum, first, second)?)
 }
 
 // Whether two operands are both records.
@@ -193,13 +179,9 @@ fn are_records(world: &mut World, first: NodeId, second: NodeId) -> Result<bool,
 fn subtract(alloc: Global, world: &mut World, first: NodeId, second: NodeId) -> Result<NodeId, Stop>
     requires first { first.0 < length (graph_of world.old) }
     requires second { second.0 < length (graph_of world.old) }
-    ensures gives { IfOk result (λ id. Operates Op.Minus (elements_of (graph_of world.old) first)
-        (elements_of (graph_of world.old) second) (elements_of (graph_of world.new) id)) }
-    ensures least { IfOk result (λ id. (wider other result : Typ)
-        → elements_of (graph_of world.old) first ⊆ In wider
-        → elements_of (graph_of world.old) second ⊆ In other
-        → Operates Op.Minus (In wider) (In other) (In result)
-        → elements_of (graph_of world.new) id ⊆ In result) }
+    ensures least { IfOk result (λ id. IsLeastResult Op.Minus
+        (elements_of (graph_of world.old) first) (elements_of (graph_of world.old) second)
+        (elements_of (graph_of world.new) id)) }
     ensures node { IfOk result (λ id. id.0 < length (graph_of world.new)) }
     ensures misfit { IfErr result
         (IsMisfit (graph_of world.old) (table_of world.new) Op.Minus first second) }
@@ -207,7 +189,7 @@ fn subtract(alloc: Global, world: &mut World, first: NodeId, second: NodeId) -> 
     ensures grows { Grows world.old world.new }
 {
     integers(world, first, second)?;
-    Ok(differences(alloc, world, first, second)?)
+    Ok(results(alloc, world, Operation::Difference, first, second)?)
 }
 
 // `div` and `mod`.
@@ -221,13 +203,9 @@ fn divide(
     requires tools { AreTools (graph_of world.old) tools.now }
     requires first { first.0 < length (graph_of world.old) }
     requires second { second.0 < length (graph_of world.old) }
-    ensures gives { IfOk result (λ id. Operates Op.Div (elements_of (graph_of world.old) first)
-        (elements_of (graph_of world.old) second) (elements_of (graph_of world.new) id)) }
-    ensures least { IfOk result (λ id. (wider other result : Typ)
-        → elements_of (graph_of world.old) first ⊆ In wider
-        → elements_of (graph_of world.old) second ⊆ In other
-        → Operates Op.Div (In wider) (In other) (In result)
-        → elements_of (graph_of world.new) id ⊆ In result) }
+    ensures least { IfOk result (λ id. IsLeastResult Op.Div
+        (elements_of (graph_of world.old) first) (elements_of (graph_of world.old) second)
+        (elements_of (graph_of world.new) id)) }
     ensures node { IfOk result (λ id. id.0 < length (graph_of world.new)) }
     ensures misfit { IfErr result
         (IsMisfit (graph_of world.old) (table_of world.new) Op.Div first second) }

@@ -1,12 +1,11 @@
 //! Words before an operand.
 ghost use Rattle.std.specs.Prelude.{◌≡◌, ◌<◌, length, IfOk, IfErr};
 ghost use Rattle.cd_model.specs.Formula.{IsGraph};
-ghost use Rattle.cd_meaning.specs.Sets.{◌⊆◌, elements_of};
-ghost use Rattle.cd_typing.specs.Operators.{WordGives};
-ghost use Rattle.cd_typing.specs.Typ.{Typ, In};
+ghost use Rattle.cd_meaning.specs.Sets.{elements_of};
 ghost use Rattle.cd_empty.specs.Growth.{Grows};
 ghost use Rattle.cd_empty.specs.Seen.{graph_of, table_of};
 ghost use Rattle.cd_operators.specs.Misfits.{IsMisfitOfWord};
+ghost use Rattle.cd_operators.specs.ResultTypes.{IsLeastResultOfWord};
 ghost use Rattle.cd_operators.specs.Tools.{AreTools};
 
 use crate::misfit::{Side, Stop};
@@ -34,12 +33,8 @@ pub fn call(
 ) -> Result<NodeId, Stop>
     requires tools { AreTools (graph_of world.old) tools.now }
     requires operand { operand.0 < length (graph_of world.old) }
-    ensures gives { IfOk result (λ id. WordGives word (elements_of (graph_of world.old) operand)
-        (elements_of (graph_of world.new) id)) }
-    ensures least { IfOk result (λ id. (wider result : Typ)
-        → elements_of (graph_of world.old) operand ⊆ In wider
-        → WordGives word (In wider) (In result)
-        → elements_of (graph_of world.new) id ⊆ In result) }
+    ensures least { IfOk result (λ id. IsLeastResultOfWord word
+        (elements_of (graph_of world.old) operand) (elements_of (graph_of world.new) id)) }
     ensures node { IfOk result (λ id. id.0 < length (graph_of world.new)) }
     ensures misfit { IfErr result
         (IsMisfitOfWord (graph_of world.old) (table_of world.new) word operand) }
@@ -73,12 +68,8 @@ pub fn call(
 fn flatten(alloc: Global, world: &mut World, tools: &Tools, operand: NodeId) -> Result<NodeId, Stop>
     requires tools { AreTools (graph_of world.old) tools.now }
     requires operand { operand.0 < length (graph_of world.old) }
-    ensures gives { IfOk result (λ id. WordGives BuiltIn.Flatten
+    ensures least { IfOk result (λ id. IsLeastResultOfWord BuiltIn.Flatten
         (elements_of (graph_of world.old) operand) (elements_of (graph_of world.new) id)) }
-    ensures least { IfOk result (λ id. (wider result : Typ)
-        → elements_of (graph_of world.old) operand ⊆ In wider
-        → WordGives BuiltIn.Flatten (In wider) (In result)
-        → elements_of (graph_of world.new) id ⊆ In result) }
     ensures node { IfOk result (λ id. id.0 < length (graph_of world.new)) }
     ensures misfit { IfErr result
         (IsMisfitOfWord (graph_of world.old) (table_of world.new) BuiltIn.Flatten operand) }

@@ -44,7 +44,7 @@ use Rattle.cd_check.proofs.NamesFound.{node_below, seen_has_node}
 use Rattle.cd_check.proofs.Needed.{breaks}
 use Rattle.cd_check.proofs.OperandFaults.{FaultsOf, of_itself, past_expr, expr_fails, past_item, item_fails}
 use Rattle.cd_check.proofs.OperandFaults.{splice_misfits, past_field, field_fails}
-use Rattle.cd_check.proofs.OperandMisfits.{without_fails, select_fails, operand_fails}
+use Rattle.cd_check.proofs.OperandMisfits.{part_fails, operand_fails}
 use Rattle.cd_check.proofs.OperandsLeast.{ExprsLeast, none_least, ItemsLeast, no_item_least, item_least_steps}
 use Rattle.cd_check.proofs.OperandsLeast.{splice_least_steps, FieldsLeast, no_field_least}
 use Rattle.cd_check.proofs.OperandsMade.{xml_gives, within_atom, within_record}
@@ -95,6 +95,7 @@ use Rattle.cd_least.proofs.LeastForms.{without_least, select_least, constant_lea
 use Rattle.cd_least.specs.Faults.{ArgumentsFault, TailsFault, Fault, BranchFault, Nothing, Breaks, KindFault}
 use Rattle.cd_least.specs.Faults.{WordFault, ExprsFault, ItemsFault, FieldsFault}
 use Rattle.cd_least.specs.Misses.{IsUncovered, place_of}
+use Rattle.cd_meaning.specs.Records.{HasFieldAt}
 use Rattle.cd_meaning.specs.Sequences.{IsSequence, IsItemOf}
 use Rattle.cd_meaning.specs.Sets.{◌⊆◌, elements_of}
 use Rattle.cd_model.specs.AllOf.{AllOf}
@@ -241,7 +242,7 @@ expr::check_call-returns-in-Ok-clause-gives t c =
         typ (graph_of c.check.new.world) c.in_ok-id.id,
         c.in_ok-id.ensures.gives.is_type,
         c.in_ok-id.ensures.gives.has types of,
-        c.in-Ok.ensures.gives,
+        c.in-Ok.ensures.least.gives,
       );
     }
 
@@ -899,8 +900,8 @@ chain::check_tail-returns-in-Err-clause-fault t c =
     subst (λ (tail : Tail). TailFails base old locals table c.args.first c.args.at tail c.placed.result)
     (sym (ap plain_tail c.in-Without.is ∙ tail_without c.in-Without.label))
     (subst (TailFails base old locals table c.args.first c.args.at (Without c.in-Without.label)) (sym c.placed.ensures)
-    (λ f stands. without_fails (scope_of base) old (seen_by base locals) old table f c.args.first stands.0 c.args.at (sym stands.1)
-    c.in-Without.label stop c.in-Err.ensures.misfit))
+    (λ f stands. part_fails (scope_of base) old (seen_by base locals) old table f c.args.first stands.0 c.args.at (sym stands.1)
+    (BuiltIn RECORD) rule.Record stop c.in-Err.ensures.misfit))
 
 pub chain::check_tail-returns-in-Ok-take_field-clause-after : goal.chain::check_tail-returns-in-Ok-take_field-clause-after
 chain::check_tail-returns-in-Ok-take_field-clause-after t c =
@@ -934,8 +935,8 @@ chain::check_tail-returns-in-Err-take_field-clause-fault t c =
     subst (λ (tail : Tail). TailFails base old locals table c.args.first c.args.at tail c.placed-in-Err-take_field.result)
     (sym (ap plain_tail c.in-Select.is ∙ tail_select c.in-Select.label))
     (subst (TailFails base old locals table c.args.first c.args.at (Select c.in-Select.label)) (sym c.placed-in-Err-take_field.ensures)
-    (λ f stands. select_fails (scope_of base) old (seen_by base locals) old table f c.args.first stands.0 c.args.at (sym stands.1)
-    c.in-Select.label stop c.in-Err-take_field.ensures.misfit))
+    (λ f stands. part_fails (scope_of base) old (seen_by base locals) old table f c.args.first stands.0 c.args.at (sym stands.1)
+    (HasFieldAt c.in-Select.label) rule.Field stop c.in-Err-take_field.ensures.misfit))
 
 pub chain::check_operand-returns-in-Ok-clause-after : goal.chain::check_operand-returns-in-Ok-clause-after
 chain::check_operand-returns-in-Ok-clause-after t c = after_grown c.args.base.now c.args.locals.now (graph_of c.args.world.now) c.check.new.world
@@ -953,7 +954,7 @@ chain::check_operand-returns-in-Ok-clause-gives t c =
     c.operate.ensures.sound).ready in
     operand_gives (scope_of base) old (seen_by base locals) c.requires.ready.sound c.args.first c.requires.first middle step.after.later new
     (plain c.args.expr.now) c.in_ok-second.second step.gives c.args.op c.requires.met c.in-Ok.id
-    (type_in base new locals ready c.in-Ok.id c.in-Ok.ensures.node) c.in-Ok.ensures.gives
+    (type_in base new locals ready c.in-Ok.id c.in-Ok.ensures.node) c.in-Ok.ensures.least.gives
 
 pub chain::check_operand-returns-in-Err-clause-fault : goal.chain::check_operand-returns-in-Err-clause-fault
 chain::check_operand-returns-in-Err-clause-fault t c =
@@ -2099,7 +2100,7 @@ chain::check_operand-returns-in-Ok-clause-least t c types of =
     let step = c.in_ok-second.ensures in
     let second = c.in_ok-second.second in
     operated_least (scope_of base) old nodes c.requires.ready.sound c.args.first c.requires.first middle step.after.later new e second
-    (known (scope_of base) old nodes middle e second step.gives step.least) c.in-Ok.id types of c.args.op c.requires.met c.in-Ok.ensures.least
+    (known (scope_of base) old nodes middle e second step.gives step.least) c.in-Ok.id types of c.args.op c.requires.met c.in-Ok.ensures.least.within
 
 pub test::check_if-returns-clause-least : goal.test::check_if-returns-clause-least
 test::check_if-returns-clause-least t c =
@@ -2860,7 +2861,7 @@ expr::check_kind-returns-in-Some-clause-least t c =
 
 pub expr::check_call-returns-in-Ok-clause-least : goal.expr::check_call-returns-in-Ok-clause-least
 expr::check_call-returns-in-Ok-clause-least t c = λ types of t is_type has.
-    c.in-Ok.ensures.least has.0 t (c.in_ok-id.ensures.least types of has.0 has.1 has.2) has.3
+    c.in-Ok.ensures.least.within has.0 t (c.in_ok-id.ensures.least types of has.0 has.1 has.2) has.3
 
 pub operands::check_tuple-returns-clause-least : goal.operands::check_tuple-returns-clause-least
 operands::check_tuple-returns-clause-least t c =

@@ -15,30 +15,30 @@ use Rattle.cd_operators.specs.Misfits.{IsMisfitOfBoth}
 use Rattle.cd_operators.proofs.Operated.{sums_least, merges_least}
 use Rattle.cd_operators.proofs.Refused.{misfit_of_plus}
 use Rattle.cd_operators.proofs.operators.add.Goals as goal
-use Rattle.cd_operators.proofs.operators.add.Goals.{After-sums}
+use Rattle.cd_operators.proofs.operators.add.Goals.{After-results}
 
 -- two records
-pub returns-then-branch-clause-gives : goal.returns-then-branch-clause-gives
-returns-then-branch-clause-gives c =
-    let are = c.in_ok-are_records.ensures.within c.if-branch.true in
-    inr (
-      are.0,
-      are.1,
-      subst (λ (g : Graph). IsMergeOf (elements_of g c.args.first) (elements_of g c.args.second)
-          ⊆ elements_of (graph_of c.merged.new.world) c.in_ok-merged.field-0)
-          c.in_ok-are_records.ensures.graph c.in_ok-merged.ensures.has,
-    )
-
 pub returns-then-branch-clause-least : goal.returns-then-branch-clause-least
-returns-then-branch-clause-least c wider other result first second gives e element inside =
+returns-then-branch-clause-least c =
     let graph = graph_of c.args.world.now in
     let one = elements_of graph c.args.first in
     let two = elements_of graph c.args.second in
-    let only = subst (λ (g : Graph). elements_of (graph_of c.merged.new.world) c.in_ok-merged.field-0
+    let merges = elements_of (graph_of c.merged.new.world) c.in_ok-merged.field-0 in
+    let same = c.in_ok-are_records.ensures.graph in
+    let are = c.in_ok-are_records.ensures.within c.if-branch.true in
+    let only = subst (λ (g : Graph). merges
     ⊆ IsMergeOf (elements_of g c.args.first) (elements_of g c.args.second))
-    c.in_ok-are_records.ensures.graph c.in_ok-merged.ensures.only in
-    merges_least one two (In wider) (In other) (In result) first second gives
-    (c.in_ok-are_records.ensures.within c.if-branch.true).0 e element (only e element inside)
+    same c.in_ok-merged.ensures.only in record {
+      gives = inr (
+        are.0,
+        are.1,
+        subst (λ (g : Graph). IsMergeOf (elements_of g c.args.first) (elements_of g c.args.second)
+            ⊆ merges) same c.in_ok-merged.ensures.has,
+      );
+      within = λ wider other result first second gives e element inside. merges_least one two
+          (In wider) (In other) (In result) first second gives are.0 e element
+          (only e element inside);
+    }
 
 -- one is neither a record beside a record nor an integer
 pub returns-in_err-integers-clause-misfit : goal.returns-in_err-integers-clause-misfit
@@ -55,43 +55,38 @@ returns-in_err-integers-clause-misfit c =
     c.in_ok-are_records.ensures.graph c.in_err-integers.ensures.misfit))
 
 -- two integers
-pub returns-clause-gives : goal.returns-clause-gives
-returns-clause-gives c =
-    let first = c.args.first in
-    let second = c.args.second in
-    inl (
-      subst (λ (g : Graph). AreIntegers (elements_of g first) (elements_of g second))
-          c.in_ok-are_records.ensures.graph c.in_ok-integers.ensures.within,
-      subst (λ (g : Graph). IsResultOf (λ a b. a +ℤ b) (elements_of g first)
-          (elements_of g second)
-          ⊆ elements_of (graph_of c.sums.new.world) c.in_ok-sums.field-0)
-          (c.in_ok-integers.ensures.graph ∙ c.in_ok-are_records.ensures.graph)
-          c.in_ok-sums.ensures.has,
-    )
-
 pub returns-clause-least : goal.returns-clause-least
-returns-clause-least c wider other result first second gives e element inside =
+returns-clause-least c =
     let graph = graph_of c.args.world.now in
     let one = elements_of graph c.args.first in
     let two = elements_of graph c.args.second in
+    let results = elements_of (graph_of c.results.new.world) c.in_ok-results.field-0 in
     let same = c.in_ok-are_records.ensures.graph in
     let integers = subst (λ (g : Graph). AreIntegers (elements_of g c.args.first)
     (elements_of g c.args.second)) same c.in_ok-integers.ensures.within in
-    let only = subst (λ (g : Graph). elements_of (graph_of c.sums.new.world) c.in_ok-sums.field-0
+    let only = subst (λ (g : Graph). results
     ⊆ IsResultOf (λ a b. a +ℤ b) (elements_of g c.args.first) (elements_of g c.args.second))
-    (c.in_ok-integers.ensures.graph ∙ same) c.in_ok-sums.ensures.only in
-    sums_least one two (In wider) (In other) (In result) first second gives integers.0 e element
-    (only e element inside)
+    (c.in_ok-integers.ensures.graph ∙ same) c.in_ok-results.ensures.results.only in record {
+      gives = inl (
+        integers,
+        subst (λ (g : Graph). IsResultOf (λ a b. a +ℤ b) (elements_of g c.args.first)
+            (elements_of g c.args.second) ⊆ results)
+            (c.in_ok-integers.ensures.graph ∙ same) c.in_ok-results.ensures.results.has,
+      );
+      within = λ wider other result first second gives e element inside. sums_least one two
+          (In wider) (In other) (In result) first second gives integers.0 e element
+          (only e element inside);
+    }
 
-has_grown : (c : After-sums) → Grows c.args.world.now c.sums.new.world
-has_grown c = and_further c.args.world.now c.are_records.new.world c.sums.new.world
+has_grown : (c : After-results) → Grows c.args.world.now c.results.new.world
+has_grown c = and_further c.args.world.now c.are_records.new.world c.results.new.world
     c.in_ok-are_records.ensures.grows
-    (and_further c.are_records.new.world c.integers.new.world c.sums.new.world
-    c.in_ok-integers.ensures.grows c.sums.ensures.grows)
+    (and_further c.are_records.new.world c.integers.new.world c.results.new.world
+    c.in_ok-integers.ensures.grows c.results.ensures.grows)
 
-pub returns-in_err-sums-clause-grows : goal.returns-in_err-sums-clause-grows
-returns-in_err-sums-clause-grows c =
-    has_grown (goal.at.returns-in_err-sums-clause-grows c).After-sums
+pub returns-in_err-results-clause-grows : goal.returns-in_err-results-clause-grows
+returns-in_err-results-clause-grows c =
+    has_grown (goal.at.returns-in_err-results-clause-grows c).After-results
 
 pub returns-clause-grows : goal.returns-clause-grows
-returns-clause-grows c = has_grown (goal.at.returns-clause-grows c).After-sums
+returns-clause-grows c = has_grown (goal.at.returns-clause-grows c).After-results

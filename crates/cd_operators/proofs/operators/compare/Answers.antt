@@ -20,19 +20,18 @@ returns-in_err-need_both-clause-misfit c =
     c.args.second (BuiltIn DATA) rule.Comparison (type_in_node graph begins DATA (lit< tt))
     (node_in_type graph begins DATA (lit< tt)) c.in_err-need_both.field-0.0 c.in_err-need_both.ensures.misfit)
 
-pub returns-clause-gives : goal.returns-clause-gives
-returns-clause-gives c =
-    let graph = graph_of c.args.world.now in
-    let begins = c.graph.ensures.built_in in (
-      in_type graph begins DATA (lit< tt) (elements_of graph c.args.first)
-          c.in_ok-need_both.ensures.first,
-      in_type graph begins DATA (lit< tt) (elements_of graph c.args.second)
-          c.in_ok-need_both.ensures.second,
-      type_stays graph begins BOOL (lit< tt) (graph_of c.need_both.new.world)
-          c.in_ok-need_both.ensures.graph,
-    )
-
 pub returns-clause-least : goal.returns-clause-least
-returns-clause-least c wider other result first second gives =
-    node_within (graph_of c.args.world.now) c.graph.ensures.built_in BOOL (lit< tt)
-    (graph_of c.need_both.new.world) c.in_ok-need_both.ensures.graph (In result) gives.2
+returns-clause-least c =
+    let graph = graph_of c.args.world.now in
+    let begins = c.graph.ensures.built_in in record {
+      gives = (
+        in_type graph begins DATA (lit< tt) (elements_of graph c.args.first)
+            c.in_ok-need_both.ensures.first,
+        in_type graph begins DATA (lit< tt) (elements_of graph c.args.second)
+            c.in_ok-need_both.ensures.second,
+        type_stays graph begins BOOL (lit< tt) (graph_of c.need_both.new.world)
+            c.in_ok-need_both.ensures.graph,
+      );
+      within = λ wider other result first second gives. node_within graph begins BOOL (lit< tt)
+          (graph_of c.need_both.new.world) c.in_ok-need_both.ensures.graph (In result) gives.2;
+    }

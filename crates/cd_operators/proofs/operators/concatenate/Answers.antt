@@ -21,24 +21,24 @@ returns-in_err-need_both-clause-misfit c =
     c.requires.tools.all_sequences c.requires.tools.are_sequences c.in_err-need_both.field-0.0
     c.in_err-need_both.ensures.misfit)
 
-pub returns-clause-gives : goal.returns-clause-gives
-returns-clause-gives c =
-    let graph = graph_of c.args.world.now in
-    let sequences = elements_of graph c.args.tools.now.sequences in (
-      through (elements_of graph c.args.first) sequences IsSequence
-          c.in_ok-need_both.ensures.first c.requires.tools.are_sequences,
-      through (elements_of graph c.args.second) sequences IsSequence
-          c.in_ok-need_both.ensures.second c.requires.tools.are_sequences,
-      subst (λ (g : Graph). IsJoinOf (elements_of g c.args.first) (elements_of g c.args.second)
-          ⊆ elements_of (graph_of c.joined.new.world) c.in_ok-joined.field-0)
-          c.in_ok-need_both.ensures.graph c.in_ok-joined.ensures.has,
-    )
-
 pub returns-clause-least : goal.returns-clause-least
-returns-clause-least c wider other result first second gives e element inside =
+returns-clause-least c =
     let graph = graph_of c.args.world.now in
+    let one = elements_of graph c.args.first in
+    let two = elements_of graph c.args.second in
+    let sequences = elements_of graph c.args.tools.now.sequences in
     let only = subst (λ (g : Graph). elements_of (graph_of c.joined.new.world) c.in_ok-joined.field-0
     ⊆ IsJoinOf (elements_of g c.args.first) (elements_of g c.args.second))
-    c.in_ok-need_both.ensures.graph c.in_ok-joined.ensures.only in
-    gives.2 e element (joins_grow (elements_of graph c.args.first) (elements_of graph c.args.second)
-    (In wider) (In other) first second e element (only e element inside))
+    c.in_ok-need_both.ensures.graph c.in_ok-joined.ensures.only in record {
+      gives = (
+        through one sequences IsSequence c.in_ok-need_both.ensures.first
+            c.requires.tools.are_sequences,
+        through two sequences IsSequence c.in_ok-need_both.ensures.second
+            c.requires.tools.are_sequences,
+        subst (λ (g : Graph). IsJoinOf (elements_of g c.args.first) (elements_of g c.args.second)
+            ⊆ elements_of (graph_of c.joined.new.world) c.in_ok-joined.field-0)
+            c.in_ok-need_both.ensures.graph c.in_ok-joined.ensures.has,
+      );
+      within = λ wider other result first second gives e element inside. gives.2 e element
+          (joins_grow one two (In wider) (In other) first second e element (only e element inside));
+    }

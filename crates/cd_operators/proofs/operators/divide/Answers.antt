@@ -19,24 +19,23 @@ zeros-requires-clause-tools c = subst (λ (g : Graph). AreTools g c.args.tools.n
     (sym c.in_ok-integers.ensures.graph) c.requires.tools
 
 -- no divisor is 0
-pub returns-in-Empty-clause-gives : goal.returns-in-Empty-clause-gives
-returns-in-Empty-clause-gives c =
+pub returns-in-Empty-clause-least : goal.returns-in-Empty-clause-least
+returns-in-Empty-clause-least c =
     let graph = graph_of c.args.world.now in
     let tools = c.args.tools.now in
+    let last = graph_of c.zeros.new.world in
+    let same = c.in_ok-zeros.ensures.graph ∙ c.in_ok-integers.ensures.graph in
     let none = subst (λ (g : Graph). IsExact g (table_of c.zeros.new.world)
     (question (c.args.second ∷ tools.zero ∷ []) []) Empty) c.in_ok-integers.ensures.graph
-    (rw c.in-Empty.is at c.in_ok-zeros.ensures.exact) in (
-      c.in_ok-integers.ensures.within,
-      never_zero graph tools c.requires.tools c.args.second none.0,
-      type_stays graph c.graph.ensures.built_in INT (lit< tt) (graph_of c.zeros.new.world)
-          (c.in_ok-zeros.ensures.graph ∙ c.in_ok-integers.ensures.graph),
-    )
-
-pub returns-in-Empty-clause-least : goal.returns-in-Empty-clause-least
-returns-in-Empty-clause-least c wider other result first second gives =
-    node_within (graph_of c.args.world.now) c.graph.ensures.built_in INT (lit< tt)
-    (graph_of c.zeros.new.world) (c.in_ok-zeros.ensures.graph ∙ c.in_ok-integers.ensures.graph)
-    (In result) gives.2
+    (rw c.in-Empty.is at c.in_ok-zeros.ensures.exact) in record {
+      gives = (
+        c.in_ok-integers.ensures.within,
+        never_zero graph tools c.requires.tools c.args.second none.0,
+        type_stays graph c.graph.ensures.built_in INT (lit< tt) last same,
+      );
+      within = λ wider other result first second gives. node_within graph
+          c.graph.ensures.built_in INT (lit< tt) last same (In result) gives.2;
+    }
 
 -- an operand that is no integer
 pub returns-in_err-integers-clause-misfit : goal.returns-in_err-integers-clause-misfit

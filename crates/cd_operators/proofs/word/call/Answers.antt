@@ -4,11 +4,11 @@ use Rattle.cd_model.specs.BuiltIns.{BOOL, DATA, EMPTY, INT, STRING}
 use Rattle.cd_program.specs.declared.operator.BuiltIn.{BuiltIn as Word}
 use Rattle.cd_program.specs.declared.operator.BuiltIn.TheVariants as word
 use Rattle.cd_meaning.specs.Sets.{elements_of}
-use Rattle.cd_typing.specs.Operators.{WordGives}
 use Rattle.cd_typing.specs.Typ.{In}
 use Rattle.cd_empty.specs.Seen.{graph_of, table_of}
 use Rattle.cd_operators.specs.declared.misfit.Side.TheVariants.{First}
 use Rattle.cd_operators.specs.Misfits.{IsMisfitOfWord}
+use Rattle.cd_operators.specs.ResultTypes.{IsLeastResultOfWord}
 use Rattle.cd_operators.proofs.BuiltInNodes.{in_type, type_in_node, type_stays, node_within}
 use Rattle.cd_operators.proofs.Operated.{empty_least}
 use Rattle.cd_operators.proofs.Refused.{misfit_of_word}
@@ -28,23 +28,22 @@ returns-in_err-need-in-Not-clause-misfit c =
     (type_in_node graph c.graph.ensures.built_in BOOL (lit< tt)) stop
     c.in_err-need-in-Not.ensures.misfit))
 
-pub returns-in_ok-need-in-Not-clause-gives : goal.returns-in_ok-need-in-Not-clause-gives
-returns-in_ok-need-in-Not-clause-gives c =
+pub returns-in_ok-need-in-Not-clause-least : goal.returns-in_ok-need-in-Not-clause-least
+returns-in_ok-need-in-Not-clause-least c =
     let graph = graph_of c.args.world.now in
     let begins = c.graph.ensures.built_in in
-    subst (λ (one : Word). WordGives one (elements_of graph c.args.operand)
-    (elements_of (graph_of c.need.new.world) BOOL)) (sym c.in-Not.is) (
-      in_type graph begins BOOL (lit< tt) (elements_of graph c.args.operand)
-          c.in_ok-need-in-Not.ensures.within,
-      type_stays graph begins BOOL (lit< tt) (graph_of c.need.new.world)
-          c.in_ok-need-in-Not.ensures.graph,
-    )
-
-pub returns-in_ok-need-in-Not-clause-least : goal.returns-in_ok-need-in-Not-clause-least
-returns-in_ok-need-in-Not-clause-least c wider result fewer gives =
-    node_within (graph_of c.args.world.now) c.graph.ensures.built_in BOOL (lit< tt)
-    (graph_of c.need.new.world) c.in_ok-need-in-Not.ensures.graph (In result)
-    (subst (λ (one : Word). WordGives one (In wider) (In result)) c.in-Not.is gives).1
+    let last = graph_of c.need.new.world in
+    let same = c.in_ok-need-in-Not.ensures.graph in
+    subst (λ (one : Word). IsLeastResultOfWord one (elements_of graph c.args.operand)
+    (elements_of last BOOL)) (sym c.in-Not.is) (record {
+      gives = (
+        in_type graph begins BOOL (lit< tt) (elements_of graph c.args.operand)
+            c.in_ok-need-in-Not.ensures.within,
+        type_stays graph begins BOOL (lit< tt) last same,
+      );
+      within = λ wider result fewer gives. node_within graph begins BOOL (lit< tt) last same
+          (In result) gives.1;
+    })
 
 -- `int_of`
 pub returns-in_err-need-in-IntOf-clause-misfit : goal.returns-in_err-need-in-IntOf-clause-misfit
@@ -60,23 +59,22 @@ returns-in_err-need-in-IntOf-clause-misfit c =
     (type_in_node graph c.graph.ensures.built_in STRING (lit< tt)) stop
     c.in_err-need-in-IntOf.ensures.misfit))
 
-pub returns-in_ok-need-in-IntOf-clause-gives : goal.returns-in_ok-need-in-IntOf-clause-gives
-returns-in_ok-need-in-IntOf-clause-gives c =
+pub returns-in_ok-need-in-IntOf-clause-least : goal.returns-in_ok-need-in-IntOf-clause-least
+returns-in_ok-need-in-IntOf-clause-least c =
     let graph = graph_of c.args.world.now in
     let begins = c.graph.ensures.built_in in
-    subst (λ (one : Word). WordGives one (elements_of graph c.args.operand)
-    (elements_of (graph_of c.need-in-IntOf.new.world) INT)) (sym c.in-IntOf.is) (
-      in_type graph begins STRING (lit< tt) (elements_of graph c.args.operand)
-          c.in_ok-need-in-IntOf.ensures.within,
-      type_stays graph begins INT (lit< tt) (graph_of c.need-in-IntOf.new.world)
-          c.in_ok-need-in-IntOf.ensures.graph,
-    )
-
-pub returns-in_ok-need-in-IntOf-clause-least : goal.returns-in_ok-need-in-IntOf-clause-least
-returns-in_ok-need-in-IntOf-clause-least c wider result fewer gives =
-    node_within (graph_of c.args.world.now) c.graph.ensures.built_in INT (lit< tt)
-    (graph_of c.need-in-IntOf.new.world) c.in_ok-need-in-IntOf.ensures.graph (In result)
-    (subst (λ (one : Word). WordGives one (In wider) (In result)) c.in-IntOf.is gives).1
+    let last = graph_of c.need-in-IntOf.new.world in
+    let same = c.in_ok-need-in-IntOf.ensures.graph in
+    subst (λ (one : Word). IsLeastResultOfWord one (elements_of graph c.args.operand)
+    (elements_of last INT)) (sym c.in-IntOf.is) (record {
+      gives = (
+        in_type graph begins STRING (lit< tt) (elements_of graph c.args.operand)
+            c.in_ok-need-in-IntOf.ensures.within,
+        type_stays graph begins INT (lit< tt) last same,
+      );
+      within = λ wider result fewer gives. node_within graph begins INT (lit< tt) last same
+          (In result) gives.1;
+    })
 
 -- `string_of`
 pub returns-in_err-need-in-StringOf-clause-misfit : goal.returns-in_err-need-in-StringOf-clause-misfit
@@ -92,23 +90,22 @@ returns-in_err-need-in-StringOf-clause-misfit c =
     (type_in_node graph c.graph.ensures.built_in INT (lit< tt)) stop
     c.in_err-need-in-StringOf.ensures.misfit))
 
-pub returns-in_ok-need-in-StringOf-clause-gives : goal.returns-in_ok-need-in-StringOf-clause-gives
-returns-in_ok-need-in-StringOf-clause-gives c =
+pub returns-in_ok-need-in-StringOf-clause-least : goal.returns-in_ok-need-in-StringOf-clause-least
+returns-in_ok-need-in-StringOf-clause-least c =
     let graph = graph_of c.args.world.now in
     let begins = c.graph.ensures.built_in in
-    subst (λ (one : Word). WordGives one (elements_of graph c.args.operand)
-    (elements_of (graph_of c.need-in-StringOf.new.world) STRING)) (sym c.in-StringOf.is) (
-      in_type graph begins INT (lit< tt) (elements_of graph c.args.operand)
-          c.in_ok-need-in-StringOf.ensures.within,
-      type_stays graph begins STRING (lit< tt) (graph_of c.need-in-StringOf.new.world)
-          c.in_ok-need-in-StringOf.ensures.graph,
-    )
-
-pub returns-in_ok-need-in-StringOf-clause-least : goal.returns-in_ok-need-in-StringOf-clause-least
-returns-in_ok-need-in-StringOf-clause-least c wider result fewer gives =
-    node_within (graph_of c.args.world.now) c.graph.ensures.built_in STRING (lit< tt)
-    (graph_of c.need-in-StringOf.new.world) c.in_ok-need-in-StringOf.ensures.graph (In result)
-    (subst (λ (one : Word). WordGives one (In wider) (In result)) c.in-StringOf.is gives).1
+    let last = graph_of c.need-in-StringOf.new.world in
+    let same = c.in_ok-need-in-StringOf.ensures.graph in
+    subst (λ (one : Word). IsLeastResultOfWord one (elements_of graph c.args.operand)
+    (elements_of last STRING)) (sym c.in-StringOf.is) (record {
+      gives = (
+        in_type graph begins INT (lit< tt) (elements_of graph c.args.operand)
+            c.in_ok-need-in-StringOf.ensures.within,
+        type_stays graph begins STRING (lit< tt) last same,
+      );
+      within = λ wider result fewer gives. node_within graph begins STRING (lit< tt) last same
+          (In result) gives.1;
+    })
 
 -- `raise`
 pub returns-in_err-need-in-Raise-clause-misfit : goal.returns-in_err-need-in-Raise-clause-misfit
@@ -124,20 +121,18 @@ returns-in_err-need-in-Raise-clause-misfit c =
     (type_in_node graph c.graph.ensures.built_in DATA (lit< tt)) stop
     c.in_err-need-in-Raise.ensures.misfit))
 
-pub returns-in_ok-need-in-Raise-clause-gives : goal.returns-in_ok-need-in-Raise-clause-gives
-returns-in_ok-need-in-Raise-clause-gives c =
+pub returns-in_ok-need-in-Raise-clause-least : goal.returns-in_ok-need-in-Raise-clause-least
+returns-in_ok-need-in-Raise-clause-least c =
     let graph = graph_of c.args.world.now in
     let begins = c.graph.ensures.built_in in
-    subst (λ (one : Word). WordGives one (elements_of graph c.args.operand)
-    (elements_of (graph_of c.need-in-Raise.new.world) EMPTY)) (sym c.in-Raise.is)
-    (in_type graph begins DATA (lit< tt) (elements_of graph c.args.operand)
-    c.in_ok-need-in-Raise.ensures.within)
-
-pub returns-in_ok-need-in-Raise-clause-least : goal.returns-in_ok-need-in-Raise-clause-least
-returns-in_ok-need-in-Raise-clause-least c wider result fewer gives =
-    node_within (graph_of c.args.world.now) c.graph.ensures.built_in EMPTY (lit< tt)
-    (graph_of c.need-in-Raise.new.world) c.in_ok-need-in-Raise.ensures.graph (In result)
-    (empty_least (In result))
+    let last = graph_of c.need-in-Raise.new.world in
+    subst (λ (one : Word). IsLeastResultOfWord one (elements_of graph c.args.operand)
+    (elements_of last EMPTY)) (sym c.in-Raise.is) (record {
+      gives = in_type graph begins DATA (lit< tt) (elements_of graph c.args.operand)
+          c.in_ok-need-in-Raise.ensures.within;
+      within = λ wider result fewer gives. node_within graph begins EMPTY (lit< tt) last
+          c.in_ok-need-in-Raise.ensures.graph (In result) (empty_least (In result));
+    })
 
 -- `flatten`
 pub returns-in-Flatten-clause-least : goal.returns-in-Flatten-clause-least

@@ -35,31 +35,30 @@ pub returns-clause-grows : goal.returns-clause-grows
 returns-clause-grows c = grown_on (goal.at.returns-clause-grows c).After-list_of
 
 -- the item is that of the inner sequences, in the graph where it was put
-pub returns-clause-gives : goal.returns-clause-gives
-returns-clause-gives c =
+pub returns-clause-least : goal.returns-clause-least
+returns-clause-least c =
     let graph = graph_of c.args.world.now in
     let operand = elements_of graph c.args.operand in
     let lists = elements_of (graph_of c.items.new.world) c.in_ok-lists.lists in
-    let item = typ (graph_of c.items-2.new.world) c.in_ok-inner.inner in (
-      item,
-      is_type c.args.world.now c.items-2.new.world
-          (grown (goal.at.returns-clause-gives c).After-items-2) c.in_ok-inner.ensures.sound
-          c.graph.ensures.built_in c.in_ok-inner.inner c.in_ok-inner.ensures.node,
-      lists_of_lists operand lists (elements_of item.graph item.id)
-          (through operand (elements_of graph c.args.tools.now.lists) (IsListOf IsSequence)
-          c.in_ok-need.ensures.within c.requires.tools.are_lists)
-          (subst (λ (g : Graph). IsItemOf (elements_of g c.args.operand) ⊆ lists)
-          c.in_ok-need.ensures.graph c.in_ok-lists.ensures.has) c.in_ok-inner.ensures.has,
-      c.in_ok-list_of.ensures.has,
-    )
-
-pub returns-clause-least : goal.returns-clause-least
-returns-clause-least c wider result fewer gives =
-    let operand = elements_of (graph_of c.args.world.now) c.args.operand in
-    let lists = elements_of (graph_of c.items.new.world) c.in_ok-lists.lists in
     let inner = elements_of (graph_of c.items-2.new.world) c.in_ok-inner.inner in
-    through (elements_of (graph_of c.list_of.new.world) c.in_ok-list_of.field-0) (IsListOf inner)
-    (In result) c.in_ok-list_of.ensures.only
-    (flat_least operand (In wider) lists inner (In result) fewer
-    (subst (λ (g : Graph). lists ⊆ IsItemOf (elements_of g c.args.operand))
-    c.in_ok-need.ensures.graph c.in_ok-lists.ensures.only) c.in_ok-inner.ensures.only gives)
+    let item = typ (graph_of c.items-2.new.world) c.in_ok-inner.inner in
+    let same = c.in_ok-need.ensures.graph in record {
+      gives = (
+        item,
+        is_type c.args.world.now c.items-2.new.world
+            (grown (goal.at.returns-clause-least c).After-items-2) c.in_ok-inner.ensures.sound
+            c.graph.ensures.built_in c.in_ok-inner.inner c.in_ok-inner.ensures.node,
+        lists_of_lists operand lists inner
+            (through operand (elements_of graph c.args.tools.now.lists) (IsListOf IsSequence)
+            c.in_ok-need.ensures.within c.requires.tools.are_lists)
+            (subst (λ (g : Graph). IsItemOf (elements_of g c.args.operand) ⊆ lists) same
+            c.in_ok-lists.ensures.has) c.in_ok-inner.ensures.has,
+        c.in_ok-list_of.ensures.has,
+      );
+      within = λ wider result fewer gives.
+          through (elements_of (graph_of c.list_of.new.world) c.in_ok-list_of.field-0)
+          (IsListOf inner) (In result) c.in_ok-list_of.ensures.only
+          (flat_least operand (In wider) lists inner (In result) fewer
+          (subst (λ (g : Graph). lists ⊆ IsItemOf (elements_of g c.args.operand)) same
+          c.in_ok-lists.ensures.only) c.in_ok-inner.ensures.only gives);
+    }

@@ -5,8 +5,8 @@ use Rattle.cd_graph.specs.PlainFormula.{plain, plain_list}
 use Rattle.cd_empty.specs.Seen.{graph_of}
 use Rattle.cd_operators.specs.Inner.Results.{AreIntegersOf, AreResults}
 use Rattle.cd_operators.proofs.ResultNodes.{results_there, same_results}
-use Rattle.cd_operators.proofs.sums.results.Goals as goal
-use Rattle.cd_operators.proofs.sums.results.Goals.{In_ok-id}
+use Rattle.cd_operators.proofs.results.results.Goals as goal
+use Rattle.cd_operators.proofs.results.results.Goals.{In_ok-id}
 
 -- the formula that is put in
 batch_is : (c : In_ok-id) → plain_list c.in_ok-of.field-0

@@ -1,6 +1,6 @@
 use Rattle.cd_graph.specs.Nodes.{nodes}
 use Rattle.cd_operators.proofs.ResultNodes.{integers_there}
-use Rattle.cd_operators.proofs.sums.integers_of.Goals as goal
+use Rattle.cd_operators.proofs.results.integers_of.Goals as goal
 
 pub returns : goal.returns
 returns c = integers_there (nodes c.args.graph.now) c.args.id c.in_ok-asked.asked
