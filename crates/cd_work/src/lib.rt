@@ -25,7 +25,6 @@ mod runs;
 ///
 /// Want of memory.
 pub fn work(alloc: Global, size: u32) -> Result<Message, AllocError>
-    requires least { 1 ≤ size }
     requires most { size ≤ 100000 }
     ensures { IfOk result (λ message. WorkAnswer size (reply_of message)) }
 {

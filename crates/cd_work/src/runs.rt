@@ -41,7 +41,6 @@ pub(crate) struct Ended {
 
 /// The run of the program on the document of so many entries.
 pub(crate) fn run_document(alloc: Global, size: u32) -> Result<Ended, AllocError>
-    requires least { 1 ≤ size }
     requires most { size ≤ 100000 }
     ensures { IfOk result (λ ended. (value : Thing) × Runs size ended.used value
         × (ended.length ≡ length (text_of value))) }
@@ -91,7 +90,6 @@ fn typed_program(alloc: Global) -> Result<Program, AllocError>
 
 // The value of the document of so many entries, which is added to the values.
 fn document_value(alloc: Global, values: &mut Values, size: u32) -> Result<ValueId, AllocError>
-    requires least { 1 ≤ size }
     requires most { size ≤ 100000 }
     ensures within { IfOk result (λ id. id.0 < length (table values.new)) }
     ensures is { IfOk result (λ id. thing_at (table values.new) id.0 ≡ document size) }

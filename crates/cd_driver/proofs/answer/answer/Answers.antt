@@ -54,11 +54,10 @@ returns-in-Some-Run-clause-files g c =
     reads_run (texts c.args.words.now) _ _ c.in-Some-Run.units c.in-Some-Run.file.now c.in-Some-Run.document.now
     (rw c.in-Some-Run.field-0-is at c.in-Some-Run.ensures) c.run.ensures.read
 
-pub work-requires-clause-least : goal.work-requires-clause-least
-work-requires-clause-least g c = (rw c.in-Some-Work.field-0-is at c.in-Some-Work.ensures).2.least
-
-pub work-requires-clause-most : goal.work-requires-clause-most
-work-requires-clause-most g c = (rw c.in-Some-Work.field-0-is at c.in-Some-Work.ensures).2.most
+pub work-requires : goal.work-requires
+work-requires g c = record {
+  most = (rw c.in-Some-Work.field-0-is at c.in-Some-Work.ensures).2.most;
+}
 
 pub returns-in-Some-Work-clause-answer : goal.returns-in-Some-Work-clause-answer
 returns-in-Some-Work-clause-answer g c =
