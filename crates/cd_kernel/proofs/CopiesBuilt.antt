@@ -21,13 +21,13 @@ use Rattle.cd_kernel.specs.Inner.Building.{rows_made}
 use Rattle.cd_kernel.specs.Inner.Building.{steps_of}
 use Rattle.cd_kernel.specs.Inner.Building.{put_rows, put_copy}
 use Rattle.cd_kernel.specs.Inner.Gathering.{numbered, gathering, all_gathering}
-use Rattle.cd_kernel.specs.Inner.Rows.{heads_row}
+use Rattle.cd_kernel.specs.Inner.Rows.{first_moves_row}
 use Rattle.cd_kernel.proofs.GrowingNodes.{Keeps, Made, made_on}
 use Rattle.cd_kernel.proofs.MovesWithin.{LeadsWithin, start_within, rows_within}
 use Rattle.cd_kernel.proofs.PartsStand.{items_long, states_long}
 use Rattle.cd_kernel.proofs.RowsBuilt.{HaveNumbers, AreSteps, starts_of, starts_are_places}
 use Rattle.cd_kernel.proofs.RowsBuilt.{row_is_state, rows_are_states, row_is_made, rows_grow}
-use Rattle.cd_kernel.proofs.RowsMade.{heads_row_is, states_rows_are}
+use Rattle.cd_kernel.proofs.RowsMade.{first_moves_row_is, states_rows_are}
 
 -- the variable of a group that gathers each item
 module _ (variables group : List Name) where
@@ -93,7 +93,7 @@ module _ (variables : List Name) (r : Regular NodeId) (group : List Name) (items
 
   pub copy_is_made : Made items.1 (put_copy variables r group items)
   copy_is_made = made_on items.1 between (put_copy variables r group items)
-      (rows_grow steps (rows_made r) items.1) (row_is_made steps (heads_row r 0) between)
+      (rows_grow steps (rows_made r) items.1) (row_is_made steps (first_moves_row r 0) between)
 
   pub states_count : length steps.states ≡ length (items_of [] r)
   states_count = places_long (length group) (length items.1) (rows_made r)
@@ -141,10 +141,10 @@ module _ (variables : List Name) (r : Regular NodeId) (group : List Name) (items
   is_copy final plain named long distinct alone keeps = record {
     starts = subst
         (λ (row : List Move). IsState the_types variables final (copy_put plain) (items_of [] r) row
-        (put_copy variables r group items).0) (heads_row_is r)
+        (put_copy variables r group items).0) (first_moves_row_is r)
         (row_is_state variables final (items_of [] r) (copy_put plain) steps
-        (are_steps plain named long) (heads_row r 0) between
-        (subst (AllOf (LeadsWithin (items_of [] r))) (sym (heads_row_is r)) (start_within r))
+        (are_steps plain named long) (first_moves_row r 0) between
+        (subst (AllOf (LeadsWithin (items_of [] r))) (sym (first_moves_row_is r)) (start_within r))
         keeps);
     goes_on = λ place number h.
         subst (λ (rows : List (List Move)). IsState the_types variables final (copy_put plain)
@@ -154,7 +154,7 @@ module _ (variables : List Name) (r : Regular NodeId) (group : List Name) (items
         (subst (AllOf (AllOf (LeadsWithin (items_of [] r)))) (sym (states_rows_are r))
         (rows_within r))
         (λ n x there. keeps n x
-        ((row_is_made steps (heads_row r 0) between).grows.keeps n x there)) place number
+        ((row_is_made steps (first_moves_row r 0) between).grows.keeps n x there)) place number
         (ap (λ (list : List ℕ). slice_get list place) starts_are_states ∙ h));
     distinct = distinct;
     alone = alone;

@@ -21,7 +21,7 @@ use Rattle.cd_matching.specs.Pattern.{Pattern, Patterns, NoPattern, APattern, Fi
 use Rattle.cd_matching.specs.Pattern.{Regular, Regulars, NoRegular, ARegular, Sequence}
 use Rattle.cd_matching.specs.Variables.{binds, is_gathered, is_plain}
 use Rattle.cd_matching.specs.Variables.{one_is_gathered, one_is_plain, regular_binds, regulars_bind}
-use Rattle.cd_kernel.specs.Automaton.{Move, End, To, ItemOf, items_in, items_of, heads, once}
+use Rattle.cd_kernel.specs.Automaton.{Move, End, To, ItemOf, items_in, items_of, first_moves, once}
 use Rattle.cd_kernel.specs.Automaton.{rows_of, states}
 use Rattle.cd_kernel.specs.Copies.{Types, AreTypes, IsAt, IsNumber, is_among, AreDistinct}
 use Rattle.cd_kernel.specs.Copies.{gatherer, Copy, in_a_group, AreDisjoint, ArePut, IsStep}
@@ -159,9 +159,9 @@ module _ {T : Type 0} (IsType : T → Type 0) (types : Types T) (variables : Lis
 
   pub start_state : (keeps : Names) (r : Regular T) (copy : Copy) → is_copy_of keeps r copy
       → a_piece (copy_binds keeps r copy (is_plain r)) copy.start
-  start_state keeps r copy of = state_of keeps r copy (is_plain r) (once (heads r 0)) copy.start of
+  start_state keeps r copy of = state_of keeps r copy (is_plain r) (once (first_moves r 0)) copy.start of
       of.is_copy.starts (start_binds r of.named.2)
-      (has_move (rows_of r) (once (heads r 0)) (start_ends IsType r of.well_made))
+      (has_move (rows_of r) (once (first_moves r 0)) (start_ends IsType r of.well_made))
 
   module _ (are_types : AreTypes IsType types) where
     pub good_move : (keeps : Names) (r : Regular T) (copy : Copy) (plain : Names) (move : Move)
@@ -363,9 +363,9 @@ module _ {T : Type 0} (IsType : T → Type 0) (types : Types T) (variables : Lis
         (copies_bind keeps r (copy ∷ []))
         (λ name h. or_left (copy_binds keeps r copy (is_plain r) name) false h) number
         (subst (is_good (copy_binds keeps r copy (is_plain r))) joined
-        (good_state keeps r copy (is_plain r) (once (heads r 0)) copy.start of.0
+        (good_state keeps r copy (is_plain r) (once (first_moves r 0)) copy.start of.0
         of.0.is_copy.starts (start_binds r of.0.named.2)
-        (has_move (rows_of r) (once (heads r 0)) (start_ends IsType r of.0.well_made))))
+        (has_move (rows_of r) (once (first_moves r 0)) (start_ends IsType r of.0.well_made))))
     good_joined keeps r (copy ∷ next ∷ copies) number (other, there, joined) of disjoint = (
       Both copy.start other,
       there,

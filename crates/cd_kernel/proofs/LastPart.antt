@@ -8,7 +8,7 @@ use Rattle.cd_matching.specs.Pattern.{Regular, Regulars, ARegular, regulars_of}
 use Rattle.cd_matching.specs.PlainPattern.{plain_regular}
 use Rattle.cd_matching.specs.declared.pattern.RegPat.{RegPat as CodeRegular}
 use Rattle.cd_kernel.specs.Automaton.{Move, items_in, items_in_all}
-use Rattle.cd_kernel.specs.Inner.Rows.{plain_row, plain_rows, followed, heads_row, after_row}
+use Rattle.cd_kernel.specs.Inner.Rows.{plain_row, plain_rows, followed, first_moves_row, after_row}
 use Rattle.cd_kernel.specs.Inner.Rows.{rows_back, rows_back_in_turn, rows_back_of_one}
 use Rattle.cd_kernel.specs.declared.moves.Row.{Row as CodeRow}
 use Rattle.cd_kernel.proofs.NextItem.{at_item}
@@ -39,11 +39,11 @@ pub before_part : (at count items : ℕ) → count ≡ items → count ≤ at �
 before_part at count items same within = omega (arith, same, within)
 
 pub after_step : (first : Regular NodeId) (rest left : Regulars NodeId) (at less : ℕ)
-    (next after heads new : List Move) → left ≡ ARegular first rest
-    → less + items_in first ≡ at → after ≡ after_row rest at next → heads ≡ heads_row first less
-    → new ≡ followed heads after → new ≡ after_row left less next
-after_step first rest left at less next after heads new are sum is heads_are made = made
-    ∙ ap₂ followed heads_are
+    (next after first_moves new : List Move) → left ≡ ARegular first rest
+    → less + items_in first ≡ at → after ≡ after_row rest at next → first_moves ≡ first_moves_row first less
+    → new ≡ followed first_moves after → new ≡ after_row left less next
+after_step first rest left at less next after first_moves new are sum is first_moves_are made = made
+    ∙ ap₂ followed first_moves_are
     (is ∙ ap (λ (n : ℕ). after_row rest n next) (sym sum))
     ∙ sym (ap (λ (parts : Regulars NodeId). after_row parts less next) are)
 

@@ -31,7 +31,7 @@ pub mod MadeIsSound
 pub mod MadeExample
 pub mod NextItem
 pub mod LastPart
-pub mod HeadsMade
+pub mod FirstMovesMade
 pub mod RowsOnce
 pub mod FieldsSorted
 pub mod RowsMade

@@ -9,8 +9,8 @@ use Rattle.cd_matching.specs.Pattern as pattern
 use Rattle.cd_matching.specs.Pattern.{Regular, Regulars, NoRegular, ARegular}
 use Rattle.cd_matching.proofs.Falling.{is_there}
 use Rattle.cd_kernel.specs.Automaton.{Move, End, To, instead, without_end, once}
-use Rattle.cd_kernel.specs.Automaton.{items_in, items_in_all, turns, first_turn, heads}
-use Rattle.cd_kernel.specs.Automaton.{heads_in_turn, heads_of_one, states, states_in_turn}
+use Rattle.cd_kernel.specs.Automaton.{items_in, items_in_all, turns, first_turn, first_moves}
+use Rattle.cd_kernel.specs.Automaton.{first_moves_in_turn, first_moves_of_one, states, states_in_turn}
 use Rattle.cd_kernel.specs.Automaton.{states_of_one, items_of, rows_of, ItemOf}
 use Rattle.cd_kernel.proofs.PartsStand.{items_long}
 use Rattle.cd_kernel.proofs.PlainVariables.{all_once}
@@ -65,30 +65,30 @@ module _ (high : ℕ) where
 
   module _ {T : Type 0} where
     mutual
-      heads_below : (r : Regular T) (before : ℕ) → before + items_in r ≤ high
-          → AreBelow high (heads r before)
-      heads_below pattern.Nothing before short = (tt, tt)
-      heads_below (pattern.Item is) before short = (omega (arith, short), tt)
-      heads_below (pattern.Seq all) before short = in_turn_below all before short
-      heads_below (pattern.Alt all) before short = of_one_below all before short
-      heads_below (pattern.Repeat is post) before short =
-          first_below post (heads is before) (heads_below is before short)
-      heads_below (pattern.Capture name is) before short = heads_below is before short
+      first_moves_below : (r : Regular T) (before : ℕ) → before + items_in r ≤ high
+          → AreBelow high (first_moves r before)
+      first_moves_below pattern.Nothing before short = (tt, tt)
+      first_moves_below (pattern.Item is) before short = (omega (arith, short), tt)
+      first_moves_below (pattern.Seq all) before short = in_turn_below all before short
+      first_moves_below (pattern.Alt all) before short = of_one_below all before short
+      first_moves_below (pattern.Repeat is post) before short =
+          first_below post (first_moves is before) (first_moves_below is before short)
+      first_moves_below (pattern.Capture name is) before short = first_moves_below is before short
 
       in_turn_below : (all : Regulars T) (before : ℕ) → before + items_in_all all ≤ high
-          → AreBelow high (heads_in_turn all before)
+          → AreBelow high (first_moves_in_turn all before)
       in_turn_below NoRegular before short = (tt, tt)
-      in_turn_below (ARegular first rest) before short = instead_below (heads first before)
-          (heads_in_turn rest (before + items_in first))
-          (heads_below first before (omega (arith, short)))
+      in_turn_below (ARegular first rest) before short = instead_below (first_moves first before)
+          (first_moves_in_turn rest (before + items_in first))
+          (first_moves_below first before (omega (arith, short)))
           (in_turn_below rest (before + items_in first) (omega (arith, short)))
 
       of_one_below : (all : Regulars T) (before : ℕ) → before + items_in_all all ≤ high
-          → AreBelow high (heads_of_one all before)
+          → AreBelow high (first_moves_of_one all before)
       of_one_below NoRegular before short = tt
-      of_one_below (ARegular first rest) before short = append_below (heads first before)
-          (heads_of_one rest (before + items_in first))
-          (heads_below first before (omega (arith, short)))
+      of_one_below (ARegular first rest) before short = append_below (first_moves first before)
+          (first_moves_of_one rest (before + items_in first))
+          (first_moves_below first before (omega (arith, short)))
           (of_one_below rest (before + items_in first) (omega (arith, short)))
 
     mutual
@@ -99,9 +99,9 @@ module _ (high : ℕ) where
       states_below (pattern.Seq rs) before next short all = rows_in_turn rs before next short all
       states_below (pattern.Alt rs) before next short all = rows_of_one rs before next short all
       states_below (pattern.Repeat is post) before next short all =
-          states_below is before (instead (turns post (heads is before)) next) short
-          (instead_below (turns post (heads is before)) next
-          (turns_below post (heads is before) (heads_below is before short)) all)
+          states_below is before (instead (turns post (first_moves is before)) next) short
+          (instead_below (turns post (first_moves is before)) next
+          (turns_below post (first_moves is before) (first_moves_below is before short)) all)
       states_below (pattern.Capture name is) before next short all =
           states_below is before next short all
 
@@ -110,11 +110,11 @@ module _ (high : ℕ) where
           → AllOf (AreBelow high) (states_in_turn rs before next)
       rows_in_turn NoRegular before next short all = tt
       rows_in_turn (ARegular first rest) before next short all = rows_append
-          (states first before (instead (heads_in_turn rest (before + items_in first)) next))
+          (states first before (instead (first_moves_in_turn rest (before + items_in first)) next))
           (states_in_turn rest (before + items_in first) next)
-          (states_below first before (instead (heads_in_turn rest (before + items_in first)) next)
+          (states_below first before (instead (first_moves_in_turn rest (before + items_in first)) next)
           (omega (arith, short))
-          (instead_below (heads_in_turn rest (before + items_in first)) next
+          (instead_below (first_moves_in_turn rest (before + items_in first)) next
           (in_turn_below rest (before + items_in first) (omega (arith, short))) all))
           (rows_in_turn rest (before + items_in first) next (omega (arith, short)) all)
 
@@ -153,9 +153,9 @@ module _ {T : Type 0} (r : Regular T) where
   all_within [] all = tt
   all_within (row ∷ rows) all = (row_within row all.0, all_within rows all.1)
 
-  pub start_within : AllOf (LeadsWithin (items_of [] r)) (once (heads r 0))
-  start_within = row_within (once (heads r 0)) (all_once (IsBelow (items_in r)) (heads r 0)
-      (heads_below (items_in r) r 0 (omega arith)))
+  pub start_within : AllOf (LeadsWithin (items_of [] r)) (once (first_moves r 0))
+  start_within = row_within (once (first_moves r 0)) (all_once (IsBelow (items_in r)) (first_moves r 0)
+      (first_moves_below (items_in r) r 0 (omega arith)))
 
   pub rows_within : AllOf (AllOf (LeadsWithin (items_of [] r))) (rows_of r)
   rows_within = all_within (rows_of r) (rows_once_below (items_in r) (states r 0 (End ∷ []))

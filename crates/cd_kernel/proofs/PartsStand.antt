@@ -7,8 +7,8 @@ use Rattle.cd_model.proofs.ByNumber.{got_more, got_after}
 use Rattle.cd_syntax.specs.Name.{Name}
 use Rattle.cd_matching.specs.Pattern as pattern
 use Rattle.cd_matching.specs.Pattern.{Regular, Regulars, NoRegular, ARegular}
-use Rattle.cd_kernel.specs.Automaton.{Move, instead, items_in, items_in_all, turns, heads}
-use Rattle.cd_kernel.specs.Automaton.{heads_in_turn, states, states_in_turn, states_of_one}
+use Rattle.cd_kernel.specs.Automaton.{Move, instead, items_in, items_in_all, turns, first_moves}
+use Rattle.cd_kernel.specs.Automaton.{first_moves_in_turn, states, states_in_turn, states_of_one}
 use Rattle.cd_kernel.specs.Automaton.{items_of, items_of_all}
 
 -- these stand in a list from a number on
@@ -69,7 +69,7 @@ mutual
   states_long (pattern.Seq all) before next = turn_long all before next
   states_long (pattern.Alt all) before next = one_long all before next
   states_long (pattern.Repeat r post) before next =
-      states_long r before (instead (turns post (heads r before)) next)
+      states_long r before (instead (turns post (first_moves r before)) next)
   states_long (pattern.Capture name r) before next = states_long r before next
 
   turn_long : {T : Type 0} (all : Regulars T) (before : ℕ) (next : List Move)
@@ -77,10 +77,10 @@ mutual
   turn_long NoRegular before next = refl
   turn_long (ARegular first rest) before next =
       length-append
-      (states first before (instead (heads_in_turn rest (before + items_in first)) next))
+      (states first before (instead (first_moves_in_turn rest (before + items_in first)) next))
       (states_in_turn rest (before + items_in first) next)
       ∙ ap₂ (λ a b. a + b)
-      (states_long first before (instead (heads_in_turn rest (before + items_in first)) next))
+      (states_long first before (instead (first_moves_in_turn rest (before + items_in first)) next))
       (turn_long rest (before + items_in first) next)
 
   one_long : {T : Type 0} (all : Regulars T) (before : ℕ) (next : List Move)

@@ -22,7 +22,7 @@ use Rattle.cd_matching.specs.Pattern.{Regular, Regulars, NoRegular, ARegular, Se
 use Rattle.cd_matching.specs.Variables.{binds, all_bind, fields_bind, is_gathered, is_plain}
 use Rattle.cd_matching.specs.Variables.{regular_binds}
 use Rattle.cd_matching.proofs.BoundVariables.{gathered_or_plain}
-use Rattle.cd_kernel.specs.Automaton.{Move, End, To, ItemOf, items_in, items_of, heads, once}
+use Rattle.cd_kernel.specs.Automaton.{Move, End, To, ItemOf, items_in, items_of, first_moves, once}
 use Rattle.cd_kernel.specs.Automaton.{rows_of}
 use Rattle.cd_kernel.specs.Copies as copies
 use Rattle.cd_kernel.specs.Copies.{Types, AreTypes, IsAt, IsNumber, is_among, gatherer, Copy}
@@ -169,7 +169,7 @@ module _ {T : Type 0} (IsType : T → Type 0) (types : Types T) (variables : Lis
         moves number state there
 
     start_binds_all : BindsAll (copy_binds keeps r copy (is_plain r)) copy.start
-    start_binds_all = state_binds (once (heads r 0)) (start_ends IsType r of.well_made) (is_plain r)
+    start_binds_all = state_binds (once (first_moves r 0)) (start_ends IsType r of.well_made) (is_plain r)
         (start_binds r of.named.2) copy.start of.is_copy.starts
 
     move_binds : (plain : Names) (move : Move) → BindsBy r plain move → (number : ℕ)

@@ -16,8 +16,8 @@ use Rattle.cd_matching.specs.Pattern as pattern
 use Rattle.cd_matching.specs.Pattern.{Pattern, Regular, Regulars, NoRegular, ARegular}
 use Rattle.cd_matching.specs.Variables.{binds, is_plain, one_is_plain}
 use Rattle.cd_kernel.specs.Automaton.{Move, End, To, same_move, instead, without_end, without}
-use Rattle.cd_kernel.specs.Automaton.{once, items_in, items_in_all, turns, first_turn, heads}
-use Rattle.cd_kernel.specs.Automaton.{heads_in_turn, heads_of_one, states, states_in_turn}
+use Rattle.cd_kernel.specs.Automaton.{once, items_in, items_in_all, turns, first_turn, first_moves}
+use Rattle.cd_kernel.specs.Automaton.{first_moves_in_turn, first_moves_of_one, states, states_in_turn}
 use Rattle.cd_kernel.specs.Automaton.{states_of_one, ItemOf, items_of, items_of_all, rows_of}
 use Rattle.cd_kernel.proofs.ItemsByNumber.{get_split}
 use Rattle.cd_kernel.proofs.PartsStand.{Stand, stand_whole, first_stands, stand_left, stand_right}
@@ -255,11 +255,11 @@ module _ {T : Type 0} (items : List (ItemOf T)) (all_afters : List Names) where
   like_disjoint plain first after same apart name h = apart name (sym (same name) ∙ h)
 
   mutual
-    heads_fit : (around : List Name) (r : Regular T) (before : ℕ) (after : Names)
+    first_moves_fit : (around : List Name) (r : Regular T) (before : ℕ) (after : Names)
         → IsNamedRegular r → StandsAt around r before after → AreDisjointNames (is_plain r) after
-        → Fits (either (is_plain r) after) after (heads r before)
-    heads_fit around pattern.Nothing before after named stand apart = ((λ name. refl), tt)
-    heads_fit around (pattern.Item p) before after named stand apart = (
+        → Fits (either (is_plain r) after) after (first_moves r before)
+    first_moves_fit around pattern.Nothing before after named stand apart = ((λ name. refl), tt)
+    first_moves_fit around (pattern.Item p) before after named stand apart = (
       (
         (p, around),
         after,
@@ -270,31 +270,31 @@ module _ {T : Type 0} (items : List (ItemOf T)) (all_afters : List Names) where
       ),
       tt,
     )
-    heads_fit around (pattern.Seq all) before after named stand apart =
+    first_moves_fit around (pattern.Seq all) before after named stand apart =
         turn_fits around all before after named stand apart
-    heads_fit around (pattern.Alt all) before after named stand apart =
+    first_moves_fit around (pattern.Alt all) before after named stand apart =
         one_fits around all before after named stand apart
-    heads_fit around (pattern.Repeat r how) before after named stand apart =
-        fits_first_turn how (either (is_plain r) after) after (heads r before)
+    first_moves_fit around (pattern.Repeat r how) before after named stand apart =
+        fits_first_turn how (either (is_plain r) after) after (first_moves r before)
         (λ name. either_none (is_plain r name) (after name) (named.0 name))
-        (heads_fit around r before after named.1 stand apart)
-    heads_fit around (pattern.Capture name r) before after named stand apart =
-        heads_fit (name ∷ around) r before after named stand apart
+        (first_moves_fit around r before after named.1 stand apart)
+    first_moves_fit around (pattern.Capture name r) before after named stand apart =
+        first_moves_fit (name ∷ around) r before after named stand apart
 
     turn_fits : (around : List Name) (all : Regulars T) (before : ℕ) (after : Names)
         → AreNamedInTurn all → StandInTurn around all before after
         → AreDisjointNames (one_is_plain all) after
-        → Fits (either (one_is_plain all) after) after (heads_in_turn all before)
+        → Fits (either (one_is_plain all) after) after (first_moves_in_turn all before)
     turn_fits around NoRegular before after named stand apart = ((λ name. refl), tt)
     turn_fits around (ARegular first rest) before after named stand apart =
         fits_same (either (is_plain first) (either (one_is_plain rest) after))
         (either (one_is_plain (ARegular first rest)) after) after
-        (heads_in_turn (ARegular first rest) before)
+        (first_moves_in_turn (ARegular first rest) before)
         (λ name. either_assoc (is_plain first name) (one_is_plain rest name) (after name))
         (fits_instead (either (is_plain first) (either (one_is_plain rest) after))
-        (either (one_is_plain rest) after) after (heads first before)
-        (heads_in_turn rest (before + items_in first))
-        (heads_fit around first before (either (one_is_plain rest) after) named.1
+        (either (one_is_plain rest) after) after (first_moves first before)
+        (first_moves_in_turn rest (before + items_in first))
+        (first_moves_fit around first before (either (one_is_plain rest) after) named.1
         (turn_first around first rest before after stand)
         (turn_disjoint first rest after named.0 apart))
         (turn_fits around rest (before + items_in first) after named.2
@@ -303,32 +303,32 @@ module _ {T : Type 0} (items : List (ItemOf T)) (all_afters : List Names) where
     one_fits : (around : List Name) (all : Regulars T) (before : ℕ) (after : Names)
         → AreNamedEither all → StandOfOne around all before after
         → AreDisjointNames (one_is_plain all) after
-        → Fits (either (one_is_plain all) after) after (heads_of_one all before)
+        → Fits (either (one_is_plain all) after) after (first_moves_of_one all before)
     one_fits around NoRegular before after named stand apart = tt
     one_fits around (ARegular first rest) before after named stand apart =
         let first_disjoint = disjoint_part (one_is_plain (ARegular first rest)) (is_plain first) after
         (λ name h. or_left (is_plain first name) (one_is_plain rest name) h) apart in
         fits_same (either (is_plain first) after)
         (either (one_is_plain (ARegular first rest)) after) after
-        (heads_of_one (ARegular first rest) before)
+        (first_moves_of_one (ARegular first rest) before)
         (λ name. ap (λ (t : Bool). t || after name) (like_first (is_plain first) rest named.1 name))
-        (fits_both (either (is_plain first) after) after (heads first before)
-        (heads_of_one rest (before + items_in first))
-        (heads_fit around first before after named.0
+        (fits_both (either (is_plain first) after) after (first_moves first before)
+        (first_moves_of_one rest (before + items_in first))
+        (first_moves_fit around first before after named.0
         (one_first around first rest before after stand) first_disjoint)
         (like_fits around (is_plain first) rest (before + items_in first) after named.1
         (one_rest around first rest before after stand) first_disjoint))
 
     like_fits : (around : List Name) (plain : Names) (all : Regulars T) (before : ℕ)
         (after : Names) → AreNamedLike plain all → StandOfOne around all before after
-        → AreDisjointNames plain after → Fits (either plain after) after (heads_of_one all before)
+        → AreDisjointNames plain after → Fits (either plain after) after (first_moves_of_one all before)
     like_fits around plain NoRegular before after named stand apart = tt
     like_fits around plain (ARegular first rest) before after named stand apart =
-        fits_both (either plain after) after (heads first before)
-        (heads_of_one rest (before + items_in first))
+        fits_both (either plain after) after (first_moves first before)
+        (first_moves_of_one rest (before + items_in first))
         (fits_same (either (is_plain first) after) (either plain after) after
-        (heads first before) (like_same plain first after named.0)
-        (heads_fit around first before after named.1
+        (first_moves first before) (like_same plain first after named.0)
+        (first_moves_fit around first before after named.1
         (one_first around first rest before after stand)
         (like_disjoint plain first after named.0 apart)))
         (like_fits around plain rest (before + items_in first) after named.2
@@ -385,11 +385,11 @@ module _ {T : Type 0} (items : List (ItemOf T)) (all_afters : List Names) where
     states_fit around (pattern.Alt all) before after last next named stand apart on =
         one_states_fit around all before after last next named stand apart on
     states_fit around (pattern.Repeat r how) before after last next named stand apart on =
-        states_fit around r before after last (instead (turns how (heads r before)) next) named.1
-        stand apart (fits_instead after after last (turns how (heads r before)) next
-        (fits_turns how (either (is_plain r) after) after (heads r before)
+        states_fit around r before after last (instead (turns how (first_moves r before)) next) named.1
+        stand apart (fits_instead after after last (turns how (first_moves r before)) next
+        (fits_turns how (either (is_plain r) after) after (first_moves r before)
         (λ name. either_none (is_plain r name) (after name) (named.0 name))
-        (heads_fit around r before after named.1 stand apart)) on)
+        (first_moves_fit around r before after named.1 stand apart)) on)
     states_fit around (pattern.Capture name r) before after last next named stand apart on =
         states_fit (name ∷ around) r before after last next named stand apart on
 
@@ -403,15 +403,15 @@ module _ {T : Type 0} (items : List (ItemOf T)) (all_afters : List Names) where
         let stand_rest = turn_rest around first rest before after stand in
         let disjoint_rest = rest_apart first rest after apart in
         both_rows last before (items_in first)
-        (states first before (instead (heads_in_turn rest (before + items_in first)) next))
+        (states first before (instead (first_moves_in_turn rest (before + items_in first)) next))
         (states_in_turn rest (before + items_in first) next)
-        (states_long first before (instead (heads_in_turn rest (before + items_in first)) next))
+        (states_long first before (instead (first_moves_in_turn rest (before + items_in first)) next))
         (states_fit around first before (either (one_is_plain rest) after) last
-        (instead (heads_in_turn rest (before + items_in first)) next) named.1
+        (instead (first_moves_in_turn rest (before + items_in first)) next) named.1
         (turn_first around first rest before after stand)
         (turn_disjoint first rest after named.0 apart)
         (fits_instead (either (one_is_plain rest) after) after last
-        (heads_in_turn rest (before + items_in first)) next
+        (first_moves_in_turn rest (before + items_in first)) next
         (turn_fits around rest (before + items_in first) after named.2 stand_rest disjoint_rest) on))
         (turn_states_fit around rest (before + items_in first) after last next named.2 stand_rest
         disjoint_rest on)
@@ -483,11 +483,11 @@ module _ {T : Type 0} (r : Regular T) (named : IsNamedRegular r) where
   or_false true = refl
   or_false false = refl
 
-  pub start_binds : BindsFrom r (is_plain r) (once (heads r 0))
-  start_binds = all_once (BindsBy r (is_plain r)) (heads r 0)
+  pub start_binds : BindsFrom r (is_plain r) (once (first_moves r 0))
+  start_binds = all_once (BindsBy r (is_plain r)) (first_moves r 0)
       (fits_same (items_of [] r) (afters r none) (either (is_plain r) none) (is_plain r) none
-      (heads r 0) (λ name. or_false (is_plain r name))
-      (heads_fit (items_of [] r) (afters r none) [] r 0 none named stand apart))
+      (first_moves r 0) (λ name. or_false (is_plain r name))
+      (first_moves_fit (items_of [] r) (afters r none) [] r 0 none named stand apart))
 
   pub row_binds : (place : ℕ) (row : List Move) → slice_get (rows_of r) place ≡ Some row
       → (later : Names) × (slice_get (afters r none) place ≡ Some later) × BindsFrom r later row

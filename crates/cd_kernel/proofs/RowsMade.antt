@@ -7,12 +7,12 @@ use Rattle.cd_syntax.specs.declared.type_tree.Post.TheVariants as post
 use Rattle.cd_matching.specs.Pattern as pattern
 use Rattle.cd_matching.specs.Pattern.{Regular, Regulars, NoRegular, ARegular}
 use Rattle.cd_kernel.specs.Automaton.{Move, End, instead, without_end, items_in, turns}
-use Rattle.cd_kernel.specs.Automaton.{first_turn, heads, heads_in_turn, heads_of_one, states}
+use Rattle.cd_kernel.specs.Automaton.{first_turn, first_moves, first_moves_in_turn, first_moves_of_one, states}
 use Rattle.cd_kernel.specs.Automaton.{states_in_turn, states_of_one, once, rows_of}
 use Rattle.cd_kernel.specs.Inner.PlainMoves.{has}
 use Rattle.cd_kernel.specs.Inner.Rows.{added, singled, in_place, added_instead, followed}
-use Rattle.cd_kernel.specs.Inner.Rows.{turns_row, first_row, heads_row, heads_in_turn_row}
-use Rattle.cd_kernel.specs.Inner.Rows.{heads_of_one_row, after_row, rows_back, rows_back_in_turn}
+use Rattle.cd_kernel.specs.Inner.Rows.{turns_row, first_row, first_moves_row, first_moves_in_turn_row}
+use Rattle.cd_kernel.specs.Inner.Rows.{first_moves_of_one_row, after_row, rows_back, rows_back_in_turn}
 use Rattle.cd_kernel.specs.Inner.Rows.{rows_back_of_one}
 use Rattle.cd_kernel.proofs.RowsOnce.{added_more, instead_first, first_turn_singled}
 use Rattle.cd_kernel.proofs.RowsOnce.{alike_instead, instead_alike, alike_singled}
@@ -87,59 +87,59 @@ both_back xs ys back more one other = ap₂ (λ (a b : List (List Move)). a ++ b
 
 module _ {T : Type 0} where
   mutual
-    heads_are : (r : Regular T) (before : ℕ) → heads_row r before ≡ singled (heads r before)
-    heads_are pattern.Nothing before = refl
-    heads_are (pattern.Item is) before = refl
-    heads_are (pattern.Seq all) before = in_turn_are all before (End ∷ []) refl
-        ∙ begun (heads_in_turn all before)
-    heads_are (pattern.Alt all) before = of_one_are all before []
-    heads_are (pattern.Repeat is post) before = ap (first_row post) (heads_are is before)
-        ∙ first_is post (singled (heads is before)) ∙ first_turn_singled post (heads is before)
-    heads_are (pattern.Capture name is) before = heads_are is before
+    first_moves_are : (r : Regular T) (before : ℕ) → first_moves_row r before ≡ singled (first_moves r before)
+    first_moves_are pattern.Nothing before = refl
+    first_moves_are (pattern.Item is) before = refl
+    first_moves_are (pattern.Seq all) before = in_turn_are all before (End ∷ []) refl
+        ∙ begun (first_moves_in_turn all before)
+    first_moves_are (pattern.Alt all) before = of_one_are all before []
+    first_moves_are (pattern.Repeat is post) before = ap (first_row post) (first_moves_are is before)
+        ∙ first_is post (singled (first_moves is before)) ∙ first_turn_singled post (first_moves is before)
+    first_moves_are (pattern.Capture name is) before = first_moves_are is before
 
     in_turn_are : (all : Regulars T) (at : ℕ) (row : List Move) → singled row ≡ row
-        → heads_in_turn_row row all at ≡ singled (instead row (heads_in_turn all at))
+        → first_moves_in_turn_row row all at ≡ singled (instead row (first_moves_in_turn all at))
     in_turn_are NoRegular at row single = sym (no_more row ∙ single)
     in_turn_are (ARegular first rest) at row single = by_test (has row End) refl
-        (heads_are first at) (λ (other : List Move) (is : singled other ≡ other).
+        (first_moves_are first at) (λ (other : List Move) (is : singled other ≡ other).
         in_turn_are rest (at + items_in first) other is)
       where
-        by_test : (b : Bool) → has row End ≡ b → heads_row first at ≡ singled (heads first at)
+        by_test : (b : Bool) → has row End ≡ b → first_moves_row first at ≡ singled (first_moves first at)
             → ((other : List Move) → singled other ≡ other
-            → heads_in_turn_row other rest (at + items_in first)
-            ≡ singled (instead other (heads_in_turn rest (at + items_in first))))
-            → (if b then heads_in_turn_row (followed row (heads_row first at)) rest
+            → first_moves_in_turn_row other rest (at + items_in first)
+            ≡ singled (instead other (first_moves_in_turn rest (at + items_in first))))
+            → (if b then first_moves_in_turn_row (followed row (first_moves_row first at)) rest
             (at + items_in first) else row)
-            ≡ singled (instead row (instead (heads first at)
-            (heads_in_turn rest (at + items_in first))))
-        by_test false none head on = sym (without_end_left row (instead (heads first at)
-            (heads_in_turn rest (at + items_in first))) none ∙ single)
-        by_test true ends head on =
-            ap (λ (other : List Move). heads_in_turn_row other rest (at + items_in first))
-            (followed_is row (heads_row first at)
-            ∙ ap (λ (moves : List Move). singled (instead row moves)) head)
-            ∙ on (singled (instead row (singled (heads first at))))
-            (singled_twice (instead row (singled (heads first at))))
-            ∙ one_more row (heads first at) (heads_in_turn rest (at + items_in first))
+            ≡ singled (instead row (instead (first_moves first at)
+            (first_moves_in_turn rest (at + items_in first))))
+        by_test false none row_is on = sym (without_end_left row (instead (first_moves first at)
+            (first_moves_in_turn rest (at + items_in first))) none ∙ single)
+        by_test true ends row_is on =
+            ap (λ (other : List Move). first_moves_in_turn_row other rest (at + items_in first))
+            (followed_is row (first_moves_row first at)
+            ∙ ap (λ (moves : List Move). singled (instead row moves)) row_is)
+            ∙ on (singled (instead row (singled (first_moves first at))))
+            (singled_twice (instead row (singled (first_moves first at))))
+            ∙ one_more row (first_moves first at) (first_moves_in_turn rest (at + items_in first))
 
     of_one_are : (all : Regulars T) (at : ℕ) (row : List Move)
-        → heads_of_one_row row all at ≡ added row (heads_of_one all at)
+        → first_moves_of_one_row row all at ≡ added row (first_moves_of_one all at)
     of_one_are NoRegular at row = refl
     of_one_are (ARegular first rest) at row =
-        ap (λ (moves : List Move). heads_of_one_row (added row moves) rest (at + items_in first))
-        (heads_are first at)
-        ∙ of_one_are rest (at + items_in first) (added row (singled (heads first at)))
-        ∙ alternatives row (heads first at) (heads_of_one rest (at + items_in first))
+        ap (λ (moves : List Move). first_moves_of_one_row (added row moves) rest (at + items_in first))
+        (first_moves_are first at)
+        ∙ of_one_are rest (at + items_in first) (added row (singled (first_moves first at)))
+        ∙ alternatives row (first_moves first at) (first_moves_of_one rest (at + items_in first))
 
   after_is : (all : Regulars T) (at : ℕ) (next other : List Move) → next ≡ singled other
-      → after_row all at next ≡ singled (instead (heads_in_turn all at) other)
+      → after_row all at next ≡ singled (instead (first_moves_in_turn all at) other)
   after_is NoRegular at next other after = after ∙ sym (begun other)
-  after_is (ARegular first rest) at next other after = row_followed (heads_row first at)
-      (heads first at) (after_row rest (at + items_in first) next)
-      (instead (heads_in_turn rest (at + items_in first)) other) (heads_are first at)
+  after_is (ARegular first rest) at next other after = row_followed (first_moves_row first at)
+      (first_moves first at) (after_row rest (at + items_in first) next)
+      (instead (first_moves_in_turn rest (at + items_in first)) other) (first_moves_are first at)
       (after_is rest (at + items_in first) next other after)
-      ∙ sym (ap singled (instead_instead (heads first at)
-      (heads_in_turn rest (at + items_in first)) other))
+      ∙ sym (ap singled (instead_instead (first_moves first at)
+      (first_moves_in_turn rest (at + items_in first)) other))
 
   mutual
     states_are : (r : Regular T) (before : ℕ) (next other : List Move) → next ≡ singled other
@@ -152,10 +152,10 @@ module _ {T : Type 0} where
     states_are (pattern.Alt all) before next other after =
         states_of_one_are all before next other after
     states_are (pattern.Repeat is post) before next other after =
-        states_are is before (followed (turns_row post (heads_row is before)) next)
-        (instead (turns post (heads is before)) other)
-        (again_followed post (heads_row is before) (heads is before) next other
-        (heads_are is before) after)
+        states_are is before (followed (turns_row post (first_moves_row is before)) next)
+        (instead (turns post (first_moves is before)) other)
+        (again_followed post (first_moves_row is before) (first_moves is before) next other
+        (first_moves_are is before) after)
     states_are (pattern.Capture name is) before next other after =
         states_are is before next other after
 
@@ -164,12 +164,12 @@ module _ {T : Type 0} where
         ≡ reverse (map singled (states_in_turn all before other))
     states_in_turn_are NoRegular before next other after = refl
     states_in_turn_are (ARegular first rest) before next other after = both_back
-        (states first before (instead (heads_in_turn rest (before + items_in first)) other))
+        (states first before (instead (first_moves_in_turn rest (before + items_in first)) other))
         (states_in_turn rest (before + items_in first) other)
         (rows_back first before (after_row rest (before + items_in first) next))
         (rows_back_in_turn rest (before + items_in first) next)
         (states_are first before (after_row rest (before + items_in first) next)
-        (instead (heads_in_turn rest (before + items_in first)) other)
+        (instead (first_moves_in_turn rest (before + items_in first)) other)
         (after_is rest (before + items_in first) next other after))
         (states_in_turn_are rest (before + items_in first) next other after)
 
@@ -193,8 +193,8 @@ map_once [] = refl
 map_once (row ∷ rows) = ap₂ (λ (first : List Move) (rest : List (List Move)). first ∷ rest)
     (sym (once_is row)) (map_once rows)
 
-pub heads_row_is : {T : Type 0} (r : Regular T) → heads_row r 0 ≡ once (heads r 0)
-heads_row_is r = heads_are r 0 ∙ sym (once_is (heads r 0))
+pub first_moves_row_is : {T : Type 0} (r : Regular T) → first_moves_row r 0 ≡ once (first_moves r 0)
+first_moves_row_is r = first_moves_are r 0 ∙ sym (once_is (first_moves r 0))
 
 pub states_rows_are : {T : Type 0} (r : Regular T)
     → reverse (rows_back r 0 (End ∷ [])) ≡ rows_of r

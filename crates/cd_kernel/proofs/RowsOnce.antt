@@ -265,14 +265,14 @@ instead_instead (To n ∷ xs) ys zs = ap (To n ∷◌) (instead_instead xs ys zs
 pub begun : (whole : List Move) → singled (instead (End ∷ []) whole) ≡ singled whole
 begun whole = ap (added []) (append-nil whole)
 
-pub one_more : (row heads rest : List Move)
-    → singled (instead (singled (instead row (singled heads))) rest)
-    ≡ singled (instead row (instead heads rest))
-one_more row heads rest =
-    alike_instead (instead row (singled heads)) rest rest (alike_itself rest) []
-    ∙ ap (added []) (instead_instead row (singled heads) rest)
-    ∙ instead_alike row (instead (singled heads) rest) (instead heads rest)
-    (alike_instead heads rest rest (alike_itself rest)) []
+pub one_more : (row first_moves rest : List Move)
+    → singled (instead (singled (instead row (singled first_moves))) rest)
+    ≡ singled (instead row (instead first_moves rest))
+one_more row first_moves rest =
+    alike_instead (instead row (singled first_moves)) rest rest (alike_itself rest) []
+    ∙ ap (added []) (instead_instead row (singled first_moves) rest)
+    ∙ instead_alike row (instead (singled first_moves) rest) (instead first_moves rest)
+    (alike_instead first_moves rest rest (alike_itself rest)) []
 
 pub no_more : (row : List Move) → singled (instead row (End ∷ [])) ≡ singled row
 no_more row = ap (added []) (instead_end row)
@@ -293,7 +293,7 @@ singled_twice xs = alike_singled xs []
 pub added_singled : (row xs : List Move) → added row (singled xs) ≡ added row xs
 added_singled row xs = alike_singled xs row
 
-pub alternatives : (row heads rest : List Move)
-    → added (added row (singled heads)) rest ≡ added row (heads ++ rest)
-alternatives row heads rest = ap (λ (start : List Move). added start rest) (added_singled row heads)
-    ∙ sym (added_more row heads rest)
+pub alternatives : (row first_moves rest : List Move)
+    → added (added row (singled first_moves)) rest ≡ added row (first_moves ++ rest)
+alternatives row first_moves rest = ap (λ (start : List Move). added start rest) (added_singled row first_moves)
+    ∙ sym (added_more row first_moves rest)

@@ -10,8 +10,8 @@ use Rattle.cd_matching.specs.Pattern as pattern
 use Rattle.cd_matching.specs.Pattern.{Pattern, Regular, Regulars, NoRegular, ARegular}
 use Rattle.cd_matching.specs.Take.{Taking, take}
 use Rattle.cd_matching.specs.Ways.{Ways, then_}
-use Rattle.cd_kernel.specs.Automaton.{Move, instead, ItemOf, items_in, heads, heads_in_turn}
-use Rattle.cd_kernel.specs.Automaton.{heads_of_one, states, states_in_turn, states_of_one}
+use Rattle.cd_kernel.specs.Automaton.{Move, instead, ItemOf, items_in, first_moves, first_moves_in_turn}
+use Rattle.cd_kernel.specs.Automaton.{first_moves_of_one, states, states_in_turn, states_of_one}
 use Rattle.cd_kernel.specs.Automaton.{items_of, items_of_all, turns}
 use Rattle.cd_kernel.specs.Inner.WaysIn.{ways_gathering, item_in, ways_in, turn_in, one_in}
 use Rattle.cd_model.proofs.Covered.{each_both}
@@ -86,7 +86,7 @@ module _ (T : Type 0) (test : T → Thing → Bool) where
     mutual
       pub regular_runs : (around : List Name) (r : Regular T) (before : ℕ) (next : List Move)
           → Stand items before (items_of around r) → Stand rows before (states r before next)
-          → Run T test items rows (heads r before) next (ways_in T test around r)
+          → Run T test items rows (first_moves r before) next (ways_in T test around r)
       regular_runs around pattern.Nothing before next has rows_are =
           still_runs T test items rows next
       regular_runs around (pattern.Item p) before next has rows_are =
@@ -97,9 +97,9 @@ module _ (T : Type 0) (test : T → Thing → Bool) where
       regular_runs around (pattern.Alt all) before next has rows_are =
           one_runs around all before next has rows_are
       regular_runs around (pattern.Repeat r how) before next has rows_are =
-          repeat_runs T test items rows how (heads r before) next (ways_in T test around r)
+          repeat_runs T test items rows how (first_moves r before) next (ways_in T test around r)
           (ways_within around r)
-          (regular_runs around r before (instead (turns how (heads r before)) next)
+          (regular_runs around r before (instead (turns how (first_moves r before)) next)
           has rows_are)
       regular_runs around (pattern.Capture name r) before next has rows_are =
           regular_runs (name ∷ around) r before next has rows_are
@@ -107,13 +107,13 @@ module _ (T : Type 0) (test : T → Thing → Bool) where
       turn_runs : (around : List Name) (all : Regulars T) (before : ℕ) (next : List Move)
           → Stand items before (items_of_all around all)
           → Stand rows before (states_in_turn all before next)
-          → Run T test items rows (heads_in_turn all before) next (turn_in T test around all)
+          → Run T test items rows (first_moves_in_turn all before) next (turn_in T test around all)
       turn_runs around NoRegular before next has rows_are = still_runs T test items rows next
       turn_runs around (ARegular first rest) before next has rows_are =
-          let others = heads_in_turn rest (before + items_in first) in
+          let others = first_moves_in_turn rest (before + items_in first) in
           let firsts = states first before (instead others next) in
           let lasts = states_in_turn rest (before + items_in first) next in
-          turn_by_parts (heads first before) others next (ways_in T test around first)
+          turn_by_parts (first_moves first before) others next (ways_in T test around first)
           (turn_in T test around rest)
           (regular_runs around first before (instead others next)
           (stand_left items before (items_of around first) (items_of_all around rest) has)
@@ -127,12 +127,12 @@ module _ (T : Type 0) (test : T → Thing → Bool) where
       one_runs : (around : List Name) (all : Regulars T) (before : ℕ) (next : List Move)
           → Stand items before (items_of_all around all)
           → Stand rows before (states_of_one all before next)
-          → Run T test items rows (heads_of_one all before) next (one_in T test around all)
+          → Run T test items rows (first_moves_of_one all before) next (one_in T test around all)
       one_runs around NoRegular before next has rows_are = λ s things. refl
       one_runs around (ARegular first rest) before next has rows_are =
           let firsts = states first before next in
           let lasts = states_of_one rest (before + items_in first) next in
-          one_by_parts (heads first before) (heads_of_one rest (before + items_in first)) next
+          one_by_parts (first_moves first before) (first_moves_of_one rest (before + items_in first)) next
           (ways_in T test around first) (one_in T test around rest)
           (regular_runs around first before next
           (stand_left items before (items_of around first) (items_of_all around rest) has)

@@ -7,7 +7,7 @@ use Rattle.cd_matching.specs.Naming.{GathersDisjoint}
 use Rattle.cd_matching.specs.Pattern.{Regular}
 use Rattle.cd_matching.specs.Take.{ways}
 use Rattle.cd_matching.specs.Ways.{Way, still, followed, if_whole, first_whole}
-use Rattle.cd_kernel.specs.Automaton.{End, once, heads, states, items_of}
+use Rattle.cd_kernel.specs.Automaton.{End, once, first_moves, states, items_of}
 use Rattle.cd_kernel.specs.Automaton.{run_whole}
 use Rattle.cd_kernel.specs.Inner.WaysIn.{ways_in}
 use Rattle.cd_kernel.proofs.OrElse.{or_else_none}
@@ -51,9 +51,9 @@ module _ (T : Type 0) (test : T → Thing → Bool) (r : Regular T) where
       → run_whole T test r things ≡ first_whole (ways_in T test [] r things)
   runs_at_once things =
       let items = items_of [] r in let rows = states r 0 (End ∷ []) in
-      once_runs T test items (map once rows) things (heads r 0)
-      ∙ rows_once T test items rows things (heads r 0)
-      ∙ run_moves T test items rows things (heads r 0)
+      once_runs T test items (map once rows) things (first_moves r 0)
+      ∙ rows_once T test items rows things (first_moves r 0)
+      ∙ run_moves T test items rows things (first_moves r 0)
       ∙ regular_runs T test items rows [] r 0 (End ∷ []) (stand_whole items) (stand_whole rows)
       nothing_left things
       ∙ first_same nothing_left nothing_left (goes_to T test items rows (End ∷ [])) nothing_left

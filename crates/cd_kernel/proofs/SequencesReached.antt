@@ -14,7 +14,7 @@ use Rattle.cd_kernel.specs.Making.{the_types}
 use Rattle.cd_kernel.specs.Inner.Building.{Several, Nodes, rows_made, steps_of, put_copy}
 use Rattle.cd_kernel.specs.Inner.Building.{put_rows, put_copies, put_sequence}
 use Rattle.cd_kernel.specs.Inner.Gathering.{groups_of}
-use Rattle.cd_kernel.specs.Inner.Rows.{heads_row}
+use Rattle.cd_kernel.specs.Inner.Rows.{first_moves_row}
 use Rattle.cd_kernel.proofs.CopiesBuilt.{copy_put, copy_is_made, states_count}
 use Rattle.cd_kernel.proofs.CopiesBuilt.{starts_are_states}
 use Rattle.cd_kernel.proofs.GrowingNodes.{Keeps}
@@ -62,9 +62,9 @@ module _ (variables : List Name) (r : Regular NodeId) where
     copy_reached group items keeps start states before =
         let steps = steps_of variables group r items in
         let between = put_rows steps (rows_made r) items.1 in
-        row_reached final Reached on steps (heads_row r 0) between keeps start
+        row_reached final Reached on steps (first_moves_row r 0) between keeps start
         (rows_reached final Reached on steps (rows_made r) items.1
-        (λ n x h. keeps n x ((row_is_made steps (heads_row r 0) between).grows.keeps n x h))
+        (λ n x h. keeps n x ((row_is_made steps (first_moves_row r 0) between).grows.keeps n x h))
         (subst (AllOf Reached) (sym (starts_are_states variables r group items)) states) before)
 
     -- the nodes of the items of a copy
@@ -80,17 +80,17 @@ module _ (variables : List Name) (r : Regular NodeId) where
         (copies variables r plain first others groups nodes)
         → Keeps (put_copies variables r first others groups starts nodes).1 final → All nodes
         → All (put_copies variables r first others groups starts nodes).1
-    copies_reached plain first others other items items_too [] starts nodes heads states keeps before
+    copies_reached plain first others other items items_too [] starts nodes at_starts states keeps before
         = before
-    copies_reached plain first others other items items_too (group ∷ groups) starts nodes heads states
+    copies_reached plain first others other items items_too (group ∷ groups) starts nodes at_starts states
         keeps before =
         let copy = put_copy variables r group (first nodes) in
         let stay = λ (n : ℕ) (x : KernelNode NodeId) (h : slice_get copy.1 n ≡ Some x). keeps n x
         ((copies_grow variables r others others other other groups (starts ++ copy.0 ∷ [])
         copy.1).keeps n x h) in
         copies_reached false others others other items_too items_too groups (starts ++ copy.0 ∷ [])
-        copy.1 heads.1 states.1 keeps
-        (copy_reached group (first nodes) stay heads.0 states.0
+        copy.1 at_starts.1 states.1 keeps
+        (copy_reached group (first nodes) stay at_starts.0 states.0
         (items (copy_put variables r group (first nodes) plain) refl nodes
         (λ n x h. stay n x ((copy_is_made variables r group (first nodes)).grows.keeps n x h))
         before))

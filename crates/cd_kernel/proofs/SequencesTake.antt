@@ -16,7 +16,7 @@ use Rattle.cd_matching.specs.Take.{captures_of, take_items}
 use Rattle.cd_matching.specs.Take.{ways}
 use Rattle.cd_matching.specs.Variables.{is_gathered}
 use Rattle.cd_matching.specs.Ways.{Way}
-use Rattle.cd_kernel.specs.Automaton.{heads, once, run_whole}
+use Rattle.cd_kernel.specs.Automaton.{first_moves, once, run_whole}
 use Rattle.cd_kernel.specs.Copies.{Types, is_among, Copy, in_a_group, one_is_plain, IsCopy}
 use Rattle.cd_kernel.specs.Copies.{AreJoined}
 use Rattle.cd_kernel.specs.Making.{inner, AreCopies}
@@ -176,7 +176,7 @@ module _ {T : Type 0} (test : T → Thing → Bool) (types : Types T) (variables
               (λ name h. hidden copy.plain (keeps name) (is_gathered r name)
               (sym (are.groups name)
               ∙ within name (or_left (is_among copy.group name) (in_a_group some name) h)))
-              (item_has (IsAlike (in_copy copy)) copy.items r alike.0) d (once (heads r 0))
+              (item_has (IsAlike (in_copy copy)) copy.items r alike.0) d (once (first_moves r 0))
               copy.start each.0.starts,
           in_group some
               (λ name h. within name (or_right (is_among copy.group name) (in_a_group some name) h))

@@ -12,7 +12,7 @@ use Rattle.cd_model.specs.AllOf.{AnyOf}
 use Rattle.cd_matching.specs.Pattern as pattern
 use Rattle.cd_matching.specs.Pattern.{Regular, Regulars, NoRegular, ARegular}
 use Rattle.cd_kernel.specs.Automaton.{Move, End, To, same_move, instead, without_end, without}
-use Rattle.cd_kernel.specs.Automaton.{once, items_in, turns, heads, heads_in_turn, heads_of_one}
+use Rattle.cd_kernel.specs.Automaton.{once, items_in, turns, first_moves, first_moves_in_turn, first_moves_of_one}
 use Rattle.cd_kernel.specs.Automaton.{states, states_in_turn, states_of_one}
 use Rattle.cd_kernel.specs.Alternatives.{HasAlternative}
 use Rattle.cd_kernel.proofs.CompletePatterns.{IsCompleteRegular, AreCompleteRegulars}
@@ -76,62 +76,62 @@ module _ (rows : List (List Move)) where
 
   module _ {T : Type 0} (IsType : T → Type 0) where
     mutual
-      pub heads_end : (r : Regular T) (before : ℕ) (next : List Move) → IsCompleteRegular IsType r
+      pub first_moves_end : (r : Regular T) (before : ℕ) (next : List Move) → IsCompleteRegular IsType r
           → Stand rows before (states r before next) → Ending rows next
-          → Ending rows (instead (heads r before) next)
-      heads_end pattern.Nothing before next fits stand on = end_first next [] on
-      heads_end (pattern.Item p) before next fits stand on = goes before next (To before ∷ [])
+          → Ending rows (instead (first_moves r before) next)
+      first_moves_end pattern.Nothing before next fits stand on = end_first next [] on
+      first_moves_end (pattern.Item p) before next fits stand on = goes before next (To before ∷ [])
           (inl refl)
           (first_stands rows before next [] stand) on
-      heads_end (pattern.Seq all) before next fits stand on =
+      first_moves_end (pattern.Seq all) before next fits stand on =
           turn_ends all before next fits stand on
-      heads_end (pattern.Alt all) before next fits stand on =
+      first_moves_end (pattern.Alt all) before next fits stand on =
           one_ends all before next fits.0 fits.1 stand on
-      heads_end (pattern.Repeat r post.Star) before next fits stand on =
-          turns_end post.Star (heads r before) next on
-      heads_end (pattern.Repeat r post.LazyStar) before next fits stand on =
-          turns_end post.LazyStar (heads r before) next on
-      heads_end (pattern.Repeat r post.Plus) before next fits stand on = subst (Ending rows)
-          (sym (instead_twice (heads r before) (turns post.Plus (heads r before)) next))
-          (heads_end r before (instead (turns post.Plus (heads r before)) next) fits stand
-          (turns_end post.Plus (heads r before) next on))
-      heads_end (pattern.Repeat r post.LazyPlus) before next fits stand on = subst (Ending rows)
-          (sym (instead_twice (heads r before) (turns post.LazyPlus (heads r before)) next))
-          (heads_end r before (instead (turns post.LazyPlus (heads r before)) next) fits stand
-          (turns_end post.LazyPlus (heads r before) next on))
-      heads_end (pattern.Repeat r post.Opt) before next fits stand on = subst (Ending rows)
-          (sym (instead_both (heads r before) (End ∷ []) next))
-          (end_second (instead (heads r before) next) (next ++ []) (end_first next [] on))
-      heads_end (pattern.Repeat r post.LazyOpt) before next fits stand on =
-          end_first next (instead (heads r before) next) on
-      heads_end (pattern.Capture name r) before next fits stand on =
-          heads_end r before next fits stand on
+      first_moves_end (pattern.Repeat r post.Star) before next fits stand on =
+          turns_end post.Star (first_moves r before) next on
+      first_moves_end (pattern.Repeat r post.LazyStar) before next fits stand on =
+          turns_end post.LazyStar (first_moves r before) next on
+      first_moves_end (pattern.Repeat r post.Plus) before next fits stand on = subst (Ending rows)
+          (sym (instead_twice (first_moves r before) (turns post.Plus (first_moves r before)) next))
+          (first_moves_end r before (instead (turns post.Plus (first_moves r before)) next) fits stand
+          (turns_end post.Plus (first_moves r before) next on))
+      first_moves_end (pattern.Repeat r post.LazyPlus) before next fits stand on = subst (Ending rows)
+          (sym (instead_twice (first_moves r before) (turns post.LazyPlus (first_moves r before)) next))
+          (first_moves_end r before (instead (turns post.LazyPlus (first_moves r before)) next) fits stand
+          (turns_end post.LazyPlus (first_moves r before) next on))
+      first_moves_end (pattern.Repeat r post.Opt) before next fits stand on = subst (Ending rows)
+          (sym (instead_both (first_moves r before) (End ∷ []) next))
+          (end_second (instead (first_moves r before) next) (next ++ []) (end_first next [] on))
+      first_moves_end (pattern.Repeat r post.LazyOpt) before next fits stand on =
+          end_first next (instead (first_moves r before) next) on
+      first_moves_end (pattern.Capture name r) before next fits stand on =
+          first_moves_end r before next fits stand on
 
       turn_ends : (all : Regulars T) (before : ℕ) (next : List Move)
           → AreCompleteRegulars IsType all → Stand rows before (states_in_turn all before next)
-          → Ending rows next → Ending rows (instead (heads_in_turn all before) next)
+          → Ending rows next → Ending rows (instead (first_moves_in_turn all before) next)
       turn_ends NoRegular before next fits stand on = end_first next [] on
       turn_ends (ARegular first rest) before next fits stand on = subst (Ending rows)
-          (sym (instead_twice (heads first before) (heads_in_turn rest (before + items_in first))
+          (sym (instead_twice (first_moves first before) (first_moves_in_turn rest (before + items_in first))
           next))
-          (heads_end first before
-          (instead (heads_in_turn rest (before + items_in first)) next) fits.0
+          (first_moves_end first before
+          (instead (first_moves_in_turn rest (before + items_in first)) next) fits.0
           (stand_left rows before _ (states_in_turn rest (before + items_in first) next) stand)
           (turn_ends rest (before + items_in first) next fits.1
           (stand_right rows before _ (states_in_turn rest (before + items_in first) next)
           (items_in first) (states_long first before
-          (instead (heads_in_turn rest (before + items_in first)) next)) stand) on))
+          (instead (first_moves_in_turn rest (before + items_in first)) next)) stand) on))
 
       one_ends : (all : Regulars T) (before : ℕ) (next : List Move) → HasAlternative all
           → AreCompleteRegulars IsType all → Stand rows before (states_of_one all before next)
-          → Ending rows next → Ending rows (instead (heads_of_one all before) next)
+          → Ending rows next → Ending rows (instead (first_moves_of_one all before) next)
       one_ends NoRegular before next one fits stand on = absurd one
       one_ends (ARegular first rest) before next one fits stand on = subst (Ending rows)
-          (sym (instead_both (heads first before) (heads_of_one rest (before + items_in first))
+          (sym (instead_both (first_moves first before) (first_moves_of_one rest (before + items_in first))
           next))
-          (end_first (instead (heads first before) next)
-          (instead (heads_of_one rest (before + items_in first)) next)
-          (heads_end first before next fits.0
+          (end_first (instead (first_moves first before) next)
+          (instead (first_moves_of_one rest (before + items_in first)) next)
+          (first_moves_end first before next fits.0
           (stand_left rows before _ (states_of_one rest (before + items_in first) next) stand) on))
 
     mutual
@@ -153,8 +153,8 @@ module _ (rows : List (List Move)) where
       states_end (pattern.Alt all) before next fits stand on k row h =
           one_states_end all before next fits.1 stand on k row h
       states_end (pattern.Repeat r how) before next fits stand on k row h =
-          states_end r before (instead (turns how (heads r before)) next) fits stand
-          (turns_end how (heads r before) next on) k row h
+          states_end r before (instead (turns how (first_moves r before)) next) fits stand
+          (turns_end how (first_moves r before) next on) k row h
       states_end (pattern.Capture name r) before next fits stand on k row h =
           states_end r before next fits stand on k row h
 
@@ -170,12 +170,12 @@ module _ (rows : List (List Move)) where
           (states_in_turn rest (before + items_in first) next)
           (items_in first)
           (states_long first before
-          (instead (heads_in_turn rest (before + items_in first)) next)) stand in
+          (instead (first_moves_in_turn rest (before + items_in first)) next)) stand in
           elim (get_split
-          (states first before (instead (heads_in_turn rest (before + items_in first)) next))
+          (states first before (instead (first_moves_in_turn rest (before + items_in first)) next))
           (states_in_turn rest (before + items_in first) next) k row h) [
             | inl here ↦ states_end first before
-                (instead (heads_in_turn rest (before + items_in first)) next) fits.0
+                (instead (first_moves_in_turn rest (before + items_in first)) next) fits.0
                 (stand_left rows before _ (states_in_turn rest (before + items_in first) next)
                 stand)
                 (turn_ends rest (before + items_in first) next fits.1 stand_rest on) k row here
@@ -264,9 +264,9 @@ module _ {T : Type 0} (IsType : T → Type 0) (r : Regular T) (fits : IsComplete
     end_again (End ∷ moves) = ap (λ l. End ∷ l) (end_again moves)
     end_again (To place ∷ moves) = ap (λ l. To place ∷ l) (end_again moves)
 
-    pub start_ends : Ending (map once all_rows) (once (heads r 0))
-    start_ends = once_ends all_rows (heads r 0) (subst (Ending all_rows) (end_again (heads r 0))
-        (heads_end all_rows IsType r 0 (End ∷ []) fits (stand_whole all_rows) end_now))
+    pub start_ends : Ending (map once all_rows) (once (first_moves r 0))
+    start_ends = once_ends all_rows (first_moves r 0) (subst (Ending all_rows) (end_again (first_moves r 0))
+        (first_moves_end all_rows IsType r 0 (End ∷ []) fits (stand_whole all_rows) end_now))
 
     pub row_ends : (place : ℕ) (row : List Move) → slice_get (map once all_rows) place ≡ Some row
         → Ending (map once all_rows) row

@@ -74,25 +74,25 @@ first_turn post.LazyPlus turn = instead turn (turns post.LazyPlus turn)
 first_turn post.Opt turn = turn ++ End ∷ []
 first_turn post.LazyOpt turn = End ∷ turn
 
--- the moves to begin with, where items are numbered after `before`
+-- the first moves of an expression, where items are numbered after `before`
 abbrev mutual
-  pub heads : {T : Type 0} → Regular T → ℕ → List Move
-  heads pattern.Nothing before = End ∷ []
-  heads (pattern.Item is) before = To before ∷ []
-  heads (pattern.Seq all) before = heads_in_turn all before
-  heads (pattern.Alt all) before = heads_of_one all before
-  heads (pattern.Repeat is post) before = first_turn post (heads is before)
-  heads (pattern.Capture name is) before = heads is before
+  pub first_moves : {T : Type 0} → Regular T → ℕ → List Move
+  first_moves pattern.Nothing before = End ∷ []
+  first_moves (pattern.Item is) before = To before ∷ []
+  first_moves (pattern.Seq all) before = first_moves_in_turn all before
+  first_moves (pattern.Alt all) before = first_moves_of_one all before
+  first_moves (pattern.Repeat is post) before = first_turn post (first_moves is before)
+  first_moves (pattern.Capture name is) before = first_moves is before
 
-  pub heads_in_turn : {T : Type 0} → Regulars T → ℕ → List Move
-  heads_in_turn NoRegular before = End ∷ []
-  heads_in_turn (ARegular first rest) before =
-      instead (heads first before) (heads_in_turn rest (before + items_in first))
+  pub first_moves_in_turn : {T : Type 0} → Regulars T → ℕ → List Move
+  first_moves_in_turn NoRegular before = End ∷ []
+  first_moves_in_turn (ARegular first rest) before =
+      instead (first_moves first before) (first_moves_in_turn rest (before + items_in first))
 
-  pub heads_of_one : {T : Type 0} → Regulars T → ℕ → List Move
-  heads_of_one NoRegular before = []
-  heads_of_one (ARegular first rest) before =
-      heads first before ++ heads_of_one rest (before + items_in first)
+  pub first_moves_of_one : {T : Type 0} → Regulars T → ℕ → List Move
+  first_moves_of_one NoRegular before = []
+  first_moves_of_one (ARegular first rest) before =
+      first_moves first before ++ first_moves_of_one rest (before + items_in first)
 
 -- the moves after each item, where `next` are those after the whole expression
 abbrev mutual
@@ -102,13 +102,13 @@ abbrev mutual
   states (pattern.Seq all) before next = states_in_turn all before next
   states (pattern.Alt all) before next = states_of_one all before next
   states (pattern.Repeat is post) before next =
-      states is before (instead (turns post (heads is before)) next)
+      states is before (instead (turns post (first_moves is before)) next)
   states (pattern.Capture name is) before next = states is before next
 
   pub states_in_turn : {T : Type 0} → Regulars T → ℕ → List Move → List (List Move)
   states_in_turn NoRegular before next = []
   states_in_turn (ARegular first rest) before next =
-      states first before (instead (heads_in_turn rest (before + items_in first)) next)
+      states first before (instead (first_moves_in_turn rest (before + items_in first)) next)
       ++ states_in_turn rest (before + items_in first) next
 
   pub states_of_one : {T : Type 0} → Regulars T → ℕ → List Move → List (List Move)
@@ -172,4 +172,4 @@ module _ (T : Type 0) (test : T → Thing → Bool) (items : List (ItemOf T)) (r
 
 -- by its automaton, the first way of an expression that leaves nothing
 abbrev pub run_whole : (T : Type 0) → (T → Thing → Bool) → Regular T → List Thing → Option Way
-run_whole T test r things = run T test (items_of [] r) (rows_of r) things (once (heads r 0))
+run_whole T test r things = run T test (items_of [] r) (rows_of r) things (once (first_moves r 0))

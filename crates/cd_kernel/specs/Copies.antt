@@ -9,7 +9,7 @@ use Rattle.cd_syntax.specs.Name.{Name}
 use Rattle.cd_syntax.specs.declared.constant.Constant.TheVariants as constant
 use Rattle.cd_matching.specs.Kernel.{KernelNode, Test, Put, Pair, Both, First, Gather, number_of}
 use Rattle.cd_matching.specs.Pattern.{Regular}
-use Rattle.cd_kernel.specs.Automaton.{Move, End, To, ItemOf, once, heads, items_of, rows_of}
+use Rattle.cd_kernel.specs.Automaton.{Move, End, To, ItemOf, once, first_moves, items_of, rows_of}
 
 -- the types of the empty sequence, of all things and of none
 pub record Types (T : Type 0) : Type 0 where
@@ -92,7 +92,7 @@ module _ {T : Type 0} (types : Types T) (variables : List Name) (nodes : List (K
       × IsState copy items (next ∷ moves) rest
 
   pub record IsCopy (r : Regular T) (copy : Copy) : Type 0 where
-    pub starts : IsState copy (items_of [] r) (once (heads r 0)) copy.start
+    pub starts : IsState copy (items_of [] r) (once (first_moves r 0)) copy.start
     pub goes_on : (place number : ℕ) → slice_get copy.states place ≡ Some number
         → IsState copy (items_of [] r) (unwrap_or (slice_get (rows_of r) place) []) number
     pub distinct : AreDistinct copy.group

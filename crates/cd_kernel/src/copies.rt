@@ -11,8 +11,8 @@ ghost use Rattle.cd_kernel.specs.Inner.Plans.{IsPlanOf};
 ghost use Rattle.cd_kernel.specs.Inner.Rows.{plain_row, plain_rows};
 
 use crate::count::count;
+use crate::first_moves::first_moves;
 use crate::gathering::{Group, add_gathering};
-use crate::heads::heads;
 use crate::moves::{Move, Row};
 use crate::names::number;
 use crate::rows::{Steps, places, put_row, put_rows};
@@ -22,7 +22,7 @@ use cd_matching::pattern::RegPat;
 use cd_syntax::name::Name;
 use std::alloc::{AllocError, Global};
 
-/// The moves of an expression: those to begin with, and those after each item.
+/// The moves of an expression: the first ones, and those after each item.
 #[derive(Drop)]
 pub(crate) struct Plan {
     pub(crate) start: Row,
@@ -44,7 +44,7 @@ fn plan_of(alloc: Global, is: &RegPat) -> Result<Plan, AllocError>
     requires { items_in (plain_regular is.now) < 2 ^ 64 }
     ensures { IfOk result (λ plan. IsPlanOf (plain_regular is.now) plan) }
 {
-    let start = heads(alloc, is, 0)?;
+    let start = first_moves(alloc, is, 0)?;
     let end = Row::one(alloc, Move::End)?;
     let mut rows = Vec::new(alloc);
     add_states(alloc, is, 0, &end, &mut rows)?;

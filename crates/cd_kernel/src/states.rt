@@ -4,10 +4,10 @@ ghost use Rattle.cd_matching.specs.Pattern.{regulars_of};
 ghost use Rattle.cd_matching.specs.PlainPattern.{plain_regular};
 ghost use Rattle.cd_kernel.specs.Automaton.{items_in, items_in_all};
 ghost use Rattle.cd_kernel.specs.Inner.Rows.{plain_rows, plain_row, followed, turns_row};
-ghost use Rattle.cd_kernel.specs.Inner.Rows.{heads_row, rows_back, rows_back_in_turn};
+ghost use Rattle.cd_kernel.specs.Inner.Rows.{first_moves_row, rows_back, rows_back_in_turn};
 ghost use Rattle.cd_kernel.specs.Inner.Rows.{rows_back_of_one};
 
-use crate::heads::{followed, heads, items_in, items_in_all, turns};
+use crate::first_moves::{first_moves, followed, items_in, items_in_all, turns};
 use crate::moves::Row;
 use cd_matching::pattern::RegPat;
 use cd_syntax::type_tree::Post;
@@ -63,19 +63,24 @@ fn add_in_turn(
         let is = &all[index];
         at -= items_in(is);
         add_states(alloc, is, at, &after, rows)?;
-        after = heads_before(alloc, is, at, &after)?;
+        after = first_moves_before(alloc, is, at, &after)?;
     }
     Ok(())
 }
 
-// The moves that an expression begins with, and then these.
-fn heads_before(alloc: Global, is: &RegPat, before: usize, next: &Row) -> Result<Row, AllocError>
+// The first moves of an expression, with these in the place of the end.
+fn first_moves_before(
+    alloc: Global,
+    is: &RegPat,
+    before: usize,
+    next: &Row,
+) -> Result<Row, AllocError>
     requires { before + items_in (plain_regular is.now) < 2 ^ 64 }
     ensures { IfOk result (λ row. plain_row row
-        ≡ followed (heads_row (plain_regular is.now) before) (plain_row next.now)) }
+        ≡ followed (first_moves_row (plain_regular is.now) before) (plain_row next.now)) }
 {
-    let heads = heads(alloc, is, before)?;
-    Ok(followed(alloc, &heads, next)?)
+    let first_moves = first_moves(alloc, is, before)?;
+    Ok(followed(alloc, &first_moves, next)?)
 }
 
 // Adds those of alternatives.
@@ -113,9 +118,9 @@ fn after_turn(
 ) -> Result<Row, AllocError>
     requires { before + items_in (plain_regular is.now) < 2 ^ 64 }
     ensures { IfOk result (λ row. plain_row row ≡ followed
-        (turns_row post (heads_row (plain_regular is.now) before)) (plain_row next.now)) }
+        (turns_row post (first_moves_row (plain_regular is.now) before)) (plain_row next.now)) }
 {
-    let turn = heads(alloc, is, before)?;
+    let turn = first_moves(alloc, is, before)?;
     let again = turns(alloc, post, &turn)?;
     Ok(followed(alloc, &again, next)?)
 }

@@ -6,8 +6,8 @@ use Rattle.cd_model.specs.BuiltIns.{node}
 use Rattle.cd_model.specs.Language.{Language, both, some}
 use Rattle.cd_model.specs.Membership.{Answers}
 use Rattle.cd_regex.specs.Regular.{Regular, Regulars, NoRegular, ARegular, Nothing, Item, Seq, Alt, Star, Plus, Opt, items_in, items_in_all}
-use Rattle.cd_regex.specs.Automaton.{Next, edges_if, before_all, after_turn, states, states_in_turn, states_of_one}
-use Rattle.cd_regex.specs.declared.next.Edge.{Edge}
+use Rattle.cd_regex.specs.Automaton.{Follow, edges_if, before_all, after_turn, states, states_in_turn, states_of_one}
+use Rattle.cd_regex.specs.declared.follow.Edge.{Edge}
 use Rattle.cd_regex.proofs.Ways.{same, through, some_same, some_grouped}
 
 -- one of the edges is of a node that the item is in, and leads to a state from which the rest is accepted
@@ -15,10 +15,10 @@ abbrev pub leads : (NodeId → Bool → Type 0) → List Edge → Answers → Bo
 leads rest [] one answer = answer ≡ false
 leads rest (edge ∷ edges) one answer = some answer (both answer (one edge.item answer) (rest edge.to answer)) (leads rest edges one answer)
 
--- what is accepted where this comes next, by the states of these nodes
-abbrev pub accepts : (NodeId → Next) → Next → Language Answers
-accepts at next [] answer = next.ends ≡ answer
-accepts at next (one ∷ rest) answer = leads (λ to. accepts at (at to) rest) next.edges one answer
+-- what is accepted where this follows, by the states of these nodes
+abbrev pub accepts : (NodeId → Follow) → Follow → Language Answers
+accepts at follow [] answer = follow.accepting ≡ answer
+accepts at follow (one ∷ rest) answer = leads (λ to. accepts at (at to) rest) follow.edges one answer
 
 pub leads_append : (rest : NodeId → Bool → Type 0) (edges others : List Edge) (one : Answers) (answer : Bool)
     → leads rest (edges ++ others) one answer ↔ some answer (leads rest edges one answer) (leads rest others one answer)
@@ -51,46 +51,46 @@ or_some false other true = (λ e. inr e, elim [ inl e ↦ cc | inr e ↦ e ])
 or_some false other false = (λ e. (refl, e), λ h. h.1)
 
 -- the states after this number are these
-abbrev pub ArePlaced : (NodeId → Next) → ℕ → List Next → Type 0
+abbrev pub ArePlaced : (NodeId → Follow) → ℕ → List Follow → Type 0
 ArePlaced at before [] = Unit {0}
-ArePlaced at before (next ∷ rest) = (at (node (before + 1)) ≡ next) × ArePlaced at (before + 1) rest
+ArePlaced at before (follow ∷ rest) = (at (node (before + 1)) ≡ follow) × ArePlaced at (before + 1) rest
 
-pub placed_first : (at : NodeId → Next) (before : ℕ) (one other : List Next) → ArePlaced at before (one ++ other) → ArePlaced at before one
+pub placed_first : (at : NodeId → Follow) (before : ℕ) (one other : List Follow) → ArePlaced at before (one ++ other) → ArePlaced at before one
 placed_first at before [] other placed = tt
-placed_first at before (next ∷ one) other placed = (placed.0, placed_first at (before + 1) one other placed.1)
+placed_first at before (follow ∷ one) other placed = (placed.0, placed_first at (before + 1) one other placed.1)
 
-pub placed_second : (at : NodeId → Next) (before count : ℕ) (one other : List Next) → length one ≡ count
+pub placed_second : (at : NodeId → Follow) (before count : ℕ) (one other : List Follow) → length one ≡ count
     → ArePlaced at before (one ++ other) → ArePlaced at (before + count) other
 placed_second at before count [] other long placed =
     let same_place : before ≡ before + count = omega (arith, long) in
     subst (λ (place : ℕ). ArePlaced at place other) same_place placed
-placed_second at before count (next ∷ one) other long placed =
+placed_second at before count (follow ∷ one) other long placed =
     let same_place : (before + 1) + length one ≡ before + count = omega (arith, long) in
     subst (λ (place : ℕ). ArePlaced at place other) same_place (placed_second at (before + 1) (length one) one other refl placed.1)
 
-length_both : {count more : ℕ} (one other : List Next) → length one ≡ count → length other ≡ more
+length_both : {count more : ℕ} (one other : List Follow) → length one ≡ count → length other ≡ more
     → length (one ++ other) ≡ count + more
 length_both one other first second = length-append one other ∙ omega arith
 
 -- there is a state for each item
 mutual
-  pub length-states : (is : Regular) (before : ℕ) (next : Next) → length (states is before next) ≡ items_in is
-  length-states Nothing before next = refl
-  length-states (Item id) before next = refl
-  length-states (Seq all) before next = length-states_in_turn all before next
-  length-states (Alt all) before next = length-states_of_one all before next
-  length-states (Star is) before next = length-states is before (after_turn is before next)
-  length-states (Plus is) before next = length-states is before (after_turn is before next)
-  length-states (Opt is) before next = length-states is before next
+  pub length-states : (is : Regular) (before : ℕ) (follow : Follow) → length (states is before follow) ≡ items_in is
+  length-states Nothing before follow = refl
+  length-states (Item id) before follow = refl
+  length-states (Seq all) before follow = length-states_in_turn all before follow
+  length-states (Alt all) before follow = length-states_of_one all before follow
+  length-states (Star is) before follow = length-states is before (after_turn is before follow)
+  length-states (Plus is) before follow = length-states is before (after_turn is before follow)
+  length-states (Opt is) before follow = length-states is before follow
 
-  pub length-states_in_turn : (all : Regulars) (before : ℕ) (next : Next) → length (states_in_turn all before next) ≡ items_in_all all
-  length-states_in_turn NoRegular before next = refl
-  length-states_in_turn (ARegular first rest) before next = length_both
-      (states first before (before_all rest (before + items_in first) next)) (states_in_turn rest (before + items_in first) next)
-      (length-states first before (before_all rest (before + items_in first) next)) (length-states_in_turn rest (before + items_in first) next)
+  pub length-states_in_turn : (all : Regulars) (before : ℕ) (follow : Follow) → length (states_in_turn all before follow) ≡ items_in_all all
+  length-states_in_turn NoRegular before follow = refl
+  length-states_in_turn (ARegular first rest) before follow = length_both
+      (states first before (before_all rest (before + items_in first) follow)) (states_in_turn rest (before + items_in first) follow)
+      (length-states first before (before_all rest (before + items_in first) follow)) (length-states_in_turn rest (before + items_in first) follow)
 
-  pub length-states_of_one : (all : Regulars) (before : ℕ) (next : Next) → length (states_of_one all before next) ≡ items_in_all all
-  length-states_of_one NoRegular before next = refl
-  length-states_of_one (ARegular first rest) before next = length_both
-      (states first before next) (states_of_one rest (before + items_in first) next)
-      (length-states first before next) (length-states_of_one rest (before + items_in first) next)
+  pub length-states_of_one : (all : Regulars) (before : ℕ) (follow : Follow) → length (states_of_one all before follow) ≡ items_in_all all
+  length-states_of_one NoRegular before follow = refl
+  length-states_of_one (ARegular first rest) before follow = length_both
+      (states first before follow) (states_of_one rest (before + items_in first) follow)
+      (length-states first before follow) (length-states_of_one rest (before + items_in first) follow)

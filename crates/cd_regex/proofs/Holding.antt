@@ -11,7 +11,7 @@ use Rattle.cd_model.specs.BuiltIns.{node}
 use Rattle.cd_model.specs.Types.{Items, NoSequence, Listed, are_in}
 use Rattle.cd_model.specs.Membership.{Answers}
 use Rattle.cd_regex.specs.Regular.{Regular, AsksBelow, fits}
-use Rattle.cd_regex.specs.Automaton.{Next, finish, start, states, all_states, state_formula, sequence_formulas}
+use Rattle.cd_regex.specs.Automaton.{Follow, finish, start, states, all_states, state_formula, sequence_formulas}
 use Rattle.cd_regex.specs.Sequences.{HoldsSequences, items_of, value_items_of}
 use Rattle.cd_regex.proofs.Ways.{same, through}
 use Rattle.cd_regex.proofs.Accepting.{accepts, ArePlaced, length-states}
@@ -20,7 +20,7 @@ use Rattle.cd_regex.proofs.StateForms.{LeadTo}
 use Rattle.cd_regex.proofs.StatesInGraph.{HasStates, thing_accepted}
 use Rattle.cd_regex.proofs.SoundStates.{IsEdge, IsState, sound_all_states, sound_formulas}
 use Rattle.cd_regex.proofs.StatesInRow.{nth, state_at, row_is_placed, nth_also, formula_of_state}
-use Rattle.cd_regex.specs.declared.next.Edge.{Edge}
+use Rattle.cd_regex.specs.declared.follow.Edge.{Edge}
 
 -- the number of a state
 abbrev IsNumber : ℕ → ℕ → NodeId → Type 0
@@ -31,13 +31,13 @@ edges_lead first past [] are = tt
 edges_lead first past (edge ∷ edges) are = ((are.0.1, are.0.2), edges_lead first past edges are.1)
 
 module _ (is : Regular) (first : ℕ) (asks : AsksBelow first is) where
-  abbrev all : List Next
+  abbrev all : List Follow
   all = all_states is first
 
   abbrev past : ℕ
   past = first + length all
 
-  abbrev at : NodeId → Next
+  abbrev at : NodeId → Follow
   at = state_at first all
 
   -- a graph with their formulas
@@ -65,7 +65,7 @@ module _ (is : Regular) (first : ℕ) (asks : AsksBelow first is) where
 
   first_accepts : (items : Items Answers) (answer : Bool) → are_in items (accepts at (at (node first))) answer ↔ are_in items (fits is) answer
   first_accepts NoSequence answer = same
-  first_accepts (Listed list) answer = subst (λ (next : Next). accepts at next list answer ↔ fits is list answer) (sym starts)
+  first_accepts (Listed list) answer = subst (λ (follow : Follow). accepts at follow list answer ↔ fits is list answer) (sym starts)
       (start_accepts at is first others_placed list answer)
 
   first_is : IsNumber first past (node first)

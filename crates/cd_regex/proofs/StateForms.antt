@@ -8,8 +8,8 @@ use Rattle.cd_model.specs.BuiltIns.{atoms_of}
 use Rattle.cd_model.specs.Language.{both, some}
 use Rattle.cd_model.specs.Types.{Items, NoSequence, Listed, no_items_if, items_of_atom, with_item, are_in}
 use Rattle.cd_model.specs.Membership.{Answers, Reader, holds, atom_reader, pair_reader}
-use Rattle.cd_regex.specs.Automaton.{Next, edge_formula, end_formulas, state_formula}
-use Rattle.cd_regex.specs.declared.next.Edge.{Edge}
+use Rattle.cd_regex.specs.Automaton.{Follow, edge_formula, end_formulas, state_formula}
+use Rattle.cd_regex.specs.declared.follow.Edge.{Edge}
 use Rattle.cd_regex.proofs.Ways.{same, back, through, both_same, some_same, some_grouped, some_or_never, never_or_some}
 use Rattle.cd_regex.proofs.Ways.{both_never, both_and_never, both_always, both_and_always}
 use Rattle.cd_regex.proofs.Accepting.{leads, accepts, turned}
@@ -36,14 +36,14 @@ one_of_both reader (is ∷ rest) others answer = through
 
 -- one of the edges holds it, or the end
 abbrev at_end : Reader → Bool → Bool → Type 0
-at_end reader ends answer = one_holds_it reader (end_formulas ends) answer
+at_end reader accepting answer = one_holds_it reader (end_formulas accepting) answer
 
-by_edges : (reader : Reader) (next : Next) (answer : Bool)
-    → holds reader (state_formula next) answer
-    ↔ some answer (one_holds_it reader (map edge_formula next.edges) answer) (at_end reader next.ends answer)
-by_edges reader next answer = through
-    (one_of_them reader (map edge_formula next.edges ++ end_formulas next.ends) answer)
-    (one_of_both reader (map edge_formula next.edges) (end_formulas next.ends) answer)
+by_edges : (reader : Reader) (follow : Follow) (answer : Bool)
+    → holds reader (state_formula follow) answer
+    ↔ some answer (one_holds_it reader (map edge_formula follow.edges) answer) (at_end reader follow.accepting answer)
+by_edges reader follow answer = through
+    (one_of_them reader (map edge_formula follow.edges ++ end_formulas follow.accepting) answer)
+    (one_of_both reader (map edge_formula follow.edges) (end_formulas follow.accepting) answer)
 
 -- a thing that is in no pair is in no edge, and one that is in no atoms is not at the end
 InNoPair : Reader → Bool → Type 0
@@ -57,19 +57,19 @@ no_edge reader answer none (edge ∷ edges) = through
     (some_same answer (none edge.item edge.to) (no_edge reader answer none edges))
     (some_or_never answer (answer ≡ false))
 
-no_end : (reader : Reader) (answer : Bool) → (reader (atoms_of (codes "nil" ∷ [])) answer ↔ (answer ≡ false)) → (ends : Bool)
-    → at_end reader ends answer ↔ (answer ≡ false)
+no_end : (reader : Reader) (answer : Bool) → (reader (atoms_of (codes "nil" ∷ [])) answer ↔ (answer ≡ false)) → (accepting : Bool)
+    → at_end reader accepting answer ↔ (answer ≡ false)
 no_end reader answer none true = through (some_or_never answer (reader (atoms_of (codes "nil" ∷ [])) answer)) none
 no_end reader answer none false = same
 
 -- a thing that is neither a pair nor an atom
-pub neither_holds : (reader : Reader) (next : Next) (answer : Bool)
+pub neither_holds : (reader : Reader) (follow : Follow) (answer : Bool)
     → ((first second : NodeId) → reader (Pair first second) answer ↔ (answer ≡ false))
     → (reader (atoms_of (codes "nil" ∷ [])) answer ↔ (answer ≡ false))
-    → holds reader (state_formula next) answer ↔ (answer ≡ false)
+    → holds reader (state_formula follow) answer ↔ (answer ≡ false)
 unfolding InNoPair
-neither_holds reader next answer no_pair no_atom = through (by_edges reader next answer)
-    (through (some_same answer (no_edge reader answer no_pair next.edges) (no_end reader answer no_atom next.ends))
+neither_holds reader follow answer no_pair no_atom = through (by_edges reader follow answer)
+    (through (some_same answer (no_edge reader answer no_pair follow.edges) (no_end reader answer no_atom follow.accepting))
     (some_or_never answer (answer ≡ false)))
 
 -- an atom is the end, or no sequence
@@ -78,25 +78,25 @@ nil_holds : (name : Name) (is_nil answer : Bool) → bytes_eq name (codes "nil")
 nil_holds name true answer is = rw is same
 nil_holds name false answer is = rw is same
 
-ends_at_nil : (name : Name) (is_nil ends answer : Bool) → bytes_eq name (codes "nil") ≡ is_nil
-    → at_end (atom_reader name) ends answer ↔ both answer (is_nil ≡ answer) (ends ≡ answer)
-ends_at_nil name is_nil true answer is = through (some_or_never answer (holds (atom_reader name) (atoms_of (codes "nil" ∷ [])) answer))
+accepting_at_nil : (name : Name) (is_nil accepting answer : Bool) → bytes_eq name (codes "nil") ≡ is_nil
+    → at_end (atom_reader name) accepting answer ↔ both answer (is_nil ≡ answer) (accepting ≡ answer)
+accepting_at_nil name is_nil true answer is = through (some_or_never answer (holds (atom_reader name) (atoms_of (codes "nil" ∷ [])) answer))
     (through (nil_holds name is_nil answer is) (back (through (both_same answer same turned) (both_and_always answer (is_nil ≡ answer)))))
-ends_at_nil name is_nil false answer is = back (through (both_same answer same turned) (both_and_never answer (is_nil ≡ answer)))
+accepting_at_nil name is_nil false answer is = back (through (both_same answer same turned) (both_and_never answer (is_nil ≡ answer)))
 
-items_at_nil : (at : NodeId → Next) (next : Next) (is_nil answer : Bool)
-    → both answer (is_nil ≡ answer) (next.ends ≡ answer) ↔ are_in (no_items_if is_nil) (accepts at next) answer
-items_at_nil at next true answer = through (both_same answer turned same) (both_always answer (next.ends ≡ answer))
-items_at_nil at next false answer = through (both_same answer turned same) (both_never answer (next.ends ≡ answer))
+items_at_nil : (at : NodeId → Follow) (follow : Follow) (is_nil answer : Bool)
+    → both answer (is_nil ≡ answer) (follow.accepting ≡ answer) ↔ are_in (no_items_if is_nil) (accepts at follow) answer
+items_at_nil at follow true answer = through (both_same answer turned same) (both_always answer (follow.accepting ≡ answer))
+items_at_nil at follow false answer = through (both_same answer turned same) (both_never answer (follow.accepting ≡ answer))
 
-pub atom_holds : (at : NodeId → Next) (next : Next) (name : Name) (answer : Bool)
-    → holds (atom_reader name) (state_formula next) answer ↔ are_in (items_of_atom name) (accepts at next) answer
+pub atom_holds : (at : NodeId → Follow) (follow : Follow) (name : Name) (answer : Bool)
+    → holds (atom_reader name) (state_formula follow) answer ↔ are_in (items_of_atom name) (accepts at follow) answer
 unfolding InNoPair
-atom_holds at next name answer = through (by_edges (atom_reader name) next answer)
-    (through (some_same answer (no_edge (atom_reader name) answer (λ first second. same) next.edges) same)
-    (through (never_or_some answer (at_end (atom_reader name) next.ends answer))
-    (through (ends_at_nil name (bytes_eq name (codes "nil")) next.ends answer refl)
-    (items_at_nil at next (bytes_eq name (codes "nil")) answer))))
+atom_holds at follow name answer = through (by_edges (atom_reader name) follow answer)
+    (through (some_same answer (no_edge (atom_reader name) answer (λ first second. same) follow.edges) same)
+    (through (never_or_some answer (at_end (atom_reader name) follow.accepting answer))
+    (through (accepting_at_nil name (bytes_eq name (codes "nil")) follow.accepting answer refl)
+    (items_at_nil at follow (bytes_eq name (codes "nil")) answer))))
 
 -- a pair is an item and then what its second part is
 pair_is : (first second : Answers) (one other : NodeId) (answer : Bool)
@@ -108,7 +108,7 @@ pair_is first second one other false = same
 abbrev pub LeadTo : (NodeId → Type 0) → List Edge → Type 0
 LeadTo place edges = AllOf (λ edge. place edge.to) edges
 
-module _ (place : NodeId → Type 0) (at : NodeId → Next) (first second : Answers) (answer : Bool) where
+module _ (place : NodeId → Type 0) (at : NodeId → Follow) (first second : Answers) (answer : Bool) where
   -- the second part is no sequence
   no_sequence : ((to : NodeId) → place to → second to answer ↔ (answer ≡ false)) → (edges : List Edge) → LeadTo place edges
       → one_holds_it (pair_reader first second) (map edge_formula edges) answer ↔ (answer ≡ false)
@@ -130,14 +130,14 @@ module _ (place : NodeId → Type 0) (at : NodeId → Next) (first second : Answ
       (sequence rest here edges lead.1)
 
   edges_hold : (items : Items Answers) → ((to : NodeId) → place to → second to answer ↔ are_in items (accepts at (at to)) answer)
-      → (next : Next) → LeadTo place next.edges
-      → one_holds_it (pair_reader first second) (map edge_formula next.edges) answer ↔ are_in (with_item first items) (accepts at next) answer
-  edges_hold NoSequence here next lead = no_sequence here next.edges lead
-  edges_hold (Listed rest) here next lead = sequence rest here next.edges lead
+      → (follow : Follow) → LeadTo place follow.edges
+      → one_holds_it (pair_reader first second) (map edge_formula follow.edges) answer ↔ are_in (with_item first items) (accepts at follow) answer
+  edges_hold NoSequence here follow lead = no_sequence here follow.edges lead
+  edges_hold (Listed rest) here follow lead = sequence rest here follow.edges lead
 
   pub pair_holds : (items : Items Answers) → ((to : NodeId) → place to → second to answer ↔ are_in items (accepts at (at to)) answer)
-      → (next : Next) → LeadTo place next.edges
-      → holds (pair_reader first second) (state_formula next) answer ↔ are_in (with_item first items) (accepts at next) answer
-  pair_holds items here next lead = through (by_edges (pair_reader first second) next answer)
-      (through (some_same answer (edges_hold items here next lead) (no_end (pair_reader first second) answer same next.ends))
-      (some_or_never answer (are_in (with_item first items) (accepts at next) answer)))
+      → (follow : Follow) → LeadTo place follow.edges
+      → holds (pair_reader first second) (state_formula follow) answer ↔ are_in (with_item first items) (accepts at follow) answer
+  pair_holds items here follow lead = through (by_edges (pair_reader first second) follow answer)
+      (through (some_same answer (edges_hold items here follow lead) (no_end (pair_reader first second) answer same follow.accepting))
+      (some_or_never answer (are_in (with_item first items) (accepts at follow) answer)))

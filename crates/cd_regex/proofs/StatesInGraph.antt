@@ -8,17 +8,17 @@ use Rattle.cd_model.specs.Types as types
 use Rattle.cd_model.specs.Types.{Mapping, items, items_of_atom, with_item, are_in, atom_at, pair_at}
 use Rattle.cd_model.proofs.NoSequences.{no_sequences}
 use Rattle.cd_model.specs.Membership.{Reader, holds}
-use Rattle.cd_regex.specs.Automaton.{Next, state_formula}
+use Rattle.cd_regex.specs.Automaton.{Follow, state_formula}
 use Rattle.cd_regex.proofs.Ways.{same}
 use Rattle.cd_regex.proofs.Accepting.{accepts}
 use Rattle.cd_regex.proofs.StateForms.{LeadTo, neither_holds, atom_holds, pair_holds}
 
 -- a node of a place has the formula of its state, whose edges lead to such nodes
-pub record HasStates (place : NodeId → Type 0) (at : NodeId → Next) (graph : Graph) : Type 0 where
+pub record HasStates (place : NodeId → Type 0) (at : NodeId → Follow) (graph : Graph) : Type 0 where
   pub formulas : (id : NodeId) → place id → formula_at graph id ≡ state_formula (at id)
   pub edges : (id : NodeId) → place id → LeadTo place (at id).edges
 
-module _ (place : NodeId → Type 0) (at : NodeId → Next) (graph : Graph) (states : HasStates place at graph) where
+module _ (place : NodeId → Type 0) (at : NodeId → Follow) (graph : Graph) (states : HasStates place at graph) where
   at_place : (read : Reader) (id : NodeId) (answer : Bool) (items : Type 0) → place id
       → holds read (state_formula (at id)) answer ↔ items → holds read (formula_at graph id) answer ↔ items
   at_place read id answer items placed here =

@@ -6,8 +6,8 @@ ghost use Rattle.cd_regex.specs.PlainRegular.{plain};
 ghost use Rattle.cd_regex.specs.Automaton.{start, sequence_formulas};
 
 use crate::count::fits;
-use crate::heads::{add_heads, is_nullable};
-use crate::next::Next;
+use crate::first_edges::{add_first_edges, is_nullable};
+use crate::follow::Follow;
 use crate::regular::Reg;
 use crate::states::add_states;
 use cd_graph::Formula;
@@ -47,16 +47,16 @@ fn formulas_of_states(
 {
     let mut batch = Vec::new(alloc);
     batch.push(start_of(alloc, first, regular)?.formula(alloc)?)?;
-    add_states(alloc, regular, first, &Next::finish(alloc), &mut batch)?;
+    add_states(alloc, regular, first, &Follow::finish(alloc), &mut batch)?;
     Ok(batch)
 }
 
-// What may come next in the state to start in.
-fn start_of(alloc: Global, first: usize, regular: &Reg) -> Result<Next, AllocError>
+// What may follow in the state to start in.
+fn start_of(alloc: Global, first: usize, regular: &Reg) -> Result<Follow, AllocError>
     requires { first + items_in (plain regular.now) < 2 ^ 64 }
-    ensures { IfOk result (λ next. next ≡ start (plain regular.now) first) }
+    ensures { IfOk result (λ follow. follow ≡ start (plain regular.now) first) }
 {
     let mut edges = Vec::new(alloc);
-    add_heads(regular, first, &mut edges)?;
-    Ok(Next::of(edges, is_nullable(regular)))
+    add_first_edges(regular, first, &mut edges)?;
+    Ok(Follow::of(edges, is_nullable(regular)))
 }

@@ -3,10 +3,10 @@
 
 mod automaton;
 mod count;
-mod heads;
+mod first_edges;
+mod follow;
 pub mod laws;
 mod make;
-mod next;
 pub mod regular;
 mod states;
 

@@ -6,34 +6,34 @@ ghost use Rattle.cd_regex.specs.PlainRegular.{plain, plain_all};
 ghost use Rattle.cd_regex.specs.Automaton.{edges_if, before_all, after_turn, states};
 ghost use Rattle.cd_regex.specs.Automaton.{states_in_turn, states_of_one, state_formula};
 
-use crate::heads::{add_heads, add_heads_in_turn, are_nullable, items_in};
-use crate::next::{Edge, Next};
+use crate::first_edges::{add_first_edges, add_first_edges_in_turn, are_nullable, items_in};
+use crate::follow::{Edge, Follow};
 use crate::regular::Reg;
 use cd_graph::Formula;
 use std::alloc::{AllocError, Global};
 
-/// Adds the formulas of the states after the items of an expression, from the left. `next` is what
-/// may come after the whole expression. The states are numbered after this number.
+/// Adds the formulas of the states after the items of an expression, from the left. `follow` is
+/// what may follow the whole expression. The states are numbered after this number.
 #[cycle(add_states)]
 pub(crate) fn add_states(
     alloc: Global,
     is: &Reg,
     before: usize,
-    next: &Next,
+    follow: &Follow,
     batch: &mut Vec<Formula>,
 ) -> Result<(), AllocError>
     requires { before + items_in (plain is.now) < 2 ^ 64 }
     ensures { OnOk result (map plain_formula batch.new.items
         ≡ map plain_formula batch.old.items
-        ++ map state_formula (states (plain is.now) before next.now)) }
+        ++ map state_formula (states (plain is.now) before follow.now)) }
 {
     match is {
         Reg::Nothing => Ok(()),
-        Reg::Item(_) => add_state(alloc, next, batch),
-        Reg::Seq(all) => add_in_turn(alloc, all.items.as_slice(), before, next, batch),
-        Reg::Alt(all) => add_of_one(alloc, all.items.as_slice(), before, next, batch),
-        Reg::Star(is) | Reg::Plus(is) => add_of_turns(alloc, is, before, next, batch),
-        Reg::Opt(is) => add_states(alloc, is, before, next, batch),
+        Reg::Item(_) => add_state(alloc, follow, batch),
+        Reg::Seq(all) => add_in_turn(alloc, all.items.as_slice(), before, follow, batch),
+        Reg::Alt(all) => add_of_one(alloc, all.items.as_slice(), before, follow, batch),
+        Reg::Star(is) | Reg::Plus(is) => add_of_turns(alloc, is, before, follow, batch),
+        Reg::Opt(is) => add_states(alloc, is, before, follow, batch),
     }
 }
 
@@ -43,16 +43,16 @@ fn add_of_turns(
     alloc: Global,
     is: &Reg,
     before: usize,
-    next: &Next,
+    follow: &Follow,
     batch: &mut Vec<Formula>,
 ) -> Result<(), AllocError>
     requires { before + items_in (plain is.now) < 2 ^ 64 }
     ensures { OnOk result (map plain_formula batch.new.items
         ≡ map plain_formula batch.old.items
         ++ map state_formula (states (plain is.now) before
-        (after_turn (plain is.now) before next.now))) }
+        (after_turn (plain is.now) before follow.now))) }
 {
-    let again = after_turn(alloc, is, before, next)?;
+    let again = after_turn(alloc, is, before, follow)?;
     add_states(alloc, is, before, &again, batch)
 }
 
@@ -62,18 +62,18 @@ fn add_in_turn(
     alloc: Global,
     all: &[Reg],
     before: usize,
-    next: &Next,
+    follow: &Follow,
     batch: &mut Vec<Formula>,
 ) -> Result<(), AllocError>
     requires { before + items_in_all (plain_all all.now) < 2 ^ 64 }
     ensures { OnOk result (map plain_formula batch.new.items
         ≡ map plain_formula batch.old.items
-        ++ map state_formula (states_in_turn (plain_all all.now) before next.now)) }
+        ++ map state_formula (states_in_turn (plain_all all.now) before follow.now)) }
 {
     let mut at = before;
     for (place, is) in all.iter().enumerate() {
         let after = at + items_in(is);
-        let between = before_all(alloc, &all[place + 1..], after, next)?;
+        let between = before_all(alloc, &all[place + 1..], after, follow)?;
         add_states(alloc, is, at, &between, batch)?;
         at = after;
     }
@@ -86,51 +86,56 @@ fn add_of_one(
     alloc: Global,
     all: &[Reg],
     before: usize,
-    next: &Next,
+    follow: &Follow,
     batch: &mut Vec<Formula>,
 ) -> Result<(), AllocError>
     requires { before + items_in_all (plain_all all.now) < 2 ^ 64 }
     ensures { OnOk result (map plain_formula batch.new.items
         ≡ map plain_formula batch.old.items
-        ++ map state_formula (states_of_one (plain_all all.now) before next.now)) }
+        ++ map state_formula (states_of_one (plain_all all.now) before follow.now)) }
 {
     let mut at = before;
     for is in all {
-        add_states(alloc, is, at, next, batch)?;
+        add_states(alloc, is, at, follow, batch)?;
         at += items_in(is);
     }
     Ok(())
 }
 
 // What may come after one of many turns: another turn, or what comes after all.
-fn after_turn(alloc: Global, is: &Reg, before: usize, next: &Next) -> Result<Next, AllocError>
+fn after_turn(alloc: Global, is: &Reg, before: usize, follow: &Follow) -> Result<Follow, AllocError>
     requires { before + items_in (plain is.now) < 2 ^ 64 }
-    ensures { IfOk result (λ again. again ≡ after_turn (plain is.now) before next.now) }
+    ensures { IfOk result (λ again. again ≡ after_turn (plain is.now) before follow.now) }
 {
     let mut edges = Vec::new(alloc);
-    add_heads(is, before, &mut edges)?;
-    add_edges(next.edges(), &mut edges)?;
-    Ok(Next::of(edges, next.ends()))
+    add_first_edges(is, before, &mut edges)?;
+    add_edges(follow.edges(), &mut edges)?;
+    Ok(Follow::of(edges, follow.accepting()))
 }
 
 // What may come before these in turn.
-fn before_all(alloc: Global, all: &[Reg], before: usize, next: &Next) -> Result<Next, AllocError>
+fn before_all(
+    alloc: Global,
+    all: &[Reg],
+    before: usize,
+    follow: &Follow,
+) -> Result<Follow, AllocError>
     requires { before + items_in_all (plain_all all.now) < 2 ^ 64 }
-    ensures { IfOk result (λ first. first ≡ before_all (plain_all all.now) before next.now) }
+    ensures { IfOk result (λ first. first ≡ before_all (plain_all all.now) before follow.now) }
 {
     let mut edges = Vec::new(alloc);
-    add_heads_in_turn(all, before, &mut edges)?;
+    add_first_edges_in_turn(all, before, &mut edges)?;
     let nullable = are_nullable(all);
-    add_edges_if(nullable, next.edges(), &mut edges)?;
-    Ok(Next::of(edges, nullable && next.ends()))
+    add_edges_if(nullable, follow.edges(), &mut edges)?;
+    Ok(Follow::of(edges, nullable && follow.accepting()))
 }
 
 // Adds the formula of a state.
-fn add_state(alloc: Global, next: &Next, batch: &mut Vec<Formula>) -> Result<(), AllocError>
+fn add_state(alloc: Global, follow: &Follow, batch: &mut Vec<Formula>) -> Result<(), AllocError>
     ensures { OnOk result (map plain_formula batch.new.items
-        ≡ map plain_formula batch.old.items ++ map state_formula (next.now ∷ [])) }
+        ≡ map plain_formula batch.old.items ++ map state_formula (follow.now ∷ [])) }
 {
-    batch.push(next.formula(alloc)?)?;
+    batch.push(follow.formula(alloc)?)?;
     Ok(())
 }
 

@@ -8,7 +8,7 @@ use Rattle.std.proofs.lemmas.Option.{slice_get_past, unwrap_or-slice_get}
 use Rattle.cd_sets.specs.declared.node_id.NodeId.{NodeId}
 use Rattle.cd_model.specs.BuiltIns.{node}
 use Rattle.cd_model.specs.Formula.{Graph, Formula, Nothing, Or, formula_at}
-use Rattle.cd_regex.specs.Automaton.{Next, state_formula, all_states, sequence_formulas}
+use Rattle.cd_regex.specs.Automaton.{Follow, state_formula, all_states, sequence_formulas}
 use Rattle.cd_regex.specs.Regular.{Regular, AsksBelow}
 use Rattle.cd_regex.specs.Sequences.{HoldsSequences}
 use Rattle.cd_regex.proofs.Holding.{batch_holds}
@@ -41,12 +41,12 @@ is_node graph number is_or = by_length (cases_lt number (length graph))
 
 module _ (graph : Graph) (first : ℕ) (equations : Equations) (solves : Solves graph first equations) where
   -- a graph goes on with the formulas of states that follow one another
-  is_state : (number : ℕ) (state : Next) (rest : List Next)
+  is_state : (number : ℕ) (state : Follow) (rest : List Follow)
       → HaveFormulas first equations number (map state_formula (state ∷ rest)) → number < length graph
   is_state number state rest have = is_node graph number
       (subst IsOr (sym (solved graph first equations (node number) (Is (state_formula state)) solves have.0)) tt)
 
-  goes_on : (number : ℕ) (states : List Next) → HaveFormulas first equations number (map state_formula states)
+  goes_on : (number : ℕ) (states : List Follow) → HaveFormulas first equations number (map state_formula states)
       → drop number graph ≡ map state_formula states ++ drop (number + length states) graph
   goes_on number [] have = ap (λ number. drop number graph) (omega arith)
   goes_on number (state ∷ rest) have =

@@ -17,7 +17,7 @@ use Rattle.cd_matching.specs.Pattern.{Pattern, Patterns, NoPattern, APattern, Fi
 use Rattle.cd_matching.specs.Pattern.{Regular, Regulars, NoRegular, ARegular}
 use Rattle.cd_kernel.specs.Automaton.{Move, End, To}
 use Rattle.cd_kernel.specs.Inner.Gathering.{numbered, groups_of, gathering, with_variables}
-use Rattle.cd_kernel.specs.Inner.Rows.{heads_row, rows_back}
+use Rattle.cd_kernel.specs.Inner.Rows.{first_moves_row, rows_back}
 
 abbrev pub Nodes : Type 0
 Nodes = List (KernelNode NodeId)
@@ -181,7 +181,7 @@ module _ (variables : List Name) where
   -- a copy of the automaton of an expression, for a group, after its items
   abbrev pub put_copy : Regular NodeId → List Name → Several → Built
   put_copy r group items =
-      put_row (steps_of group r items) (heads_row r 0)
+      put_row (steps_of group r items) (first_moves_row r 0)
       (put_rows (steps_of group r items) (rows_made r) items.1)
 
   -- the copies for some groups, whose items are made in the first one by one function, and in the

@@ -78,32 +78,33 @@ first_row post.LazyPlus turn = followed turn (turns_row post.LazyPlus turn)
 first_row post.Opt turn = with_move (added [] turn) End
 first_row post.LazyOpt turn = added (End ∷ []) turn
 
--- the moves that an expression begins with, each once
+-- the first moves of an expression, each once
 abbrev mutual
-  pub heads_row : {T : Type 0} → Regular T → ℕ → List Move
-  heads_row pattern.Nothing before = End ∷ []
-  heads_row (pattern.Item is) before = To before ∷ []
-  heads_row (pattern.Seq all) before = heads_in_turn_row (End ∷ []) all before
-  heads_row (pattern.Alt all) before = heads_of_one_row [] all before
-  heads_row (pattern.Repeat is post) before = first_row post (heads_row is before)
-  heads_row (pattern.Capture name is) before = heads_row is before
+  pub first_moves_row : {T : Type 0} → Regular T → ℕ → List Move
+  first_moves_row pattern.Nothing before = End ∷ []
+  first_moves_row (pattern.Item is) before = To before ∷ []
+  first_moves_row (pattern.Seq all) before = first_moves_in_turn_row (End ∷ []) all before
+  first_moves_row (pattern.Alt all) before = first_moves_of_one_row [] all before
+  first_moves_row (pattern.Repeat is post) before = first_row post (first_moves_row is before)
+  first_moves_row (pattern.Capture name is) before = first_moves_row is before
 
-  pub heads_in_turn_row : {T : Type 0} → List Move → Regulars T → ℕ → List Move
-  heads_in_turn_row row NoRegular at = row
-  heads_in_turn_row row (ARegular first rest) at = if has row End
-      then heads_in_turn_row (followed row (heads_row first at)) rest (at + items_in first)
+  pub first_moves_in_turn_row : {T : Type 0} → List Move → Regulars T → ℕ → List Move
+  first_moves_in_turn_row row NoRegular at = row
+  first_moves_in_turn_row row (ARegular first rest) at = if has row End
+      then first_moves_in_turn_row (followed row (first_moves_row first at)) rest
+      (at + items_in first)
       else row
 
-  pub heads_of_one_row : {T : Type 0} → List Move → Regulars T → ℕ → List Move
-  heads_of_one_row row NoRegular at = row
-  heads_of_one_row row (ARegular first rest) at =
-      heads_of_one_row (added row (heads_row first at)) rest (at + items_in first)
+  pub first_moves_of_one_row : {T : Type 0} → List Move → Regulars T → ℕ → List Move
+  first_moves_of_one_row row NoRegular at = row
+  first_moves_of_one_row row (ARegular first rest) at =
+      first_moves_of_one_row (added row (first_moves_row first at)) rest (at + items_in first)
 
 -- the moves after some expressions in turn begin with theirs
 abbrev pub after_row : {T : Type 0} → Regulars T → ℕ → List Move → List Move
 after_row NoRegular at next = next
 after_row (ARegular first rest) at next =
-    followed (heads_row first at) (after_row rest (at + items_in first) next)
+    followed (first_moves_row first at) (after_row rest (at + items_in first) next)
 
 -- the moves after each item, each once, from the last item to the first
 abbrev mutual
@@ -113,7 +114,7 @@ abbrev mutual
   rows_back (pattern.Seq all) before next = rows_back_in_turn all before next
   rows_back (pattern.Alt all) before next = rows_back_of_one all before next
   rows_back (pattern.Repeat is post) before next =
-      rows_back is before (followed (turns_row post (heads_row is before)) next)
+      rows_back is before (followed (turns_row post (first_moves_row is before)) next)
   rows_back (pattern.Capture name is) before next = rows_back is before next
 
   pub rows_back_in_turn : {T : Type 0} → Regulars T → ℕ → List Move → List (List Move)

@@ -1,7 +1,7 @@
 use Rattle.std.proofs.Common.{◌-◌, refl, ap, arith}
 use Rattle.cd_matching.specs.PlainPattern.{plain_regular}
 use Rattle.cd_kernel.specs.Automaton.{items_in, items_in_all}
-use Rattle.cd_kernel.specs.Inner.Rows.{plain_rows, plain_row, heads_row}
+use Rattle.cd_kernel.specs.Inner.Rows.{plain_rows, plain_row, first_moves_row}
 use Rattle.cd_kernel.proofs.LastPart.{parts_left, one_more_left, left_are_fewer, after_step}
 use Rattle.cd_kernel.proofs.LastPart.{in_turn_step, of_one_step, before_part}
 use Rattle.cd_kernel.proofs.states.+add_states.Goals as goal
@@ -65,7 +65,7 @@ add_in_turn-loop-index-preserved t c =
       omega (arith, more, fewer, count, sum),
       after_step first (parts_left all index) (parts_left all (index - 1)) at
           (at - c.items_in-at.result) (plain_row c.args.next.now) (plain_row c.loop-index.after)
-          (heads_row first (at - c.items_in-at.result)) (plain_row c.in_ok-after-2.after) is back
+          (first_moves_row first (at - c.items_in-at.result)) (plain_row c.in_ok-after-2.after) is back
           c.loop-index.invariant.2 refl c.in_ok-after-2.ensures,
       in_turn_step first (parts_left all index) (parts_left all (index - 1)) at
           (at - c.items_in-at.result) (plain_row c.args.next.now) (plain_row c.loop-index.after)

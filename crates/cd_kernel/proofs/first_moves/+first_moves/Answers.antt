@@ -3,16 +3,16 @@ use Rattle.cd_matching.specs.PlainPattern.{plain_regular}
 use Rattle.cd_matching.specs.Pattern.{regulars_of}
 use Rattle.std.proofs.Common.{map}
 use Rattle.cd_kernel.specs.Automaton.{End, items_in, items_in_all}
-use Rattle.cd_kernel.specs.Inner.Rows.{plain_row, heads_in_turn_row, heads_of_one_row}
+use Rattle.cd_kernel.specs.Inner.Rows.{plain_row, first_moves_in_turn_row, first_moves_of_one_row}
 use Rattle.cd_kernel.specs.Automaton.{Move}
 use Rattle.std.proofs.Common.{◌∷◌, []}
 use Rattle.cd_kernel.proofs.LastPart.{parts_left}
-use Rattle.cd_kernel.proofs.HeadsMade.{first_left, in_turn_next, of_one_next, further}
-use Rattle.cd_kernel.proofs.heads.+heads.Goals as goal
+use Rattle.cd_kernel.proofs.FirstMovesMade.{first_left, in_turn_next, of_one_next, further}
+use Rattle.cd_kernel.proofs.first_moves.+first_moves.Goals as goal
 
 -- the moves of one more
-pub heads_in_turn-loop-is-preserved : goal.heads_in_turn-loop-is-preserved
-heads_in_turn-loop-is-preserved t c =
+pub first_moves_in_turn-loop-is-preserved : goal.first_moves_in_turn-loop-is-preserved
+first_moves_in_turn-loop-is-preserved t c =
     let all = c.args.all.now in
     let index = c.loop-is.is-index in
     let first = plain_regular c.is-item.result in
@@ -24,13 +24,13 @@ heads_in_turn-loop-is-preserved t c =
       in_turn_next first (parts_left all (index + 1)) (parts_left all index) c.loop-is.at
           c.items_in-at.result (plain_row c.loop-is.row) (plain_row c.in_ok-next.next)
           (plain_row c.in_ok-row-2.row)
-          (heads_in_turn_row (End ∷ []) whole c.args.before) are c.items_in-at.ensures
+          (first_moves_in_turn_row (End ∷ []) whole c.args.before) are c.items_in-at.ensures
           c.in_ok-next.ensures c.in_ok-row-2.ensures (sym c.has.ensures ∙ c.if-not-has.false)
           c.loop-is.invariant.1,
     )
 
-pub heads_of_one-loop-is-preserved : goal.heads_of_one-loop-is-preserved
-heads_of_one-loop-is-preserved t c =
+pub first_moves_of_one-loop-is-preserved : goal.first_moves_of_one-loop-is-preserved
+first_moves_of_one-loop-is-preserved t c =
     let all = c.args.all.now in
     let index = c.loop-is.is-index in
     let first = plain_regular c.is-item.result in
@@ -41,7 +41,7 @@ heads_of_one-loop-is-preserved t c =
           c.loop-is.invariant.0,
       of_one_next first (parts_left all (index + 1)) (parts_left all index) c.loop-is.at
           c.items_in-at.result (plain_row c.loop-is.row) (plain_row c.in_ok-others.others)
-          (plain_row c.add_all.new.self) (heads_of_one_row [] whole c.args.before) are
+          (plain_row c.add_all.new.self) (first_moves_of_one_row [] whole c.args.before) are
           c.items_in-at.ensures c.in_ok-others.ensures c.in_ok-add_all.ensures
           c.loop-is.invariant.1,
     )

@@ -1,12 +1,12 @@
-//! The items that may come first in an expression.
+//! The first edges of an expression: those to the items that may come first.
 ghost use Rattle.std.specs.Prelude.{◌≡◌, ◌+◌, ◌<◌, ◌^◌, [], ◌∷◌, ◌++◌, OnOk};
 ghost use Rattle.cd_model.specs.BuiltIns.{node};
 ghost use Rattle.cd_regex.specs.Regular.{items_in, items_in_all};
 ghost use Rattle.cd_regex.specs.PlainRegular.{plain, plain_all};
-ghost use Rattle.cd_regex.specs.Automaton.{nullable, all_nullable, one_nullable, heads};
-ghost use Rattle.cd_regex.specs.Automaton.{heads_in_turn, heads_of_one};
+ghost use Rattle.cd_regex.specs.Automaton.{nullable, all_nullable, one_nullable, first_edges};
+ghost use Rattle.cd_regex.specs.Automaton.{first_edges_in_turn, first_edges_of_one};
 
-use crate::next::Edge;
+use crate::follow::Edge;
 use crate::regular::Reg;
 use cd_sets::node_id::NodeId;
 use std::alloc::AllocError;
@@ -76,36 +76,39 @@ fn has_nullable(all: &[Reg]) -> bool
     false
 }
 
-/// Adds the edges to the items that may come first in an expression, whose states are numbered
-/// after this number.
-#[cycle(add_heads)]
-pub(crate) fn add_heads(is: &Reg, before: usize, edges: &mut Vec<Edge>) -> Result<(), AllocError>
+/// Adds the first edges of an expression, whose states are numbered after this number.
+#[cycle(add_first_edges)]
+pub(crate) fn add_first_edges(
+    is: &Reg,
+    before: usize,
+    edges: &mut Vec<Edge>,
+) -> Result<(), AllocError>
     requires { before + items_in (plain is.now) < 2 ^ 64 }
-    ensures { OnOk result (edges.new.items ≡ edges.old.items ++ heads (plain is.now) before) }
+    ensures { OnOk result (edges.new.items ≡ edges.old.items ++ first_edges (plain is.now) before) }
 {
     match is {
         Reg::Nothing => Ok(()),
         Reg::Item(id) => add_edge(*id, before, edges),
-        Reg::Seq(all) => add_heads_in_turn(all.items.as_slice(), before, edges),
-        Reg::Alt(all) => add_heads_of_one(all.items.as_slice(), before, edges),
-        Reg::Star(is) | Reg::Plus(is) | Reg::Opt(is) => add_heads(is, before, edges),
+        Reg::Seq(all) => add_first_edges_in_turn(all.items.as_slice(), before, edges),
+        Reg::Alt(all) => add_first_edges_of_one(all.items.as_slice(), before, edges),
+        Reg::Star(is) | Reg::Plus(is) | Reg::Opt(is) => add_first_edges(is, before, edges),
     }
 }
 
 /// Adds those of these in turn.
-#[cycle(add_heads)]
-pub(crate) fn add_heads_in_turn(
+#[cycle(add_first_edges)]
+pub(crate) fn add_first_edges_in_turn(
     all: &[Reg],
     before: usize,
     edges: &mut Vec<Edge>,
 ) -> Result<(), AllocError>
     requires { before + items_in_all (plain_all all.now) < 2 ^ 64 }
     ensures { OnOk result (edges.new.items
-        ≡ edges.old.items ++ heads_in_turn (plain_all all.now) before) }
+        ≡ edges.old.items ++ first_edges_in_turn (plain_all all.now) before) }
 {
     let mut at = before;
     for is in all {
-        add_heads(is, at, edges)?;
+        add_first_edges(is, at, edges)?;
         if !is_nullable(is) {
             return Ok(());
         }
@@ -114,15 +117,19 @@ pub(crate) fn add_heads_in_turn(
     Ok(())
 }
 
-#[cycle(add_heads)]
-fn add_heads_of_one(all: &[Reg], before: usize, edges: &mut Vec<Edge>) -> Result<(), AllocError>
+#[cycle(add_first_edges)]
+fn add_first_edges_of_one(
+    all: &[Reg],
+    before: usize,
+    edges: &mut Vec<Edge>,
+) -> Result<(), AllocError>
     requires { before + items_in_all (plain_all all.now) < 2 ^ 64 }
     ensures { OnOk result (edges.new.items
-        ≡ edges.old.items ++ heads_of_one (plain_all all.now) before) }
+        ≡ edges.old.items ++ first_edges_of_one (plain_all all.now) before) }
 {
     let mut at = before;
     for is in all {
-        add_heads(is, at, edges)?;
+        add_first_edges(is, at, edges)?;
         at += items_in(is);
     }
     Ok(())

@@ -1,11 +1,12 @@
-//! The moves that an expression begins with.
+//! The first moves of an expression.
 ghost use Rattle.std.specs.Prelude.{◌≡◌, ◌+◌, ◌<◌, ◌^◌, ◌∷◌, [], map, IfOk};
 ghost use Rattle.cd_matching.specs.Pattern.{regulars_of};
 ghost use Rattle.cd_matching.specs.PlainPattern.{plain_regular};
 ghost use Rattle.cd_kernel.specs.Automaton.{End, items_in, items_in_all};
 ghost use Rattle.cd_kernel.specs.Inner.Rows.{plain_row, added, with_move, followed, greedy, lazy};
-ghost use Rattle.cd_kernel.specs.Inner.Rows.{turns_row, first_row, heads_row, heads_in_turn_row};
-ghost use Rattle.cd_kernel.specs.Inner.Rows.{heads_of_one_row};
+ghost use Rattle.cd_kernel.specs.Inner.Rows.{turns_row, first_row, first_moves_row};
+ghost use Rattle.cd_kernel.specs.Inner.Rows.{first_moves_in_turn_row};
+ghost use Rattle.cd_kernel.specs.Inner.Rows.{first_moves_of_one_row};
 
 use crate::moves::{Move, Row};
 use cd_matching::pattern::RegPat;
@@ -39,30 +40,30 @@ pub(crate) fn items_in_all(all: &[RegPat]) -> usize
     count
 }
 
-/// The moves that an expression begins with, whose items are numbered after this number.
-#[cycle(heads)]
-pub(crate) fn heads(alloc: Global, is: &RegPat, before: usize) -> Result<Row, AllocError>
+/// The first moves of an expression, whose items are numbered after this number.
+#[cycle(first_moves)]
+pub(crate) fn first_moves(alloc: Global, is: &RegPat, before: usize) -> Result<Row, AllocError>
     requires { before + items_in (plain_regular is.now) < 2 ^ 64 }
-    ensures { IfOk result (λ row. plain_row row ≡ heads_row (plain_regular is.now) before) }
+    ensures { IfOk result (λ row. plain_row row ≡ first_moves_row (plain_regular is.now) before) }
 {
     match is {
         RegPat::Nothing => Row::one(alloc, Move::End),
         RegPat::Item(_) => Row::one(alloc, Move::To(before)),
-        RegPat::Seq(all) => heads_in_turn(alloc, all.items.as_slice(), before),
-        RegPat::Alt(all) => heads_of_one(alloc, all.items.as_slice(), before),
+        RegPat::Seq(all) => first_moves_in_turn(alloc, all.items.as_slice(), before),
+        RegPat::Alt(all) => first_moves_of_one(alloc, all.items.as_slice(), before),
         RegPat::Repeat(is, post) => {
-            let turn = heads(alloc, is, before)?;
+            let turn = first_moves(alloc, is, before)?;
             Ok(first_turn(alloc, *post, &turn)?)
         }
-        RegPat::Capture(_, is) => heads(alloc, is, before),
+        RegPat::Capture(_, is) => first_moves(alloc, is, before),
     }
 }
 
-#[cycle(heads)]
-fn heads_in_turn(alloc: Global, all: &[RegPat], before: usize) -> Result<Row, AllocError>
+#[cycle(first_moves)]
+fn first_moves_in_turn(alloc: Global, all: &[RegPat], before: usize) -> Result<Row, AllocError>
     requires { before + items_in_all (regulars_of (map plain_regular all.now)) < 2 ^ 64 }
     ensures { IfOk result (λ row. plain_row row
-        ≡ heads_in_turn_row (End ∷ []) (regulars_of (map plain_regular all.now)) before) }
+        ≡ first_moves_in_turn_row (End ∷ []) (regulars_of (map plain_regular all.now)) before) }
 {
     let mut row = Row::one(alloc, Move::End)?;
     let mut at = before;
@@ -70,23 +71,23 @@ fn heads_in_turn(alloc: Global, all: &[RegPat], before: usize) -> Result<Row, Al
         if !row.has(Move::End) {
             return Ok(row);
         }
-        let next = heads(alloc, is, at)?;
+        let next = first_moves(alloc, is, at)?;
         row = followed(alloc, &row, &next)?;
         at += items_in(is);
     }
     Ok(row)
 }
 
-#[cycle(heads)]
-fn heads_of_one(alloc: Global, all: &[RegPat], before: usize) -> Result<Row, AllocError>
+#[cycle(first_moves)]
+fn first_moves_of_one(alloc: Global, all: &[RegPat], before: usize) -> Result<Row, AllocError>
     requires { before + items_in_all (regulars_of (map plain_regular all.now)) < 2 ^ 64 }
     ensures { IfOk result (λ row. plain_row row
-        ≡ heads_of_one_row [] (regulars_of (map plain_regular all.now)) before) }
+        ≡ first_moves_of_one_row [] (regulars_of (map plain_regular all.now)) before) }
 {
     let mut row = Row::new(alloc);
     let mut at = before;
     for is in all {
-        let others = heads(alloc, is, at)?;
+        let others = first_moves(alloc, is, at)?;
         row.add_all(&others)?;
         at += items_in(is);
     }
@@ -112,7 +113,7 @@ pub(crate) fn turns(alloc: Global, post: Post, turn: &Row) -> Result<Row, AllocE
     }
 }
 
-// The moves that a repeat begins with, where each turn begins with a row.
+// The first moves of a repeat, where each turn begins with a row.
 fn first_turn(alloc: Global, post: Post, turn: &Row) -> Result<Row, AllocError>
     ensures { IfOk result (λ row. plain_row row ≡ first_row post (plain_row turn.now)) }
 {

@@ -1,4 +1,4 @@
-//! What may come next in a state.
+//! What may follow in a state.
 ghost use Rattle.std.specs.Prelude.{◌≡◌, ◌++◌, map, IfOk, OnOk};
 ghost use Rattle.cd_graph.specs.PlainFormula.{plain};
 ghost use Rattle.cd_regex.specs.Automaton.{finish, edge_formula, end_formulas, state_formula};
@@ -16,35 +16,35 @@ pub(crate) struct Edge {
     pub(crate) to: NodeId,
 }
 
-/// What may come next in a state: the items that lead to other states, and whether the sequence may
-/// end here.
+/// What may follow in a state: the items that lead to other states, and whether the state is
+/// accepting.
 #[derive(Drop)]
-pub(crate) struct Next {
+pub(crate) struct Follow {
     edges: Vec<Edge>,
-    ends: bool,
+    accepting: bool,
 }
 
-impl Model for Next {
-    ghost use Rattle.cd_regex.specs.Automaton.{Next as APlainNext};
+impl Model for Follow {
+    ghost use Rattle.cd_regex.specs.Automaton.{Follow as APlainFollow};
 
-    ghost Value = { APlainNext };
+    ghost Value = { APlainFollow };
 
-    ghost view = { λ next. record { edges = next.edges.items; ends = next.ends } };
+    ghost view = { λ follow. record { edges = follow.edges.items; accepting = follow.accepting } };
 }
 
-impl Next {
-    /// These edges, and whether the sequence may end here.
-    pub(crate) fn of(edges: Vec<Edge>, ends: bool) -> Next
-        ensures { result ≡ record { edges = edges.items; ends = ends } }
+impl Follow {
+    /// These edges, and whether the state is accepting.
+    pub(crate) fn of(edges: Vec<Edge>, accepting: bool) -> Follow
+        ensures { result ≡ record { edges = edges.items; accepting = accepting } }
     {
-        Next { edges, ends }
+        Follow { edges, accepting }
     }
 
     /// The end, where no item comes.
-    pub(crate) fn finish(alloc: Global) -> Next
+    pub(crate) fn finish(alloc: Global) -> Follow
         ensures { result ≡ finish }
     {
-        Next::of(Vec::new(alloc), true)
+        Follow::of(Vec::new(alloc), true)
     }
 
     /// The edges.
@@ -54,11 +54,11 @@ impl Next {
         self.edges.as_slice()
     }
 
-    /// Whether the sequence may end here.
-    pub(crate) fn ends(&self) -> bool
-        ensures { result ≡ self.now.ends }
+    /// Whether the state is accepting.
+    pub(crate) fn accepting(&self) -> bool
+        ensures { result ≡ self.now.accepting }
     {
-        self.ends
+        self.accepting
     }
 
     /// The formula of the state.
@@ -69,17 +69,17 @@ impl Next {
         for edge in self.edges() {
             items.push(Formula::pair(edge.item, edge.to))?;
         }
-        add_end(alloc, self.ends(), &mut items)?;
+        add_end(alloc, self.accepting(), &mut items)?;
         Ok(Formula::or(Formulas::of(items)?))
     }
 }
 
-// Adds the end of a sequence, where it may end.
-fn add_end(alloc: Global, ends: bool, items: &mut Vec<Formula>) -> Result<(), AllocError>
+// Adds the end of a sequence, where the state is accepting.
+fn add_end(alloc: Global, accepting: bool, items: &mut Vec<Formula>) -> Result<(), AllocError>
     ensures { OnOk result (map plain items.new.items
-        ≡ map plain items.old.items ++ end_formulas ends) }
+        ≡ map plain items.old.items ++ end_formulas accepting) }
 {
-    if ends {
+    if accepting {
         items.push(Formula::atoms(AtomSet::one(alloc, "nil")?))?;
     }
     Ok(())

@@ -2,7 +2,7 @@ use Rattle.std.proofs.Common.{◌≡◌, ◌+◌, drop, map}
 use Rattle.cd_matching.specs.Pattern.{regulars_of}
 use Rattle.cd_matching.specs.PlainPattern.{plain_regular}
 use Rattle.cd_kernel.specs.Automaton.{items_in_all}
-use Rattle.cd_kernel.proofs.heads.+items_in.Given as goal
+use Rattle.cd_kernel.proofs.first_moves.+items_in.Given as goal
 
 -- those that are counted and those that are left are all
 abbrev pub invariant-items_in_all-loop-is : goal.invariant-items_in_all-loop-is

@@ -1,7 +1,7 @@
 use Rattle.std.proofs.Common.{◌≡◌, drop}
 use Rattle.cd_regex.specs.PlainRegular.{plain_all}
 use Rattle.cd_regex.specs.Automaton.{all_nullable, one_nullable}
-use Rattle.cd_regex.proofs.heads.+is_nullable.Given as goal
+use Rattle.cd_regex.proofs.first_edges.+is_nullable.Given as goal
 
 -- those that are left decide it
 abbrev pub invariant-are_nullable-loop-is : goal.invariant-are_nullable-loop-is
