@@ -6,7 +6,7 @@ use Rattle.std.proofs.lemmas.Option.{same_Some}
 use Rattle.cd_syntax.specs.TypeTree.{Tree, Declarations}
 use Rattle.cd_resolve.specs.Faults.{Fault, IsFault, IsFaultOfList}
 use Rattle.cd_resolve.specs.Errors.{IsReportedError}
-use Rattle.cd_resolve.specs.Inner.Finding.{Frames, State, entered, found_in}
+use Rattle.cd_resolve.specs.Inner.Finding.{ScopeLevels, State, entered, found_in}
 use Rattle.cd_resolve.specs.Least.{least_from}
 use Rattle.cd_resolve.specs.Inner.Check.{found_in_type, found_in_declarations, all_faults}
 use Rattle.cd_resolve.specs.Least.{IsLeast}
@@ -23,34 +23,34 @@ use Rattle.cd_resolve.proofs.Exact.{IsWalk, all_sound, all_complete}
 use Rattle.cd_resolve.proofs.LeastFault.{nothing_reported, least_reported}
 
 -- what a type sees, and the walk over it
-abbrev seen : Declarations → Frames
+abbrev seen : Declarations → ScopeLevels
 seen declared = record { declarations = declared; list = zero } ∷ []
 
-abbrev begun : Declarations → State Frames
+abbrev begun : Declarations → State ScopeLevels
 begun declared = record { faults = []; lists = seen declared ∷ []; links = [] }
 
-abbrev over_type : Declarations → Tree → State Frames
+abbrev over_type : Declarations → Tree → State ScopeLevels
 over_type declared is = found_in whole (seen declared) None is (begun declared)
 
 abbrev IsOfType : Declarations → Tree → Fault → Type 0
 IsOfType declared is one = IsFault (declared ∷ []) (declared ∷ []) is one
 
-only_seen : (declared : Declarations) (n : ℕ) (frames : Frames) → nth (seen declared ∷ []) n ≡ Some frames
-    → (n ≡ zero) × (seen declared ≡ frames)
-only_seen declared zero frames at = (refl, same_Some _ _ at)
-only_seen declared (suc n) frames at = absurd cc
+only_seen : (declared : Declarations) (n : ℕ) (levels : ScopeLevels) → nth (seen declared ∷ []) n ≡ Some levels
+    → (n ≡ zero) × (seen declared ≡ levels)
+only_seen declared zero levels at = (refl, same_Some _ _ at)
+only_seen declared (suc n) levels at = absurd cc
 
 begun_sound : (declared : Declarations) (is : Tree)
     → IsSound (declared ∷ []) (suc zero) (IsOfType declared is) (begun declared)
 begun_sound declared is = record {
   faults = λ one nothing. elim nothing [ ];
-  lists = λ n frames late at. let only = only_seen declared n frames at in let none = only.0 in absurd (omega arith);
+  lists = λ n levels late at. let only = only_seen declared n levels at in let none = only.0 in absurd (omega arith);
   links = λ link nothing. elim nothing [ ];
 }
 
-not_inside : (declared : Declarations) (frames : Frames) → seen declared ≡ frames
-    → length (let one : List Declarations = declared ∷ [] in one) < length (scope_of frames) → ⊥
-not_inside declared frames equal inside = let less : suc zero < suc zero = rw (sym equal) at inside in omega arith
+not_inside : (declared : Declarations) (levels : ScopeLevels) → seen declared ≡ levels
+    → length (let one : List Declarations = declared ∷ [] in one) < length (scope_of levels) → ⊥
+not_inside declared levels equal inside = let less : suc zero < suc zero = rw (sym equal) at inside in omega arith
 
 type_walk : (declared : Declarations) (is : Tree)
     → IsWalk (declared ∷ []) (suc zero) (IsOfType declared is) (over_type declared is)
@@ -59,8 +59,8 @@ type_walk declared is = record {
       (begun_sound declared is) (refl, tt) (omega arith) tt (λ one is_fault. is_fault);
   complete = λ one is_fault. complete (declared ∷ []) (suc zero) None (seen declared) (declared ∷ []) is one
       (over_type declared is) refl is_fault visited;
-  visited = λ n frames at known. by n frames known (new.each n frames at);
-  late = λ n frames at inside. late n frames at inside;
+  visited = λ n levels at known. by n levels known (new.each n levels at);
+  late = λ n levels at inside. late n levels at inside;
 }
   where
     visited : Visited (suc zero) None (seen declared) is (over_type declared is)
@@ -76,32 +76,32 @@ type_walk declared is = record {
     new = new_walked zero (seen declared) None is (begun declared) (over_type declared is) (refl, tt) (omega arith)
         (same (over_type declared is))
 
-    late : (n : ℕ) (frames : Frames) → nth (over_type declared is).lists n ≡ Some frames
-        → length (let one : List Declarations = declared ∷ [] in one) < length (scope_of frames) → suc zero ≤ n
-    late zero frames at inside =
+    late : (n : ℕ) (levels : ScopeLevels) → nth (over_type declared is).lists n ≡ Some levels
+        → length (let one : List Declarations = declared ∷ [] in one) < length (scope_of levels) → suc zero ≤ n
+    late zero levels at inside =
         let first = (walked_grows (seen declared) None is (begun declared)).lists zero (seen declared) refl in
-        absurd (not_inside declared frames (same_Some _ _ (sym first ∙ at)) inside)
-    late (suc n) frames at inside = omega arith
+        absurd (not_inside declared levels (same_Some _ _ (sym first ∙ at)) inside)
+    late (suc n) levels at inside = omega arith
 
-    old : (n : ℕ) (frames : Frames) → (suc zero ≤ n) ⊎
-        (length (let one : List Declarations = declared ∷ [] in one) < length (scope_of frames))
-        → (n ≡ zero) × (seen declared ≡ frames)
-        → ListVisited zero n frames (over_type declared is)
-    old n frames (inl later) only = let none = only.0 in absurd (omega arith)
-    old n frames (inr inside) only = absurd (not_inside declared frames only.1 inside)
+    old : (n : ℕ) (levels : ScopeLevels) → (suc zero ≤ n) ⊎
+        (length (let one : List Declarations = declared ∷ [] in one) < length (scope_of levels))
+        → (n ≡ zero) × (seen declared ≡ levels)
+        → ListVisited zero n levels (over_type declared is)
+    old n levels (inl later) only = let none = only.0 in absurd (omega arith)
+    old n levels (inr inside) only = absurd (not_inside declared levels only.1 inside)
 
-    by : (n : ℕ) (frames : Frames) → (suc zero ≤ n) ⊎
-        (length (let one : List Declarations = declared ∷ [] in one) < length (scope_of frames))
-        → (nth (begun declared).lists n ≡ Some frames) ⊎ ListVisited zero n frames (over_type declared is)
-        → ListVisited zero n frames (over_type declared is)
-    by n frames known (inl at) = old n frames known (only_seen declared n frames at)
-    by n frames known (inr is_visited) = is_visited
+    by : (n : ℕ) (levels : ScopeLevels) → (suc zero ≤ n) ⊎
+        (length (let one : List Declarations = declared ∷ [] in one) < length (scope_of levels))
+        → (nth (begun declared).lists n ≡ Some levels) ⊎ ListVisited zero n levels (over_type declared is)
+        → ListVisited zero n levels (over_type declared is)
+    by n levels known (inl at) = old n levels known (only_seen declared n levels at)
+    by n levels known (inr is_visited) = is_visited
 
 -- the walk over type declarations
-abbrev nothing : State Frames
+abbrev nothing : State ScopeLevels
 nothing = record { faults = []; lists = []; links = [] }
 
-abbrev over_declared : Declarations → State Frames
+abbrev over_declared : Declarations → State ScopeLevels
 over_declared declared = in_list declared [] nothing
 
 abbrev IsOfDeclared : Declarations → Fault → Type 0
@@ -110,7 +110,7 @@ IsOfDeclared declared one = IsFaultOfList [] (declared ∷ []) declared one
 nothing_sound : (declared : Declarations) → IsSound [] zero (IsOfDeclared declared) nothing
 nothing_sound declared = record {
   faults = λ one none. elim none [ ];
-  lists = λ n frames late at. absurd cc;
+  lists = λ n levels late at. absurd cc;
   links = λ link none. elim none [ ];
 }
 
@@ -126,8 +126,8 @@ declared_walk declared = record {
       ((declared_grows (seen declared) zero [] declared (entered (seen declared) nothing)).lists zero (seen declared)
       refl) is_fault
       (visits_list zero [] declared nothing (over_declared declared) tt (omega arith) (same (over_declared declared)));
-  visited = λ n frames at known. by n frames (new.each n frames at);
-  late = λ n frames at inside. omega arith;
+  visited = λ n levels at known. by n levels (new.each n levels at);
+  late = λ n levels at inside. omega arith;
 }
   where
     new : New zero nothing (over_declared declared) (over_declared declared)
@@ -136,10 +136,10 @@ declared_walk declared = record {
         (new_declared zero (seen declared) zero [] declared (entered (seen declared) nothing) (over_declared declared)
         (refl, tt) (omega arith) (same (over_declared declared)))
 
-    by : (n : ℕ) (frames : Frames) → (nth nothing.lists n ≡ Some frames) ⊎ ListVisited zero n frames
-        (over_declared declared) → ListVisited zero n frames (over_declared declared)
-    by n frames (inl at) = absurd cc
-    by n frames (inr is_visited) = is_visited
+    by : (n : ℕ) (levels : ScopeLevels) → (nth nothing.lists n ≡ Some levels) ⊎ ListVisited zero n levels
+        (over_declared declared) → ListVisited zero n levels (over_declared declared)
+    by n levels (inl at) = absurd cc
+    by n levels (inr is_visited) = is_visited
 
 -- the same of the walk that keeps no lists
 type_faults : (declared : Declarations) (is : Tree)

@@ -6,7 +6,7 @@ use Rattle.cd_syntax.specs.TypeTree.{Declarations, NoDeclaration, ADeclaration, 
 use Rattle.cd_resolve.specs.FirstPlaces.{first_place}
 use Rattle.cd_resolve.specs.Inner.NamesDeclared.{names_in}
 use Rattle.cd_resolve.specs.Named.{index_in}
-use Rattle.cd_resolve.specs.Inner.Frames.{number_in}
+use Rattle.cd_resolve.specs.Inner.ScopeLevels.{number_in}
 
 -- the place of a declaration is the first of its name
 pub index_is : (declarations : Declarations) (name : Name)

@@ -8,7 +8,7 @@ use Rattle.cd_syntax.specs.TypeTree.{Declaration, Declarations, ADeclaration, de
 use Rattle.cd_syntax.specs.PlainTree.{plain_declaration}
 use Rattle.cd_syntax.specs.declared.type_tree.Declaration.{Declaration as CodeDeclaration}
 use Rattle.cd_resolve.specs.Inner.BuiltinNames.{is_among, is_builtin}
-use Rattle.cd_resolve.specs.Inner.Finding.{Frames, State, innermost, reported_if, start_of, found_in, found_in_declared}
+use Rattle.cd_resolve.specs.Inner.Finding.{ScopeLevels, State, innermost, reported_if, start_of, found_in, found_in_declared}
 use Rattle.cd_resolve.specs.Inner.NamesDeclared.{names_in}
 
 -- the names before the next declaration, and its name, are those before the one after it
@@ -31,12 +31,12 @@ one_name_more items declarations index item are is within =
     rw are at (ap (λ count. take count (names_in (declarations_of (map plain_declaration items)))) on
     ∙ next_name items index item is within)
 
-pub declared_more : (frames : Frames) (list : ℕ) (seen more : List Name) (one : Declaration) (rest : Declarations)
+pub declared_more : (levels : ScopeLevels) (list : ℕ) (seen more : List Name) (one : Declaration) (rest : Declarations)
     (s after next : State Declarations) (again : Bool) (start : _)
     → again ≡ is_among seen one.name → more ≡ seen ++ one.name ∷ [] → start ≡ start_of again list one.name
     → after ≡ reported_if (again || is_builtin one.name) one.name one.at s
-    → next ≡ found_in innermost frames start one.tree after
-    → found_in_declared innermost frames list more rest next ≡ found_in_declared innermost frames list seen
+    → next ≡ found_in innermost levels start one.tree after
+    → found_in_declared innermost levels list more rest next ≡ found_in_declared innermost levels list seen
     (ADeclaration one.name one.at one.tree rest) s
-declared_more frames list seen more one rest s after next again start is_again is_more is_start is_after is_next =
+declared_more levels list seen more one rest s after next again start is_again is_more is_start is_after is_next =
     rw (is_next, is_after, is_start, is_more, is_again) refl

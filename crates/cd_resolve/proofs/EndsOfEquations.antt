@@ -26,13 +26,13 @@ module _ (first : ℕ) (equations : Equations) (names : List (Name × NodeId)) (
   origin_ends number (HasOrigin.unread _ at) = ends_by_row (links first equations) number
       (subst (AllOf (Ends (links first equations))) (sym (row_of_none first equations number at)) tt)
   origin_ends number (HasOrigin.formula _ is at) = number_ends first equations number (Is is) at tt
-  origin_ends number (HasOrigin.part _ frames kind lists equated covered) =
+  origin_ends number (HasOrigin.part _ levels kind lists equated covered) =
       has_number first (Ends (links first equations)) number
-      (node_ends first equations names base nodes built_in old below Fact guards seen among frames kind
+      (node_ends first equations names base nodes built_in old below Fact guards seen among levels kind
       (node (first + number)) lists equated covered)
-  origin_ends number (HasOrigin.name _ root frames is at lists equated covered) =
+  origin_ends number (HasOrigin.name _ root levels is at lists equated covered) =
       number_ends first equations number (Same root) at
-      (node_of_tree_ends first equations names base nodes built_in old below Fact guards seen among frames is root
+      (node_of_tree_ends first equations names base nodes built_in old below Fact guards seen among levels is root
       lists equated covered)
 
   -- and so they end from all

@@ -17,7 +17,7 @@ use Rattle.cd_model.proofs.Places.{AreClosed}
 use Rattle.cd_resolve.specs.Inner.Equation.{Equation, Equations, Is, And, Or}
 use Rattle.cd_resolve.specs.Inner.Equates.{IsAt, HasLeaf, EquatesText, HasUnion, HasMeet, Equates, EquatesKind}
 use Rattle.cd_resolve.specs.Inner.Equates.{EquatesEach, EquatesSigns, AllEquated}
-use Rattle.cd_resolve.specs.Inner.Frames.{Frames, scope_of, node_under}
+use Rattle.cd_resolve.specs.Inner.ScopeLevels.{ScopeLevels, scope_of, node_under}
 use Rattle.cd_resolve.specs.Inner.Leaves.{integers, characters}
 use Rattle.cd_resolve.specs.Inner.Links.{number_at, numbers_of, numbers_under, links}
 use Rattle.cd_resolve.specs.Inner.Members.{Sign, union_of, meet_of}
@@ -99,83 +99,83 @@ module _ (first : ℕ) (equations : Equations) where
     module _ (names : List (Name × NodeId)) (base : Scope) where
       -- all ways end from the names that stand in such places
       abbrev pub EndsAtNames : (Scope → Kind → Type 0) → Type 0
-      EndsAtNames Stands = (frames : Frames) (name : Name) → AllEquated first equations names frames
-          → Stands (scope_of base frames) (type.Named name)
-          → EndsAt (node_under names frames name)
+      EndsAtNames Stands = (levels : ScopeLevels) (name : Name) → AllEquated first equations names levels
+          → Stands (scope_of base levels) (type.Named name)
+          → EndsAt (node_under names levels name)
 
       module _ (Stands : Scope → Kind → Type 0) (closed : AreClosed Stands) (named : EndsAtNames Stands) where
         mutual
           -- and so from each tree that stands in them
-          pub tree_ends : (frames : Frames) (is : Tree) (id : NodeId) → AllEquated first equations names frames
-              → Equates first equations names frames is id
-              → Stands (scope_of base frames) (kind_of is) → EndsAt id
-          tree_ends frames (tree span kind) id lists equated stands = kind_ends frames kind id lists equated stands
+          pub tree_ends : (levels : ScopeLevels) (is : Tree) (id : NodeId) → AllEquated first equations names levels
+              → Equates first equations names levels is id
+              → Stands (scope_of base levels) (kind_of is) → EndsAt id
+          tree_ends levels (tree span kind) id lists equated stands = kind_ends levels kind id lists equated stands
 
-          pub kind_ends : (frames : Frames) (kind : Kind) (id : NodeId) → AllEquated first equations names frames
-              → EquatesKind first equations names frames kind id → Stands (scope_of base frames) kind → EndsAt id
-          kind_ends frames (type.Builtin name) id lists equated stands =
+          pub kind_ends : (levels : ScopeLevels) (kind : Kind) (id : NodeId) → AllEquated first equations names levels
+              → EquatesKind first equations names levels kind id → Stands (scope_of base levels) kind → EndsAt id
+          kind_ends levels (type.Builtin name) id lists equated stands =
               at_older id (node_named name) equated (built_in_below name)
-          kind_ends frames (type.Ints low high) id lists equated stands = at_leaf (integers low high) id equated
-          kind_ends frames (type.Chars low high) id lists equated stands = at_leaf (characters low high) id equated
-          kind_ends frames (type.Atom name) id lists equated stands = at_equation id _ equated tt
-          kind_ends frames (type.Text text) id lists equated stands = at_text text id equated
-          kind_ends frames (type.Tuple NoTree) id lists equated stands = at_older id EMPTY equated (omega arith)
-          kind_ends frames (type.Tuple (ATree one NoTree)) id lists equated stands =
+          kind_ends levels (type.Ints low high) id lists equated stands = at_leaf (integers low high) id equated
+          kind_ends levels (type.Chars low high) id lists equated stands = at_leaf (characters low high) id equated
+          kind_ends levels (type.Atom name) id lists equated stands = at_equation id _ equated tt
+          kind_ends levels (type.Text text) id lists equated stands = at_text text id equated
+          kind_ends levels (type.Tuple NoTree) id lists equated stands = at_older id EMPTY equated (omega arith)
+          kind_ends levels (type.Tuple (ATree one NoTree)) id lists equated stands =
               at_older id EMPTY equated (omega arith)
-          kind_ends frames (type.Tuple (ATree one (ATree next rest))) id lists equated stands =
+          kind_ends levels (type.Tuple (ATree one (ATree next rest))) id lists equated stands =
               at_equation id (Is (Pair equated.0 equated.1)) equated.2 tt
-          kind_ends frames (type.Arrows NoTree) id lists equated stands = at_older id EMPTY equated (omega arith)
-          kind_ends frames (type.Arrows (ATree one NoTree)) id lists equated stands =
+          kind_ends levels (type.Arrows NoTree) id lists equated stands = at_older id EMPTY equated (omega arith)
+          kind_ends levels (type.Arrows (ATree one NoTree)) id lists equated stands =
               at_older id EMPTY equated (omega arith)
-          kind_ends frames (type.Arrows (ATree one (ATree next rest))) id lists equated stands =
+          kind_ends levels (type.Arrows (ATree one (ATree next rest))) id lists equated stands =
               at_equation id (Is (Arrow equated.0 equated.1)) equated.2 tt
-          kind_ends frames (type.Union trees) id lists equated stands =
+          kind_ends levels (type.Union trees) id lists equated stands =
               at_union id (union_of equated.0) equated.1
-              (union_keeps EndsAt equated.0 (trees_end frames trees equated.0 lists equated.2
-              (λ is among. closed.in_union (scope_of base frames) trees is among stands)))
-          kind_ends frames (type.Meet one signs) id lists equated stands =
+              (union_keeps EndsAt equated.0 (trees_end levels trees equated.0 lists equated.2
+              (λ is among. closed.in_union (scope_of base levels) trees is among stands)))
+          kind_ends levels (type.Meet one signs) id lists equated stands =
               at_meet id (meet_of ((true, equated.0) ∷ equated.1)) equated.2
               (meet_keeps (λ sign. EndsAt sign.1) ((true, equated.0) ∷ equated.1) (
-                tree_ends frames one equated.0 lists equated.3
-                    (closed.in_first (scope_of base frames) one signs stands),
-                signs_end frames signs equated.1 lists equated.4
-                    (λ is among. closed.in_signed (scope_of base frames) one is signs among stands),
+                tree_ends levels one equated.0 lists equated.3
+                    (closed.in_first (scope_of base levels) one signs stands),
+                signs_end levels signs equated.1 lists equated.4
+                    (λ is among. closed.in_signed (scope_of base levels) one is signs among stands),
               ))
           -- a sequence begins in the first state of its automaton
-          kind_ends frames (type.Sequence is) id lists equated stands = at_equation id _ equated.1.0 tt
-          kind_ends frames (type.Record fields more) id lists equated stands = at_equation id _ equated.1 tt
-          kind_ends frames (type.Xml tag attributes content) id lists equated stands =
+          kind_ends levels (type.Sequence is) id lists equated stands = at_equation id _ equated.1.0 tt
+          kind_ends levels (type.Record fields more) id lists equated stands = at_equation id _ equated.1 tt
+          kind_ends levels (type.Xml tag attributes content) id lists equated stands =
               at_equation id (Is (Xml equated.0 equated.1 equated.2)) equated.3 tt
-          kind_ends frames (type.Named name) id lists equated stands =
-              subst EndsAt (sym equated) (named frames name lists stands)
-          kind_ends frames (type.Where is declarations) id lists equated stands =
-              tree_ends (record { declarations = declarations; first = equated.0 } ∷ frames) is id (equated.1, lists)
-              equated.2 (closed.under_where (scope_of base frames) is declarations stands)
-          kind_ends frames (type.Variable name) id lists equated stands = at_older id EMPTY equated (omega arith)
-          kind_ends frames (type.Default name constant) id lists equated stands =
+          kind_ends levels (type.Named name) id lists equated stands =
+              subst EndsAt (sym equated) (named levels name lists stands)
+          kind_ends levels (type.Where is declarations) id lists equated stands =
+              tree_ends (record { declarations = declarations; first = equated.0 } ∷ levels) is id (equated.1, lists)
+              equated.2 (closed.under_where (scope_of base levels) is declarations stands)
+          kind_ends levels (type.Variable name) id lists equated stands = at_older id EMPTY equated (omega arith)
+          kind_ends levels (type.Default name constant) id lists equated stands =
               at_older id EMPTY equated (omega arith)
 
           -- each of some trees
-          trees_end : (frames : Frames) (trees : Trees) (ids : List NodeId) → AllEquated first equations names frames
-              → EquatesEach first equations names frames trees ids
-              → ((is : Tree) → IsOneOf is trees → Stands (scope_of base frames) (kind_of is)) → AllOf EndsAt ids
-          trees_end frames NoTree [] lists equated stand = tt
-          trees_end frames NoTree (id ∷ ids) lists equated stand = elim equated [ ]
-          trees_end frames (ATree one rest) [] lists equated stand = elim equated [ ]
-          trees_end frames (ATree one rest) (id ∷ ids) lists equated stand = (
-            tree_ends frames one id lists equated.0 (stand one (IsOneOf.first one rest)),
-            trees_end frames rest ids lists equated.1 (λ is among. stand is (IsOneOf.later is one rest among)),
+          trees_end : (levels : ScopeLevels) (trees : Trees) (ids : List NodeId) → AllEquated first equations names levels
+              → EquatesEach first equations names levels trees ids
+              → ((is : Tree) → IsOneOf is trees → Stands (scope_of base levels) (kind_of is)) → AllOf EndsAt ids
+          trees_end levels NoTree [] lists equated stand = tt
+          trees_end levels NoTree (id ∷ ids) lists equated stand = elim equated [ ]
+          trees_end levels (ATree one rest) [] lists equated stand = elim equated [ ]
+          trees_end levels (ATree one rest) (id ∷ ids) lists equated stand = (
+            tree_ends levels one id lists equated.0 (stand one (IsOneOf.first one rest)),
+            trees_end levels rest ids lists equated.1 (λ is among. stand is (IsOneOf.later is one rest among)),
           )
 
           -- each tree after a sign
-          signs_end : (frames : Frames) (signs : Signs) (signed : List Sign) → AllEquated first equations names frames
-              → EquatesSigns first equations names frames signs signed
-              → ((is : Tree) → IsSigned is signs → Stands (scope_of base frames) (kind_of is))
+          signs_end : (levels : ScopeLevels) (signs : Signs) (signed : List Sign) → AllEquated first equations names levels
+              → EquatesSigns first equations names levels signs signed
+              → ((is : Tree) → IsSigned is signs → Stands (scope_of base levels) (kind_of is))
               → AllOf (λ sign. EndsAt sign.1) signed
-          signs_end frames NoSign [] lists equated stand = tt
-          signs_end frames NoSign (sign ∷ signed) lists equated stand = elim equated [ ]
-          signs_end frames (ASign kept one rest) [] lists equated stand = elim equated [ ]
-          signs_end frames (ASign kept one rest) (sign ∷ signed) lists equated stand = (
-            tree_ends frames one sign.1 lists equated.1 (stand one (IsSigned.first kept one rest)),
-            signs_end frames rest signed lists equated.2 (λ is among. stand is (IsSigned.later kept is one rest among)),
+          signs_end levels NoSign [] lists equated stand = tt
+          signs_end levels NoSign (sign ∷ signed) lists equated stand = elim equated [ ]
+          signs_end levels (ASign kept one rest) [] lists equated stand = elim equated [ ]
+          signs_end levels (ASign kept one rest) (sign ∷ signed) lists equated stand = (
+            tree_ends levels one sign.1 lists equated.1 (stand one (IsSigned.first kept one rest)),
+            signs_end levels rest signed lists equated.2 (λ is among. stand is (IsSigned.later kept is one rest among)),
           )

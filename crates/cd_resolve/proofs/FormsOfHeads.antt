@@ -27,7 +27,7 @@ use Rattle.cd_model.proofs.CoveredParts.{covered_first, covered_tuple, covered_a
 use Rattle.cd_model.proofs.FormulasAlike.{built_ins_stand}
 use Rattle.cd_resolve.specs.Inner.Equation.{Equations, Is}
 use Rattle.cd_resolve.specs.Inner.Equates.{IsAt, HasLeaf, Equates, EquatesKind, EquatesChain, EquatesFields, AllEquated}
-use Rattle.cd_resolve.specs.Inner.Frames.{Frames, scope_of}
+use Rattle.cd_resolve.specs.Inner.ScopeLevels.{ScopeLevels, scope_of}
 use Rattle.cd_resolve.specs.Inner.Leaves.{Pairs, Arrows, characters}
 use Rattle.cd_resolve.specs.Inner.Solves.{Solves}
 use Rattle.cd_resolve.proofs.BuiltInNodes.{Begins, formula_of_empty, formula_of_name, formula_of_nil}
@@ -101,138 +101,138 @@ module _ (graph : Graph) (first : ℕ) (equations : Equations) (names : List (Na
   alone_form most scope _ id is equates = absurd is
 
   -- the equations of a chain's rest are those of what is written there
-  tuple_equates : (frames : Frames) (is : Tree) (rest : Trees) (id : NodeId)
-      → EquatesChain first equations names frames Pairs (ATree is rest) id
-      → EquatesKind first equations names frames (tuple_rest (ATree is rest)) id
-  tuple_equates frames is NoTree id equates = of_tree first equations names frames is id equates
-  tuple_equates frames is (ATree next rest) id equates = equates
+  tuple_equates : (levels : ScopeLevels) (is : Tree) (rest : Trees) (id : NodeId)
+      → EquatesChain first equations names levels Pairs (ATree is rest) id
+      → EquatesKind first equations names levels (tuple_rest (ATree is rest)) id
+  tuple_equates levels is NoTree id equates = of_tree first equations names levels is id equates
+  tuple_equates levels is (ATree next rest) id equates = equates
 
-  arrows_equates : (frames : Frames) (is : Tree) (rest : Trees) (id : NodeId)
-      → EquatesChain first equations names frames Arrows (ATree is rest) id
-      → EquatesKind first equations names frames (arrows_rest (ATree is rest)) id
-  arrows_equates frames is NoTree id equates = of_tree first equations names frames is id equates
-  arrows_equates frames is (ATree next rest) id equates = equates
+  arrows_equates : (levels : ScopeLevels) (is : Tree) (rest : Trees) (id : NodeId)
+      → EquatesChain first equations names levels Arrows (ATree is rest) id
+      → EquatesKind first equations names levels (arrows_rest (ATree is rest)) id
+  arrows_equates levels is NoTree id equates = of_tree first equations names levels is id equates
+  arrows_equates levels is (ATree next rest) id equates = equates
 
-  abbrev IsHere : Frames → Kind → NodeId → Type 0
+  abbrev IsHere : ScopeLevels → Kind → NodeId → Type 0
   IsHere = IsOf first equations names base Fact
 
-  part_at : (frames : Frames) (is : Tree) (id : NodeId) → AllEquated first equations names frames
-      → Equates first equations names frames is id
-      → Covered Fact (scope_of base frames) (kind_of is) → StandsHere id (within (scope_of base frames) is)
+  part_at : (levels : ScopeLevels) (is : Tree) (id : NodeId) → AllEquated first equations names levels
+      → Equates first equations names levels is id
+      → Covered Fact (scope_of base levels) (kind_of is) → StandsHere id (within (scope_of base levels) is)
   part_at = part_stands first equations names base Fact
 
   -- what is found of a label among fields stands for what is written first of it
-  fields_stand : (frames : Frames) (all : type.Fields) (named : Named) (rest : NodeId) (of_rest : WrittenType)
+  fields_stand : (levels : ScopeLevels) (all : type.Fields) (named : Named) (rest : NodeId) (of_rest : WrittenType)
       (label : Name)
-      → StandsHere rest of_rest → AllEquated first equations names frames
-      → EquatesFields first equations names frames all named
-      → AllOf Fact (names_in_fields (scope_of base frames) all) → AllOf Fact (names_over (scope_of base frames))
+      → StandsHere rest of_rest → AllEquated first equations names levels
+      → EquatesFields first equations names levels all named
+      → AllOf Fact (names_in_fields (scope_of base levels) all) → AllOf Fact (names_over (scope_of base levels))
       → FieldsStand StandsHere (field_of named rest label)
-      (field_of (named_in (scope_of base frames) all) of_rest label)
-  fields_stand frames type.NoField [] rest of_rest label stands around equates facts over =
+      (field_of (named_in (scope_of base levels) all) of_rest label)
+  fields_stand levels type.NoField [] rest of_rest label stands around equates facts over =
       record { optional = refl; type = stands }
-  fields_stand frames type.NoField (field ∷ named) rest of_rest label stands around equates facts over =
+  fields_stand levels type.NoField (field ∷ named) rest of_rest label stands around equates facts over =
       elim equates [ ]
-  fields_stand frames (type.AField name at optional is fields) [] rest of_rest label stands around equates
+  fields_stand levels (type.AField name at optional is fields) [] rest of_rest label stands around equates
       facts over = elim equates [ ]
-  fields_stand frames (type.AField name at optional is fields) (field ∷ named) rest of_rest label stands around equates
+  fields_stand levels (type.AField name at optional is fields) (field ∷ named) rest of_rest label stands around equates
       facts over = by_name (cases_Bool (bytes_eq name label))
-      (fields_stand frames fields named rest of_rest label stands around equates.3 parts.1 over)
+      (fields_stand levels fields named rest of_rest label stands around equates.3 parts.1 over)
     where
-      parts : AllOf Fact (names_in (scope_of base frames) is)
-          × AllOf Fact (names_in_fields (scope_of base frames) fields)
-      parts = each_parts Fact (names_in (scope_of base frames) is) (names_in_fields (scope_of base frames) fields) facts
+      parts : AllOf Fact (names_in (scope_of base levels) is)
+          × AllOf Fact (names_in_fields (scope_of base levels) fields)
+      parts = each_parts Fact (names_in (scope_of base levels) is) (names_in_fields (scope_of base levels) fields) facts
 
       FieldIs : Type 0
       FieldIs = FieldsStand StandsHere (field_of (field ∷ named) rest label)
-          (field_of (named_in (scope_of base frames) (type.AField name at optional is fields)) of_rest label)
+          (field_of (named_in (scope_of base levels) (type.AField name at optional is fields)) of_rest label)
 
       by_name : (bytes_eq name label ≡ true) ⊎ (bytes_eq name label ≡ false)
           → FieldsStand StandsHere (field_of named rest label)
-          (field_of (named_in (scope_of base frames) fields) of_rest label)
+          (field_of (named_in (scope_of base levels) fields) of_rest label)
           → FieldIs
       by_name (inl same) later = rw equates.0 (rw same (record {
         optional = equates.1;
-        type = part_at frames is field.1.type around equates.2
-            (covered_tree Fact (scope_of base frames) is parts.0 over);
+        type = part_at levels is field.1.type around equates.2
+            (covered_tree Fact (scope_of base levels) is parts.0 over);
       }))
       by_name (inr differs) later = rw equates.0 (rw differs later)
 
   -- the forms of nodes
-  pub form_at_node : (most : ℕ) (frames : Frames) (kind : Kind) (id : NodeId) → IsForm kind → IsHere frames kind id
-      → IsFormHere most (formula_at graph id) (scope_of base frames) kind
-  form_at_node most frames (type.Ints low high) id is_form is =
+  pub form_at_node : (most : ℕ) (levels : ScopeLevels) (kind : Kind) (id : NodeId) → IsForm kind → IsHere levels kind id
+      → IsFormHere most (formula_at graph id) (scope_of base levels) kind
+  form_at_node most levels (type.Ints low high) id is_form is =
       by_test (cases_Bool (int_le (unwrap_or low LEAST) (unwrap_or high GREATEST))) is.equates
     where
       by_test : (int_le (unwrap_or low LEAST) (unwrap_or high GREATEST) ≡ true)
           ⊎ (int_le (unwrap_or low LEAST) (unwrap_or high GREATEST) ≡ false)
-          → EquatesKind first equations names frames (type.Ints low high) id
-          → IsFormHere most (formula_at graph id) (scope_of base frames) (type.Ints low high)
+          → EquatesKind first equations names levels (type.Ints low high) id
+          → IsFormHere most (formula_at graph id) (scope_of base levels) (type.Ints low high)
       by_test (inl fits) equates = as_formula most _ (type.Ints low high) id _ (rw fits at equates)
           (by_its_head most _ (type.Ints low high) _ _ _ tt refl refl (heads.integers _ _ (λ n. or-false _)))
       by_test (inr fails) equates = as_nothing most _ (type.Ints low high) id (rw fails at equates)
           (form.by_head most formula.Nothing _ (type.Ints low high) (Integers (λ n. false))
           (Integers (is_between (unwrap_or low LEAST) (unwrap_or high GREATEST))) tt
           (means_no_integer graph) refl (heads.integers _ _ (λ n. sym (none_between _ _ n fails))))
-  form_at_node most frames (type.Chars low high) id is_form is =
-      chars_form most (scope_of base frames) low high id is.equates
-  form_at_node most frames (type.Atom name) id is_form is = as_formula most _ (type.Atom name) id _ is.equates
+  form_at_node most levels (type.Chars low high) id is_form is =
+      chars_form most (scope_of base levels) low high id is.equates
+  form_at_node most levels (type.Atom name) id is_form is = as_formula most _ (type.Atom name) id _ is.equates
       (by_its_head most _ (type.Atom name) _ _ _ tt refl refl (heads.atoms _ _ (λ name. or-false _)))
-  form_at_node most frames (type.Text text) id is_form is =
-      alone_form most (scope_of base frames) (type.Text text) id tt is.equates
-  form_at_node most frames (type.Tuple (ATree one (ATree next rest))) id is_form is =
+  form_at_node most levels (type.Text text) id is_form is =
+      alone_form most (scope_of base levels) (type.Text text) id tt is.equates
+  form_at_node most levels (type.Tuple (ATree one (ATree next rest))) id is_form is =
       as_formula most _ (type.Tuple (ATree one (ATree next rest))) id _ is.equates.2
       (by_its_head most _ (type.Tuple (ATree one (ATree next rest))) _ _ _ tt refl refl (heads.products _ _ _ _
-      (part_at frames one is.equates.0 is.around is.equates.3
-      (covered_first Fact (scope_of base frames) one (ATree next rest) is.covered))
-      (placed frames (tuple_rest (ATree next rest)) is.equates.1 (record {
+      (part_at levels one is.equates.0 is.around is.equates.3
+      (covered_first Fact (scope_of base levels) one (ATree next rest) is.covered))
+      (placed levels (tuple_rest (ATree next rest)) is.equates.1 (record {
         around = is.around;
-        equates = tuple_equates frames next rest is.equates.1 is.equates.4;
-        covered = covered_tuple Fact (scope_of base frames) one (ATree next rest) is.covered;
+        equates = tuple_equates levels next rest is.equates.1 is.equates.4;
+        covered = covered_tuple Fact (scope_of base levels) one (ATree next rest) is.covered;
       }))))
-  form_at_node most frames (type.Tuple trees) id is_form is = as_nothing most _ (type.Tuple trees) id is.equates
+  form_at_node most levels (type.Tuple trees) id is_form is = as_nothing most _ (type.Tuple trees) id is.equates
       (form.no_head most _ (type.Tuple trees) tt refl)
-  form_at_node most frames (type.Arrows (ATree one (ATree next rest))) id is_form is =
+  form_at_node most levels (type.Arrows (ATree one (ATree next rest))) id is_form is =
       as_formula most _ (type.Arrows (ATree one (ATree next rest))) id _ is.equates.2
       (by_its_head most _ (type.Arrows (ATree one (ATree next rest))) _ _ _ tt refl refl (heads.arrows _ _ _ _
-      (part_at frames one is.equates.0 is.around is.equates.3
-      (covered_argument Fact (scope_of base frames) one (ATree next rest) is.covered))
-      (placed frames (arrows_rest (ATree next rest)) is.equates.1 (record {
+      (part_at levels one is.equates.0 is.around is.equates.3
+      (covered_argument Fact (scope_of base levels) one (ATree next rest) is.covered))
+      (placed levels (arrows_rest (ATree next rest)) is.equates.1 (record {
         around = is.around;
-        equates = arrows_equates frames next rest is.equates.1 is.equates.4;
-        covered = covered_arrows Fact (scope_of base frames) one (ATree next rest) is.covered;
+        equates = arrows_equates levels next rest is.equates.1 is.equates.4;
+        covered = covered_arrows Fact (scope_of base levels) one (ATree next rest) is.covered;
       }))))
-  form_at_node most frames (type.Arrows trees) id is_form is = as_nothing most _ (type.Arrows trees) id is.equates
+  form_at_node most levels (type.Arrows trees) id is_form is = as_nothing most _ (type.Arrows trees) id is.equates
       (form.no_head most _ (type.Arrows trees) tt refl)
-  form_at_node most frames (type.Sequence expression) id is_form is =
-      form.by_head most _ (scope_of base frames) (type.Sequence expression) _ _ tt
+  form_at_node most levels (type.Sequence expression) id is_form is =
+      form.by_head most _ (scope_of base levels) (type.Sequence expression) _ _ tt
       (means_sequences graph id is.equates.0
       (sequence_holds graph first equations solves id is.equates.0 is.equates.1 is.equates.3) over.expression over.same)
       refl (heads.sequences _ _ over.stands)
     where
-      over : IsOver first equations names base Fact frames is.around is.covered.over is.equates.0
-          (written.regular_in (scope_of base frames) expression)
-      over = regular_over first equations names base Fact frames is.around is.covered.over expression is.equates.0
+      over : IsOver first equations names base Fact levels is.around is.covered.over is.equates.0
+          (written.regular_in (scope_of base levels) expression)
+      over = regular_over first equations names base Fact levels is.around is.covered.over expression is.equates.0
           is.equates.2 is.covered.within
-  form_at_node most frames (type.Record all more) id is_form is =
+  form_at_node most levels (type.Record all more) id is_form is =
       as_formula most _ (type.Record all more) id _ is.equates.1
       (by_its_head most _ (type.Record all more) _ _ _ tt refl refl (heads.records _ _ _ _ (λ label.
       subst (λ field. FieldsStand StandsHere field
-      (field_of (named_in (scope_of base frames) all) (type_named (any_or_none more)) label))
+      (field_of (named_in (scope_of base levels) all) (type_named (any_or_none more)) label))
       (sym (sorted_fields (node_named (any_or_none more)) is.equates.0 label))
-      (fields_stand frames all is.equates.0 (node_named (any_or_none more)) (type_named (any_or_none more)) label
+      (fields_stand levels all is.equates.0 (node_named (any_or_none more)) (type_named (any_or_none more)) label
       (alone (type.Builtin (any_or_none more)) (node_named (any_or_none more)) tt refl)
       is.around is.equates.2 is.covered.within is.covered.over))))
-  form_at_node most frames (type.Xml tag attributes content) id is_form is =
-      let parts = covered_xml Fact (scope_of base frames) tag attributes content is.covered in
+  form_at_node most levels (type.Xml tag attributes content) id is_form is =
+      let parts = covered_xml Fact (scope_of base levels) tag attributes content is.covered in
       as_formula most _ (type.Xml tag attributes content) id _ is.equates.3
       (by_its_head most _ (type.Xml tag attributes content) _ _ _ tt refl refl (heads.xmls _ _ _ _ _ _
-      (part_at frames tag is.equates.0 is.around is.equates.4 parts.tag_is)
-      (part_at frames attributes is.equates.1 is.around is.equates.5 parts.attributes_are)
-      (part_at frames content is.equates.2 is.around is.equates.6 parts.content_is)))
-  form_at_node most frames (type.Variable name) id is_form is = as_nothing most _ (type.Variable name) id is.equates
+      (part_at levels tag is.equates.0 is.around is.equates.4 parts.tag_is)
+      (part_at levels attributes is.equates.1 is.around is.equates.5 parts.attributes_are)
+      (part_at levels content is.equates.2 is.around is.equates.6 parts.content_is)))
+  form_at_node most levels (type.Variable name) id is_form is = as_nothing most _ (type.Variable name) id is.equates
       (form.no_head most _ (type.Variable name) tt refl)
-  form_at_node most frames (type.Default name constant) id is_form is =
+  form_at_node most levels (type.Default name constant) id is_form is =
       as_nothing most _ (type.Default name constant) id is.equates
       (form.no_head most _ (type.Default name constant) tt refl)
-  form_at_node most frames _ id is_form is = absurd is_form
+  form_at_node most levels _ id is_form is = absurd is_form

@@ -19,7 +19,7 @@ use Rattle.cd_model.proofs.Places as places
 use Rattle.cd_resolve.specs.Inner.Names.{node_of}
 use Rattle.cd_resolve.specs.Inner.Equation.{Equations, Same}
 use Rattle.cd_resolve.specs.Inner.Equates.{Equates, EquatesKind, EquatesEach, EquatesSigns, AllEquated}
-use Rattle.cd_resolve.specs.Inner.Frames.{Frames, scope_of, node_under}
+use Rattle.cd_resolve.specs.Inner.ScopeLevels.{ScopeLevels, scope_of, node_under}
 use Rattle.cd_resolve.specs.Inner.Members.{Sign}
 use Rattle.cd_resolve.specs.Inner.Solves.{Solves, signed}
 use Rattle.cd_resolve.proofs.BuiltInNodes.{Begins}
@@ -38,135 +38,135 @@ module _ (graph : Graph) (first : ℕ) (equations : Equations) (names : List (Na
     (solves : Solves graph first equations) (begins : Begins graph)
     (at_names : (name : Name) → IsGiven graph count base name (node_of names name)) where
   -- a form under these lists leads to these names alone
-  abbrev LeadsHere : List Declared → Frames → Kind → Type 0
-  LeadsHere some frames kind = Leads Fact some (scope_of base frames) kind
+  abbrev LeadsHere : List Declared → ScopeLevels → Kind → Type 0
+  LeadsHere some levels kind = Leads Fact some (scope_of base levels) kind
 
   abbrev StandsHere : NodeId → WrittenType → Type 0
   StandsHere = Stands first equations names base Fact
 
-  abbrev IsFormAt : ℕ → NodeId → Frames → Kind → Type 0
-  IsFormAt most id frames kind =
-      IsFormOf (MeansIn graph) (KnownIn graph count) StandsHere most (formula_at graph id) (scope_of base frames) kind
+  abbrev IsFormAt : ℕ → NodeId → ScopeLevels → Kind → Type 0
+  IsFormAt most id levels kind =
+      IsFormOf (MeansIn graph) (KnownIn graph count) StandsHere most (formula_at graph id) (scope_of base levels) kind
 
-  abbrev AreFormsHere : ℕ → Formulas → Frames → Trees → Type 0
-  AreFormsHere most all frames trees = AreFormsOf (MeansIn graph) (KnownIn graph count) StandsHere most all
-      (scope_of base frames) trees
+  abbrev AreFormsHere : ℕ → Formulas → ScopeLevels → Trees → Type 0
+  AreFormsHere most all levels trees = AreFormsOf (MeansIn graph) (KnownIn graph count) StandsHere most all
+      (scope_of base levels) trees
 
-  abbrev AreSignedHere : ℕ → Formulas → Frames → Signs → Type 0
-  AreSignedHere most all frames signs = AreSigned (MeansIn graph) (KnownIn graph count) StandsHere most all
-      (scope_of base frames) signs
+  abbrev AreSignedHere : ℕ → Formulas → ScopeLevels → Signs → Type 0
+  AreSignedHere most all levels signs = AreSigned (MeansIn graph) (KnownIn graph count) StandsHere most all
+      (scope_of base levels) signs
 
   -- names that lead to some names alone have their forms, with so many names to use up
   abbrev FormsAtNames : List Declared → ℕ → Type 0
-  FormsAtNames some most = (frames : Frames) (name : Name) (id : NodeId) → AllEquated first equations names frames
-      → id ≡ node_under names frames name → LeadsHere some frames (type.Named name)
-      → IsFormAt most id frames (type.Named name)
+  FormsAtNames some most = (levels : ScopeLevels) (name : Name) (id : NodeId) → AllEquated first equations names levels
+      → id ≡ node_under names levels name → LeadsHere some levels (type.Named name)
+      → IsFormAt most id levels (type.Named name)
 
   module _ (some : List Declared) (most : ℕ) (named : FormsAtNames some most) where
     leading : places.AreClosed (Leads Fact some)
     leading = leads_closed Fact some
 
     -- a form that is no connective and no name
-    of_form : (frames : Frames) (kind : Kind) (id : NodeId) → IsForm kind → AllEquated first equations names frames
-        → EquatesKind first equations names frames kind id → LeadsHere some frames kind → IsFormAt most id frames kind
-    of_form frames kind id is_form around equates leads =
-        form_at_node graph first equations names base Fact solves begins count most frames kind id is_form
+    of_form : (levels : ScopeLevels) (kind : Kind) (id : NodeId) → IsForm kind → AllEquated first equations names levels
+        → EquatesKind first equations names levels kind id → LeadsHere some levels kind → IsFormAt most id levels kind
+    of_form levels kind id is_form around equates leads =
+        form_at_node graph first equations names base Fact solves begins count most levels kind id is_form
         (record { around = around; equates = equates; covered = leads.covered })
 
     -- what is after a sign
-    of_sign : (kept : Bool) (id : NodeId) (all : Formulas) (frames : Frames) (one : Tree) (signs : Signs)
-        → IsFormAt most id frames (kind_of one) → AreSignedHere most all frames signs
-        → AreSignedHere most (AFormula (signed kept (formula_at graph id)) all) frames (ASign kept one signs)
-    of_sign true id all frames one signs formed are = form.kept most _ all (scope_of base frames) one signs formed are
-    of_sign false id all frames one signs formed are =
-        form.taken_out most _ all (scope_of base frames) one signs formed are
+    of_sign : (kept : Bool) (id : NodeId) (all : Formulas) (levels : ScopeLevels) (one : Tree) (signs : Signs)
+        → IsFormAt most id levels (kind_of one) → AreSignedHere most all levels signs
+        → AreSignedHere most (AFormula (signed kept (formula_at graph id)) all) levels (ASign kept one signs)
+    of_sign true id all levels one signs formed are = form.kept most _ all (scope_of base levels) one signs formed are
+    of_sign false id all levels one signs formed are =
+        form.taken_out most _ all (scope_of base levels) one signs formed are
 
     mutual
-      pub tree_form : (frames : Frames) (is : Tree) (id : NodeId) → AllEquated first equations names frames
-          → Equates first equations names frames is id → LeadsHere some frames (kind_of is)
-          → IsFormAt most id frames (kind_of is)
-      tree_form frames (tree span kind) id around equates leads = kind_form frames kind id around equates leads
+      pub tree_form : (levels : ScopeLevels) (is : Tree) (id : NodeId) → AllEquated first equations names levels
+          → Equates first equations names levels is id → LeadsHere some levels (kind_of is)
+          → IsFormAt most id levels (kind_of is)
+      tree_form levels (tree span kind) id around equates leads = kind_form levels kind id around equates leads
 
-      pub kind_form : (frames : Frames) (kind : Kind) (id : NodeId) → AllEquated first equations names frames
-          → EquatesKind first equations names frames kind id → LeadsHere some frames kind → IsFormAt most id frames kind
-      kind_form frames (type.Builtin name) id around equates leads =
-          alone_form graph first equations names base Fact solves begins count most (scope_of base frames)
+      pub kind_form : (levels : ScopeLevels) (kind : Kind) (id : NodeId) → AllEquated first equations names levels
+          → EquatesKind first equations names levels kind id → LeadsHere some levels kind → IsFormAt most id levels kind
+      kind_form levels (type.Builtin name) id around equates leads =
+          alone_form graph first equations names base Fact solves begins count most (scope_of base levels)
           (type.Builtin name) id tt equates
-      kind_form frames (type.Union trees) id around equates leads =
-          form.union most _ _ (scope_of base frames) trees
-          (each_form frames trees equates.0 around equates.2
-          (λ is one. leading.in_union (scope_of base frames) trees is one leads))
+      kind_form levels (type.Union trees) id around equates leads =
+          form.union most _ _ (scope_of base levels) trees
+          (each_form levels trees equates.0 around equates.2
+          (λ is one. leading.in_union (scope_of base levels) trees is one leads))
           (is_union graph begins first equations solves id equates.0 equates.1)
-      kind_form frames (type.Meet one signs) id around equates leads =
-          form.meet most _ _ _ (scope_of base frames) one signs
-          (tree_form frames one equates.0 around equates.3 (leading.in_first (scope_of base frames) one signs leads))
-          (signed_form frames signs equates.1 around equates.4
-          (λ is among. leading.in_signed (scope_of base frames) one is signs among leads))
+      kind_form levels (type.Meet one signs) id around equates leads =
+          form.meet most _ _ _ (scope_of base levels) one signs
+          (tree_form levels one equates.0 around equates.3 (leading.in_first (scope_of base levels) one signs leads))
+          (signed_form levels signs equates.1 around equates.4
+          (λ is among. leading.in_signed (scope_of base levels) one is signs among leads))
           (is_meet graph begins first equations solves id ((true, equates.0) ∷ equates.1) equates.2)
-      kind_form frames (type.Named name) id around equates leads = named frames name id around equates leads
-      kind_form frames (type.Where is declarations) id around equates leads =
-          form.under_where most _ (scope_of base frames) is declarations
-          (tree_form (record { declarations = declarations; first = equates.0 } ∷ frames) is id (equates.1, around)
-          equates.2 (leading.under_where (scope_of base frames) is declarations leads))
-      kind_form frames kind id around equates leads = of_form frames kind id tt around equates leads
+      kind_form levels (type.Named name) id around equates leads = named levels name id around equates leads
+      kind_form levels (type.Where is declarations) id around equates leads =
+          form.under_where most _ (scope_of base levels) is declarations
+          (tree_form (record { declarations = declarations; first = equates.0 } ∷ levels) is id (equates.1, around)
+          equates.2 (leading.under_where (scope_of base levels) is declarations leads))
+      kind_form levels kind id around equates leads = of_form levels kind id tt around equates leads
 
-      each_form : (frames : Frames) (trees : Trees) (ids : List NodeId) → AllEquated first equations names frames
-          → EquatesEach first equations names frames trees ids
-          → ((is : Tree) → IsOneOf is trees → LeadsHere some frames (kind_of is))
-          → AreFormsHere most (formulas_of (map (formula_at graph) ids)) frames trees
-      each_form frames NoTree [] around equates leads = form.no_more most (scope_of base frames)
-      each_form frames NoTree (one ∷ ids) around equates leads = elim equates [ ]
-      each_form frames (ATree is rest) [] around equates leads = elim equates [ ]
-      each_form frames (ATree is rest) (one ∷ ids) around equates leads =
-          form.one_more most _ _ (scope_of base frames) is rest
-          (tree_form frames is one around equates.0 (leads is (guarded.IsOneOf.first is rest)))
-          (each_form frames rest ids around equates.1
+      each_form : (levels : ScopeLevels) (trees : Trees) (ids : List NodeId) → AllEquated first equations names levels
+          → EquatesEach first equations names levels trees ids
+          → ((is : Tree) → IsOneOf is trees → LeadsHere some levels (kind_of is))
+          → AreFormsHere most (formulas_of (map (formula_at graph) ids)) levels trees
+      each_form levels NoTree [] around equates leads = form.no_more most (scope_of base levels)
+      each_form levels NoTree (one ∷ ids) around equates leads = elim equates [ ]
+      each_form levels (ATree is rest) [] around equates leads = elim equates [ ]
+      each_form levels (ATree is rest) (one ∷ ids) around equates leads =
+          form.one_more most _ _ (scope_of base levels) is rest
+          (tree_form levels is one around equates.0 (leads is (guarded.IsOneOf.first is rest)))
+          (each_form levels rest ids around equates.1
           (λ other among. leads other (guarded.IsOneOf.later other is rest among)))
 
-      signed_form : (frames : Frames) (signs : Signs) (ids_signed : List Sign) → AllEquated first equations names frames
-          → EquatesSigns first equations names frames signs ids_signed
-          → ((is : Tree) → IsSigned is signs → LeadsHere some frames (kind_of is))
+      signed_form : (levels : ScopeLevels) (signs : Signs) (ids_signed : List Sign) → AllEquated first equations names levels
+          → EquatesSigns first equations names levels signs ids_signed
+          → ((is : Tree) → IsSigned is signs → LeadsHere some levels (kind_of is))
           → AreSignedHere most (formulas_of (map (λ sign. signed sign.0 (formula_at graph sign.1)) ids_signed))
-          frames signs
-      signed_form frames NoSign [] around equates leads = form.no_sign most (scope_of base frames)
-      signed_form frames NoSign (sign ∷ ids_signed) around equates leads = elim equates [ ]
-      signed_form frames (ASign kept is rest) [] around equates leads = elim equates [ ]
-      signed_form frames (ASign kept is rest) (sign ∷ ids_signed) around equates leads =
+          levels signs
+      signed_form levels NoSign [] around equates leads = form.no_sign most (scope_of base levels)
+      signed_form levels NoSign (sign ∷ ids_signed) around equates leads = elim equates [ ]
+      signed_form levels (ASign kept is rest) [] around equates leads = elim equates [ ]
+      signed_form levels (ASign kept is rest) (sign ∷ ids_signed) around equates leads =
           subst (λ (so : Bool). AreSignedHere most
           (AFormula (signed so (formula_at graph sign.1))
           (formulas_of (map (λ sign. signed sign.0 (formula_at graph sign.1)) ids_signed)))
-          frames (ASign kept is rest)) (sym equates.0)
-          (of_sign kept sign.1 _ frames is rest
-          (tree_form frames is sign.1 around equates.1 (leads is (guarded.IsSigned.first kept is rest)))
-          (signed_form frames rest ids_signed around equates.2
+          levels (ASign kept is rest)) (sym equates.0)
+          (of_sign kept sign.1 _ levels is rest
+          (tree_form levels is sign.1 around equates.1 (leads is (guarded.IsSigned.first kept is rest)))
+          (signed_form levels rest ids_signed around equates.2
           (λ other among. leads other (guarded.IsSigned.later kept other is rest among))))
 
   -- a name that no list declares which it stands under
   outside_form : (some : List Declared) (most : ℕ) → length some ≤ most → length some ≤ count
-      → (frames : Frames) (name : Name) (id : NodeId) → id ≡ node_under names frames name
-      → LeadsHere some frames (type.Named name)
-      → IsOutside first equations names base frames name → IsFormAt most id frames (type.Named name)
-  outside_form some most fits_most fits_count frames name id id_is leads outside =
+      → (levels : ScopeLevels) (name : Name) (id : NodeId) → id ≡ node_under names levels name
+      → LeadsHere some levels (type.Named name)
+      → IsOutside first equations names base levels name → IsFormAt most id levels (type.Named name)
+  outside_form some most fits_most fits_count levels name id id_is leads outside =
       by_node (node_of names name) (id_is ∙ outside.there) (at_names name)
     where
       by_node : (found : Option NodeId) → id ≡ unwrap_or found EMPTY → IsGiven graph count base name found
-          → IsFormAt most id frames (type.Named name)
+          → IsFormAt most id levels (type.Named name)
       by_node None there nowhere =
-          as_nothing graph first equations names base Fact solves begins count most (scope_of base frames)
-          (type.Named name) id there (form.undeclared most (scope_of base frames) name (outside.declared ∙ nowhere))
-      by_node (Some given) there is = subst (λ id. IsFormAt most id frames (type.Named name)) (sym there)
-          (form.known most (formula_at graph given) (scope_of base frames) name
+          as_nothing graph first equations names base Fact solves begins count most (scope_of base levels)
+          (type.Named name) id there (form.undeclared most (scope_of base levels) name (outside.declared ∙ nowhere))
+      by_node (Some given) there is = subst (λ id. IsFormAt most id levels (type.Named name)) (sym there)
+          (form.known most (formula_at graph given) (scope_of base levels) name
           (known_here Fact guards seen among count fits graph given most some fits_most fits_count base
-          (scope_of base frames) name (sym outside.declared) leads is))
+          (scope_of base levels) name (sym outside.declared) leads is))
 
   -- a name that a list declares which it stands under, where its tree has its form with one name less
   inside_form : (some : List Declared) (most : ℕ) → length some ≤ suc most → length some ≤ count
-      → (frames : Frames) (name : Name) (id : NodeId) → id ≡ node_under names frames name
-      → LeadsHere some frames (type.Named name)
-      → (inside : IsInside first equations names base frames name)
+      → (levels : ScopeLevels) (name : Name) (id : NodeId) → id ≡ node_under names levels name
+      → LeadsHere some levels (type.Named name)
+      → (inside : IsInside first equations names base levels name)
       → ((fewer : List Declared) → length fewer ≤ most → length fewer ≤ count → FormsAtNames fewer most)
-      → IsFormAt (suc most) id frames (type.Named name)
-  inside_form some most fits_most fits_count frames name id id_is leads inside next =
+      → IsFormAt (suc most) id levels (type.Named name)
+  inside_form some most fits_most fits_count levels name id id_is leads inside next =
       subst (λ formula. IsFormOf (MeansIn graph) (KnownIn graph count) StandsHere (suc most) formula scope
       (type.Named name)) (sym at_root)
       (form.named most (formula_at graph inside.has_root.root) scope name is inside.declared
@@ -177,7 +177,7 @@ module _ (graph : Graph) (first : ℕ) (equations : Equations) (names : List (Na
       (guards is (led_to Fact [] scope (type.Named name) is on leads.covered)) place leads)))
     where
       scope : Scope
-      scope = scope_of base frames
+      scope = scope_of base levels
 
       is : Declared
       is = record { name = name; scope = scope_of base inside.inner; tree = inside.is }
@@ -197,31 +197,31 @@ module _ (graph : Graph) (first : ℕ) (equations : Equations) (names : List (Na
 
   -- a name with at least as many to use up as it leads to
   name_form : (most : ℕ) (some : List Declared) → length some ≤ most → length some ≤ count → FormsAtNames some most
-  name_form zero some fits_most fits_count frames name id around id_is leads =
-      by_list (found first equations names base frames name around)
+  name_form zero some fits_most fits_count levels name id around id_is leads =
+      by_list (found first equations names base levels name around)
     where
-      by_list : IsInside first equations names base frames name ⊎ IsOutside first equations names base frames name
-          → IsFormAt zero id frames (type.Named name)
+      by_list : IsInside first equations names base levels name ⊎ IsOutside first equations names base levels name
+          → IsFormAt zero id levels (type.Named name)
       by_list (inl inside) = absurd (none-some _
-          (sym (is_undeclared Fact some fits_most (scope_of base frames) name leads) ∙ inside.declared))
-      by_list (inr outside) = outside_form some zero fits_most fits_count frames name id id_is leads outside
-  name_form (suc most) some fits_most fits_count frames name id around id_is leads =
-      by_list (found first equations names base frames name around) (name_form most)
+          (sym (is_undeclared Fact some fits_most (scope_of base levels) name leads) ∙ inside.declared))
+      by_list (inr outside) = outside_form some zero fits_most fits_count levels name id id_is leads outside
+  name_form (suc most) some fits_most fits_count levels name id around id_is leads =
+      by_list (found first equations names base levels name around) (name_form most)
     where
-      by_list : IsInside first equations names base frames name ⊎ IsOutside first equations names base frames name
+      by_list : IsInside first equations names base levels name ⊎ IsOutside first equations names base levels name
           → ((fewer : List Declared) → length fewer ≤ most → length fewer ≤ count → FormsAtNames fewer most)
-          → IsFormAt (suc most) id frames (type.Named name)
-      by_list (inl inside) next = inside_form some most fits_most fits_count frames name id id_is leads inside next
-      by_list (inr outside) next = outside_form some (suc most) fits_most fits_count frames name id id_is leads outside
+          → IsFormAt (suc most) id levels (type.Named name)
+      by_list (inl inside) next = inside_form some most fits_most fits_count levels name id id_is leads inside next
+      by_list (inr outside) next = outside_form some (suc most) fits_most fits_count levels name id id_is leads outside
 
   -- so the formula of each node that stands for a type is one of its form
   pub forms : (id : NodeId) (one : WrittenType) → StandsHere id one
       → IsFormOf (MeansIn graph) (KnownIn graph count) StandsHere count (formula_at graph id) one.scope one.kind
-  forms _ _ (placed frames kind id is) =
-      kind_form seen count (name_form count seen fits fits) frames kind id is.around is.equates
+  forms _ _ (placed levels kind id is) =
+      kind_form seen count (name_form count seen fits fits) levels kind id is.around is.equates
       (record {
         covered = is.covered;
-        to = λ name on. among name (led_to Fact [] (scope_of base frames) kind name on is.covered);
+        to = λ name on. among name (led_to Fact [] (scope_of base levels) kind name on is.covered);
       })
   forms _ _ (alone kind id is equates) =
       alone_form graph first equations names base Fact solves begins count count [] kind id is equates

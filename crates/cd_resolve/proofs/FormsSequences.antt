@@ -23,7 +23,7 @@ use Rattle.cd_model.proofs.Covered.{each_parts, covered_tree}
 use Rattle.cd_regex.specs.Regular.{Regular, Regulars, NoRegular, ARegular, fits, fits_in_turn, fits_one}
 use Rattle.cd_resolve.specs.Inner.Equation.{Equations}
 use Rattle.cd_resolve.specs.Inner.Equates.{AllEquated, EquatesRegular, EquatesRegularKind, EquatesRegulars}
-use Rattle.cd_resolve.specs.Inner.Frames.{Frames, scope_of}
+use Rattle.cd_resolve.specs.Inner.ScopeLevels.{ScopeLevels, scope_of}
 use Rattle.cd_resolve.specs.Inner.Repeated.{repeated}
 use Rattle.cd_resolve.proofs.NodesOfTypes.{Stands, part_stands}
 use Rattle.cd_resolve.proofs.StatesFollow.{HoldsAt}
@@ -59,13 +59,13 @@ means_sequences graph id is at expression same =
         (at_sequence (nodes whole) closed e expression answer)
 
 module _ (first : ℕ) (equations : Equations) (names : List (Name × NodeId)) (base : Scope) (Fact : Declared → Type 0)
-    (frames : Frames) (around : AllEquated first equations names frames)
-    (over : AllOf Fact (names_over (scope_of base frames))) where
+    (levels : ScopeLevels) (around : AllEquated first equations names levels)
+    (over : AllOf Fact (names_over (scope_of base levels))) where
   abbrev StandsHere : NodeId → WrittenType → Type 0
   StandsHere = Stands first equations names base Fact
 
   abbrev scope : Scope
-  scope = scope_of base frames
+  scope = scope_of base levels
 
   -- an expression over nodes that stand for the items of a written one, which the same lists fit as this one
   pub record IsOver (is : Regular) (of : types.Regular WrittenType) : Type 1 where
@@ -109,11 +109,11 @@ module _ (first : ℕ) (equations : Equations) (names : List (Name × NodeId)) (
   }
 
   mutual
-    pub regular_over : (is : type.Regular) (regular : Regular) → EquatesRegular first equations names frames is regular
+    pub regular_over : (is : type.Regular) (regular : Regular) → EquatesRegular first equations names levels is regular
         → AllOf Fact (names_in_regular scope is) → IsOver regular (regular_in scope is)
     regular_over (type.regular span kind) regular equates within = kind_over kind regular equates within
 
-    kind_over : (kind : type.RegularKind) (is : Regular) → EquatesRegularKind first equations names frames kind is
+    kind_over : (kind : type.RegularKind) (is : Regular) → EquatesRegularKind first equations names levels kind is
         → AllOf Fact (names_in_regular_kind scope kind) → IsOver is (regular_kind_in scope kind)
     kind_over type.Nothing is equates within = subst (λ is. IsOver is types.NoItem) (sym equates)
         (record { expression = types.NoItem; stands = heads.no_item; same = refl })
@@ -121,7 +121,7 @@ module _ (first : ℕ) (equations : Equations) (names : List (Name × NodeId)) (
         subst (λ is. IsOver is (regular_kind_in scope (type.Item part))) (sym equates.1) (record {
           expression = types.Item equates.0;
           stands = heads.an_item _ _
-              (part_stands first equations names base Fact frames part equates.0 around equates.2
+              (part_stands first equations names base Fact levels part equates.0 around equates.2
               (covered_tree Fact scope part within over));
           same = refl;
         })
@@ -140,7 +140,7 @@ module _ (first : ℕ) (equations : Equations) (names : List (Name × NodeId)) (
         subst (λ is. IsOver is (types.Alt types.NoRegular)) (sym equates)
         (record { expression = types.Alt types.NoRegular; stands = heads.one_of _ _ heads.no_more; same = refl })
 
-    rows_over : (all : type.Regulars) (parts : Regulars) → EquatesRegulars first equations names frames all parts
+    rows_over : (all : type.Regulars) (parts : Regulars) → EquatesRegulars first equations names levels all parts
         → AllOf Fact (names_in_regulars scope all) → AreOver parts (regulars_in scope all)
     rows_over type.NoRegular NoRegular equates within =
         record { rows = types.NoRegular; stand = heads.no_more; in_turn = refl; one = refl }

@@ -13,11 +13,11 @@ use Rattle.cd_model.specs.Formula.{Formula, Field}
 use Rattle.cd_model.proofs.ByNumber.{got_after}
 use Rattle.cd_regex.specs.Regular.{Regular}
 use Rattle.cd_resolve.specs.Inner.Equation.{Equation, Equations, Same}
-use Rattle.cd_resolve.specs.Inner.Frames.{Frames, number_in}
+use Rattle.cd_resolve.specs.Inner.ScopeLevels.{ScopeLevels, number_in}
 use Rattle.cd_resolve.specs.Inner.Leaves.{characters, Joint, Pairs, Arrows}
 use Rattle.cd_resolve.specs.Inner.Members.{Sign, union_of, meet_of}
 use Rattle.cd_resolve.specs.Inner.Walk.{Read, unread, entered, settled, pushed, leaf, walked_text, chained, united, met}
-use Rattle.cd_resolve.specs.Inner.Walk.{one_more, frame_after, walked, walked_kind, walked_trees, walked_signs}
+use Rattle.cd_resolve.specs.Inner.Walk.{one_more, level_after, walked, walked_kind, walked_trees, walked_signs}
 use Rattle.cd_resolve.specs.Inner.Walk.{walked_fields, walked_regular, walked_regular_kind, walked_regulars}
 use Rattle.cd_resolve.specs.Inner.Walk.{walked_declared, walked_list}
 use Rattle.cd_resolve.proofs.GrowingLists.{get_before, get_set, get_other, set_later}
@@ -171,159 +171,159 @@ module _ (first : ℕ) where
   module _ (names : List (Name × NodeId)) where
     mutual
       -- a tree, and what trees are made of
-      pub walked_appends : (frames : Frames) (is : Tree) (s : Equations) → Appends s (walked first names frames is s).1
-      walked_appends frames (tree span kind) s = kind_appends frames kind s
+      pub walked_appends : (levels : ScopeLevels) (is : Tree) (s : Equations) → Appends s (walked first names levels is s).1
+      walked_appends levels (tree span kind) s = kind_appends levels kind s
 
-      pub kind_appends : (frames : Frames) (kind : Kind) (s : Equations)
-          → Appends s (walked_kind first names frames kind s).1
-      kind_appends frames (type.Builtin name) s = appends_same s
-      kind_appends frames (type.Ints low high) s = leaf_appends _ s
-      kind_appends frames (type.Chars low high) s = leaf_appends _ s
-      kind_appends frames (type.Atom name) s = pushed_appends _ s
-      kind_appends frames (type.Text text) s = text_appends text s
-      kind_appends frames (type.Tuple NoTree) s = appends_same s
-      kind_appends frames (type.Tuple (ATree one NoTree)) s = appends_same s
-      kind_appends frames (type.Tuple (ATree one (ATree next rest))) s =
-          let all = walked_trees first names frames (ATree one (ATree next rest)) [] s in
-          appends_then s all.1 _ (trees_append frames (ATree one (ATree next rest)) [] s)
+      pub kind_appends : (levels : ScopeLevels) (kind : Kind) (s : Equations)
+          → Appends s (walked_kind first names levels kind s).1
+      kind_appends levels (type.Builtin name) s = appends_same s
+      kind_appends levels (type.Ints low high) s = leaf_appends _ s
+      kind_appends levels (type.Chars low high) s = leaf_appends _ s
+      kind_appends levels (type.Atom name) s = pushed_appends _ s
+      kind_appends levels (type.Text text) s = text_appends text s
+      kind_appends levels (type.Tuple NoTree) s = appends_same s
+      kind_appends levels (type.Tuple (ATree one NoTree)) s = appends_same s
+      kind_appends levels (type.Tuple (ATree one (ATree next rest))) s =
+          let all = walked_trees first names levels (ATree one (ATree next rest)) [] s in
+          appends_then s all.1 _ (trees_append levels (ATree one (ATree next rest)) [] s)
           (chained_appends Pairs all.0 all.1)
-      kind_appends frames (type.Arrows NoTree) s = appends_same s
-      kind_appends frames (type.Arrows (ATree one NoTree)) s = appends_same s
-      kind_appends frames (type.Arrows (ATree one (ATree next rest))) s =
-          let all = walked_trees first names frames (ATree one (ATree next rest)) [] s in
-          appends_then s all.1 _ (trees_append frames (ATree one (ATree next rest)) [] s)
+      kind_appends levels (type.Arrows NoTree) s = appends_same s
+      kind_appends levels (type.Arrows (ATree one NoTree)) s = appends_same s
+      kind_appends levels (type.Arrows (ATree one (ATree next rest))) s =
+          let all = walked_trees first names levels (ATree one (ATree next rest)) [] s in
+          appends_then s all.1 _ (trees_append levels (ATree one (ATree next rest)) [] s)
           (chained_appends Arrows all.0 all.1)
-      kind_appends frames (type.Union trees) s =
-          let all = walked_trees first names frames trees [] s in
-          appends_then s all.1 _ (trees_append frames trees [] s) (united_appends (union_of all.0) all.1)
-      kind_appends frames (type.Meet one signs) s =
-          let kept = walked first names frames one s in
-          let all = walked_signs first names frames signs ((true, kept.0) ∷ []) kept.1 in
-          appends_then s kept.1 _ (walked_appends frames one s)
-          (appends_then kept.1 all.1 _ (signs_append frames signs ((true, kept.0) ∷ []) kept.1)
+      kind_appends levels (type.Union trees) s =
+          let all = walked_trees first names levels trees [] s in
+          appends_then s all.1 _ (trees_append levels trees [] s) (united_appends (union_of all.0) all.1)
+      kind_appends levels (type.Meet one signs) s =
+          let kept = walked first names levels one s in
+          let all = walked_signs first names levels signs ((true, kept.0) ∷ []) kept.1 in
+          appends_then s kept.1 _ (walked_appends levels one s)
+          (appends_then kept.1 all.1 _ (signs_append levels signs ((true, kept.0) ∷ []) kept.1)
           (met_appends (meet_of all.0) all.1))
-      kind_appends frames (type.Sequence is) s =
-          let all = walked_regular first names frames is s in
-          appends_then s all.1 _ (regular_appends frames is s) (record { more = _; are = refl })
-      kind_appends frames (type.Record fields more) s =
-          let all = walked_fields first names frames fields [] s in
-          appends_then s all.1 _ (fields_append frames fields [] s) (pushed_appends _ all.1)
-      kind_appends frames (type.Xml tag attributes content) s =
-          let one = walked first names frames tag s in
-          let two = walked first names frames attributes one.1 in
-          let three = walked first names frames content two.1 in
-          appends_then s one.1 _ (walked_appends frames tag s)
-          (appends_then one.1 two.1 _ (walked_appends frames attributes one.1)
-          (appends_then two.1 three.1 _ (walked_appends frames content two.1) (pushed_appends _ three.1)))
-      kind_appends frames (type.Named name) s = appends_same s
-      kind_appends frames (type.Where is declarations) s =
-          let under : Frames = frame_after first declarations s ∷ frames in
+      kind_appends levels (type.Sequence is) s =
+          let all = walked_regular first names levels is s in
+          appends_then s all.1 _ (regular_appends levels is s) (record { more = _; are = refl })
+      kind_appends levels (type.Record fields more) s =
+          let all = walked_fields first names levels fields [] s in
+          appends_then s all.1 _ (fields_append levels fields [] s) (pushed_appends _ all.1)
+      kind_appends levels (type.Xml tag attributes content) s =
+          let one = walked first names levels tag s in
+          let two = walked first names levels attributes one.1 in
+          let three = walked first names levels content two.1 in
+          appends_then s one.1 _ (walked_appends levels tag s)
+          (appends_then one.1 two.1 _ (walked_appends levels attributes one.1)
+          (appends_then two.1 three.1 _ (walked_appends levels content two.1) (pushed_appends _ three.1)))
+      kind_appends levels (type.Named name) s = appends_same s
+      kind_appends levels (type.Where is declarations) s =
+          let under : ScopeLevels = level_after first declarations s ∷ levels in
           let one = entered declarations s in
           let two = walked_declared first names under (length s) declarations one in
           appends_then s two _
           (declared_appends s under (length s) declarations one (entered_appends declarations s) (omega arith))
           (walked_appends under is two)
-      kind_appends frames (type.Variable name) s = appends_same s
-      kind_appends frames (type.Default name constant) s = appends_same s
+      kind_appends levels (type.Variable name) s = appends_same s
+      kind_appends levels (type.Default name constant) s = appends_same s
 
-      pub trees_append : (frames : Frames) (trees : Trees) (made : List NodeId) (s : Equations)
-          → Appends s (walked_trees first names frames trees made s).1
-      trees_append frames NoTree made s = appends_same s
-      trees_append frames (ATree is rest) made s =
-          let one = walked first names frames is s in
-          appends_then s one.1 _ (walked_appends frames is s) (trees_append frames rest (one_more made one.0) one.1)
+      pub trees_append : (levels : ScopeLevels) (trees : Trees) (made : List NodeId) (s : Equations)
+          → Appends s (walked_trees first names levels trees made s).1
+      trees_append levels NoTree made s = appends_same s
+      trees_append levels (ATree is rest) made s =
+          let one = walked first names levels is s in
+          appends_then s one.1 _ (walked_appends levels is s) (trees_append levels rest (one_more made one.0) one.1)
 
-      pub signs_append : (frames : Frames) (signs : Signs) (made : List Sign) (s : Equations)
-          → Appends s (walked_signs first names frames signs made s).1
-      signs_append frames NoSign made s = appends_same s
-      signs_append frames (ASign kept is rest) made s =
-          let one = walked first names frames is s in
-          appends_then s one.1 _ (walked_appends frames is s)
-          (signs_append frames rest (one_more made (kept, one.0)) one.1)
+      pub signs_append : (levels : ScopeLevels) (signs : Signs) (made : List Sign) (s : Equations)
+          → Appends s (walked_signs first names levels signs made s).1
+      signs_append levels NoSign made s = appends_same s
+      signs_append levels (ASign kept is rest) made s =
+          let one = walked first names levels is s in
+          appends_then s one.1 _ (walked_appends levels is s)
+          (signs_append levels rest (one_more made (kept, one.0)) one.1)
 
-      pub fields_append : (frames : Frames) (fields : Fields) (made : List (Name × Field)) (s : Equations)
-          → Appends s (walked_fields first names frames fields made s).1
-      fields_append frames NoField made s = appends_same s
-      fields_append frames (AField label at optional is rest) made s =
-          let one = walked first names frames is s in
-          appends_then s one.1 _ (walked_appends frames is s)
-          (fields_append frames rest (one_more made (label, record { optional = optional; type = one.0 })) one.1)
+      pub fields_append : (levels : ScopeLevels) (fields : Fields) (made : List (Name × Field)) (s : Equations)
+          → Appends s (walked_fields first names levels fields made s).1
+      fields_append levels NoField made s = appends_same s
+      fields_append levels (AField label at optional is rest) made s =
+          let one = walked first names levels is s in
+          appends_then s one.1 _ (walked_appends levels is s)
+          (fields_append levels rest (one_more made (label, record { optional = optional; type = one.0 })) one.1)
 
-      pub regular_appends : (frames : Frames) (is : type.Regular) (s : Equations)
-          → Appends s (walked_regular first names frames is s).1
-      regular_appends frames (type.regular span kind) s = regular_kind_appends frames kind s
+      pub regular_appends : (levels : ScopeLevels) (is : type.Regular) (s : Equations)
+          → Appends s (walked_regular first names levels is s).1
+      regular_appends levels (type.regular span kind) s = regular_kind_appends levels kind s
 
-      pub regular_kind_appends : (frames : Frames) (kind : type.RegularKind) (s : Equations)
-          → Appends s (walked_regular_kind first names frames kind s).1
-      regular_kind_appends frames type.Nothing s = appends_same s
-      regular_kind_appends frames (type.Item is) s = walked_appends frames is s
-      regular_kind_appends frames (type.Seq all) s = regulars_append frames all [] s
-      regular_kind_appends frames (type.Alt all) s = regulars_append frames all [] s
-      regular_kind_appends frames (type.Repeat is post) s = regular_appends frames is s
-      regular_kind_appends frames (type.Capture name is) s = appends_same s
+      pub regular_kind_appends : (levels : ScopeLevels) (kind : type.RegularKind) (s : Equations)
+          → Appends s (walked_regular_kind first names levels kind s).1
+      regular_kind_appends levels type.Nothing s = appends_same s
+      regular_kind_appends levels (type.Item is) s = walked_appends levels is s
+      regular_kind_appends levels (type.Seq all) s = regulars_append levels all [] s
+      regular_kind_appends levels (type.Alt all) s = regulars_append levels all [] s
+      regular_kind_appends levels (type.Repeat is post) s = regular_appends levels is s
+      regular_kind_appends levels (type.Capture name is) s = appends_same s
 
-      pub regulars_append : (frames : Frames) (all : type.Regulars) (made : List Regular) (s : Equations)
-          → Appends s (walked_regulars first names frames all made s).1
-      regulars_append frames type.NoRegular made s = appends_same s
-      regulars_append frames (type.ARegular is rest) made s =
-          let one = walked_regular first names frames is s in
-          appends_then s one.1 _ (regular_appends frames is s) (regulars_append frames rest (one_more made one.0) one.1)
+      pub regulars_append : (levels : ScopeLevels) (all : type.Regulars) (made : List Regular) (s : Equations)
+          → Appends s (walked_regulars first names levels all made s).1
+      regulars_append levels type.NoRegular made s = appends_same s
+      regulars_append levels (type.ARegular is rest) made s =
+          let one = walked_regular first names levels is s in
+          appends_then s one.1 _ (regular_appends levels is s) (regulars_append levels rest (one_more made one.0) one.1)
 
       -- the trees of a list of declarations, whose names have numbers past those that stay
-      pub declared_appends : (before : Equations) (frames : Frames) (number : ℕ) (declarations : Declarations)
+      pub declared_appends : (before : Equations) (levels : ScopeLevels) (number : ℕ) (declarations : Declarations)
           (s : Equations)
           → Appends before s → length before ≤ number
-          → Appends before (walked_declared first names frames number declarations s)
-      declared_appends before frames number NoDeclaration s appends past = appends
-      declared_appends before frames number (ADeclaration name at is rest) s appends past =
-          let one = walked first names frames is s in
-          declared_appends before frames (number + 1) rest (settled number one)
-          (settled_appends before number one past (appends_then before s one.1 appends (walked_appends frames is s)))
+          → Appends before (walked_declared first names levels number declarations s)
+      declared_appends before levels number NoDeclaration s appends past = appends
+      declared_appends before levels number (ADeclaration name at is rest) s appends past =
+          let one = walked first names levels is s in
+          declared_appends before levels (number + 1) rest (settled number one)
+          (settled_appends before number one past (appends_then before s one.1 appends (walked_appends levels is s)))
           (omega arith)
 
     -- no equation is lost where the names have none yet, and there are no fewer
-    pub declared_grows : (frames : Frames) (number : ℕ) (declarations : Declarations) (s : Equations)
+    pub declared_grows : (levels : ScopeLevels) (number : ℕ) (declarations : Declarations) (s : Equations)
         → AreUnread s number (number_in declarations)
-        → Grows s (walked_declared first names frames number declarations s)
-    declared_grows frames number NoDeclaration s are = same s
-    declared_grows frames number (ADeclaration name at is rest) s are =
-        let one = walked first names frames is s in
-        let later = unread_later s one.1 number (number_in rest + 1) (walked_appends frames is s) are in
-        grows_then s one.1 _ (appends_grows s one.1 (walked_appends frames is s))
+        → Grows s (walked_declared first names levels number declarations s)
+    declared_grows levels number NoDeclaration s are = same s
+    declared_grows levels number (ADeclaration name at is rest) s are =
+        let one = walked first names levels is s in
+        let later = unread_later s one.1 number (number_in rest + 1) (walked_appends levels is s) are in
+        grows_then s one.1 _ (appends_grows s one.1 (walked_appends levels is s))
         (grows_then one.1 (settled number one) _
         (settled_grows number one (later.none number (omega arith) (omega arith)))
-        (declared_grows frames (number + 1) rest (settled number one)
+        (declared_grows levels (number + 1) rest (settled number one)
         (settled_unread number (number_in rest) one later)))
 
-    pub declared_longer : (frames : Frames) (number : ℕ) (declarations : Declarations) (s : Equations)
-        → length s ≤ length (walked_declared first names frames number declarations s)
-    declared_longer frames number NoDeclaration s = omega arith
-    declared_longer frames number (ADeclaration name at is rest) s =
-        let one = walked first names frames is s in
-        let longer = appends_longer s one.1 (walked_appends frames is s) in
+    pub declared_longer : (levels : ScopeLevels) (number : ℕ) (declarations : Declarations) (s : Equations)
+        → length s ≤ length (walked_declared first names levels number declarations s)
+    declared_longer levels number NoDeclaration s = omega arith
+    declared_longer levels number (ADeclaration name at is rest) s =
+        let one = walked first names levels is s in
+        let longer = appends_longer s one.1 (walked_appends levels is s) in
         let set_long = settled_length number one in
-        let on = declared_longer frames (number + 1) rest (settled number one) in
+        let on = declared_longer levels (number + 1) rest (settled number one) in
         omega arith
 
     -- a list of declarations
-    pub list_appends : (frames : Frames) (declarations : Declarations) (s : Equations)
-        → Appends s (walked_list first names frames declarations s)
-    list_appends frames declarations s =
-        declared_appends s (frame_after first declarations s ∷ frames) (length s) declarations (entered declarations s)
+    pub list_appends : (levels : ScopeLevels) (declarations : Declarations) (s : Equations)
+        → Appends s (walked_list first names levels declarations s)
+    list_appends levels declarations s =
+        declared_appends s (level_after first declarations s ∷ levels) (length s) declarations (entered declarations s)
         (entered_appends declarations s) (omega arith)
 
-    pub list_longer : (frames : Frames) (declarations : Declarations) (s : Equations)
-        → length s + number_in declarations ≤ length (walked_list first names frames declarations s)
-    list_longer frames declarations s =
+    pub list_longer : (levels : ScopeLevels) (declarations : Declarations) (s : Equations)
+        → length s + number_in declarations ≤ length (walked_list first names levels declarations s)
+    list_longer levels declarations s =
         let long = entered_length declarations s in
-        let on = declared_longer (frame_after first declarations s ∷ frames) (length s) declarations
+        let on = declared_longer (level_after first declarations s ∷ levels) (length s) declarations
         (entered declarations s) in
         omega arith
 
     -- all grow
-    pub walked_grows : (frames : Frames) (is : Tree) (s : Equations) → Grows s (walked first names frames is s).1
-    walked_grows frames is s = appends_grows s _ (walked_appends frames is s)
+    pub walked_grows : (levels : ScopeLevels) (is : Tree) (s : Equations) → Grows s (walked first names levels is s).1
+    walked_grows levels is s = appends_grows s _ (walked_appends levels is s)
 
-    pub list_grows : (frames : Frames) (declarations : Declarations) (s : Equations)
-        → Grows s (walked_list first names frames declarations s)
-    list_grows frames declarations s = appends_grows s _ (list_appends frames declarations s)
+    pub list_grows : (levels : ScopeLevels) (declarations : Declarations) (s : Equations)
+        → Grows s (walked_list first names levels declarations s)
+    list_grows levels declarations s = appends_grows s _ (list_appends levels declarations s)

@@ -11,7 +11,7 @@ use Rattle.cd_model.proofs.ByNumber.{got_after}
 use Rattle.cd_regex.specs.Regular.{Regular, regulars_of}
 use Rattle.cd_regex.specs.Automaton.{sequence_formulas}
 use Rattle.cd_resolve.specs.Inner.Equation.{Equation, Equations, Is, And, Or}
-use Rattle.cd_resolve.specs.Inner.Frames.{Frames}
+use Rattle.cd_resolve.specs.Inner.ScopeLevels.{ScopeLevels}
 use Rattle.cd_resolve.specs.Inner.Leaves.{characters, Joint, joined}
 use Rattle.cd_resolve.specs.Inner.Members.{Sign}
 use Rattle.cd_resolve.specs.Inner.Equates.{IsAt, HasLeaf, EquatesText, HasUnion, HasMeet, HaveFormulas, EquatesChain}
@@ -98,16 +98,16 @@ module _ (first : ℕ) (final : Equations) where
 
   module _ (names : List (Name × NodeId)) where
     -- a chain of the nodes of trees is a chain of the trees
-    pub chained_at : (frames : Frames) (joint : Joint) (trees : Trees) (ids : List NodeId) (s : Equations)
-        → Grows (chained first joint ids s).1 final → EquatesEach first final names frames trees ids
-        → EquatesChain first final names frames joint trees (chained first joint ids s).0
-    chained_at frames joint NoTree [] s grows each = refl
-    chained_at frames joint NoTree (id ∷ ids) s grows each = elim each [ ]
-    chained_at frames joint (ATree is rest) [] s grows each = elim each [ ]
-    chained_at frames joint (ATree is NoTree) (id ∷ []) s grows each = each.0
-    chained_at frames joint (ATree is NoTree) (id ∷ other ∷ ids) s grows each = elim each.1 [ ]
-    chained_at frames joint (ATree is (ATree next rest)) (id ∷ []) s grows each = elim each.1 [ ]
-    chained_at frames joint (ATree is (ATree next rest)) (id ∷ other ∷ ids) s grows each =
+    pub chained_at : (levels : ScopeLevels) (joint : Joint) (trees : Trees) (ids : List NodeId) (s : Equations)
+        → Grows (chained first joint ids s).1 final → EquatesEach first final names levels trees ids
+        → EquatesChain first final names levels joint trees (chained first joint ids s).0
+    chained_at levels joint NoTree [] s grows each = refl
+    chained_at levels joint NoTree (id ∷ ids) s grows each = elim each [ ]
+    chained_at levels joint (ATree is rest) [] s grows each = elim each [ ]
+    chained_at levels joint (ATree is NoTree) (id ∷ []) s grows each = each.0
+    chained_at levels joint (ATree is NoTree) (id ∷ other ∷ ids) s grows each = elim each.1 [ ]
+    chained_at levels joint (ATree is (ATree next rest)) (id ∷ []) s grows each = elim each.1 [ ]
+    chained_at levels joint (ATree is (ATree next rest)) (id ∷ other ∷ ids) s grows each =
         let later = chained first joint (other ∷ ids) s in
         let equation : Equation = Is (joined joint id later.0) in
         let on = grows_then later.1 _ final (appends_grows later.1 _ (pushed_appends first equation later.1)) grows in (
@@ -115,43 +115,43 @@ module _ (first : ℕ) (final : Equations) where
           later.0,
           pushed_at equation later.1 grows,
           each.0,
-          chained_at frames joint (ATree next rest) (other ∷ ids) s on each.1,
+          chained_at levels joint (ATree next rest) (other ∷ ids) s on each.1,
         )
 
     -- the nodes of trees after those that were made
-    pub record TreesAt (frames : Frames) (trees : Trees) (made all : List NodeId) : Type 0 where
+    pub record TreesAt (levels : ScopeLevels) (trees : Trees) (made all : List NodeId) : Type 0 where
       pub ids : List NodeId
       pub are : all ≡ made ++ ids
-      pub each : EquatesEach first final names frames trees ids
+      pub each : EquatesEach first final names levels trees ids
 
-    pub record SignsAt (frames : Frames) (signs : Signs) (made all : List Sign) : Type 0 where
+    pub record SignsAt (levels : ScopeLevels) (signs : Signs) (made all : List Sign) : Type 0 where
       pub signed : List Sign
       pub are : all ≡ made ++ signed
-      pub each : EquatesSigns first final names frames signs signed
+      pub each : EquatesSigns first final names levels signs signed
 
-    pub record FieldsAt (frames : Frames) (fields : Fields) (made all : List (Name × Field)) : Type 0 where
+    pub record FieldsAt (levels : ScopeLevels) (fields : Fields) (made all : List (Name × Field)) : Type 0 where
       pub named : List (Name × Field)
       pub are : all ≡ made ++ named
-      pub each : EquatesFields first final names frames fields named
+      pub each : EquatesFields first final names levels fields named
 
-    pub record RegularsAt (frames : Frames) (regulars : type.Regulars) (made all : List Regular) : Type 0 where
+    pub record RegularsAt (levels : ScopeLevels) (regulars : type.Regulars) (made all : List Regular) : Type 0 where
       pub parts : List Regular
       pub are : all ≡ made ++ parts
-      pub each : EquatesRegulars first final names frames regulars (regulars_of parts)
+      pub each : EquatesRegulars first final names levels regulars (regulars_of parts)
 
     -- and those that were made after none
-    pub all_trees : (frames : Frames) (trees : Trees) (all : List NodeId) → TreesAt frames trees [] all
-        → EquatesEach first final names frames trees all
-    all_trees frames trees all each =
-        subst (λ ids. EquatesEach first final names frames trees ids) (sym each.are) each.each
+    pub all_trees : (levels : ScopeLevels) (trees : Trees) (all : List NodeId) → TreesAt levels trees [] all
+        → EquatesEach first final names levels trees all
+    all_trees levels trees all each =
+        subst (λ ids. EquatesEach first final names levels trees ids) (sym each.are) each.each
 
-    pub all_fields : (frames : Frames) (fields : Fields) (all : List (Name × Field)) → FieldsAt frames fields [] all
-        → EquatesFields first final names frames fields all
-    all_fields frames fields all each =
-        subst (λ named. EquatesFields first final names frames fields named) (sym each.are) each.each
+    pub all_fields : (levels : ScopeLevels) (fields : Fields) (all : List (Name × Field)) → FieldsAt levels fields [] all
+        → EquatesFields first final names levels fields all
+    all_fields levels fields all each =
+        subst (λ named. EquatesFields first final names levels fields named) (sym each.are) each.each
 
-    pub all_regulars : (frames : Frames) (regulars : type.Regulars) (all : List Regular)
-        → RegularsAt frames regulars [] all
-        → EquatesRegulars first final names frames regulars (regulars_of all)
-    all_regulars frames regulars all each =
-        subst (λ parts. EquatesRegulars first final names frames regulars (regulars_of parts)) (sym each.are) each.each
+    pub all_regulars : (levels : ScopeLevels) (regulars : type.Regulars) (all : List Regular)
+        → RegularsAt levels regulars [] all
+        → EquatesRegulars first final names levels regulars (regulars_of all)
+    all_regulars levels regulars all each =
+        subst (λ parts. EquatesRegulars first final names levels regulars (regulars_of parts)) (sym each.are) each.each

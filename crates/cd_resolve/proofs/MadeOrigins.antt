@@ -14,11 +14,11 @@ use Rattle.cd_model.specs.Scope.{Scope, Declared, names_in, names_declared, name
 use Rattle.cd_model.proofs.Covered.{Covered, each_parts, covered_tree}
 use Rattle.cd_model.proofs.ByNumber.{got_after}
 use Rattle.cd_resolve.specs.Inner.Equation.{Equation, Equations, Is, Same}
-use Rattle.cd_resolve.specs.Inner.Frames.{Frames, scope_of, number_in}
+use Rattle.cd_resolve.specs.Inner.ScopeLevels.{ScopeLevels, scope_of, number_in}
 use Rattle.cd_resolve.specs.Inner.Leaves.{characters, Joint, joined}
 use Rattle.cd_resolve.specs.Inner.Members.{Sign}
 use Rattle.cd_resolve.specs.Inner.Equates.{IsAt, Equates, EquatesKind, AreEquated, AllEquated}
-use Rattle.cd_resolve.specs.Inner.Walk.{entered, pushed, leaf, walked_text, chained, united, met, frame_after}
+use Rattle.cd_resolve.specs.Inner.Walk.{entered, pushed, leaf, walked_text, chained, united, met, level_after}
 use Rattle.cd_resolve.proofs.Origins.{HasOrigin}
 use Rattle.cd_resolve.proofs.Origins as origin
 use Rattle.cd_resolve.proofs.GrowingLists.{get_next}
@@ -100,11 +100,11 @@ module _ (first : ℕ) (names : List (Name × NodeId)) (base : Scope) (Fact : De
   met_have ((true, one) ∷ other ∷ rest) s made have = one_pushed Origin s _ have (made (length s) refl)
   met_have ((false, one) ∷ other ∷ rest) s made have = one_pushed Origin s _ have (made (length s) refl)
 
-  pub connective_has : (frames : Frames) (kind : Kind) (id : NodeId) → AllEquated first final names frames
-      → EquatesKind first final names frames kind id → Covered Fact (scope_of base frames) kind
+  pub connective_has : (levels : ScopeLevels) (kind : Kind) (id : NodeId) → AllEquated first final names levels
+      → EquatesKind first final names levels kind id → Covered Fact (scope_of base levels) kind
       → (n : ℕ) → id ≡ node (first + n) → Origin n
-  connective_has frames kind id all equates covered n there = origin.part n frames kind all
-      (subst (λ (id : NodeId). EquatesKind first final names frames kind id) there equates) covered
+  connective_has levels kind id all equates covered n there = origin.part n levels kind all
+      (subst (λ (id : NodeId). EquatesKind first final names levels kind id) there equates) covered
 
   -- the formulas of states
   pub states_have : (formulas : List Formula) (s : Equations)
@@ -125,42 +125,42 @@ module _ (first : ℕ) (names : List (Name × NodeId)) (base : Scope) (Fact : De
           subst Origin place (origin.formula (length s + (n - length s)) is.0 known)
 
   -- the names of a list whose trees are equated
-  names_have : (frames : Frames) (number : ℕ) (declarations : Declarations) → AllEquated first final names frames
-      → AllOf Fact (names_declared (scope_of base frames) declarations) → AllOf Fact (names_over (scope_of base frames))
-      → AreEquated first final names frames (first + number) declarations
+  names_have : (levels : ScopeLevels) (number : ℕ) (declarations : Declarations) → AllEquated first final names levels
+      → AllOf Fact (names_declared (scope_of base levels) declarations) → AllOf Fact (names_over (scope_of base levels))
+      → AreEquated first final names levels (first + number) declarations
       → (n : ℕ) → number ≤ n → n < number + number_in declarations → Origin n
-  names_have frames number NoDeclaration all within over equated n from to = absurd (omega arith)
-  names_have frames number (ADeclaration name at is rest) all within over equated n from to =
-      let scope = scope_of base frames in
+  names_have levels number NoDeclaration all within over equated n from to = absurd (omega arith)
+  names_have levels number (ADeclaration name at is rest) all within over equated n from to =
+      let scope = scope_of base levels in
       let parts = each_parts Fact (names_in scope is) (names_declared scope rest) within.1 in
       let next : first + number + 1 ≡ first + (number + 1) = omega arith in
-      by_cases (cases_lt number n) (λ past. names_have frames (number + 1) rest all parts.1 over
-      (subst (λ (number : ℕ). AreEquated first final names frames number rest) next equated.1) n
+      by_cases (cases_lt number n) (λ past. names_have levels (number + 1) rest all parts.1 over
+      (subst (λ (number : ℕ). AreEquated first final names levels number rest) next equated.1) n
       (omega arith) (omega arith)) (λ same. named_at parts.0 equated.0.0 equated.0.1 equated.0.2 same)
     where
-      named_at : AllOf Fact (names_in (scope_of base frames) is) → (root : NodeId)
-          → IsAt first final (node (first + number)) (Same root) → Equates first final names frames is root
+      named_at : AllOf Fact (names_in (scope_of base levels) is) → (root : NodeId)
+          → IsAt first final (node (first + number)) (Same root) → Equates first final names levels is root
           → n ≡ number → Origin n
       named_at within root there equates same =
           let equal = ap (λ (id : NodeId). id.0) there.there in
           let place : there.number ≡ n = omega arith in
-          origin.name n root frames is (subst (λ (n : ℕ). slice_get final n ≡ Some (Some (Same root))) place there.is)
-          all equates (covered_tree Fact (scope_of base frames) is within over)
+          origin.name n root levels is (subst (λ (n : ℕ). slice_get final n ≡ Some (Some (Same root))) place there.is)
+          all equates (covered_tree Fact (scope_of base levels) is within over)
 
       by_cases : (number < n) ⊎ (n ≤ number) → (number < n → Origin n) → (n ≡ number → Origin n) → Origin n
       by_cases (inl past) later same = later past
       by_cases (inr here) later same = same (omega arith)
 
   -- and so those of a list that is entered
-  pub entered_have : (frames : Frames) (declarations : Declarations) (s : Equations)
-      → AllEquated first final names (frame_after first declarations s ∷ frames)
-      → AllOf Fact (names_declared (declarations ∷ scope_of base frames) declarations)
-      → AllOf Fact (names_over (declarations ∷ scope_of base frames)) → HaveOrigins s
+  pub entered_have : (levels : ScopeLevels) (declarations : Declarations) (s : Equations)
+      → AllEquated first final names (level_after first declarations s ∷ levels)
+      → AllOf Fact (names_declared (declarations ∷ scope_of base levels) declarations)
+      → AllOf Fact (names_over (declarations ∷ scope_of base levels)) → HaveOrigins s
       → HaveOrigins (entered declarations s)
-  entered_have frames declarations s all within over have n to =
+  entered_have levels declarations s all within over have n to =
       let long = entered_length declarations s in by_cases (cases_lt n (length s)) (omega arith)
     where
       by_cases : (n < length s) ⊎ (length s ≤ n) → n < length s + number_in declarations → Origin n
       by_cases (inl before) to = have n before
       by_cases (inr past) to =
-          names_have (frame_after first declarations s ∷ frames) (length s) declarations all within over all.0 n past to
+          names_have (level_after first declarations s ∷ levels) (length s) declarations all within over all.0 n past to

@@ -11,24 +11,24 @@ use Rattle.cd_resolve.specs.Inner.Names.{node_of}
 use Rattle.cd_resolve.specs.Inner.Equation.{Equations, Same}
 use Rattle.cd_resolve.specs.Inner.Equates.{IsAt, Equates, AreEquated, AllEquated}
 use Rattle.cd_resolve.specs.Named.{index_in}
-use Rattle.cd_resolve.specs.Inner.Frames.{Frames, scope_of, node_under}
-use Rattle.cd_resolve.specs.Inner.Frames as frames
+use Rattle.cd_resolve.specs.Inner.ScopeLevels.{ScopeLevels, scope_of, node_under}
+use Rattle.cd_resolve.specs.Inner.ScopeLevels as levels
 
 module _ (first : ℕ) (equations : Equations) (names : List (Name × NodeId)) where
   -- the node of this number holds what this tree does
-  pub record IsName (inner : Frames) (number : ℕ) (is : Tree) : Type 0 where
+  pub record IsName (inner : ScopeLevels) (number : ℕ) (is : Tree) : Type 0 where
     pub root : NodeId
     pub same : IsAt first equations (node number) (Same root)
     pub equates : Equates first equations names inner is root
 
   -- a list has both the place of a name and its tree, or neither
-  abbrev InList : Frames → ℕ → Option ℕ → Option Tree → Type 0
+  abbrev InList : ScopeLevels → ℕ → Option ℕ → Option Tree → Type 0
   InList inner number None None = Unit {0}
   InList inner number (Some index) (Some is) = IsName inner (number + index) is
   InList inner number index is = ⊥
 
   -- the same list, where the number is that of the name before
-  one_later : (inner : Frames) (number : ℕ) (index : Option ℕ) (is : Option Tree) → InList inner (number + 1) index is
+  one_later : (inner : ScopeLevels) (number : ℕ) (index : Option ℕ) (is : Option Tree) → InList inner (number + 1) index is
       → InList inner number (option_map (λ index. index + 1) index) is
   one_later inner number None None found = found
   one_later inner number (Some index) None found = elim found [ ]
@@ -38,7 +38,7 @@ module _ (first : ℕ) (equations : Equations) (names : List (Name × NodeId)) w
       in subst (λ number. IsName inner number is) later found
 
   -- a name in a list whose names have their equations from this number on
-  in_list : (inner : Frames) (number : ℕ) (declarations : Declarations) (name : Name)
+  in_list : (inner : ScopeLevels) (number : ℕ) (declarations : Declarations) (name : Name)
       → AreEquated first equations names inner number declarations
       → InList inner number (index_in declarations name) (tree_in declarations name)
   in_list inner number NoDeclaration name equated = tt
@@ -56,8 +56,8 @@ module _ (first : ℕ) (equations : Equations) (names : List (Name × NodeId)) w
 
   module _ (base : Scope) where
     -- a name that a list declares which it stands under
-    pub record IsInside (sees : Frames) (name : Name) : Type 0 where
-      pub inner : Frames
+    pub record IsInside (sees : ScopeLevels) (name : Name) : Type 0 where
+      pub inner : ScopeLevels
       pub number : ℕ
       pub is : Tree
       pub there : node_under names sees name ≡ node number
@@ -67,30 +67,30 @@ module _ (first : ℕ) (equations : Equations) (names : List (Name × NodeId)) w
       pub has_root : IsName inner number is
 
     -- a name that none of them declares
-    pub record IsOutside (sees : Frames) (name : Name) : Type 0 where
+    pub record IsOutside (sees : ScopeLevels) (name : Name) : Type 0 where
       pub there : node_under names sees name ≡ unwrap_or (node_of names name) EMPTY
       pub declared : declared_as (scope_of base sees) name ≡ declared_as base name
 
     -- a name is one of these
-    pub found : (sees : Frames) (name : Name) → AllEquated first equations names sees
+    pub found : (sees : ScopeLevels) (name : Name) → AllEquated first equations names sees
         → IsInside sees name ⊎ IsOutside sees name
     found [] name around = inr (record { there = refl; declared = refl })
-    found (frame ∷ outer) name around = by_list
-        (index_in frame.declarations name) (tree_in frame.declarations name) refl refl
-        (in_list (frame ∷ outer) frame.first frame.declarations name around.0)
+    found (level ∷ outer) name around = by_list
+        (index_in level.declarations name) (tree_in level.declarations name) refl refl
+        (in_list (level ∷ outer) level.first level.declarations name around.0)
         (found outer name around.1)
       where
-        here : Frames
-        here = frame ∷ outer
+        here : ScopeLevels
+        here = level ∷ outer
 
         node_there : Option ℕ → NodeId
-        node_there index = frames.declared_or frame.first index (node_under names outer name)
+        node_there index = levels.declared_or level.first index (node_under names outer name)
 
         declared_there : Option Tree → Option Declared
         declared_there is =
-            declared_or is name (scope_of base (frame ∷ outer)) (declared_as (scope_of base outer) name)
+            declared_or is name (scope_of base (level ∷ outer)) (declared_as (scope_of base outer) name)
 
-        by_outer : index_in frame.declarations name ≡ None → tree_in frame.declarations name ≡ None
+        by_outer : index_in level.declarations name ≡ None → tree_in level.declarations name ≡ None
             → IsInside outer name ⊎ IsOutside outer name → IsInside here name ⊎ IsOutside here name
         by_outer no_index no_tree (inl inside) = inl (record {
           inner = inside.inner;
@@ -106,15 +106,15 @@ module _ (first : ℕ) (equations : Equations) (names : List (Name × NodeId)) w
           declared = ap declared_there no_tree ∙ outside.declared;
         })
 
-        by_list : (index : Option ℕ) (is : Option Tree) → index_in frame.declarations name ≡ index
-            → tree_in frame.declarations name ≡ is → InList here frame.first index is
+        by_list : (index : Option ℕ) (is : Option Tree) → index_in level.declarations name ≡ index
+            → tree_in level.declarations name ≡ is → InList here level.first index is
             → IsInside outer name ⊎ IsOutside outer name → IsInside here name ⊎ IsOutside here name
         by_list None None index_is tree_is is_name later = by_outer index_is tree_is later
         by_list (Some index) None index_is tree_is is_name later = elim is_name [ ]
         by_list None (Some is) index_is tree_is is_name later = elim is_name [ ]
         by_list (Some index) (Some is) index_is tree_is is_name later = inl (record {
           inner = here;
-          number = frame.first + index;
+          number = level.first + index;
           is = is;
           there = ap node_there index_is;
           declared = ap declared_there tree_is;

@@ -19,11 +19,11 @@ use Rattle.cd_regex.specs.Automaton.{sequence_formulas}
 use Rattle.cd_resolve.specs.Inner.Names.{node_of}
 use Rattle.cd_resolve.specs.Inner.Equation.{Equation, Equations, Is}
 use Rattle.cd_resolve.specs.Named.{index_in}
-use Rattle.cd_resolve.specs.Inner.Frames.{Frame, Frames, declared_or, node_under, number_in}
+use Rattle.cd_resolve.specs.Inner.ScopeLevels.{ScopeLevel, ScopeLevels, declared_or, node_under, number_in}
 use Rattle.cd_resolve.specs.Inner.Leaves.{characters, Joint, Pairs, Arrows}
 use Rattle.cd_resolve.specs.Inner.Members.{Sign, union_of, meet_of}
 use Rattle.cd_resolve.specs.Inner.Walk.{pushed, leaf, walked_text, chained, united, met, one_more, sequenced}
-use Rattle.cd_resolve.specs.Inner.Walk.{frame_after, ReadRegular, walked, walked_kind, walked_trees, walked_signs}
+use Rattle.cd_resolve.specs.Inner.Walk.{level_after, ReadRegular, walked, walked_kind, walked_trees, walked_signs}
 use Rattle.cd_resolve.specs.Inner.Walk.{walked_fields, walked_regular, walked_regular_kind, walked_regulars}
 use Rattle.cd_resolve.specs.Inner.Walk.{walked_list}
 use Rattle.cd_resolve.proofs.Growing.{appends_longer, walked_appends, regular_appends, list_longer}
@@ -77,22 +77,22 @@ pub record IsOfNodes (first : ℕ) (names : List (Name × NodeId)) (Fact : ℕ �
 module _ (first : ℕ) (names : List (Name × NodeId)) (Fact : ℕ → NodeId → Type 0)
     (nodes : IsOfNodes first names Fact) where
   -- the names of a list have the fact, and so those of each list
-  abbrev pub HasNodes : ℕ → Frame → Type 0
-  HasNodes count frame = (index : ℕ) → index < number_in frame.declarations → Fact count (node (frame.first + index))
+  abbrev pub HasNodes : ℕ → ScopeLevel → Type 0
+  HasNodes count level = (index : ℕ) → index < number_in level.declarations → Fact count (node (level.first + index))
 
-  abbrev pub HaveNodes : ℕ → Frames → Type 0
-  HaveNodes count frames = AllOf (HasNodes count) frames
+  abbrev pub HaveNodes : ℕ → ScopeLevels → Type 0
+  HaveNodes count levels = AllOf (HasNodes count) levels
 
-  pub frames_later : (count more : ℕ) (frames : Frames) → count ≤ more → HaveNodes count frames → HaveNodes more frames
-  frames_later count more frames longer have =
+  pub levels_later : (count more : ℕ) (levels : ScopeLevels) → count ≤ more → HaveNodes count levels → HaveNodes more levels
+  levels_later count more levels longer have =
       each_weaker (HasNodes count) (HasNodes more)
-      (λ frame has index within. nodes.grows count more (node (frame.first + index)) longer
-      (has index within)) frames have
+      (λ level has index within. nodes.grows count more (node (level.first + index)) longer
+      (has index within)) levels have
 
   -- a list that was met has the nodes of the next equations
-  pub frame_has : (count : ℕ) (declarations : Declarations) (s : Equations) → length s + number_in declarations ≤ count
-      → HasNodes count (frame_after first declarations s)
-  frame_has count declarations s longer index within =
+  pub level_has : (count : ℕ) (declarations : Declarations) (s : Equations) → length s + number_in declarations ≤ count
+      → HasNodes count (level_after first declarations s)
+  level_has count declarations s longer index within =
       subst (λ (number : ℕ). Fact count (node number)) (omega arith)
       (nodes.numbered count (length s + index) (omega arith))
 
@@ -104,18 +104,18 @@ module _ (first : ℕ) (names : List (Name × NodeId)) (Fact : ℕ → NodeId �
       by_node None is = nodes.built_in count EMPTY (omega arith)
       by_node (Some id) is = nodes.named count name id is
 
-  declared_has : (count : ℕ) (frame : Frame) (index : Option ℕ) (outer : NodeId) → HasNodes count frame
-      → IsBelow (number_in frame.declarations) index → Fact count outer
-      → Fact count (declared_or frame.first index outer)
-  declared_has count frame None outer has below is = is
-  declared_has count frame (Some index) outer has below is = has index below
+  declared_has : (count : ℕ) (level : ScopeLevel) (index : Option ℕ) (outer : NodeId) → HasNodes count level
+      → IsBelow (number_in level.declarations) index → Fact count outer
+      → Fact count (declared_or level.first index outer)
+  declared_has count level None outer has below is = is
+  declared_has count level (Some index) outer has below is = has index below
 
-  name_has : (count : ℕ) (frames : Frames) (name : Name) → HaveNodes count frames
-      → Fact count (node_under names frames name)
+  name_has : (count : ℕ) (levels : ScopeLevels) (name : Name) → HaveNodes count levels
+      → Fact count (node_under names levels name)
   name_has count [] name have = given_has count name
-  name_has count (frame ∷ outer) name have =
-      declared_has count frame (index_in frame.declarations name) (node_under names outer name) have.0
-      (index_below frame.declarations name) (name_has count outer name have.1)
+  name_has count (level ∷ outer) name have =
+      declared_has count level (index_in level.declarations name) (node_under names outer name) have.0
+      (index_below level.declarations name) (name_has count outer name have.1)
 
   -- an equation that is made
   pub pushed_has : (equation : Equation) (s : Equations)
@@ -170,124 +170,124 @@ module _ (first : ℕ) (names : List (Name × NodeId)) (Fact : ℕ → NodeId �
 
   mutual
     -- a tree, and what trees are made of
-    pub tree_has : (frames : Frames) (is : Tree) (s : Equations) → HaveNodes (length s) frames
-        → Fact (length (walked first names frames is s).1) (walked first names frames is s).0
-    tree_has frames (tree span kind) s have = kind_has frames kind s have
+    pub tree_has : (levels : ScopeLevels) (is : Tree) (s : Equations) → HaveNodes (length s) levels
+        → Fact (length (walked first names levels is s).1) (walked first names levels is s).0
+    tree_has levels (tree span kind) s have = kind_has levels kind s have
 
-    pub kind_has : (frames : Frames) (kind : Kind) (s : Equations) → HaveNodes (length s) frames
-        → Fact (length (walked_kind first names frames kind s).1) (walked_kind first names frames kind s).0
-    kind_has frames (type.Builtin name) s have =
+    pub kind_has : (levels : ScopeLevels) (kind : Kind) (s : Equations) → HaveNodes (length s) levels
+        → Fact (length (walked_kind first names levels kind s).1) (walked_kind first names levels kind s).0
+    kind_has levels (type.Builtin name) s have =
         let below = built_in_below name in nodes.built_in (length s) (node_named name) below
-    kind_has frames (type.Ints low high) s have = leaf_has _ s
-    kind_has frames (type.Chars low high) s have = leaf_has _ s
-    kind_has frames (type.Atom name) s have = pushed_has _ s
-    kind_has frames (type.Text text) s have = text_has text s
-    kind_has frames (type.Tuple NoTree) s have = nodes.built_in _ EMPTY (omega arith)
-    kind_has frames (type.Tuple (ATree one NoTree)) s have = nodes.built_in _ EMPTY (omega arith)
-    kind_has frames (type.Tuple (ATree one (ATree next rest))) s have =
-        let all = walked_trees first names frames (ATree one (ATree next rest)) [] s in
-        chained_has Pairs all.0 all.1 (trees_have frames (ATree one (ATree next rest)) [] s have tt)
-    kind_has frames (type.Arrows NoTree) s have = nodes.built_in _ EMPTY (omega arith)
-    kind_has frames (type.Arrows (ATree one NoTree)) s have = nodes.built_in _ EMPTY (omega arith)
-    kind_has frames (type.Arrows (ATree one (ATree next rest))) s have =
-        let all = walked_trees first names frames (ATree one (ATree next rest)) [] s in
-        chained_has Arrows all.0 all.1 (trees_have frames (ATree one (ATree next rest)) [] s have tt)
-    kind_has frames (type.Union trees) s have =
-        let all = walked_trees first names frames trees [] s in
+    kind_has levels (type.Ints low high) s have = leaf_has _ s
+    kind_has levels (type.Chars low high) s have = leaf_has _ s
+    kind_has levels (type.Atom name) s have = pushed_has _ s
+    kind_has levels (type.Text text) s have = text_has text s
+    kind_has levels (type.Tuple NoTree) s have = nodes.built_in _ EMPTY (omega arith)
+    kind_has levels (type.Tuple (ATree one NoTree)) s have = nodes.built_in _ EMPTY (omega arith)
+    kind_has levels (type.Tuple (ATree one (ATree next rest))) s have =
+        let all = walked_trees first names levels (ATree one (ATree next rest)) [] s in
+        chained_has Pairs all.0 all.1 (trees_have levels (ATree one (ATree next rest)) [] s have tt)
+    kind_has levels (type.Arrows NoTree) s have = nodes.built_in _ EMPTY (omega arith)
+    kind_has levels (type.Arrows (ATree one NoTree)) s have = nodes.built_in _ EMPTY (omega arith)
+    kind_has levels (type.Arrows (ATree one (ATree next rest))) s have =
+        let all = walked_trees first names levels (ATree one (ATree next rest)) [] s in
+        chained_has Arrows all.0 all.1 (trees_have levels (ATree one (ATree next rest)) [] s have tt)
+    kind_has levels (type.Union trees) s have =
+        let all = walked_trees first names levels trees [] s in
         united_has (union_of all.0) all.1
-        (union_keeps (Fact (length all.1)) all.0 (trees_have frames trees [] s have tt))
-    kind_has frames (type.Meet one signs) s have =
-        let kept = walked first names frames one s in
-        let all = walked_signs first names frames signs ((true, kept.0) ∷ []) kept.1 in
-        let later = frames_later (length s) (length kept.1) frames
-        (appends_longer s kept.1 (walked_appends first names frames one s)) have in
+        (union_keeps (Fact (length all.1)) all.0 (trees_have levels trees [] s have tt))
+    kind_has levels (type.Meet one signs) s have =
+        let kept = walked first names levels one s in
+        let all = walked_signs first names levels signs ((true, kept.0) ∷ []) kept.1 in
+        let later = levels_later (length s) (length kept.1) levels
+        (appends_longer s kept.1 (walked_appends first names levels one s)) have in
         met_has (meet_of all.0) all.1
         (meet_keeps (λ sign. Fact (length all.1) sign.1) all.0
-        (signs_have frames signs ((true, kept.0) ∷ []) kept.1 later (tree_has frames one s have, tt)))
-    kind_has frames (type.Sequence is) s have = sequenced_has (walked_regular first names frames is s)
-    kind_has frames (type.Record fields more) s have = pushed_has _ (walked_fields first names frames fields [] s).1
-    kind_has frames (type.Xml tag attributes content) s have =
+        (signs_have levels signs ((true, kept.0) ∷ []) kept.1 later (tree_has levels one s have, tt)))
+    kind_has levels (type.Sequence is) s have = sequenced_has (walked_regular first names levels is s)
+    kind_has levels (type.Record fields more) s have = pushed_has _ (walked_fields first names levels fields [] s).1
+    kind_has levels (type.Xml tag attributes content) s have =
         pushed_has _
-        (walked first names frames content
-        (walked first names frames attributes (walked first names frames tag s).1).1).1
-    kind_has frames (type.Named name) s have = name_has (length s) frames name have
-    kind_has frames (type.Where is declarations) s have =
-        let under : Frames = frame_after first declarations s ∷ frames in
-        let all = walked_list first names frames declarations s in
-        let longer = list_longer first names frames declarations s in
+        (walked first names levels content
+        (walked first names levels attributes (walked first names levels tag s).1).1).1
+    kind_has levels (type.Named name) s have = name_has (length s) levels name have
+    kind_has levels (type.Where is declarations) s have =
+        let under : ScopeLevels = level_after first declarations s ∷ levels in
+        let all = walked_list first names levels declarations s in
+        let longer = list_longer first names levels declarations s in
         tree_has under is all
-        (frame_has (length all) declarations s longer, frames_later (length s) (length all) frames (omega arith) have)
-    kind_has frames (type.Variable name) s have = nodes.built_in _ EMPTY (omega arith)
-    kind_has frames (type.Default name constant) s have = nodes.built_in _ EMPTY (omega arith)
+        (level_has (length all) declarations s longer, levels_later (length s) (length all) levels (omega arith) have)
+    kind_has levels (type.Variable name) s have = nodes.built_in _ EMPTY (omega arith)
+    kind_has levels (type.Default name constant) s have = nodes.built_in _ EMPTY (omega arith)
 
-    pub trees_have : (frames : Frames) (trees : Trees) (made : List NodeId) (s : Equations)
-        → HaveNodes (length s) frames
+    pub trees_have : (levels : ScopeLevels) (trees : Trees) (made : List NodeId) (s : Equations)
+        → HaveNodes (length s) levels
         → AllOf (Fact (length s)) made
-        → AllOf (Fact (length (walked_trees first names frames trees made s).1))
-        (walked_trees first names frames trees made s).0
-    trees_have frames NoTree made s have each = each
-    trees_have frames (ATree is rest) made s have each =
-        let one = walked first names frames is s in
-        let longer = appends_longer s one.1 (walked_appends first names frames is s) in
-        trees_have frames rest (one_more made one.0) one.1 (frames_later (length s) (length one.1) frames longer have)
-        (one_more_has (λ id. id) s one.1 made one.0 longer each (tree_has frames is s have))
+        → AllOf (Fact (length (walked_trees first names levels trees made s).1))
+        (walked_trees first names levels trees made s).0
+    trees_have levels NoTree made s have each = each
+    trees_have levels (ATree is rest) made s have each =
+        let one = walked first names levels is s in
+        let longer = appends_longer s one.1 (walked_appends first names levels is s) in
+        trees_have levels rest (one_more made one.0) one.1 (levels_later (length s) (length one.1) levels longer have)
+        (one_more_has (λ id. id) s one.1 made one.0 longer each (tree_has levels is s have))
 
-    pub signs_have : (frames : Frames) (signs : Signs) (made : List Sign) (s : Equations) → HaveNodes (length s) frames
+    pub signs_have : (levels : ScopeLevels) (signs : Signs) (made : List Sign) (s : Equations) → HaveNodes (length s) levels
         → AllOf (λ sign. Fact (length s) sign.1) made
-        → AllOf (λ sign. Fact (length (walked_signs first names frames signs made s).1) sign.1)
-        (walked_signs first names frames signs made s).0
-    signs_have frames NoSign made s have each = each
-    signs_have frames (ASign kept is rest) made s have each =
-        let one = walked first names frames is s in
-        let longer = appends_longer s one.1 (walked_appends first names frames is s) in
-        signs_have frames rest (one_more made (kept, one.0)) one.1
-        (frames_later (length s) (length one.1) frames longer have)
-        (one_more_has (λ (sign : Sign). sign.1) s one.1 made (kept, one.0) longer each (tree_has frames is s have))
+        → AllOf (λ sign. Fact (length (walked_signs first names levels signs made s).1) sign.1)
+        (walked_signs first names levels signs made s).0
+    signs_have levels NoSign made s have each = each
+    signs_have levels (ASign kept is rest) made s have each =
+        let one = walked first names levels is s in
+        let longer = appends_longer s one.1 (walked_appends first names levels is s) in
+        signs_have levels rest (one_more made (kept, one.0)) one.1
+        (levels_later (length s) (length one.1) levels longer have)
+        (one_more_has (λ (sign : Sign). sign.1) s one.1 made (kept, one.0) longer each (tree_has levels is s have))
 
-    pub fields_have : (frames : Frames) (fields : Fields) (made : List (Name × Field)) (s : Equations)
-        → HaveNodes (length s) frames → AllOf (λ field. Fact (length s) field.1.type) made
-        → AllOf (λ field. Fact (length (walked_fields first names frames fields made s).1) field.1.type)
-        (walked_fields first names frames fields made s).0
-    fields_have frames NoField made s have each = each
-    fields_have frames (AField label at optional is rest) made s have each =
-        let one = walked first names frames is s in
+    pub fields_have : (levels : ScopeLevels) (fields : Fields) (made : List (Name × Field)) (s : Equations)
+        → HaveNodes (length s) levels → AllOf (λ field. Fact (length s) field.1.type) made
+        → AllOf (λ field. Fact (length (walked_fields first names levels fields made s).1) field.1.type)
+        (walked_fields first names levels fields made s).0
+    fields_have levels NoField made s have each = each
+    fields_have levels (AField label at optional is rest) made s have each =
+        let one = walked first names levels is s in
         let next : Name × Field = (label, record { optional = optional; type = one.0 }) in
-        let longer = appends_longer s one.1 (walked_appends first names frames is s) in
-        fields_have frames rest (one_more made next) one.1 (frames_later (length s) (length one.1) frames longer have)
+        let longer = appends_longer s one.1 (walked_appends first names levels is s) in
+        fields_have levels rest (one_more made next) one.1 (levels_later (length s) (length one.1) levels longer have)
         (one_more_has (λ (field : Name × Field). field.1.type) s one.1 made next longer each
-        (tree_has frames is s have))
+        (tree_has levels is s have))
 
     -- an expression asks for nodes below all that come after its items
-    pub regular_asks : (frames : Frames) (is : type.Regular) (s : Equations) → HaveNodes (length s) frames
-        → AsksBelow (first + length (walked_regular first names frames is s).1)
-        (walked_regular first names frames is s).0
-    regular_asks frames (type.regular span kind) s have = regular_kind_asks frames kind s have
+    pub regular_asks : (levels : ScopeLevels) (is : type.Regular) (s : Equations) → HaveNodes (length s) levels
+        → AsksBelow (first + length (walked_regular first names levels is s).1)
+        (walked_regular first names levels is s).0
+    regular_asks levels (type.regular span kind) s have = regular_kind_asks levels kind s have
 
-    pub regular_kind_asks : (frames : Frames) (kind : type.RegularKind) (s : Equations) → HaveNodes (length s) frames
-        → AsksBelow (first + length (walked_regular_kind first names frames kind s).1)
-        (walked_regular_kind first names frames kind s).0
-    regular_kind_asks frames type.Nothing s have = tt
-    regular_kind_asks frames (type.Item is) s have = nodes.below _ _ (tree_has frames is s have)
-    regular_kind_asks frames (type.Seq all) s have =
-        let read = walked_regulars first names frames all [] s in
-        ask_all (first + length read.1) read.0 (regulars_ask frames all [] s have tt)
-    regular_kind_asks frames (type.Alt all) s have =
-        let read = walked_regulars first names frames all [] s in
-        ask_all (first + length read.1) read.0 (regulars_ask frames all [] s have tt)
-    regular_kind_asks frames (type.Repeat is post) s have =
-        asks_repeated _ post (walked_regular first names frames is s).0 (regular_asks frames is s have)
-    regular_kind_asks frames (type.Capture name is) s have = tt
+    pub regular_kind_asks : (levels : ScopeLevels) (kind : type.RegularKind) (s : Equations) → HaveNodes (length s) levels
+        → AsksBelow (first + length (walked_regular_kind first names levels kind s).1)
+        (walked_regular_kind first names levels kind s).0
+    regular_kind_asks levels type.Nothing s have = tt
+    regular_kind_asks levels (type.Item is) s have = nodes.below _ _ (tree_has levels is s have)
+    regular_kind_asks levels (type.Seq all) s have =
+        let read = walked_regulars first names levels all [] s in
+        ask_all (first + length read.1) read.0 (regulars_ask levels all [] s have tt)
+    regular_kind_asks levels (type.Alt all) s have =
+        let read = walked_regulars first names levels all [] s in
+        ask_all (first + length read.1) read.0 (regulars_ask levels all [] s have tt)
+    regular_kind_asks levels (type.Repeat is post) s have =
+        asks_repeated _ post (walked_regular first names levels is s).0 (regular_asks levels is s have)
+    regular_kind_asks levels (type.Capture name is) s have = tt
 
-    pub regulars_ask : (frames : Frames) (all : type.Regulars) (made : List Regular) (s : Equations)
-        → HaveNodes (length s) frames → AllOf (AsksBelow (first + length s)) made
-        → AllOf (AsksBelow (first + length (walked_regulars first names frames all made s).1))
-        (walked_regulars first names frames all made s).0
-    regulars_ask frames type.NoRegular made s have each = each
-    regulars_ask frames (type.ARegular is rest) made s have each =
-        let one = walked_regular first names frames is s in
-        let longer = appends_longer s one.1 (regular_appends first names frames is s) in
-        regulars_ask frames rest (one_more made one.0) one.1 (frames_later (length s) (length one.1) frames longer have)
+    pub regulars_ask : (levels : ScopeLevels) (all : type.Regulars) (made : List Regular) (s : Equations)
+        → HaveNodes (length s) levels → AllOf (AsksBelow (first + length s)) made
+        → AllOf (AsksBelow (first + length (walked_regulars first names levels all made s).1))
+        (walked_regulars first names levels all made s).0
+    regulars_ask levels type.NoRegular made s have each = each
+    regulars_ask levels (type.ARegular is rest) made s have each =
+        let one = walked_regular first names levels is s in
+        let longer = appends_longer s one.1 (regular_appends first names levels is s) in
+        regulars_ask levels rest (one_more made one.0) one.1 (levels_later (length s) (length one.1) levels longer have)
         (each_more (AsksBelow (first + length one.1)) made one.0
         (each_weaker (AsksBelow (first + length s)) (AsksBelow (first + length one.1))
         (λ part. asks_more (first + length s) (first + length one.1) part (omega arith)) made each)
-        (regular_asks frames is s have))
+        (regular_asks levels is s have))

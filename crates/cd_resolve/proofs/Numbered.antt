@@ -13,7 +13,7 @@ use Rattle.cd_model.specs.StandsFor.{StandsFor}
 use Rattle.cd_resolve.specs.Inner.Names.{node_of, numbered, AreNamed}
 use Rattle.cd_resolve.specs.Named.{index_in, type_named, IsNamed}
 use Rattle.cd_resolve.specs.Named as named
-use Rattle.cd_resolve.specs.Inner.Frames.{declared_or}
+use Rattle.cd_resolve.specs.Inner.ScopeLevels.{declared_or}
 
 -- the node that a name with this place in a list has
 abbrev pub node_from : ℕ → Option ℕ → Option NodeId

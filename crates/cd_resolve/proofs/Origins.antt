@@ -10,7 +10,7 @@ use Rattle.cd_model.specs.Scope.{Scope, Declared}
 use Rattle.cd_model.specs.Written.{kind_of}
 use Rattle.cd_model.proofs.Covered.{Covered}
 use Rattle.cd_resolve.specs.Inner.Equation.{Equations, Is, Same}
-use Rattle.cd_resolve.specs.Inner.Frames.{Frames, scope_of}
+use Rattle.cd_resolve.specs.Inner.ScopeLevels.{ScopeLevels, scope_of}
 use Rattle.cd_resolve.specs.Inner.Equates.{Equates, EquatesKind, AllEquated}
 
 -- The equations are those of the nodes from the first number on, names that no list declares have these nodes, and each
@@ -20,10 +20,10 @@ pub data HasOrigin (first : ℕ) (equations : Equations) (names : List (Name × 
   unread : (number : ℕ) → slice_get equations number ≡ Some None → HasOrigin first equations names base Fact number
   formula : (number : ℕ) (is : Formula) → slice_get equations number ≡ Some (Some (Is is))
       → HasOrigin first equations names base Fact number
-  part : (number : ℕ) (frames : Frames) (kind : Kind) → AllEquated first equations names frames
-      → EquatesKind first equations names frames kind (node (first + number)) → Covered Fact (scope_of base frames) kind
+  part : (number : ℕ) (levels : ScopeLevels) (kind : Kind) → AllEquated first equations names levels
+      → EquatesKind first equations names levels kind (node (first + number)) → Covered Fact (scope_of base levels) kind
       → HasOrigin first equations names base Fact number
-  name : (number : ℕ) (root : NodeId) (frames : Frames) (is : Tree)
-      → slice_get equations number ≡ Some (Some (Same root)) → AllEquated first equations names frames
-      → Equates first equations names frames is root → Covered Fact (scope_of base frames) (kind_of is)
+  name : (number : ℕ) (root : NodeId) (levels : ScopeLevels) (is : Tree)
+      → slice_get equations number ≡ Some (Some (Same root)) → AllEquated first equations names levels
+      → Equates first equations names levels is root → Covered Fact (scope_of base levels) (kind_of is)
       → HasOrigin first equations names base Fact number

@@ -25,11 +25,11 @@ use Rattle.cd_resolve.specs.Wanted.{Pairwise}
 use Rattle.cd_resolve.specs.Inner.Names.{AreBelow, node_of}
 use Rattle.cd_resolve.specs.Inner.Equation.{Equations}
 use Rattle.cd_resolve.specs.Inner.Equates.{Equates, EquatesEach, AllEquated}
-use Rattle.cd_resolve.specs.Inner.Frames.{Frames, node_under, declared_or, number_in}
+use Rattle.cd_resolve.specs.Inner.ScopeLevels.{ScopeLevels, node_under, declared_or, number_in}
 use Rattle.cd_resolve.specs.Inner.Links.{links}
 use Rattle.cd_resolve.specs.Inner.Order.{Ends}
 use Rattle.cd_resolve.specs.Inner.Solves.{Solves, AgreesWith, AreEquations, IsNode}
-use Rattle.cd_resolve.specs.Inner.Walk.{walked_trees, walked_list, frame_after}
+use Rattle.cd_resolve.specs.Inner.Walk.{walked_trees, walked_list, level_after}
 use Rattle.cd_resolve.proofs.BuiltInNodes.{Begins}
 use Rattle.cd_resolve.proofs.Bounds.{trees_bounds, list_bounds}
 use Rattle.cd_resolve.proofs.EndsOfEquations.{all_end}
@@ -108,8 +108,8 @@ module _ (declarations : Declarations) (none : (fault : Fault) → IsFaultOfDecl
   abbrev equations : Equations
   equations = walked_list first [] [] declarations []
 
-  abbrev sees : Frames
-  sees = frame_after first declarations [] ∷ []
+  abbrev sees : ScopeLevels
+  sees = level_after first declarations [] ∷ []
 
   abbrev guarded : AllOf IsGuarded (names_over (declarations ∷ []))
   guarded = list_is_guarded declarations none

@@ -10,33 +10,33 @@ use Rattle.cd_syntax.specs.TypeTree.{Signs, NoSign, ASign, Fields, NoField, AFie
 use Rattle.cd_syntax.specs.TypeTree.{ADeclaration, Regular, regular, RegularKind, Nothing, Item, Seq, Alt, Repeat}
 use Rattle.cd_syntax.specs.TypeTree.{Capture, Regulars, NoRegular, ARegular}
 use Rattle.cd_resolve.specs.Inner.BuiltinNames.{is_among, is_builtin}
-use Rattle.cd_resolve.specs.Inner.Finding.{Frames, innermost, Id, Place, State, reported_if, entered, met, place_of}
+use Rattle.cd_resolve.specs.Inner.Finding.{ScopeLevels, innermost, Id, DeclaredAt, State, reported_if, entered, met, declared_under}
 use Rattle.cd_resolve.specs.Inner.Finding.{labelled, start_of, found_in, found_in_kind, found_in_trees, found_in_signs}
 use Rattle.cd_resolve.specs.Inner.Finding.{found_in_fields, found_in_declared, found_in_regular, found_in_regular_kind}
 use Rattle.cd_resolve.specs.Inner.Finding.{found_in_regulars, found_in_list}
 
 -- the lists that each list of declarations stands under, itself the first, are kept
-abbrev pub whole : Frames → Frames
-whole frames = frames
+abbrev pub whole : ScopeLevels → ScopeLevels
+whole levels = levels
 
-abbrev pub lean : State Frames → State Declarations
+abbrev pub lean : State ScopeLevels → State Declarations
 lean s = record { faults = s.faults; lists = map innermost s.lists; links = s.links }
 
-lean_if : (twice : Bool) (name : Name) (at : ℕ) (s : State Frames)
+lean_if : (twice : Bool) (name : Name) (at : ℕ) (s : State ScopeLevels)
     → reported_if twice name at (lean s) ≡ lean (reported_if twice name at s)
 lean_if true name at s = refl
 lean_if false name at s = refl
 
-lean_met : (start : Option Id) (name : Name) (at : ℕ) (place : Option Place) (s : State Frames)
-    → met start name at place (lean s) ≡ lean (met start name at place s)
+lean_met : (start : Option Id) (name : Name) (at : ℕ) (declared_at : Option DeclaredAt) (s : State ScopeLevels)
+    → met start name at declared_at (lean s) ≡ lean (met start name at declared_at s)
 lean_met start name at None s = refl
-lean_met None name at (Some place) s = refl
-lean_met (Some start) name at (Some place) s = refl
+lean_met None name at (Some declared_at) s = refl
+lean_met (Some start) name at (Some declared_at) s = refl
 
-lean_entered : (frames : Frames) (s : State Frames) → entered (innermost frames) (lean s) ≡ lean (entered frames s)
-lean_entered frames s = rw (map-append innermost s.lists (frames ∷ [])) refl
+lean_entered : (levels : ScopeLevels) (s : State ScopeLevels) → entered (innermost levels) (lean s) ≡ lean (entered levels s)
+lean_entered levels s = rw (map-append innermost s.lists (levels ∷ [])) refl
 
-lean_labelled : (seen : List Name) (fields : Fields) (s : State Frames)
+lean_labelled : (seen : List Name) (fields : Fields) (s : State ScopeLevels)
     → labelled seen fields (lean s) ≡ lean (labelled seen fields s)
 lean_labelled seen NoField s = refl
 lean_labelled seen (AField label at optional is rest) s =
@@ -44,107 +44,107 @@ lean_labelled seen (AField label at optional is rest) s =
     (seen ++ label ∷ []) rest (reported_if (is_among seen label) label at s)
 
 mutual
-  pub lean_walked : (frames : Frames) (start : Option Id) (is : Tree) (s : State Frames)
-      → found_in innermost frames start is (lean s) ≡ lean (found_in whole frames start is s)
-  lean_walked frames start (tree span kind) s = lean_kind frames start span.from kind s
+  pub lean_walked : (levels : ScopeLevels) (start : Option Id) (is : Tree) (s : State ScopeLevels)
+      → found_in innermost levels start is (lean s) ≡ lean (found_in whole levels start is s)
+  lean_walked levels start (tree span kind) s = lean_kind levels start span.from kind s
 
-  lean_kind : (frames : Frames) (start : Option Id) (at : ℕ) (kind : Kind) (s : State Frames)
-      → found_in_kind innermost frames start at kind (lean s) ≡ lean (found_in_kind whole frames start at kind s)
-  lean_kind frames start at (Tuple trees) s = lean_trees frames None trees s
-  lean_kind frames start at (Arrows trees) s = lean_trees frames None trees s
-  lean_kind frames start at (Union trees) s = lean_trees frames start trees s
-  lean_kind frames start at (Meet first signs) s =
-      ap (found_in_signs innermost frames start signs) (lean_walked frames start first s)
-      ∙ lean_signs frames start signs
-      (found_in whole frames start first s)
-  lean_kind frames start at (Sequence is) s = lean_regular frames is s
-  lean_kind frames start at (Record fields more) s =
-      ap (found_in_fields innermost frames fields) (lean_labelled [] fields s) ∙ lean_fields frames fields
+  lean_kind : (levels : ScopeLevels) (start : Option Id) (at : ℕ) (kind : Kind) (s : State ScopeLevels)
+      → found_in_kind innermost levels start at kind (lean s) ≡ lean (found_in_kind whole levels start at kind s)
+  lean_kind levels start at (Tuple trees) s = lean_trees levels None trees s
+  lean_kind levels start at (Arrows trees) s = lean_trees levels None trees s
+  lean_kind levels start at (Union trees) s = lean_trees levels start trees s
+  lean_kind levels start at (Meet first signs) s =
+      ap (found_in_signs innermost levels start signs) (lean_walked levels start first s)
+      ∙ lean_signs levels start signs
+      (found_in whole levels start first s)
+  lean_kind levels start at (Sequence is) s = lean_regular levels is s
+  lean_kind levels start at (Record fields more) s =
+      ap (found_in_fields innermost levels fields) (lean_labelled [] fields s) ∙ lean_fields levels fields
       (labelled [] fields s)
-  lean_kind frames start at (Xml tag attributes content) s =
-      ap (λ s. found_in innermost frames None content (found_in innermost frames None attributes s))
-      (lean_walked frames None tag s)
-      ∙ ap (found_in innermost frames None content)
-      (lean_walked frames None attributes (found_in whole frames None tag s))
-      ∙ lean_walked frames None content (found_in whole frames None attributes (found_in whole frames None tag s))
-  lean_kind frames start at (Named name) s = lean_met start name at (place_of frames name) s
-  lean_kind frames start at (Where is declarations) s =
-      ap (λ n. found_in innermost (record { declarations = declarations; list = n } ∷ frames) start is
-      (found_in_declared innermost (record { declarations = declarations; list = n } ∷ frames) n [] declarations
+  lean_kind levels start at (Xml tag attributes content) s =
+      ap (λ s. found_in innermost levels None content (found_in innermost levels None attributes s))
+      (lean_walked levels None tag s)
+      ∙ ap (found_in innermost levels None content)
+      (lean_walked levels None attributes (found_in whole levels None tag s))
+      ∙ lean_walked levels None content (found_in whole levels None attributes (found_in whole levels None tag s))
+  lean_kind levels start at (Named name) s = lean_met start name at (declared_under levels name) s
+  lean_kind levels start at (Where is declarations) s =
+      ap (λ n. found_in innermost (record { declarations = declarations; list = n } ∷ levels) start is
+      (found_in_declared innermost (record { declarations = declarations; list = n } ∷ levels) n [] declarations
       (entered declarations (lean s)))) (length-map s.lists innermost)
-      ∙ ap (λ s'. found_in innermost (record { declarations = declarations; list = length s.lists } ∷ frames) start is
-      (found_in_declared innermost (record { declarations = declarations; list = length s.lists } ∷ frames)
+      ∙ ap (λ s'. found_in innermost (record { declarations = declarations; list = length s.lists } ∷ levels) start is
+      (found_in_declared innermost (record { declarations = declarations; list = length s.lists } ∷ levels)
       (length s.lists) [] declarations s')) (lean_entered (record
-      { declarations = declarations; list = length s.lists } ∷ frames) s)
-      ∙ ap (found_in innermost (record { declarations = declarations; list = length s.lists } ∷ frames) start is)
-      (lean_declared (record { declarations = declarations; list = length s.lists } ∷ frames) (length s.lists) []
-      declarations (entered (record { declarations = declarations; list = length s.lists } ∷ frames) s))
-      ∙ lean_walked (record { declarations = declarations; list = length s.lists } ∷ frames) start is
-      (found_in_declared whole (record { declarations = declarations; list = length s.lists } ∷ frames)
+      { declarations = declarations; list = length s.lists } ∷ levels) s)
+      ∙ ap (found_in innermost (record { declarations = declarations; list = length s.lists } ∷ levels) start is)
+      (lean_declared (record { declarations = declarations; list = length s.lists } ∷ levels) (length s.lists) []
+      declarations (entered (record { declarations = declarations; list = length s.lists } ∷ levels) s))
+      ∙ lean_walked (record { declarations = declarations; list = length s.lists } ∷ levels) start is
+      (found_in_declared whole (record { declarations = declarations; list = length s.lists } ∷ levels)
       (length s.lists) []
-      declarations (entered (record { declarations = declarations; list = length s.lists } ∷ frames) s))
-  lean_kind frames start at (Builtin name) s = refl
-  lean_kind frames start at (Ints low high) s = refl
-  lean_kind frames start at (Chars low high) s = refl
-  lean_kind frames start at (Atom name) s = refl
-  lean_kind frames start at (Text text) s = refl
-  lean_kind frames start at (Variable name) s = refl
-  lean_kind frames start at (Default name constant) s = refl
+      declarations (entered (record { declarations = declarations; list = length s.lists } ∷ levels) s))
+  lean_kind levels start at (Builtin name) s = refl
+  lean_kind levels start at (Ints low high) s = refl
+  lean_kind levels start at (Chars low high) s = refl
+  lean_kind levels start at (Atom name) s = refl
+  lean_kind levels start at (Text text) s = refl
+  lean_kind levels start at (Variable name) s = refl
+  lean_kind levels start at (Default name constant) s = refl
 
-  lean_trees : (frames : Frames) (start : Option Id) (trees : Trees) (s : State Frames)
-      → found_in_trees innermost frames start trees (lean s) ≡ lean (found_in_trees whole frames start trees s)
-  lean_trees frames start NoTree s = refl
-  lean_trees frames start (ATree first rest) s = ap (found_in_trees innermost frames start rest)
-      (lean_walked frames start first s) ∙ lean_trees frames start rest (found_in whole frames start first s)
+  lean_trees : (levels : ScopeLevels) (start : Option Id) (trees : Trees) (s : State ScopeLevels)
+      → found_in_trees innermost levels start trees (lean s) ≡ lean (found_in_trees whole levels start trees s)
+  lean_trees levels start NoTree s = refl
+  lean_trees levels start (ATree first rest) s = ap (found_in_trees innermost levels start rest)
+      (lean_walked levels start first s) ∙ lean_trees levels start rest (found_in whole levels start first s)
 
-  lean_signs : (frames : Frames) (start : Option Id) (signs : Signs) (s : State Frames)
-      → found_in_signs innermost frames start signs (lean s) ≡ lean (found_in_signs whole frames start signs s)
-  lean_signs frames start NoSign s = refl
-  lean_signs frames start (ASign kept is rest) s = ap (found_in_signs innermost frames start rest)
-      (lean_walked frames start is s) ∙ lean_signs frames start rest (found_in whole frames start is s)
+  lean_signs : (levels : ScopeLevels) (start : Option Id) (signs : Signs) (s : State ScopeLevels)
+      → found_in_signs innermost levels start signs (lean s) ≡ lean (found_in_signs whole levels start signs s)
+  lean_signs levels start NoSign s = refl
+  lean_signs levels start (ASign kept is rest) s = ap (found_in_signs innermost levels start rest)
+      (lean_walked levels start is s) ∙ lean_signs levels start rest (found_in whole levels start is s)
 
-  lean_fields : (frames : Frames) (fields : Fields) (s : State Frames)
-      → found_in_fields innermost frames fields (lean s) ≡ lean (found_in_fields whole frames fields s)
-  lean_fields frames NoField s = refl
-  lean_fields frames (AField label at optional is rest) s = ap (found_in_fields innermost frames rest)
-      (lean_walked frames None is s) ∙ lean_fields frames rest (found_in whole frames None is s)
+  lean_fields : (levels : ScopeLevels) (fields : Fields) (s : State ScopeLevels)
+      → found_in_fields innermost levels fields (lean s) ≡ lean (found_in_fields whole levels fields s)
+  lean_fields levels NoField s = refl
+  lean_fields levels (AField label at optional is rest) s = ap (found_in_fields innermost levels rest)
+      (lean_walked levels None is s) ∙ lean_fields levels rest (found_in whole levels None is s)
 
-  pub lean_declared : (frames : Frames) (list : ℕ) (seen : List Name) (declarations : Declarations) (s : State Frames)
-      → found_in_declared innermost frames list seen declarations (lean s) ≡ lean
-      (found_in_declared whole frames list seen declarations s)
-  lean_declared frames list seen NoDeclaration s = refl
-  lean_declared frames list seen (ADeclaration name at is rest) s =
-      ap (λ s. found_in_declared innermost frames list (seen ++ name ∷ []) rest
-      (found_in innermost frames (start_of (is_among seen name) list name) is s)) (lean_if
+  pub lean_declared : (levels : ScopeLevels) (list : ℕ) (seen : List Name) (declarations : Declarations) (s : State ScopeLevels)
+      → found_in_declared innermost levels list seen declarations (lean s) ≡ lean
+      (found_in_declared whole levels list seen declarations s)
+  lean_declared levels list seen NoDeclaration s = refl
+  lean_declared levels list seen (ADeclaration name at is rest) s =
+      ap (λ s. found_in_declared innermost levels list (seen ++ name ∷ []) rest
+      (found_in innermost levels (start_of (is_among seen name) list name) is s)) (lean_if
       (is_among seen name || is_builtin name) name at s)
-      ∙ ap (found_in_declared innermost frames list (seen ++ name ∷ []) rest)
-      (lean_walked frames (start_of (is_among seen name) list name) is
+      ∙ ap (found_in_declared innermost levels list (seen ++ name ∷ []) rest)
+      (lean_walked levels (start_of (is_among seen name) list name) is
       (reported_if (is_among seen name || is_builtin name) name at s))
-      ∙ lean_declared frames list (seen ++ name ∷ []) rest
-      (found_in whole frames (start_of (is_among seen name) list name) is
+      ∙ lean_declared levels list (seen ++ name ∷ []) rest
+      (found_in whole levels (start_of (is_among seen name) list name) is
       (reported_if (is_among seen name || is_builtin name) name at s))
 
-  lean_regular : (frames : Frames) (is : Regular) (s : State Frames)
-      → found_in_regular innermost frames is (lean s) ≡ lean (found_in_regular whole frames is s)
-  lean_regular frames (regular span kind) s = lean_regular_kind frames kind s
+  lean_regular : (levels : ScopeLevels) (is : Regular) (s : State ScopeLevels)
+      → found_in_regular innermost levels is (lean s) ≡ lean (found_in_regular whole levels is s)
+  lean_regular levels (regular span kind) s = lean_regular_kind levels kind s
 
-  lean_regular_kind : (frames : Frames) (kind : RegularKind) (s : State Frames)
-      → found_in_regular_kind innermost frames kind (lean s) ≡ lean (found_in_regular_kind whole frames kind s)
-  lean_regular_kind frames Nothing s = refl
-  lean_regular_kind frames (Item is) s = lean_walked frames None is s
-  lean_regular_kind frames (Seq all) s = lean_regulars frames all s
-  lean_regular_kind frames (Alt all) s = lean_regulars frames all s
-  lean_regular_kind frames (Repeat is post) s = lean_regular frames is s
-  lean_regular_kind frames (Capture name is) s = lean_regular frames is s
+  lean_regular_kind : (levels : ScopeLevels) (kind : RegularKind) (s : State ScopeLevels)
+      → found_in_regular_kind innermost levels kind (lean s) ≡ lean (found_in_regular_kind whole levels kind s)
+  lean_regular_kind levels Nothing s = refl
+  lean_regular_kind levels (Item is) s = lean_walked levels None is s
+  lean_regular_kind levels (Seq all) s = lean_regulars levels all s
+  lean_regular_kind levels (Alt all) s = lean_regulars levels all s
+  lean_regular_kind levels (Repeat is post) s = lean_regular levels is s
+  lean_regular_kind levels (Capture name is) s = lean_regular levels is s
 
-  lean_regulars : (frames : Frames) (all : Regulars) (s : State Frames)
-      → found_in_regulars innermost frames all (lean s) ≡ lean (found_in_regulars whole frames all s)
-  lean_regulars frames NoRegular s = refl
-  lean_regulars frames (ARegular first rest) s =
-      ap (found_in_regulars innermost frames rest) (lean_regular frames first s)
-      ∙ lean_regulars frames rest (found_in_regular whole frames first s)
+  lean_regulars : (levels : ScopeLevels) (all : Regulars) (s : State ScopeLevels)
+      → found_in_regulars innermost levels all (lean s) ≡ lean (found_in_regulars whole levels all s)
+  lean_regulars levels NoRegular s = refl
+  lean_regulars levels (ARegular first rest) s =
+      ap (found_in_regulars innermost levels rest) (lean_regular levels first s)
+      ∙ lean_regulars levels rest (found_in_regular whole levels first s)
 
-pub lean_list : (outer : Frames) (declarations : Declarations) (s : State Frames)
+pub lean_list : (outer : ScopeLevels) (declarations : Declarations) (s : State ScopeLevels)
     → found_in_list innermost outer declarations (lean s) ≡ lean (found_in_list whole outer declarations s)
 lean_list outer declarations s =
     ap (λ n. found_in_declared innermost (record { declarations = declarations; list = n } ∷ outer) n [] declarations

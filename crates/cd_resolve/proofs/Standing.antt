@@ -12,7 +12,7 @@ use Rattle.cd_model.proofs.NamesAlike.{IsOfType, all_seen}
 use Rattle.cd_resolve.specs.Inner.Names.{node_of}
 use Rattle.cd_resolve.specs.Inner.Equation.{Equations}
 use Rattle.cd_resolve.specs.Inner.Equates.{Equates, AllEquated}
-use Rattle.cd_resolve.specs.Inner.Frames.{Frames, scope_of}
+use Rattle.cd_resolve.specs.Inner.ScopeLevels.{ScopeLevels, scope_of}
 use Rattle.cd_resolve.specs.Inner.Solves.{Solves}
 use Rattle.cd_resolve.proofs.BuiltInNodes.{Begins}
 use Rattle.cd_resolve.proofs.FormsOfNodes.{forms}
@@ -20,11 +20,11 @@ use Rattle.cd_resolve.proofs.KnownNames.{IsGiven}
 use Rattle.cd_resolve.proofs.NodesOfTypes.{of_tree, Stands, placed}
 use Rattle.cd_model.proofs.Resolved.{stands_by_forms}
 
-module _ (first : ℕ) (names : List (Name × NodeId)) (equations : Equations) (base : Scope) (frames : Frames)
-    (is : Tree) (root : NodeId) (around : AllEquated first equations names frames)
-    (equates : Equates first equations names frames is root) where
+module _ (first : ℕ) (names : List (Name × NodeId)) (equations : Equations) (base : Scope) (levels : ScopeLevels)
+    (is : Tree) (root : NodeId) (around : AllEquated first equations names levels)
+    (equates : Equates first equations names levels is root) where
   abbrev pub type : Written
-  type = record { scope = scope_of base frames; tree = is }
+  type = record { scope = scope_of base levels; tree = is }
 
   -- where each name is given a node, or is not declared outside of the lists
   pub stands : NamesAreGuarded type → (graph : Graph) → Begins graph → root.0 < length graph
@@ -35,10 +35,10 @@ module _ (first : ℕ) (names : List (Name × NodeId)) (equations : Equations) (
       (Stands first equations names base (IsOfType type)) (number_of_names type)
       (forms graph first equations names base (IsOfType type) (λ is seen. seen.0) (names_seen type.scope type.tree)
       (λ is seen. seen.1) (number_of_names type) (omega arith) solves begins given)
-      root type refl (placed frames (kind_of is) root
+      root type refl (placed levels (kind_of is) root
       (record {
         around = around;
-        equates = of_tree first equations names frames is root equates;
+        equates = of_tree first equations names levels is root equates;
         covered = (all_seen type guarded).covered;
       }))
       is_node begins

@@ -17,11 +17,11 @@ use Rattle.cd_regex.specs.Regular.{Regular}
 use Rattle.cd_regex.specs.Automaton.{sequence_formulas}
 use Rattle.cd_resolve.specs.Inner.Names.{AreBelow}
 use Rattle.cd_resolve.specs.Inner.Equation.{Equations, Is}
-use Rattle.cd_resolve.specs.Inner.Frames.{Frames, scope_of, number_in}
+use Rattle.cd_resolve.specs.Inner.ScopeLevels.{ScopeLevels, scope_of, number_in}
 use Rattle.cd_resolve.specs.Inner.Leaves.{Pairs, Arrows, sorted, atom}
 use Rattle.cd_resolve.specs.Inner.Members.{Sign, union_of, meet_of}
 use Rattle.cd_resolve.specs.Inner.Equates.{AllEquated}
-use Rattle.cd_resolve.specs.Inner.Walk.{entered, settled, united, met, one_more, frame_after, walked, walked_kind}
+use Rattle.cd_resolve.specs.Inner.Walk.{entered, settled, united, met, one_more, level_after, walked, walked_kind}
 use Rattle.cd_resolve.specs.Inner.Walk.{walked_trees, walked_signs, walked_fields, walked_regular, walked_regular_kind}
 use Rattle.cd_resolve.specs.Inner.Walk.{walked_regulars, walked_declared, walked_list}
 use Rattle.cd_resolve.proofs.Origins.{HasOrigin}
@@ -41,270 +41,270 @@ module _ (first : ℕ) (names : List (Name × NodeId)) (base : Scope) (Fact : De
   HaveOrigins s = (n : ℕ) → n < length s → HasOrigin first final names base Fact n
 
   -- the lists round the trees of a list are equated, and the list itself
-  inside_equated : (frames : Frames) (declarations : Declarations) (s : Equations) → AreBefore first s frames
-      → Grows (walked_list first names frames declarations s) final → AllEquated first final names frames
-      → AllEquated first final names (frame_after first declarations s ∷ frames)
-  inside_equated frames declarations s before grows all =
-      (list_equates first names enough named frames declarations s final before grows, all)
+  inside_equated : (levels : ScopeLevels) (declarations : Declarations) (s : Equations) → AreBefore first s levels
+      → Grows (walked_list first names levels declarations s) final → AllEquated first final names levels
+      → AllEquated first final names (level_after first declarations s ∷ levels)
+  inside_equated levels declarations s before grows all =
+      (list_equates first names enough named levels declarations s final before grows, all)
 
   mutual
     -- a tree, and what trees are made of
-    tree_have : (frames : Frames) (is : Tree) (s : Equations) → AreBefore first s frames
-        → Grows (walked first names frames is s).1 final → AllEquated first final names frames
-        → Covered Fact (scope_of base frames) (kind_of is) → HaveOrigins s
-        → HaveOrigins (walked first names frames is s).1
-    tree_have frames (tree span kind) s before grows all covered have =
-        kind_have frames kind s before grows all covered have
+    tree_have : (levels : ScopeLevels) (is : Tree) (s : Equations) → AreBefore first s levels
+        → Grows (walked first names levels is s).1 final → AllEquated first final names levels
+        → Covered Fact (scope_of base levels) (kind_of is) → HaveOrigins s
+        → HaveOrigins (walked first names levels is s).1
+    tree_have levels (tree span kind) s before grows all covered have =
+        kind_have levels kind s before grows all covered have
 
-    kind_have : (frames : Frames) (kind : Kind) (s : Equations) → AreBefore first s frames
-        → Grows (walked_kind first names frames kind s).1 final → AllEquated first final names frames
-        → Covered Fact (scope_of base frames) kind → HaveOrigins s
-        → HaveOrigins (walked_kind first names frames kind s).1
-    kind_have frames (type.Builtin name) s before grows all covered have = have
-    kind_have frames (type.Ints low high) s before grows all covered have =
+    kind_have : (levels : ScopeLevels) (kind : Kind) (s : Equations) → AreBefore first s levels
+        → Grows (walked_kind first names levels kind s).1 final → AllEquated first final names levels
+        → Covered Fact (scope_of base levels) kind → HaveOrigins s
+        → HaveOrigins (walked_kind first names levels kind s).1
+    kind_have levels (type.Builtin name) s before grows all covered have = have
+    kind_have levels (type.Ints low high) s before grows all covered have =
         leaf_have first names base Fact final _ s grows have
-    kind_have frames (type.Chars low high) s before grows all covered have =
+    kind_have levels (type.Chars low high) s before grows all covered have =
         leaf_have first names base Fact final _ s grows have
-    kind_have frames (type.Atom name) s before grows all covered have =
+    kind_have levels (type.Atom name) s before grows all covered have =
         pushed_have first names base Fact final (atom name) s grows have
-    kind_have frames (type.Text text) s before grows all covered have =
+    kind_have levels (type.Text text) s before grows all covered have =
         text_have first names base Fact final text s grows have
-    kind_have frames (type.Tuple NoTree) s before grows all covered have = have
-    kind_have frames (type.Tuple (ATree one NoTree)) s before grows all covered have = have
-    kind_have frames (type.Tuple (ATree one (ATree next rest))) s before grows all covered have =
-        let trees = walked_trees first names frames (ATree one (ATree next rest)) [] s in
+    kind_have levels (type.Tuple NoTree) s before grows all covered have = have
+    kind_have levels (type.Tuple (ATree one NoTree)) s before grows all covered have = have
+    kind_have levels (type.Tuple (ATree one (ATree next rest))) s before grows all covered have =
+        let trees = walked_trees first names levels (ATree one (ATree next rest)) [] s in
         let on = grows_then trees.1 _ final
         (appends_grows trees.1 _ (chained_appends first Pairs trees.0 trees.1)) grows in
         chained_have first names base Fact final Pairs trees.0 trees.1 grows
-        (trees_have frames (ATree one (ATree next rest)) [] s before on all covered.within covered.over have)
-    kind_have frames (type.Arrows NoTree) s before grows all covered have = have
-    kind_have frames (type.Arrows (ATree one NoTree)) s before grows all covered have = have
-    kind_have frames (type.Arrows (ATree one (ATree next rest))) s before grows all covered have =
-        let trees = walked_trees first names frames (ATree one (ATree next rest)) [] s in
+        (trees_have levels (ATree one (ATree next rest)) [] s before on all covered.within covered.over have)
+    kind_have levels (type.Arrows NoTree) s before grows all covered have = have
+    kind_have levels (type.Arrows (ATree one NoTree)) s before grows all covered have = have
+    kind_have levels (type.Arrows (ATree one (ATree next rest))) s before grows all covered have =
+        let trees = walked_trees first names levels (ATree one (ATree next rest)) [] s in
         let on = grows_then trees.1 _ final
         (appends_grows trees.1 _ (chained_appends first Arrows trees.0 trees.1)) grows in
         chained_have first names base Fact final Arrows trees.0 trees.1 grows
-        (trees_have frames (ATree one (ATree next rest)) [] s before on all covered.within covered.over have)
-    kind_have frames (type.Union trees) s before grows all covered have =
-        let read = walked_trees first names frames trees [] s in
+        (trees_have levels (ATree one (ATree next rest)) [] s before on all covered.within covered.over have)
+    kind_have levels (type.Union trees) s before grows all covered have =
+        let read = walked_trees first names levels trees [] s in
         let on = grows_then read.1 _ final
         (appends_grows read.1 _ (united_appends first (union_of read.0) read.1)) grows in
         united_have first names base Fact final (union_of read.0) read.1
-        (connective_has first names base Fact final frames (type.Union trees)
+        (connective_has first names base Fact final levels (type.Union trees)
         (united first (union_of read.0) read.1).0 all
-        (kind_equates first names enough named frames (type.Union trees) s final before grows) covered)
-        (trees_have frames trees [] s before on all covered.within covered.over have)
-    kind_have frames (type.Meet one signs) s before grows all covered have =
-        let scope = scope_of base frames in
-        let kept = walked first names frames one s in
-        let read = walked_signs first names frames signs ((true, kept.0) ∷ []) kept.1 in
+        (kind_equates first names enough named levels (type.Union trees) s final before grows) covered)
+        (trees_have levels trees [] s before on all covered.within covered.over have)
+    kind_have levels (type.Meet one signs) s before grows all covered have =
+        let scope = scope_of base levels in
+        let kept = walked first names levels one s in
+        let read = walked_signs first names levels signs ((true, kept.0) ∷ []) kept.1 in
         let later = grows_then read.1 _ final
         (appends_grows read.1 _ (met_appends first (meet_of read.0) read.1)) grows in
         let on = grows_then kept.1 read.1 final
-        (appends_grows kept.1 read.1 (signs_append first names frames signs ((true, kept.0) ∷ []) kept.1)) later in
-        let longer = appends_longer s kept.1 (walked_appends first names frames one s) in
+        (appends_grows kept.1 read.1 (signs_append first names levels signs ((true, kept.0) ∷ []) kept.1)) later in
+        let longer = appends_longer s kept.1 (walked_appends first names levels one s) in
         let parts = each_parts Fact (names_in scope one) (names_in_signs scope signs) covered.within in
         met_have first names base Fact final (meet_of read.0) read.1
-        (connective_has first names base Fact final frames (type.Meet one signs)
+        (connective_has first names base Fact final levels (type.Meet one signs)
         (met first (meet_of read.0) read.1).0 all
-        (kind_equates first names enough named frames (type.Meet one signs) s final before grows) covered)
-        (signs_have frames signs ((true, kept.0) ∷ []) kept.1
-        (before_later first s kept.1 frames longer before) later all
+        (kind_equates first names enough named levels (type.Meet one signs) s final before grows) covered)
+        (signs_have levels signs ((true, kept.0) ∷ []) kept.1
+        (before_later first s kept.1 levels longer before) later all
         parts.1 covered.over
-        (tree_have frames one s before on all (covered_tree Fact scope one parts.0 covered.over) have))
-    kind_have frames (type.Sequence is) s before grows all covered have =
-        let one = walked_regular first names frames is s in
+        (tree_have levels one s before on all (covered_tree Fact scope one parts.0 covered.over) have))
+    kind_have levels (type.Sequence is) s before grows all covered have =
+        let one = walked_regular first names levels is s in
         let formulas = sequence_formulas (first + length one.1) one.0 in
         let states = map (λ (formula : Formula). Some (Is formula)) formulas in
         let on = grows_then one.1 _ final (appends_grows one.1 _ (record { more = states; are = refl })) grows in
         states_have first names base Fact final formulas one.1 grows
-        (regular_have frames is s before on all covered.within covered.over have)
-    kind_have frames (type.Record fields more) s before grows all covered have =
-        let read = walked_fields first names frames fields [] s in
+        (regular_have levels is s before on all covered.within covered.over have)
+    kind_have levels (type.Record fields more) s before grows all covered have =
+        let read = walked_fields first names levels fields [] s in
         let formula : Formula = Record (sorted read.0) (node_named (any_or_none more)) in
         let on = grows_then read.1 _ final (appends_grows read.1 _ (pushed_appends first (Is formula) read.1)) grows in
         pushed_have first names base Fact final formula read.1 grows
-        (fields_have frames fields [] s before on all covered.within covered.over have)
-    kind_have frames (type.Xml tag attributes content) s before grows all covered have =
-        let one = walked first names frames tag s in
-        let two = walked first names frames attributes one.1 in
-        let three = walked first names frames content two.1 in
+        (fields_have levels fields [] s before on all covered.within covered.over have)
+    kind_have levels (type.Xml tag attributes content) s before grows all covered have =
+        let one = walked first names levels tag s in
+        let two = walked first names levels attributes one.1 in
+        let three = walked first names levels content two.1 in
         let formula : Formula = Xml one.0 two.0 three.0 in
         let last = grows_then three.1 _ final
         (appends_grows three.1 _ (pushed_appends first (Is formula) three.1)) grows in
-        let second = walked_appends first names frames attributes one.1 in
+        let second = walked_appends first names levels attributes one.1 in
         let later = grows_then two.1 three.1 final
-        (appends_grows two.1 three.1 (walked_appends first names frames content two.1)) last in
+        (appends_grows two.1 three.1 (walked_appends first names levels content two.1)) last in
         let on = grows_then one.1 two.1 final (appends_grows one.1 two.1 second) later in
-        let longer = appends_longer s one.1 (walked_appends first names frames tag s) in
-        let after = before_later first s one.1 frames longer before in
-        let more = before_later first one.1 two.1 frames (appends_longer one.1 two.1 second) after in
-        let parts = covered_xml Fact (scope_of base frames) tag attributes content covered in
+        let longer = appends_longer s one.1 (walked_appends first names levels tag s) in
+        let after = before_later first s one.1 levels longer before in
+        let more = before_later first one.1 two.1 levels (appends_longer one.1 two.1 second) after in
+        let parts = covered_xml Fact (scope_of base levels) tag attributes content covered in
         pushed_have first names base Fact final formula three.1 grows
-        (tree_have frames content two.1 more last all parts.content_is
-        (tree_have frames attributes one.1 after later all parts.attributes_are
-        (tree_have frames tag s before on all parts.tag_is have)))
-    kind_have frames (type.Named name) s before grows all covered have = have
-    kind_have frames (type.Where is declarations) s before grows all covered have =
-        let under : Frames = frame_after first declarations s ∷ frames in
-        let scope : Scope = declarations ∷ scope_of base frames in
+        (tree_have levels content two.1 more last all parts.content_is
+        (tree_have levels attributes one.1 after later all parts.attributes_are
+        (tree_have levels tag s before on all parts.tag_is have)))
+    kind_have levels (type.Named name) s before grows all covered have = have
+    kind_have levels (type.Where is declarations) s before grows all covered have =
+        let under : ScopeLevels = level_after first declarations s ∷ levels in
+        let scope : Scope = declarations ∷ scope_of base levels in
         let one = entered declarations s in
-        let read = walked_list first names frames declarations s in
+        let read = walked_list first names levels declarations s in
         let on = grows_then read _ final (appends_grows read _ (walked_appends first names under is read)) grows in
-        let inside = inside_equated frames declarations s before on all in
+        let inside = inside_equated levels declarations s before on all in
         let long = entered_length declarations s in
-        let longer = list_longer first names frames declarations s in
+        let longer = list_longer first names levels declarations s in
         let parts = each_parts Fact (names_declared scope declarations) (names_in scope is) covered.within in
         let over = each_both Fact (names_declared scope declarations)
-        (names_over (scope_of base frames)) parts.0 covered.over in
-        tree_have under is read (before_inside first s read frames declarations longer before) grows inside
+        (names_over (scope_of base levels)) parts.0 covered.over in
+        tree_have under is read (before_inside first s read levels declarations longer before) grows inside
         (covered_tree Fact scope is parts.1 over)
         (declared_have under (length s) declarations one
-        (before_inside first s one frames declarations (omega arith) before) (entered_unread declarations s) on inside
-        parts.0 over (entered_have first names base Fact final frames declarations s inside parts.0 over have))
-    kind_have frames (type.Variable name) s before grows all covered have = have
-    kind_have frames (type.Default name constant) s before grows all covered have = have
+        (before_inside first s one levels declarations (omega arith) before) (entered_unread declarations s) on inside
+        parts.0 over (entered_have first names base Fact final levels declarations s inside parts.0 over have))
+    kind_have levels (type.Variable name) s before grows all covered have = have
+    kind_have levels (type.Default name constant) s before grows all covered have = have
 
-    trees_have : (frames : Frames) (trees : Trees) (made : List NodeId) (s : Equations) → AreBefore first s frames
-        → Grows (walked_trees first names frames trees made s).1 final → AllEquated first final names frames
-        → AllOf Fact (names_in_trees (scope_of base frames) trees) → AllOf Fact (names_over (scope_of base frames))
-        → HaveOrigins s → HaveOrigins (walked_trees first names frames trees made s).1
-    trees_have frames NoTree made s before grows all within over have = have
-    trees_have frames (ATree is rest) made s before grows all within over have =
-        let scope = scope_of base frames in
-        let one = walked first names frames is s in
+    trees_have : (levels : ScopeLevels) (trees : Trees) (made : List NodeId) (s : Equations) → AreBefore first s levels
+        → Grows (walked_trees first names levels trees made s).1 final → AllEquated first final names levels
+        → AllOf Fact (names_in_trees (scope_of base levels) trees) → AllOf Fact (names_over (scope_of base levels))
+        → HaveOrigins s → HaveOrigins (walked_trees first names levels trees made s).1
+    trees_have levels NoTree made s before grows all within over have = have
+    trees_have levels (ATree is rest) made s before grows all within over have =
+        let scope = scope_of base levels in
+        let one = walked first names levels is s in
         let on = grows_then one.1 _ final
-        (appends_grows one.1 _ (trees_append first names frames rest (one_more made one.0) one.1)) grows in
-        let longer = appends_longer s one.1 (walked_appends first names frames is s) in
+        (appends_grows one.1 _ (trees_append first names levels rest (one_more made one.0) one.1)) grows in
+        let longer = appends_longer s one.1 (walked_appends first names levels is s) in
         let parts = each_parts Fact (names_in scope is) (names_in_trees scope rest) within in
-        trees_have frames rest (one_more made one.0) one.1 (before_later first s one.1 frames longer before) grows all
-        parts.1 over (tree_have frames is s before on all (covered_tree Fact scope is parts.0 over) have)
+        trees_have levels rest (one_more made one.0) one.1 (before_later first s one.1 levels longer before) grows all
+        parts.1 over (tree_have levels is s before on all (covered_tree Fact scope is parts.0 over) have)
 
-    signs_have : (frames : Frames) (signs : Signs) (made : List Sign) (s : Equations) → AreBefore first s frames
-        → Grows (walked_signs first names frames signs made s).1 final → AllEquated first final names frames
-        → AllOf Fact (names_in_signs (scope_of base frames) signs) → AllOf Fact (names_over (scope_of base frames))
-        → HaveOrigins s → HaveOrigins (walked_signs first names frames signs made s).1
-    signs_have frames NoSign made s before grows all within over have = have
-    signs_have frames (ASign kept is rest) made s before grows all within over have =
-        let scope = scope_of base frames in
-        let one = walked first names frames is s in
+    signs_have : (levels : ScopeLevels) (signs : Signs) (made : List Sign) (s : Equations) → AreBefore first s levels
+        → Grows (walked_signs first names levels signs made s).1 final → AllEquated first final names levels
+        → AllOf Fact (names_in_signs (scope_of base levels) signs) → AllOf Fact (names_over (scope_of base levels))
+        → HaveOrigins s → HaveOrigins (walked_signs first names levels signs made s).1
+    signs_have levels NoSign made s before grows all within over have = have
+    signs_have levels (ASign kept is rest) made s before grows all within over have =
+        let scope = scope_of base levels in
+        let one = walked first names levels is s in
         let next : Sign = (kept, one.0) in
         let on = grows_then one.1 _ final
-        (appends_grows one.1 _ (signs_append first names frames rest (one_more made next) one.1)) grows in
-        let longer = appends_longer s one.1 (walked_appends first names frames is s) in
+        (appends_grows one.1 _ (signs_append first names levels rest (one_more made next) one.1)) grows in
+        let longer = appends_longer s one.1 (walked_appends first names levels is s) in
         let parts = each_parts Fact (names_in scope is) (names_in_signs scope rest) within in
-        signs_have frames rest (one_more made next) one.1 (before_later first s one.1 frames longer before) grows all
-        parts.1 over (tree_have frames is s before on all (covered_tree Fact scope is parts.0 over) have)
+        signs_have levels rest (one_more made next) one.1 (before_later first s one.1 levels longer before) grows all
+        parts.1 over (tree_have levels is s before on all (covered_tree Fact scope is parts.0 over) have)
 
-    fields_have : (frames : Frames) (fields : Fields) (made : List (Name × Field)) (s : Equations)
-        → AreBefore first s frames
-        → Grows (walked_fields first names frames fields made s).1 final → AllEquated first final names frames
-        → AllOf Fact (names_in_fields (scope_of base frames) fields) → AllOf Fact (names_over (scope_of base frames))
-        → HaveOrigins s → HaveOrigins (walked_fields first names frames fields made s).1
-    fields_have frames NoField made s before grows all within over have = have
-    fields_have frames (AField label at optional is rest) made s before grows all within over have =
-        let scope = scope_of base frames in
-        let one = walked first names frames is s in
+    fields_have : (levels : ScopeLevels) (fields : Fields) (made : List (Name × Field)) (s : Equations)
+        → AreBefore first s levels
+        → Grows (walked_fields first names levels fields made s).1 final → AllEquated first final names levels
+        → AllOf Fact (names_in_fields (scope_of base levels) fields) → AllOf Fact (names_over (scope_of base levels))
+        → HaveOrigins s → HaveOrigins (walked_fields first names levels fields made s).1
+    fields_have levels NoField made s before grows all within over have = have
+    fields_have levels (AField label at optional is rest) made s before grows all within over have =
+        let scope = scope_of base levels in
+        let one = walked first names levels is s in
         let next : Name × Field = (label, record { optional = optional; type = one.0 }) in
         let on = grows_then one.1 _ final
-        (appends_grows one.1 _ (fields_append first names frames rest (one_more made next) one.1)) grows in
-        let longer = appends_longer s one.1 (walked_appends first names frames is s) in
+        (appends_grows one.1 _ (fields_append first names levels rest (one_more made next) one.1)) grows in
+        let longer = appends_longer s one.1 (walked_appends first names levels is s) in
         let parts = each_parts Fact (names_in scope is) (names_in_fields scope rest) within in
-        fields_have frames rest (one_more made next) one.1 (before_later first s one.1 frames longer before) grows all
-        parts.1 over (tree_have frames is s before on all (covered_tree Fact scope is parts.0 over) have)
+        fields_have levels rest (one_more made next) one.1 (before_later first s one.1 levels longer before) grows all
+        parts.1 over (tree_have levels is s before on all (covered_tree Fact scope is parts.0 over) have)
 
-    regular_have : (frames : Frames) (is : type.Regular) (s : Equations) → AreBefore first s frames
-        → Grows (walked_regular first names frames is s).1 final → AllEquated first final names frames
-        → AllOf Fact (names_in_regular (scope_of base frames) is) → AllOf Fact (names_over (scope_of base frames))
-        → HaveOrigins s → HaveOrigins (walked_regular first names frames is s).1
-    regular_have frames (type.regular span kind) s before grows all within over have =
-        regular_kind_have frames kind s before grows all within over have
+    regular_have : (levels : ScopeLevels) (is : type.Regular) (s : Equations) → AreBefore first s levels
+        → Grows (walked_regular first names levels is s).1 final → AllEquated first final names levels
+        → AllOf Fact (names_in_regular (scope_of base levels) is) → AllOf Fact (names_over (scope_of base levels))
+        → HaveOrigins s → HaveOrigins (walked_regular first names levels is s).1
+    regular_have levels (type.regular span kind) s before grows all within over have =
+        regular_kind_have levels kind s before grows all within over have
 
-    regular_kind_have : (frames : Frames) (kind : type.RegularKind) (s : Equations) → AreBefore first s frames
-        → Grows (walked_regular_kind first names frames kind s).1 final → AllEquated first final names frames
-        → AllOf Fact (names_in_regular_kind (scope_of base frames) kind)
-        → AllOf Fact (names_over (scope_of base frames))
-        → HaveOrigins s → HaveOrigins (walked_regular_kind first names frames kind s).1
-    regular_kind_have frames type.Nothing s before grows all within over have = have
-    regular_kind_have frames (type.Item is) s before grows all within over have =
-        tree_have frames is s before grows all (covered_tree Fact (scope_of base frames) is within over) have
-    regular_kind_have frames (type.Seq regulars) s before grows all within over have =
-        regulars_have frames regulars [] s before grows all within over have
-    regular_kind_have frames (type.Alt regulars) s before grows all within over have =
-        regulars_have frames regulars [] s before grows all within over have
-    regular_kind_have frames (type.Repeat is post) s before grows all within over have =
-        regular_have frames is s before grows all within over have
-    regular_kind_have frames (type.Capture name is) s before grows all within over have = have
+    regular_kind_have : (levels : ScopeLevels) (kind : type.RegularKind) (s : Equations) → AreBefore first s levels
+        → Grows (walked_regular_kind first names levels kind s).1 final → AllEquated first final names levels
+        → AllOf Fact (names_in_regular_kind (scope_of base levels) kind)
+        → AllOf Fact (names_over (scope_of base levels))
+        → HaveOrigins s → HaveOrigins (walked_regular_kind first names levels kind s).1
+    regular_kind_have levels type.Nothing s before grows all within over have = have
+    regular_kind_have levels (type.Item is) s before grows all within over have =
+        tree_have levels is s before grows all (covered_tree Fact (scope_of base levels) is within over) have
+    regular_kind_have levels (type.Seq regulars) s before grows all within over have =
+        regulars_have levels regulars [] s before grows all within over have
+    regular_kind_have levels (type.Alt regulars) s before grows all within over have =
+        regulars_have levels regulars [] s before grows all within over have
+    regular_kind_have levels (type.Repeat is post) s before grows all within over have =
+        regular_have levels is s before grows all within over have
+    regular_kind_have levels (type.Capture name is) s before grows all within over have = have
 
-    regulars_have : (frames : Frames) (regulars : type.Regulars) (made : List Regular) (s : Equations)
-        → AreBefore first s frames
-        → Grows (walked_regulars first names frames regulars made s).1 final → AllEquated first final names frames
-        → AllOf Fact (names_in_regulars (scope_of base frames) regulars)
-        → AllOf Fact (names_over (scope_of base frames))
-        → HaveOrigins s → HaveOrigins (walked_regulars first names frames regulars made s).1
-    regulars_have frames type.NoRegular made s before grows all within over have = have
-    regulars_have frames (type.ARegular is rest) made s before grows all within over have =
-        let scope = scope_of base frames in
-        let one = walked_regular first names frames is s in
+    regulars_have : (levels : ScopeLevels) (regulars : type.Regulars) (made : List Regular) (s : Equations)
+        → AreBefore first s levels
+        → Grows (walked_regulars first names levels regulars made s).1 final → AllEquated first final names levels
+        → AllOf Fact (names_in_regulars (scope_of base levels) regulars)
+        → AllOf Fact (names_over (scope_of base levels))
+        → HaveOrigins s → HaveOrigins (walked_regulars first names levels regulars made s).1
+    regulars_have levels type.NoRegular made s before grows all within over have = have
+    regulars_have levels (type.ARegular is rest) made s before grows all within over have =
+        let scope = scope_of base levels in
+        let one = walked_regular first names levels is s in
         let on = grows_then one.1 _ final
-        (appends_grows one.1 _ (regulars_append first names frames rest (one_more made one.0) one.1)) grows in
-        let longer = appends_longer s one.1 (regular_appends first names frames is s) in
+        (appends_grows one.1 _ (regulars_append first names levels rest (one_more made one.0) one.1)) grows in
+        let longer = appends_longer s one.1 (regular_appends first names levels is s) in
         let parts = each_parts Fact (names_in_regular scope is) (names_in_regulars scope rest) within in
-        regulars_have frames rest (one_more made one.0) one.1
-        (before_later first s one.1 frames longer before) grows all
-        parts.1 over (regular_have frames is s before on all parts.0 over have)
+        regulars_have levels rest (one_more made one.0) one.1
+        (before_later first s one.1 levels longer before) grows all
+        parts.1 over (regular_have levels is s before on all parts.0 over have)
 
     -- the trees of a list of declarations, whose names have origins already
-    declared_have : (frames : Frames) (number : ℕ) (declarations : Declarations) (s : Equations)
-        → AreBefore first s frames → AreUnread s number (number_in declarations)
-        → Grows (walked_declared first names frames number declarations s) final → AllEquated first final names frames
-        → AllOf Fact (names_declared (scope_of base frames) declarations)
-        → AllOf Fact (names_over (scope_of base frames))
-        → HaveOrigins s → HaveOrigins (walked_declared first names frames number declarations s)
-    declared_have frames number NoDeclaration s before are grows all within over have = have
-    declared_have frames number (ADeclaration name at is rest) s before are grows all within over have =
-        let scope = scope_of base frames in
-        let one = walked first names frames is s in
-        let appends = walked_appends first names frames is s in
+    declared_have : (levels : ScopeLevels) (number : ℕ) (declarations : Declarations) (s : Equations)
+        → AreBefore first s levels → AreUnread s number (number_in declarations)
+        → Grows (walked_declared first names levels number declarations s) final → AllEquated first final names levels
+        → AllOf Fact (names_declared (scope_of base levels) declarations)
+        → AllOf Fact (names_over (scope_of base levels))
+        → HaveOrigins s → HaveOrigins (walked_declared first names levels number declarations s)
+    declared_have levels number NoDeclaration s before are grows all within over have = have
+    declared_have levels number (ADeclaration name at is rest) s before are grows all within over have =
+        let scope = scope_of base levels in
+        let one = walked first names levels is s in
+        let appends = walked_appends first names levels is s in
         let longer = appends_longer s one.1 appends in
         let unread = unread_later s one.1 number (number_in rest + 1) appends are in
         let after = settled number one in
         let long = settled_length number one in
         let still = settled_unread number (number_in rest) one unread in
-        let later = grows_then after _ final (declared_grows first names frames (number + 1) rest after still) grows in
+        let later = grows_then after _ final (declared_grows first names levels (number + 1) rest after still) grows in
         let on = grows_then one.1 after final
         (settled_grows number one (unread.none number (omega arith) (omega arith))) later in
         let parts = each_parts Fact (names_in scope is) (names_declared scope rest) within.1 in
-        let made = tree_have frames is s before on all (covered_tree Fact scope is parts.0 over) have in
-        declared_have frames (number + 1) rest after
-        (before_later first s after frames (omega arith) before) still grows all
+        let made = tree_have levels is s before on all (covered_tree Fact scope is parts.0 over) have in
+        declared_have levels (number + 1) rest after
+        (before_later first s after levels (omega arith) before) still grows all
         parts.1 over (λ n within. made n (omega arith))
 
 module _ (first : ℕ) (names : List (Name × NodeId)) (enough : 14 ≤ first) (named : AreBelow first names)
     (base : Scope) (Fact : Declared → Type 0) where
   -- the walk over trees
-  pub trees_origins : (frames : Frames) (trees : Trees) (s final : Equations) → AreBefore first s frames
-      → Grows (walked_trees first names frames trees [] s).1 final → AllEquated first final names frames
-      → AllOf Fact (names_in_trees (scope_of base frames) trees) → AllOf Fact (names_over (scope_of base frames))
+  pub trees_origins : (levels : ScopeLevels) (trees : Trees) (s final : Equations) → AreBefore first s levels
+      → Grows (walked_trees first names levels trees [] s).1 final → AllEquated first final names levels
+      → AllOf Fact (names_in_trees (scope_of base levels) trees) → AllOf Fact (names_over (scope_of base levels))
       → ((n : ℕ) → n < length s → HasOrigin first final names base Fact n)
-      → (n : ℕ) → n < length (walked_trees first names frames trees [] s).1 → HasOrigin first final names base Fact n
-  trees_origins frames trees s final before grows all within over have =
-      trees_have first names base Fact final enough named frames trees [] s before grows all within over have
+      → (n : ℕ) → n < length (walked_trees first names levels trees [] s).1 → HasOrigin first final names base Fact n
+  trees_origins levels trees s final before grows all within over have =
+      trees_have first names base Fact final enough named levels trees [] s before grows all within over have
 
   -- and that over a list of declarations
-  pub list_origins : (frames : Frames) (declarations : Declarations) (s final : Equations) → AreBefore first s frames
-      → Grows (walked_list first names frames declarations s) final → AllEquated first final names frames
-      → AllOf Fact (names_declared (declarations ∷ scope_of base frames) declarations)
-      → AllOf Fact (names_over (scope_of base frames))
+  pub list_origins : (levels : ScopeLevels) (declarations : Declarations) (s final : Equations) → AreBefore first s levels
+      → Grows (walked_list first names levels declarations s) final → AllEquated first final names levels
+      → AllOf Fact (names_declared (declarations ∷ scope_of base levels) declarations)
+      → AllOf Fact (names_over (scope_of base levels))
       → ((n : ℕ) → n < length s → HasOrigin first final names base Fact n)
-      → (n : ℕ) → n < length (walked_list first names frames declarations s) → HasOrigin first final names base Fact n
-  list_origins frames declarations s final before grows all within over have =
-      let under : Frames = frame_after first declarations s ∷ frames in
-      let scope : Scope = declarations ∷ scope_of base frames in
+      → (n : ℕ) → n < length (walked_list first names levels declarations s) → HasOrigin first final names base Fact n
+  list_origins levels declarations s final before grows all within over have =
+      let under : ScopeLevels = level_after first declarations s ∷ levels in
+      let scope : Scope = declarations ∷ scope_of base levels in
       let one = entered declarations s in
       let long = entered_length declarations s in
-      let inside = inside_equated first names base Fact final enough named frames declarations s before grows all in
-      let outer = each_both Fact (names_declared scope declarations) (names_over (scope_of base frames)) within over in
+      let inside = inside_equated first names base Fact final enough named levels declarations s before grows all in
+      let outer = each_both Fact (names_declared scope declarations) (names_over (scope_of base levels)) within over in
       declared_have first names base Fact final enough named under (length s) declarations one
-      (before_inside first s one frames declarations (omega arith) before) (entered_unread declarations s) grows inside
-      within outer (entered_have first names base Fact final frames declarations s inside within outer have)
+      (before_inside first s one levels declarations (omega arith) before) (entered_unread declarations s) grows inside
+      within outer (entered_have first names base Fact final levels declarations s inside within outer have)

@@ -11,32 +11,32 @@ use Rattle.cd_syntax.specs.TypeTree.{Tree, Declarations, NoDeclaration, ADeclara
 use Rattle.cd_model.specs.Scope.{Scope, Declared, declared_as, tree_in}
 use Rattle.cd_resolve.specs.Faults.{IsFirst}
 use Rattle.cd_resolve.specs.Faults as fault
-use Rattle.cd_resolve.specs.Inner.Finding.{Frames, innermost, Id, Place, State, place_in, place_of}
+use Rattle.cd_resolve.specs.Inner.Finding.{ScopeLevels, innermost, Id, DeclaredAt, State, place_in, declared_under}
 use Rattle.cd_resolve.proofs.FoundGrows.{Grows}
 
-abbrev pub scope_of : Frames → Scope
-scope_of frames = map (λ frame. frame.declarations) frames
+abbrev pub scope_of : ScopeLevels → Scope
+scope_of levels = map (λ level. level.declarations) levels
 
 -- each list of these stands at its number, with those round it
-abbrev pub Fits : List Frames → Frames → Type 0
+abbrev pub Fits : List ScopeLevels → ScopeLevels → Type 0
 Fits lists [] = Unit {0}
-Fits lists (frame ∷ outer) = (nth lists frame.list ≡ Some (frame ∷ outer)) × Fits lists outer
+Fits lists (level ∷ outer) = (nth lists level.list ≡ Some (level ∷ outer)) × Fits lists outer
 
-pub fits_on : (s t : State Frames) (frames : Frames) → Grows s t → Fits s.lists frames → Fits t.lists frames
+pub fits_on : (s t : State ScopeLevels) (levels : ScopeLevels) → Grows s t → Fits s.lists levels → Fits t.lists levels
 fits_on s t [] grows fits = tt
-fits_on s t (frame ∷ outer) grows fits = (grows.lists frame.list (frame ∷ outer) fits.0, fits_on s t outer grows fits.1)
+fits_on s t (level ∷ outer) grows fits = (grows.lists level.list (level ∷ outer) fits.0, fits_on s t outer grows fits.1)
 
 -- a declared name stands for the first of its name in the list of its number
-pub record IsNode (lists : List Frames) (id : Id) (at : ℕ) (is : Tree) (frames : Frames) : Type 0 where
-  pub listed : nth lists id.list ≡ Some frames
-  pub first : IsFirst id.name at is (innermost frames)
+pub record IsNode (lists : List ScopeLevels) (id : Id) (at : ℕ) (is : Tree) (levels : ScopeLevels) : Type 0 where
+  pub listed : nth lists id.list ≡ Some levels
+  pub first : IsFirst id.name at is (innermost levels)
 
-abbrev pub declared_at : Name → Frames → Tree → Declared
-declared_at name frames is = record { name = name; scope = scope_of frames; tree = is }
+abbrev pub declared_at : Name → ScopeLevels → Tree → Declared
+declared_at name levels is = record { name = name; scope = scope_of levels; tree = is }
 
-pub node_on : (s t : State Frames) (id : Id) (at : ℕ) (is : Tree) (frames : Frames) → Grows s t
-    → IsNode s.lists id at is frames → IsNode t.lists id at is frames
-node_on s t id at is frames grows node = record { listed = grows.lists id.list frames node.listed; first = node.first }
+pub node_on : (s t : State ScopeLevels) (id : Id) (at : ℕ) (is : Tree) (levels : ScopeLevels) → Grows s t
+    → IsNode s.lists id at is levels → IsNode t.lists id at is levels
+node_on s t id at is levels grows node = record { listed = grows.lists id.list levels node.listed; first = node.first }
 
 -- the first of a name in a list is where it is looked up
 not_equal : (name other : Name) → name ≢ other → bytes_eq other name ≡ false
@@ -95,26 +95,26 @@ place_nothing (ADeclaration other there another rest) name none = by (cases_Bool
     by (inr differ) on = rw differ (on (rw differ at none))
 
 -- so what a name is declared as is what the walk finds of it
-pub record IsFound (lists : List Frames) (frames : Frames) (name : Name) (place : Place) : Type 0 where
-  pub frames_there : Frames
+pub record IsFound (lists : List ScopeLevels) (levels : ScopeLevels) (name : Name) (place : DeclaredAt) : Type 0 where
+  pub levels_there : ScopeLevels
   pub is : Tree
-  pub node : IsNode lists (record { list = place.list; name = name }) place.at is frames_there
-  pub declared : declared_as (scope_of frames) name ≡ Some (declared_at name frames_there is)
+  pub node : IsNode lists (record { list = place.list; name = name }) place.at is levels_there
+  pub declared : declared_as (scope_of levels) name ≡ Some (declared_at name levels_there is)
 
-pub place_found : (lists : List Frames) (frames : Frames) (name : Name) (place : Place) → Fits lists frames
-    → place_of frames name ≡ Some place → IsFound lists frames name place
-place_found lists [] name place fits is = absurd cc
-place_found lists (frame ∷ outer) name place fits is = by (place_in frame.declarations name) refl
-    (place_found lists outer name place fits.1)
+pub declared_at_found : (lists : List ScopeLevels) (levels : ScopeLevels) (name : Name) (place : DeclaredAt) → Fits lists levels
+    → declared_under levels name ≡ Some place → IsFound lists levels name place
+declared_at_found lists [] name place fits is = absurd cc
+declared_at_found lists (level ∷ outer) name place fits is = by (place_in level.declarations name) refl
+    (declared_at_found lists outer name place fits.1)
   where
-    by : (at : Option ℕ) → place_in frame.declarations name ≡ at
-        → (place_of outer name ≡ Some place → IsFound lists outer name place) → IsFound lists (frame ∷ outer) name place
+    by : (at : Option ℕ) → place_in level.declarations name ≡ at
+        → (declared_under outer name ≡ Some place → IsFound lists outer name place) → IsFound lists (level ∷ outer) name place
     by (Some at) here on =
         let place_is = same_Some _ _ (rw here at is) in
-        let first = place_first frame.declarations name at here in
-        let tree_is = first_tree name at first.0 frame.declarations first.1 in
+        let first = place_first level.declarations name at here in
+        let tree_is = first_tree name at first.0 level.declarations first.1 in
         rw (sym place_is) (record {
-          frames_there = frame ∷ outer;
+          levels_there = level ∷ outer;
           is = first.0;
           node = record { listed = fits.0; first = first.1 };
           declared = rw tree_is refl;
@@ -122,19 +122,19 @@ place_found lists (frame ∷ outer) name place fits is = by (place_in frame.decl
     by None here on =
         let found = on (rw here at is) in
         record {
-          frames_there = found.frames_there;
+          levels_there = found.levels_there;
           is = found.is;
           node = found.node;
-          declared = rw (place_nothing frame.declarations name here) found.declared;
+          declared = rw (place_nothing level.declarations name here) found.declared;
         }
 
-pub place_none : (frames : Frames) (name : Name) → place_of frames name ≡ None
-    → declared_as (scope_of frames) name ≡ None
-place_none [] name none = refl
-place_none (frame ∷ outer) name none = by (place_in frame.declarations name) refl (place_none outer name)
+pub declared_at_none : (levels : ScopeLevels) (name : Name) → declared_under levels name ≡ None
+    → declared_as (scope_of levels) name ≡ None
+declared_at_none [] name none = refl
+declared_at_none (level ∷ outer) name none = by (place_in level.declarations name) refl (declared_at_none outer name)
   where
-    by : (at : Option ℕ) → place_in frame.declarations name ≡ at
-        → (place_of outer name ≡ None → declared_as (scope_of outer) name ≡ None)
-        → declared_as (scope_of (frame ∷ outer)) name ≡ None
+    by : (at : Option ℕ) → place_in level.declarations name ≡ at
+        → (declared_under outer name ≡ None → declared_as (scope_of outer) name ≡ None)
+        → declared_as (scope_of (level ∷ outer)) name ≡ None
     by (Some at) here on = let some = rw here at none in absurd cc
-    by None here on = rw (place_nothing frame.declarations name here) (on (rw here at none))
+    by None here on = rw (place_nothing level.declarations name here) (on (rw here at none))

@@ -8,7 +8,7 @@ pub mod PlainFound
 pub mod Ranks
 pub mod Check
 pub mod Names
-pub mod Frames
+pub mod ScopeLevels
 pub mod Leaves
 pub mod Members
 pub mod Repeated

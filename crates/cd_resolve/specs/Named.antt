@@ -21,13 +21,13 @@ pub record Names : Type 0 where
 -- those of the code
 abbrev pub plain_names : CodeNames → Names
 plain_names names = record {
-  declarations = plain_declarations names.frame.declarations.now;
-  first = names.frame.first;
+  declarations = plain_declarations names.level.declarations.now;
+  first = names.level.first;
 }
 
 -- what they declare
 abbrev pub declared_by : CodeNames → Declarations
-declared_by names = plain_declarations names.frame.declarations.now
+declared_by names = plain_declarations names.level.declarations.now
 
 -- the place of a name in a list, of the first that is this one
 abbrev pub index_in : Declarations → Name → Option ℕ

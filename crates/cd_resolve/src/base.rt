@@ -1,5 +1,5 @@
 //! What a walk goes by.
-use crate::frame::Frame;
+use crate::scope_level::ScopeLevel;
 use std::alloc::Global;
 
 /// What a walk goes by and never changes: the number of the node of the first equation, and the
@@ -8,5 +8,5 @@ use std::alloc::Global;
 pub(crate) struct Base<'t, 'n> {
     pub(crate) alloc: Global,
     pub(crate) first: usize,
-    pub(crate) outer: Option<&'n Frame<'t>>,
+    pub(crate) outer: Option<&'n ScopeLevel<'t>>,
 }

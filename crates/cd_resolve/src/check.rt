@@ -8,9 +8,9 @@ ghost use Rattle.cd_resolve.specs.Faults.{Fault, IsFaultOfType, IsFaultOfDeclara
 ghost use Rattle.cd_resolve.specs.Named.{declared_by};
 
 use crate::error::NameError;
-use crate::frame::Frame;
 use crate::names::Names;
 use crate::read::{read_declarations, read_type};
+use crate::scope_level::ScopeLevel;
 use cd_syntax::type_tree::{Declarations, Tree};
 use std::alloc::{AllocError, Global};
 
@@ -22,8 +22,8 @@ use std::alloc::{AllocError, Global};
 pub fn names_of<'t>(alloc: Global, declared: &'t Declarations) -> Result<Names<'t>, AllocError>
     ensures { IfOk result (λ names. declared_by names ≡ plain_declarations declared.now) }
 {
-    let frame = Frame::of(alloc, declared, 0, 0)?;
-    Ok(Names { frame })
+    let level = ScopeLevel::of(alloc, declared, 0, 0)?;
+    Ok(Names { level })
 }
 
 /// Looks for naming faults in type declarations, which see one another and no others.

@@ -8,16 +8,16 @@ ghost use Rattle.cd_resolve.specs.Inner.Equation.{plain_equations};
 ghost use Rattle.cd_resolve.specs.Inner.Finding.{innermost, found_in_kind, found_in_declared};
 ghost use Rattle.cd_resolve.specs.Inner.Finding.{found_in_list, entered as entered_list};
 ghost use Rattle.cd_resolve.specs.Inner.PlainBase.{names_outside, lists_seen, lists_outside};
-ghost use Rattle.cd_resolve.specs.Inner.PlainFound.{list_frame, list_frames, list_after};
+ghost use Rattle.cd_resolve.specs.Inner.PlainFound.{list_level, list_levels, list_after};
 ghost use Rattle.cd_resolve.specs.Inner.PlainFound.{plain_found, plain_start};
-ghost use Rattle.cd_resolve.specs.Inner.PlainState.{plain_frame, plain_frames};
+ghost use Rattle.cd_resolve.specs.Inner.PlainState.{plain_level, plain_levels};
 ghost use Rattle.cd_resolve.specs.Inner.Walk.{walked_kind, walked_declared, walked_list};
-ghost use Rattle.cd_resolve.specs.Inner.Walk.{entered, frame_after};
+ghost use Rattle.cd_resolve.specs.Inner.Walk.{entered, level_after};
 
 use crate::base::Base;
 use crate::found::{Found, Id, start_of};
-use crate::frame::Frame;
 use crate::scope::under;
+use crate::scope_level::ScopeLevel;
 use crate::state::State;
 use crate::taken::is_taken;
 use crate::walk::walk;
@@ -32,12 +32,12 @@ pub(crate) fn walk_list<'t>(
     declarations: &'t Declarations,
     state: &mut State,
     found: &mut Found<'t>,
-) -> Result<Frame<'t>, AllocError>
+) -> Result<ScopeLevel<'t>, AllocError>
     requires { AreWellMadePatternDeclarations (plain_declarations declarations.now) }
-    ensures nodes { IfOk result (λ frame. plain_frame frame
-        ≡ frame_after base.now.first (plain_declarations declarations.now)
+    ensures nodes { IfOk result (λ level. plain_level level
+        ≡ level_after base.now.first (plain_declarations declarations.now)
         (plain_equations state.old.equations.items)) }
-    ensures list { IfOk result (λ frame. list_frame frame
+    ensures list { IfOk result (λ level. list_level level
         ≡ list_after (plain_declarations declarations.now) (plain_found found.old)) }
     ensures found { IfOk result (λ _. plain_found found.new
         ≡ found_in_list innermost (lists_outside base.now)
@@ -47,10 +47,10 @@ pub(crate) fn walk_list<'t>(
         (plain_declarations declarations.now) (plain_equations state.old.equations.items)) }
 {
     let number = state.equations.len();
-    let frame = enter(base, declarations, state, found)?;
-    let frames = under(base.alloc, &frame, &[])?;
-    walk_declared(base, number, &frame, frames.as_slice(), state, found)?;
-    Ok(frame)
+    let level = enter(base, declarations, state, found)?;
+    let levels = under(base.alloc, &level, &[])?;
+    walk_declared(base, number, &level, levels.as_slice(), state, found)?;
+    Ok(level)
 }
 
 /// A tree under its own declarations, whose trees are walked over before it.
@@ -59,7 +59,7 @@ pub(crate) fn walk_where<'t>(
     base: &Base<'_, '_>,
     body: &'t Tree,
     declarations: &'t Declarations,
-    outer: &[Frame<'t>],
+    outer: &[ScopeLevel<'t>],
     start: Option<Id<'t>>,
     state: &mut State,
     found: &mut Found<'t>,
@@ -70,12 +70,12 @@ pub(crate) fn walk_where<'t>(
         ≡ found_in_kind innermost (lists_seen base.now outer.now) (plain_start start.entry) 0
         (Where (plain body.now) (plain_declarations declarations.now)) (plain_found found.old)) }
     ensures equations { IfOk result (λ id. (id, plain_equations state.new.equations.items)
-        ≡ walked_kind base.now.first (names_outside base.now) (plain_frames outer.now)
+        ≡ walked_kind base.now.first (names_outside base.now) (plain_levels outer.now)
         (Where (plain body.now) (plain_declarations declarations.now))
         (plain_equations state.old.equations.items)) }
 {
-    let frames = walk_under(base, declarations, outer, state, found)?;
-    walk(base, body, frames.as_slice(), start, state, found)
+    let levels = walk_under(base, declarations, outer, state, found)?;
+    walk(base, body, levels.as_slice(), start, state, found)
 }
 
 // Walks over a list of declarations, and gives it with the lists round it.
@@ -83,29 +83,29 @@ pub(crate) fn walk_where<'t>(
 fn walk_under<'t>(
     base: &Base<'_, '_>,
     declarations: &'t Declarations,
-    outer: &[Frame<'t>],
+    outer: &[ScopeLevel<'t>],
     state: &mut State,
     found: &mut Found<'t>,
-) -> Result<Vec<Frame<'t>>, AllocError>
+) -> Result<Vec<ScopeLevel<'t>>, AllocError>
     requires { AreWellMadePatternDeclarations (plain_declarations declarations.now) }
-    ensures nodes { IfOk result (λ frames. plain_frames frames.items
-        ≡ frame_after base.now.first (plain_declarations declarations.now)
-        (plain_equations state.old.equations.items) ∷ plain_frames outer.now) }
-    ensures lists { IfOk result (λ frames. list_frames frames.items
+    ensures nodes { IfOk result (λ levels. plain_levels levels.items
+        ≡ level_after base.now.first (plain_declarations declarations.now)
+        (plain_equations state.old.equations.items) ∷ plain_levels outer.now) }
+    ensures lists { IfOk result (λ levels. list_levels levels.items
         ≡ list_after (plain_declarations declarations.now) (plain_found found.old)
-        ∷ list_frames outer.now) }
+        ∷ list_levels outer.now) }
     ensures found { IfOk result (λ _. plain_found found.new
         ≡ found_in_list innermost (lists_seen base.now outer.now)
         (plain_declarations declarations.now) (plain_found found.old)) }
     ensures equations { IfOk result (λ _. plain_equations state.new.equations.items
-        ≡ walked_list base.now.first (names_outside base.now) (plain_frames outer.now)
+        ≡ walked_list base.now.first (names_outside base.now) (plain_levels outer.now)
         (plain_declarations declarations.now) (plain_equations state.old.equations.items)) }
 {
     let number = state.equations.len();
-    let frame = enter(base, declarations, state, found)?;
-    let frames = under(base.alloc, &frame, outer)?;
-    walk_declared(base, number, &frame, frames.as_slice(), state, found)?;
-    Ok(frames)
+    let level = enter(base, declarations, state, found)?;
+    let levels = under(base.alloc, &level, outer)?;
+    walk_declared(base, number, &level, levels.as_slice(), state, found)?;
+    Ok(levels)
 }
 
 // Enters a list of declarations, whose trees are not read yet.
@@ -114,11 +114,11 @@ fn enter<'t>(
     declarations: &'t Declarations,
     state: &mut State,
     found: &mut Found<'t>,
-) -> Result<Frame<'t>, AllocError>
-    ensures nodes { IfOk result (λ frame. plain_frame frame
-        ≡ frame_after base.now.first (plain_declarations declarations.now)
+) -> Result<ScopeLevel<'t>, AllocError>
+    ensures nodes { IfOk result (λ level. plain_level level
+        ≡ level_after base.now.first (plain_declarations declarations.now)
         (plain_equations state.old.equations.items)) }
-    ensures list { IfOk result (λ frame. list_frame frame
+    ensures list { IfOk result (λ level. list_level level
         ≡ list_after (plain_declarations declarations.now) (plain_found found.old)) }
     ensures found { IfOk result (λ _. plain_found found.new
         ≡ entered_list (plain_declarations declarations.now) (plain_found found.old)) }
@@ -129,7 +129,7 @@ fn enter<'t>(
     let first = state.next(base)?;
     let list = found.enter(declarations)?;
     state.enter(declarations)?;
-    Frame::of(base.alloc, declarations, first, list)
+    ScopeLevel::of(base.alloc, declarations, first, list)
 }
 
 // Walks over the trees of a list of declarations, which is the innermost of these, and whose names
@@ -138,28 +138,28 @@ fn enter<'t>(
 fn walk_declared<'t>(
     base: &Base<'_, '_>,
     from: usize,
-    frame: &Frame<'t>,
-    frames: &[Frame<'t>],
+    level: &ScopeLevel<'t>,
+    levels: &[ScopeLevel<'t>],
     state: &mut State,
     found: &mut Found<'t>,
 ) -> Result<(), AllocError>
-    requires { AreWellMadePatternDeclarations (plain_declarations frame.now.declarations.now) }
+    requires { AreWellMadePatternDeclarations (plain_declarations level.now.declarations.now) }
     ensures found { IfOk result (λ _. plain_found found.new
-        ≡ found_in_declared innermost (lists_seen base.now frames.now) frame.now.list []
-        (plain_declarations frame.now.declarations.now) (plain_found found.old)) }
+        ≡ found_in_declared innermost (lists_seen base.now levels.now) level.now.list []
+        (plain_declarations level.now.declarations.now) (plain_found found.old)) }
     ensures equations { OnOk result (plain_equations state.new.equations.items
-        ≡ walked_declared base.now.first (names_outside base.now) (plain_frames frames.now) from
-        (plain_declarations frame.now.declarations.now)
+        ≡ walked_declared base.now.first (names_outside base.now) (plain_levels levels.now) from
+        (plain_declarations level.now.declarations.now)
         (plain_equations state.old.equations.items)) }
 {
-    let items = frame.declarations.items();
+    let items = level.declarations.items();
     let mut number = from;
     for (place, declaration) in items.iter().enumerate() {
         let name = &declaration.name;
-        let again = frame.declares_before(place, name);
+        let again = level.declares_before(place, name);
         found.report_twice(is_taken(again, name), name, declaration.at)?;
-        let start = start_of(again, frame.list, name);
-        let root = walk(base, &declaration.tree, frames, start, state, found)?;
+        let start = start_of(again, level.list, name);
+        let root = walk(base, &declaration.tree, levels, start, state, found)?;
         state.settle(number, root);
         // No graph is so long.
         let Some(next) = number.checked_add(1) else {

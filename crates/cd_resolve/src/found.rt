@@ -3,7 +3,7 @@ ghost use Rattle.std.specs.Prelude.{◌≡◌, IfOk, length, []};
 ghost use Rattle.cd_syntax.specs.PlainTree.{plain_declarations};
 ghost use Rattle.cd_resolve.specs.Inner.Finding.{reported, reported_if, entered, linked, met};
 ghost use Rattle.cd_resolve.specs.Inner.Finding.{start_of as start_of_declared};
-ghost use Rattle.cd_resolve.specs.Inner.PlainFound.{plain_id, plain_start, plain_place};
+ghost use Rattle.cd_resolve.specs.Inner.PlainFound.{plain_id, plain_start, plain_declared_at};
 ghost use Rattle.cd_resolve.specs.Inner.PlainFound.{plain_found};
 
 use crate::fault::NameFault;
@@ -29,7 +29,7 @@ pub(crate) struct Link<'t> {
 
 /// Where a name is declared: the number of the list, and the place.
 #[derive(Clone, Copy)]
-pub(crate) struct Place {
+pub(crate) struct DeclaredAt {
     pub(crate) list: usize,
     pub(crate) at: usize,
 }
@@ -106,34 +106,41 @@ impl<'t> Found<'t> {
         start: Option<Id<'t>>,
         name: &'t Name,
         at: usize,
-        place: Option<Place>,
+        declared_at: Option<DeclaredAt>,
     ) -> Result<(), AllocError>
         ensures { IfOk result (λ _.
-            plain_found self.new ≡ met (plain_start start.entry) name.now at (plain_place place)
+            plain_found self.new
+            ≡ met (plain_start start.entry) name.now at (plain_declared_at declared_at)
             (plain_found self.old)) }
     {
-        let Some(place) = place else {
+        let Some(declared_at) = declared_at else {
             return self.report(NameFault::Unknown, name, at);
         };
         let Some(start) = start else {
             return Ok(());
         };
-        self.link(start, place, name)
+        self.link(start, declared_at, name)
     }
 
-    fn link(&mut self, start: Id<'t>, place: Place, name: &'t Name) -> Result<(), AllocError>
+    fn link(
+        &mut self,
+        start: Id<'t>,
+        declared_at: DeclaredAt,
+        name: &'t Name,
+    ) -> Result<(), AllocError>
         ensures { IfOk result (λ _.
             plain_found self.new ≡ linked (plain_id start.entry)
-            (record { list = place.list; name = name.now }) place.at (plain_found self.old)) }
+            (record { list = declared_at.list; name = name.now }) declared_at.at
+            (plain_found self.old)) }
     {
         let to = Id {
-            list: place.list,
+            list: declared_at.list,
             name,
         };
         self.links.push(Link {
             start,
             to,
-            at: place.at,
+            at: declared_at.at,
         })?;
         Ok(())
     }

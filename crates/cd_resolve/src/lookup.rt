@@ -3,16 +3,17 @@ ghost use Rattle.std.specs.Prelude.{◌≡◌, ◌+◌, [], Option, None, IfOk};
 ghost use Rattle.cd_sets.specs.declared.node_id.NodeId.{NodeId as AnId};
 ghost use Rattle.cd_model.specs.BuiltIns.{node, EMPTY as NOTHING};
 ghost use Rattle.cd_resolve.specs.Named.{index_in};
-ghost use Rattle.cd_resolve.specs.Inner.Finding.{Place as APlace, place_in, place_or, place_of};
-ghost use Rattle.cd_resolve.specs.Inner.Frames.{declared_or, node_under};
+ghost use Rattle.cd_resolve.specs.Inner.Finding.{DeclaredAt as PlainDeclaredAt, place_in};
+ghost use Rattle.cd_resolve.specs.Inner.Finding.{declared_here_or, declared_under};
+ghost use Rattle.cd_resolve.specs.Inner.ScopeLevels.{declared_or, node_under};
 ghost use Rattle.cd_resolve.specs.Inner.Meaning.{id_or, declared_at_or};
 ghost use Rattle.cd_resolve.specs.Inner.PlainBase.{names_outside, lists_outside, lists_seen};
-ghost use Rattle.cd_resolve.specs.Inner.PlainFound.{list_frame};
-ghost use Rattle.cd_resolve.specs.Inner.PlainState.{plain_frame, plain_frames};
+ghost use Rattle.cd_resolve.specs.Inner.PlainFound.{list_level};
+ghost use Rattle.cd_resolve.specs.Inner.PlainState.{plain_level, plain_levels};
 
 use crate::base::Base;
-use crate::found::Place;
-use crate::frame::Frame;
+use crate::found::DeclaredAt;
+use crate::scope_level::ScopeLevel;
 use cd_sets::node_id::NodeId;
 use cd_syntax::name::Name;
 use std::alloc::AllocError;
@@ -21,23 +22,23 @@ use std::alloc::AllocError;
 #[derive(Clone, Copy)]
 pub(crate) struct Meaning {
     pub(crate) id: NodeId,
-    pub(crate) place: Place,
+    pub(crate) declared_at: DeclaredAt,
 }
 
 /// What a name means by the innermost list that declares it, or else by that which is seen from
 /// outside.
 pub(crate) fn meaning_of(
     base: &Base<'_, '_>,
-    frames: &[Frame<'_>],
+    levels: &[ScopeLevel<'_>],
     name: &Name,
 ) -> Result<Option<Meaning>, AllocError>
     ensures node { IfOk result (λ meaning. id_or meaning NOTHING
-        ≡ node_under (names_outside base.now) (plain_frames frames.now) name.now) }
-    ensures place { IfOk result (λ meaning. declared_at_or meaning None
-        ≡ place_of (lists_seen base.now frames.now) name.now) }
+        ≡ node_under (names_outside base.now) (plain_levels levels.now) name.now) }
+    ensures declared_at { IfOk result (λ meaning. declared_at_or meaning None
+        ≡ declared_under (lists_seen base.now levels.now) name.now) }
 {
-    for frame in frames {
-        if let Some(meaning) = meaning_in(frame, name)? {
+    for level in levels {
+        if let Some(meaning) = meaning_in(level, name)? {
             return Ok(Some(meaning));
         }
     }
@@ -48,33 +49,34 @@ pub(crate) fn meaning_of(
 fn meaning_outside(base: &Base<'_, '_>, name: &Name) -> Result<Option<Meaning>, AllocError>
     ensures node { IfOk result (λ meaning. id_or meaning NOTHING
         ≡ node_under (names_outside base.now) [] name.now) }
-    ensures place { IfOk result (λ meaning. declared_at_or meaning None
-        ≡ place_of (lists_outside base.now) name.now) }
+    ensures declared_at { IfOk result (λ meaning. declared_at_or meaning None
+        ≡ declared_under (lists_outside base.now) name.now) }
 {
     match base.outer {
-        Some(frame) => meaning_in(frame, name),
+        Some(level) => meaning_in(level, name),
         None => Ok(None),
     }
 }
 
 // What a name means by a list, if this declares it.
-fn meaning_in(frame: &Frame<'_>, name: &Name) -> Result<Option<Meaning>, AllocError>
+fn meaning_in(level: &ScopeLevel<'_>, name: &Name) -> Result<Option<Meaning>, AllocError>
     ensures node { IfOk result (λ meaning. (outer : AnId) → id_or meaning outer
-        ≡ declared_or (plain_frame frame.now).first
-        (index_in (plain_frame frame.now).declarations name.now) outer) }
-    ensures place { IfOk result (λ meaning. (outer : Option APlace) → declared_at_or meaning outer
-        ≡ place_or (list_frame frame.now).list
-        (place_in (list_frame frame.now).declarations name.now) outer) }
+        ≡ declared_or (plain_level level.now).first
+        (index_in (plain_level level.now).declarations name.now) outer) }
+    ensures declared_at { IfOk result
+        (λ meaning. (outer : Option PlainDeclaredAt) → declared_at_or meaning outer
+        ≡ declared_here_or (list_level level.now).list
+        (place_in (list_level level.now).declarations name.now) outer) }
 {
-    let Some(spot) = frame.find(name) else {
+    let Some(spot) = level.find(name) else {
         return Ok(None);
     };
-    let id = node_at(frame.first, spot.index)?;
-    let place = Place {
-        list: frame.list,
+    let id = node_at(level.first, spot.index)?;
+    let declared_at = DeclaredAt {
+        list: level.list,
         at: spot.at,
     };
-    Ok(Some(Meaning { id, place }))
+    Ok(Some(Meaning { id, declared_at }))
 }
 
 // The node of the name at an index of a list.

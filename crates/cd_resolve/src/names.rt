@@ -1,11 +1,11 @@
 ghost use Rattle.std.specs.Prelude.{◌≡◌};
 
-use crate::frame::Frame;
+use crate::scope_level::ScopeLevel;
 
 /// The names of type declarations, with nodes that follow one another.
 #[derive(Drop)]
 pub struct Names<'t> {
     // It is the first of the lists, and seen from outside of all others.
-    pub(crate) frame: Frame<'t>,
-    ghost first: { frame.list ≡ 0 },
+    pub(crate) level: ScopeLevel<'t>,
+    ghost first: { level.list ≡ 0 },
 }

@@ -64,9 +64,9 @@ pub(crate) fn read_declarations<'t>(
         first,
         outer: None,
     };
-    let frame = walk_list(&base, declared, &mut state, &mut found)?;
+    let level = walk_list(&base, declared, &mut state, &mut found)?;
     match reported(alloc, found) {
-        Ok(()) => Ok((state.equations, Names { frame })),
+        Ok(()) => Ok((state.equations, Names { level })),
         Err(error) => Err(error),
     }
 }
@@ -98,9 +98,9 @@ pub(crate) fn read_type(
     let base = Base {
         alloc,
         first,
-        outer: Some(&names.frame),
+        outer: Some(&names.level),
     };
-    let (root, found) = walk_type(&base, names.frame.declarations, tree, &mut state)?;
+    let (root, found) = walk_type(&base, names.level.declarations, tree, &mut state)?;
     match reported(alloc, found) {
         Ok(()) => Ok((state.equations, root)),
         Err(error) => Err(error),
@@ -124,7 +124,7 @@ pub(crate) fn read_types(
     let base = Base {
         alloc,
         first,
-        outer: Some(&names.frame),
+        outer: Some(&names.level),
     };
     let roots = walk_types(&base, wanted, &mut state)?;
     Ok((state.equations, roots))

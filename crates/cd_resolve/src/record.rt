@@ -9,13 +9,13 @@ ghost use Rattle.cd_resolve.specs.Inner.Finding.{innermost, labelled, found_in_k
 ghost use Rattle.cd_resolve.specs.Inner.Finding.{found_in_fields};
 ghost use Rattle.cd_resolve.specs.Inner.PlainBase.{names_outside, lists_seen};
 ghost use Rattle.cd_resolve.specs.Inner.PlainFound.{plain_found};
-ghost use Rattle.cd_resolve.specs.Inner.PlainState.{plain_frames};
+ghost use Rattle.cd_resolve.specs.Inner.PlainState.{plain_levels};
 ghost use Rattle.cd_resolve.specs.Inner.Walk.{walked_kind, walked_fields};
 
 use crate::base::Base;
 use crate::found::Found;
-use crate::frame::Frame;
 use crate::name_index::NameIndex;
+use crate::scope_level::ScopeLevel;
 use crate::state::State;
 use crate::walk::walk;
 use cd_graph::fields::Field;
@@ -31,20 +31,20 @@ pub(crate) fn walk_record<'t>(
     base: &Base<'_, '_>,
     fields: &'t FieldTrees,
     more: bool,
-    frames: &[Frame<'t>],
+    levels: &[ScopeLevel<'t>],
     state: &mut State,
     found: &mut Found<'t>,
 ) -> Result<NodeId, AllocError>
     requires { AreWellMadePatternFields (plain_fields fields.now) }
     ensures found { IfOk result (λ _. plain_found found.new
-        ≡ found_in_kind innermost (lists_seen base.now frames.now) None 0
+        ≡ found_in_kind innermost (lists_seen base.now levels.now) None 0
         (Record (plain_fields fields.now) more) (plain_found found.old)) }
     ensures equations { IfOk result (λ id. (id, plain_equations state.new.equations.items)
-        ≡ walked_kind base.now.first (names_outside base.now) (plain_frames frames.now)
+        ≡ walked_kind base.now.first (names_outside base.now) (plain_levels levels.now)
         (Record (plain_fields fields.now) more) (plain_equations state.old.equations.items)) }
 {
     report_labels(base.alloc, fields, found)?;
-    let made = walk_fields(base, fields, frames, state, found)?;
+    let made = walk_fields(base, fields, levels, state, found)?;
     state.record(base, made, more)
 }
 
@@ -54,22 +54,22 @@ pub(crate) fn walk_record<'t>(
 fn walk_fields<'t>(
     base: &Base<'_, '_>,
     fields: &'t FieldTrees,
-    frames: &[Frame<'t>],
+    levels: &[ScopeLevel<'t>],
     state: &mut State,
     found: &mut Found<'t>,
 ) -> Result<Vec<(Name, Field)>, AllocError>
     requires { AreWellMadePatternFields (plain_fields fields.now) }
     ensures found { IfOk result (λ _. plain_found found.new
-        ≡ found_in_fields innermost (lists_seen base.now frames.now)
+        ≡ found_in_fields innermost (lists_seen base.now levels.now)
         (plain_fields fields.now) (plain_found found.old)) }
     ensures equations { IfOk result (λ made.
         (plain_named made.items, plain_equations state.new.equations.items)
-        ≡ walked_fields base.now.first (names_outside base.now) (plain_frames frames.now)
+        ≡ walked_fields base.now.first (names_outside base.now) (plain_levels levels.now)
         (plain_fields fields.now) [] (plain_equations state.old.equations.items)) }
 {
     let mut made = Vec::new(base.alloc);
     for field in fields.items() {
-        let node = walk(base, &field.tree, frames, None, state, found)?;
+        let node = walk(base, &field.tree, levels, None, state, found)?;
         let optional = field.optional;
         made.push((field.label.copy()?, Field { optional, node }))?;
     }

@@ -6,23 +6,23 @@ ghost use Rattle.cd_syntax.specs.WellMade.{HaveTwoTrees};
 ghost use Rattle.cd_syntax.specs.WellMadePattern.{IsWellMadePattern, IsWellMadePatternKind};
 ghost use Rattle.cd_syntax.specs.WellMadePattern.{AreWellMadePatterns, AreWellMadePatternSigns};
 ghost use Rattle.cd_resolve.specs.Inner.Equation.{plain_equations};
-ghost use Rattle.cd_resolve.specs.Inner.Finding.{innermost, met, place_of};
+ghost use Rattle.cd_resolve.specs.Inner.Finding.{innermost, met, declared_under};
 ghost use Rattle.cd_resolve.specs.Inner.Finding.{found_in, found_in_kind, found_in_trees};
 ghost use Rattle.cd_resolve.specs.Inner.Finding.{found_in_signs};
-ghost use Rattle.cd_resolve.specs.Inner.Frames.{node_under};
+ghost use Rattle.cd_resolve.specs.Inner.ScopeLevels.{node_under};
 ghost use Rattle.cd_resolve.specs.Inner.PlainBase.{names_outside, lists_seen};
 ghost use Rattle.cd_resolve.specs.Inner.PlainFound.{plain_found, plain_start};
-ghost use Rattle.cd_resolve.specs.Inner.PlainState.{plain_frames, chain_of};
+ghost use Rattle.cd_resolve.specs.Inner.PlainState.{plain_levels, chain_of};
 ghost use Rattle.cd_resolve.specs.Inner.Walk.{walked, walked_kind, walked_trees, walked_signs};
 
 use crate::base::Base;
 use crate::declare::walk_where;
 use crate::equation::Equation;
 use crate::found::{Found, Id};
-use crate::frame::Frame;
 use crate::leaves::{atom, characters, integers};
 use crate::lookup::meaning_of;
 use crate::record::walk_record;
+use crate::scope_level::ScopeLevel;
 use crate::sequence::walk_sequence;
 use crate::state::{Joint, State};
 use cd_graph::Formula;
@@ -38,21 +38,21 @@ use std::alloc::AllocError;
 pub(crate) fn walk<'t>(
     base: &Base<'_, '_>,
     tree: &'t Tree,
-    frames: &[Frame<'t>],
+    levels: &[ScopeLevel<'t>],
     start: Option<Id<'t>>,
     state: &mut State,
     found: &mut Found<'t>,
 ) -> Result<NodeId, AllocError>
     requires { IsWellMadePattern (plain tree.now) }
     ensures found { IfOk result (λ _. plain_found found.new
-        ≡ found_in innermost (lists_seen base.now frames.now) (plain_start start.entry)
+        ≡ found_in innermost (lists_seen base.now levels.now) (plain_start start.entry)
         (plain tree.now) (plain_found found.old)) }
     ensures equations { IfOk result (λ id. (id, plain_equations state.new.equations.items)
-        ≡ walked base.now.first (names_outside base.now) (plain_frames frames.now)
+        ≡ walked base.now.first (names_outside base.now) (plain_levels levels.now)
         (plain tree.now) (plain_equations state.old.equations.items)) }
 {
     let at = tree.span.from;
-    walk_kind(base, &tree.kind, at, frames, start, state, found)
+    walk_kind(base, &tree.kind, at, levels, start, state, found)
 }
 
 // Walks over what a tree is, which stands at this place in the text.
@@ -61,17 +61,17 @@ fn walk_kind<'t>(
     base: &Base<'_, '_>,
     kind: &'t TreeKind,
     at: usize,
-    frames: &[Frame<'t>],
+    levels: &[ScopeLevel<'t>],
     start: Option<Id<'t>>,
     state: &mut State,
     found: &mut Found<'t>,
 ) -> Result<NodeId, AllocError>
     requires { IsWellMadePatternKind (plain_kind kind.now) }
     ensures found { IfOk result (λ _. plain_found found.new
-        ≡ found_in_kind innermost (lists_seen base.now frames.now) (plain_start start.entry) at
+        ≡ found_in_kind innermost (lists_seen base.now levels.now) (plain_start start.entry) at
         (plain_kind kind.now) (plain_found found.old)) }
     ensures equations { IfOk result (λ id. (id, plain_equations state.new.equations.items)
-        ≡ walked_kind base.now.first (names_outside base.now) (plain_frames frames.now)
+        ≡ walked_kind base.now.first (names_outside base.now) (plain_levels levels.now)
         (plain_kind kind.now) (plain_equations state.old.equations.items)) }
 {
     match kind {
@@ -80,19 +80,19 @@ fn walk_kind<'t>(
         TreeKind::Chars(low, high) => state.leaf(base, characters(base.alloc, *low, *high)?),
         TreeKind::Atom(name) => state.leaf(base, Some(atom(base.alloc, name)?)),
         TreeKind::Text(text) => state.text(base, text),
-        TreeKind::Tuple(trees) => walk_chain(base, Joint::Pairs, trees, frames, state, found),
-        TreeKind::Arrows(trees) => walk_chain(base, Joint::Arrows, trees, frames, state, found),
-        TreeKind::Union(trees) => walk_union(base, trees, frames, start, state, found),
-        TreeKind::Meet(first, signs) => walk_meet(base, first, signs, frames, start, state, found),
-        TreeKind::Record(fields, more) => walk_record(base, fields, *more, frames, state, found),
+        TreeKind::Tuple(trees) => walk_chain(base, Joint::Pairs, trees, levels, state, found),
+        TreeKind::Arrows(trees) => walk_chain(base, Joint::Arrows, trees, levels, state, found),
+        TreeKind::Union(trees) => walk_union(base, trees, levels, start, state, found),
+        TreeKind::Meet(first, signs) => walk_meet(base, first, signs, levels, start, state, found),
+        TreeKind::Record(fields, more) => walk_record(base, fields, *more, levels, state, found),
         TreeKind::Xml(tag, attributes, content) => {
-            walk_xml(base, tag, attributes, content, frames, state, found)
+            walk_xml(base, tag, attributes, content, levels, state, found)
         }
-        TreeKind::Named(name) => walk_named(base, name, at, frames, start, found),
+        TreeKind::Named(name) => walk_named(base, name, at, levels, start, found),
         TreeKind::Where(body, declarations) => {
-            walk_where(base, body, declarations, frames, start, state, found)
+            walk_where(base, body, declarations, levels, start, state, found)
         }
-        TreeKind::Sequence(expression) => walk_sequence(base, expression, frames, state, found),
+        TreeKind::Sequence(expression) => walk_sequence(base, expression, levels, state, found),
         // Forms of patterns, of which no equations are made.
         TreeKind::Variable(_) | TreeKind::Default(_, _) => Ok(EMPTY),
     }
@@ -103,19 +103,19 @@ fn walk_named<'t>(
     base: &Base<'_, '_>,
     name: &'t Name,
     at: usize,
-    frames: &[Frame<'t>],
+    levels: &[ScopeLevel<'t>],
     start: Option<Id<'t>>,
     found: &mut Found<'t>,
 ) -> Result<NodeId, AllocError>
     ensures found { IfOk result (λ _. plain_found found.new
         ≡ met (plain_start start.entry) name.now at
-        (place_of (lists_seen base.now frames.now) name.now) (plain_found found.old)) }
+        (declared_under (lists_seen base.now levels.now) name.now) (plain_found found.old)) }
     ensures node { IfOk result (λ id.
-        id ≡ node_under (names_outside base.now) (plain_frames frames.now) name.now) }
+        id ≡ node_under (names_outside base.now) (plain_levels levels.now) name.now) }
 {
-    match meaning_of(base, frames, name)? {
+    match meaning_of(base, levels, name)? {
         Some(meaning) => {
-            found.meet(start, name, at, Some(meaning.place))?;
+            found.meet(start, name, at, Some(meaning.declared_at))?;
             Ok(meaning.id)
         }
         None => {
@@ -131,20 +131,20 @@ fn walk_chain<'t>(
     base: &Base<'_, '_>,
     joint: Joint,
     trees: &'t Trees,
-    frames: &[Frame<'t>],
+    levels: &[ScopeLevel<'t>],
     state: &mut State,
     found: &mut Found<'t>,
 ) -> Result<NodeId, AllocError>
     requires two { HaveTwoTrees (plain_trees trees.now) }
     requires parts { AreWellMadePatterns (plain_trees trees.now) }
     ensures found { IfOk result (λ _. plain_found found.new
-        ≡ found_in_trees innermost (lists_seen base.now frames.now) None
+        ≡ found_in_trees innermost (lists_seen base.now levels.now) None
         (plain_trees trees.now) (plain_found found.old)) }
     ensures equations { IfOk result (λ id. (id, plain_equations state.new.equations.items)
-        ≡ walked_kind base.now.first (names_outside base.now) (plain_frames frames.now)
+        ≡ walked_kind base.now.first (names_outside base.now) (plain_levels levels.now)
         (chain_of joint (plain_trees trees.now)) (plain_equations state.old.equations.items)) }
 {
-    let ids = walk_trees(base, trees, frames, None, state, found)?;
+    let ids = walk_trees(base, trees, levels, None, state, found)?;
     Ok(state.chain(base, joint, ids.as_slice())?)
 }
 
@@ -153,20 +153,20 @@ fn walk_chain<'t>(
 fn walk_union<'t>(
     base: &Base<'_, '_>,
     trees: &'t Trees,
-    frames: &[Frame<'t>],
+    levels: &[ScopeLevel<'t>],
     start: Option<Id<'t>>,
     state: &mut State,
     found: &mut Found<'t>,
 ) -> Result<NodeId, AllocError>
     requires { AreWellMadePatterns (plain_trees trees.now) }
     ensures found { IfOk result (λ _. plain_found found.new
-        ≡ found_in_trees innermost (lists_seen base.now frames.now) (plain_start start.entry)
+        ≡ found_in_trees innermost (lists_seen base.now levels.now) (plain_start start.entry)
         (plain_trees trees.now) (plain_found found.old)) }
     ensures equations { IfOk result (λ id. (id, plain_equations state.new.equations.items)
-        ≡ walked_kind base.now.first (names_outside base.now) (plain_frames frames.now)
+        ≡ walked_kind base.now.first (names_outside base.now) (plain_levels levels.now)
         (Union (plain_trees trees.now)) (plain_equations state.old.equations.items)) }
 {
-    let ids = walk_trees(base, trees, frames, start, state, found)?;
+    let ids = walk_trees(base, trees, levels, start, state, found)?;
     state.union(base, ids.as_slice())
 }
 
@@ -175,23 +175,23 @@ fn walk_union<'t>(
 fn walk_trees<'t>(
     base: &Base<'_, '_>,
     trees: &'t Trees,
-    frames: &[Frame<'t>],
+    levels: &[ScopeLevel<'t>],
     start: Option<Id<'t>>,
     state: &mut State,
     found: &mut Found<'t>,
 ) -> Result<Vec<NodeId>, AllocError>
     requires { AreWellMadePatterns (plain_trees trees.now) }
     ensures found { IfOk result (λ _. plain_found found.new
-        ≡ found_in_trees innermost (lists_seen base.now frames.now) (plain_start start.entry)
+        ≡ found_in_trees innermost (lists_seen base.now levels.now) (plain_start start.entry)
         (plain_trees trees.now) (plain_found found.old)) }
     ensures equations { IfOk result (λ made.
         (made.items, plain_equations state.new.equations.items)
-        ≡ walked_trees base.now.first (names_outside base.now) (plain_frames frames.now)
+        ≡ walked_trees base.now.first (names_outside base.now) (plain_levels levels.now)
         (plain_trees trees.now) [] (plain_equations state.old.equations.items)) }
 {
     let mut made = Vec::new(base.alloc);
     for tree in trees.items() {
-        made.push(walk(base, tree, frames, start, state, found)?)?;
+        made.push(walk(base, tree, levels, start, state, found)?)?;
     }
     Ok(made)
 }
@@ -202,7 +202,7 @@ fn walk_meet<'t>(
     base: &Base<'_, '_>,
     first: &'t Tree,
     signs: &'t Signed,
-    frames: &[Frame<'t>],
+    levels: &[ScopeLevel<'t>],
     start: Option<Id<'t>>,
     state: &mut State,
     found: &mut Found<'t>,
@@ -210,17 +210,17 @@ fn walk_meet<'t>(
     requires first { IsWellMadePattern (plain first.now) }
     requires signs { AreWellMadePatternSigns (plain_signs signs.now) }
     ensures found { IfOk result (λ _. plain_found found.new
-        ≡ found_in_signs innermost (lists_seen base.now frames.now) (plain_start start.entry)
+        ≡ found_in_signs innermost (lists_seen base.now levels.now) (plain_start start.entry)
         (plain_signs signs.now)
-        (found_in innermost (lists_seen base.now frames.now) (plain_start start.entry)
+        (found_in innermost (lists_seen base.now levels.now) (plain_start start.entry)
         (plain first.now) (plain_found found.old))) }
     ensures equations { IfOk result (λ id. (id, plain_equations state.new.equations.items)
-        ≡ walked_kind base.now.first (names_outside base.now) (plain_frames frames.now)
+        ≡ walked_kind base.now.first (names_outside base.now) (plain_levels levels.now)
         (Meet (plain first.now) (plain_signs signs.now))
         (plain_equations state.old.equations.items)) }
 {
-    let first = walk(base, first, frames, start, state, found)?;
-    let signs = walk_signs(base, first, signs, frames, start, state, found)?;
+    let first = walk(base, first, levels, start, state, found)?;
+    let signs = walk_signs(base, first, signs, levels, start, state, found)?;
     state.meet(base, signs.as_slice())
 }
 
@@ -230,18 +230,18 @@ fn walk_signs<'t>(
     base: &Base<'_, '_>,
     first: NodeId,
     signs: &'t Signed,
-    frames: &[Frame<'t>],
+    levels: &[ScopeLevel<'t>],
     start: Option<Id<'t>>,
     state: &mut State,
     found: &mut Found<'t>,
 ) -> Result<Vec<(bool, NodeId)>, AllocError>
     requires { AreWellMadePatternSigns (plain_signs signs.now) }
     ensures found { IfOk result (λ _. plain_found found.new
-        ≡ found_in_signs innermost (lists_seen base.now frames.now) (plain_start start.entry)
+        ≡ found_in_signs innermost (lists_seen base.now levels.now) (plain_start start.entry)
         (plain_signs signs.now) (plain_found found.old)) }
     ensures equations { IfOk result (λ made.
         (made.items, plain_equations state.new.equations.items)
-        ≡ walked_signs base.now.first (names_outside base.now) (plain_frames frames.now)
+        ≡ walked_signs base.now.first (names_outside base.now) (plain_levels levels.now)
         (plain_signs signs.now) ((true, first) ∷ []) (plain_equations state.old.equations.items)) }
 {
     let mut made = Vec::new(base.alloc);
@@ -249,7 +249,7 @@ fn walk_signs<'t>(
     for sign in signs.items() {
         made.push((
             sign.kept,
-            walk(base, &sign.tree, frames, start, state, found)?,
+            walk(base, &sign.tree, levels, start, state, found)?,
         ))?;
     }
     Ok(made)
@@ -262,7 +262,7 @@ fn walk_xml<'t>(
     tag: &'t Tree,
     attributes: &'t Tree,
     content: &'t Tree,
-    frames: &[Frame<'t>],
+    levels: &[ScopeLevel<'t>],
     state: &mut State,
     found: &mut Found<'t>,
 ) -> Result<NodeId, AllocError>
@@ -270,17 +270,17 @@ fn walk_xml<'t>(
     requires attributes { IsWellMadePattern (plain attributes.now) }
     requires content { IsWellMadePattern (plain content.now) }
     ensures found { IfOk result (λ _. plain_found found.new
-        ≡ found_in innermost (lists_seen base.now frames.now) None (plain content.now)
-        (found_in innermost (lists_seen base.now frames.now) None (plain attributes.now)
-        (found_in innermost (lists_seen base.now frames.now) None (plain tag.now)
+        ≡ found_in innermost (lists_seen base.now levels.now) None (plain content.now)
+        (found_in innermost (lists_seen base.now levels.now) None (plain attributes.now)
+        (found_in innermost (lists_seen base.now levels.now) None (plain tag.now)
         (plain_found found.old)))) }
     ensures equations { IfOk result (λ id. (id, plain_equations state.new.equations.items)
-        ≡ walked_kind base.now.first (names_outside base.now) (plain_frames frames.now)
+        ≡ walked_kind base.now.first (names_outside base.now) (plain_levels levels.now)
         (Xml (plain tag.now) (plain attributes.now) (plain content.now))
         (plain_equations state.old.equations.items)) }
 {
-    let tag = walk(base, tag, frames, None, state, found)?;
-    let attributes = walk(base, attributes, frames, None, state, found)?;
-    let content = walk(base, content, frames, None, state, found)?;
+    let tag = walk(base, tag, levels, None, state, found)?;
+    let attributes = walk(base, attributes, levels, None, state, found)?;
+    let content = walk(base, content, levels, None, state, found)?;
     state.push(base, Equation::Is(Formula::xml(tag, attributes, content)))
 }

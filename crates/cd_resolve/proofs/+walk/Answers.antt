@@ -15,7 +15,7 @@ use Rattle.cd_resolve.specs.Inner.Finding.{innermost, found_in_signs, found_in_f
 use Rattle.cd_resolve.specs.Inner.NamesDeclared.{names_in}
 use Rattle.cd_resolve.specs.Inner.PlainBase.{names_outside, lists_seen}
 use Rattle.cd_resolve.specs.Inner.PlainFound.{plain_found, plain_start}
-use Rattle.cd_resolve.specs.Inner.PlainState.{plain_frames, plain_joint, HaveLabels}
+use Rattle.cd_resolve.specs.Inner.PlainState.{plain_levels, plain_joint, HaveLabels}
 use Rattle.cd_resolve.proofs.Declaring.{one_name_more, declared_more as found_more}
 use Rattle.cd_resolve.proofs.Labelled.{walked_labels}
 use Rattle.cd_resolve.proofs.Sizes.{below, trees_fall, signs_fall, fields_fall, declarations_fall, regulars_fall}
@@ -30,7 +30,7 @@ walk::walk_chain-returns-clause-equations t c =
     ∙ ap (λ ids. chained c.args.base.now.first (plain_joint c.args.joint) ids
     (plain_equations c.walk_trees.new.state.equations.items)) c.as_slice.ensures.value
     ∙ ap (chained_all c.args.base.now.first (plain_joint c.args.joint)) c.in_ok-ids.ensures.equations
-    ∙ chain_is c.args.base.now.first (names_outside c.args.base.now) (plain_frames c.args.frames.now)
+    ∙ chain_is c.args.base.now.first (names_outside c.args.base.now) (plain_levels c.args.levels.now)
     c.args.joint (plain_trees c.args.trees.now) (plain_equations c.args.state.now.equations.items)
     c.requires.two
 
@@ -90,7 +90,7 @@ declare::walk_declared-walk-requires t c =
 pub record::walk_record-record-requires : goal.record::walk_record-record-requires
 record::walk_record-record-requires t c =
     subst HaveLabels (sym (ap (λ (read : List (Name × Field) × Equations). read.0) c.in_ok-made.ensures.equations))
-    (walked_labels c.args.base.now.first (names_outside c.args.base.now) (plain_frames c.args.frames.now)
+    (walked_labels c.args.base.now.first (names_outside c.args.base.now) (plain_levels c.args.levels.now)
     (plain_fields c.args.fields.now) [] (plain_equations c.args.state.now.equations.items) c.requires tt)
 
 -- the next item goes from what is left to what is walked over
@@ -98,17 +98,17 @@ pub walk::walk_signs-loop-sign-preserved : goal.walk::walk_signs-loop-sign-prese
 walk::walk_signs-loop-sign-preserved t c =
     let first = c.args.base.now.first in
     let names = (names_outside c.args.base.now) in
-    let frames = plain_frames c.args.frames.now in
-    let left = at_item (λ left. walked_signs first names frames (signs_of (map plain_signed left))
+    let levels = plain_levels c.args.levels.now in
+    let left = at_item (λ left. walked_signs first names levels (signs_of (map plain_signed left))
     c.loop-sign.made.items (plain_equations c.loop-sign.state.equations.items))
     c.items-sign-items.result.now c.loop-sign.sign-index c.sign-item.result c.sign-item.is c.loop-sign-test.true in
     let one = rw (signed_is c.sign-item.result) at left in
-    let step = signs_more first names frames c.sign-item.result.kept (plain c.sign-item.result.tree)
+    let step = signs_more first names levels c.sign-item.result.kept (plain c.sign-item.result.tree)
     (signs_of (map plain_signed (drop (c.loop-sign.sign-index + 1) c.items-sign-items.result.now)))
     c.loop-sign.made.items c.push-in-loop-sign.new.self.items (plain_equations c.loop-sign.state.equations.items)
     (plain_equations c.walk.new.state.equations.items) _
     c.in_ok-walk.ensures.equations c.in_ok-push-2.ensures.items in
-    let left_found = at_item (λ left. found_in_signs innermost (lists_seen c.args.base.now c.args.frames.now)
+    let left_found = at_item (λ left. found_in_signs innermost (lists_seen c.args.base.now c.args.levels.now)
     (plain_start c.args.start) (signs_of (map plain_signed left)) (plain_found c.loop-sign.found))
     c.items-sign-items.result.now c.loop-sign.sign-index c.sign-item.result c.sign-item.is c.loop-sign-test.true in
     let found_in = rw (sym (ap (λ one. one.tree) (signed_is c.sign-item.result))) at c.in_ok-walk.ensures.found in
@@ -118,20 +118,20 @@ pub record::walk_fields-loop-field-preserved : goal.record::walk_fields-loop-fie
 record::walk_fields-loop-field-preserved t c =
     let first = c.args.base.now.first in
     let names = (names_outside c.args.base.now) in
-    let frames = plain_frames c.args.frames.now in
-    let left = at_item (λ left. walked_fields first names frames (fields_of (map plain_field left))
+    let levels = plain_levels c.args.levels.now in
+    let left = at_item (λ left. walked_fields first names levels (fields_of (map plain_field left))
     (plain_named c.loop-field.made.items) (plain_equations c.loop-field.state.equations.items))
     c.items-field-items.result.now c.loop-field.field-index c.field-item.result c.field-item.is
     c.loop-field-test.true in
     let one = rw (field_is c.field-item.result) at left in
-    let step = fields_more first names frames c.field-item.result.label _ c.field-item.result.at
+    let step = fields_more first names levels c.field-item.result.label _ c.field-item.result.at
     c.field-item.result.optional (plain c.field-item.result.tree)
     (fields_of (map plain_field (drop (c.loop-field.field-index + 1) c.items-field-items.result.now)))
     c.loop-field.made.items
     c.push.new.self.items (plain_equations c.loop-field.state.equations.items)
     (plain_equations c.walk.new.state.equations.items) _
     c.in_ok-node.ensures.equations c.in_ok-copy.ensures c.in_ok-push.ensures.items in
-    let left_found = at_item (λ left. found_in_fields innermost (lists_seen c.args.base.now c.args.frames.now)
+    let left_found = at_item (λ left. found_in_fields innermost (lists_seen c.args.base.now c.args.levels.now)
     (fields_of (map plain_field left)) (plain_found c.loop-field.found))
     c.items-field-items.result.now c.loop-field.field-index c.field-item.result c.field-item.is
     c.loop-field-test.true in
@@ -142,29 +142,29 @@ pub declare::walk_declared-loop-place-preserved : goal.declare::walk_declared-lo
 declare::walk_declared-loop-place-preserved t c =
     let first = c.args.base.now.first in
     let names = (names_outside c.args.base.now) in
-    let frames = plain_frames c.args.frames.now in
-    let lists = lists_seen c.args.base.now c.args.frames.now in
-    let declared = plain_declarations c.args.frame.now.declarations.now in
+    let levels = plain_levels c.args.levels.now in
+    let lists = lists_seen c.args.base.now c.args.levels.now in
+    let declared = plain_declarations c.args.level.now.declarations.now in
     let items = c.items-items.result.now in
     let place = c.loop-place.place in
     let one = c.index-items-place.result in
     let rest = declarations_of (map plain_declaration (drop (place + 1) items)) in
-    let left = at_item (λ left. walked_declared first names frames c.loop-place.number
+    let left = at_item (λ left. walked_declared first names levels c.loop-place.number
     (declarations_of (map plain_declaration left)) (plain_equations c.loop-place.state.equations.items))
     items place one c.index-items-place.is c.loop-place-test.true in
     let here = rw (declaration_is one) at left in
-    let step = declared_more first names frames one.name one.at c.loop-place.number c.in-Some.next (plain one.tree) rest
+    let step = declared_more first names levels one.name one.at c.loop-place.number c.in-Some.next (plain one.tree) rest
     (plain_equations c.loop-place.state.equations.items) (plain_equations c.walk.new.state.equations.items)
     (plain_equations c.settle.new.self.equations.items) c.in_ok-root.root c.in_ok-root.ensures.equations
     c.settle.ensures c.in-Some.ensures.1 in
-    let left_found = at_item (λ left. found_in_declared innermost lists c.args.frame.now.list
+    let left_found = at_item (λ left. found_in_declared innermost lists c.args.level.now.list
     (take place (names_in declared)) (declarations_of (map plain_declaration left)) (plain_found c.loop-place.found))
     items place one c.index-items-place.is c.loop-place-test.true in
     let here_found = rw (declaration_is one) at left_found in
     let one_more = rw (ap (λ one. one.name) (declaration_is one)) at
     (one_name_more items declared place one c.items-items.ensures c.index-items-place.is c.loop-place-test.true) in
     let reported = rw c.is_taken.ensures at c.in_ok-report_twice.ensures in
-    let step_found = found_more lists c.args.frame.now.list (take place (names_in declared)) _
+    let step_found = found_more lists c.args.level.now.list (take place (names_in declared)) _
     (record { name = one.name; at = one.at; tree = plain one.tree }) rest
     (plain_found c.loop-place.found) (plain_found c.report_twice.new.self) (plain_found c.walk.new.found)
     c.declares_before-again.result (plain_start c.start_of-start.result) c.declares_before-again.ensures one_more

@@ -12,7 +12,7 @@ use Rattle.cd_resolve.specs.Inner.Finding.{found_in_declared, found_in_regulars}
 use Rattle.cd_resolve.specs.Inner.NamesDeclared.{names_in}
 use Rattle.cd_resolve.specs.Inner.PlainBase.{names_outside, lists_seen}
 use Rattle.cd_resolve.specs.Inner.PlainFound.{plain_found, plain_start}
-use Rattle.cd_resolve.specs.Inner.PlainState.{plain_frames}
+use Rattle.cd_resolve.specs.Inner.PlainState.{plain_levels}
 use Rattle.cd_resolve.proofs.Sizes.{size, size_kind, size_trees, size_signs, size_fields, size_declarations}
 use Rattle.cd_resolve.proofs.Sizes.{size_regular, size_regular_kind, size_regulars}
 use Rattle.cd_resolve.proofs.+walk.Given as goal
@@ -55,7 +55,7 @@ abbrev pub decreases-declare::walk_under : goal.decreases-declare::walk_under
 decreases-declare::walk_under l = suc (size_declarations (plain_declarations l.declarations.now))
 
 abbrev pub decreases-declare::walk_declared : goal.decreases-declare::walk_declared
-decreases-declare::walk_declared l = size_declarations (plain_declarations l.frame.now.declarations.now)
+decreases-declare::walk_declared l = size_declarations (plain_declarations l.level.now.declarations.now)
 
 abbrev pub decreases-sequence::walk_sequence : goal.decreases-sequence::walk_sequence
 decreases-sequence::walk_sequence l = suc (size_regular (plain_regular l.expression.now))
@@ -75,58 +75,58 @@ decreases-sequence::walk_regulars l = size_regulars (plain_regulars l.all.now)
 -- to go on from here gives what the whole gives from the start
 abbrev pub invariant-walk::walk_trees-loop-tree : goal.invariant-walk::walk_trees-loop-tree
 invariant-walk::walk_trees-loop-tree l =
-    (found_in_trees innermost (lists_seen l.base l.frames) (plain_start l.start)
+    (found_in_trees innermost (lists_seen l.base l.levels) (plain_start l.start)
     (trees_of (map plain (drop l.tree-index l.tree-items))) (plain_found l.found)
-    ≡ found_in_trees innermost (lists_seen l.base l.frames) (plain_start l.start) (plain_trees l.trees)
+    ≡ found_in_trees innermost (lists_seen l.base l.levels) (plain_start l.start) (plain_trees l.trees)
     (plain_found l.fn.found))
-    × (walked_trees l.base.first (names_outside l.base) (plain_frames l.frames)
+    × (walked_trees l.base.first (names_outside l.base) (plain_levels l.levels)
     (trees_of (map plain (drop l.tree-index l.tree-items))) l.made.items (plain_equations l.state.equations.items)
-    ≡ walked_trees l.base.first (names_outside l.base) (plain_frames l.frames) (plain_trees l.trees) []
+    ≡ walked_trees l.base.first (names_outside l.base) (plain_levels l.levels) (plain_trees l.trees) []
     (plain_equations l.fn.state.equations.items))
 
 abbrev pub invariant-walk::walk_signs-loop-sign : goal.invariant-walk::walk_signs-loop-sign
 invariant-walk::walk_signs-loop-sign l =
-    (found_in_signs innermost (lists_seen l.base l.frames) (plain_start l.start)
+    (found_in_signs innermost (lists_seen l.base l.levels) (plain_start l.start)
     (signs_of (map plain_signed (drop l.sign-index l.sign-items))) (plain_found l.found)
-    ≡ found_in_signs innermost (lists_seen l.base l.frames) (plain_start l.start) (plain_signs l.signs)
+    ≡ found_in_signs innermost (lists_seen l.base l.levels) (plain_start l.start) (plain_signs l.signs)
     (plain_found l.fn.found))
-    × (walked_signs l.base.first (names_outside l.base) (plain_frames l.frames)
+    × (walked_signs l.base.first (names_outside l.base) (plain_levels l.levels)
     (signs_of (map plain_signed (drop l.sign-index l.sign-items))) l.made.items
     (plain_equations l.state.equations.items)
-    ≡ walked_signs l.base.first (names_outside l.base) (plain_frames l.frames) (plain_signs l.signs)
+    ≡ walked_signs l.base.first (names_outside l.base) (plain_levels l.levels) (plain_signs l.signs)
     ((true, l.fn.first) ∷ []) (plain_equations l.fn.state.equations.items))
 
 abbrev pub invariant-record::walk_fields-loop-field : goal.invariant-record::walk_fields-loop-field
 invariant-record::walk_fields-loop-field l =
-    (found_in_fields innermost (lists_seen l.base l.frames)
+    (found_in_fields innermost (lists_seen l.base l.levels)
     (fields_of (map plain_field (drop l.field-index l.field-items))) (plain_found l.found)
-    ≡ found_in_fields innermost (lists_seen l.base l.frames) (plain_fields l.fields) (plain_found l.fn.found))
-    × (walked_fields l.base.first (names_outside l.base) (plain_frames l.frames)
+    ≡ found_in_fields innermost (lists_seen l.base l.levels) (plain_fields l.fields) (plain_found l.fn.found))
+    × (walked_fields l.base.first (names_outside l.base) (plain_levels l.levels)
     (fields_of (map plain_field (drop l.field-index l.field-items))) (plain_named l.made.items)
     (plain_equations l.state.equations.items)
-    ≡ walked_fields l.base.first (names_outside l.base) (plain_frames l.frames) (plain_fields l.fields) []
+    ≡ walked_fields l.base.first (names_outside l.base) (plain_levels l.levels) (plain_fields l.fields) []
     (plain_equations l.fn.state.equations.items))
 
 abbrev pub invariant-sequence::walk_regulars-loop-expression : goal.invariant-sequence::walk_regulars-loop-expression
 invariant-sequence::walk_regulars-loop-expression l =
-    (found_in_regulars innermost (lists_seen l.base l.frames)
+    (found_in_regulars innermost (lists_seen l.base l.levels)
     (regulars_of (map plain_regular (drop l.expression-index l.expression-items))) (plain_found l.found)
-    ≡ found_in_regulars innermost (lists_seen l.base l.frames) (plain_regulars l.all) (plain_found l.fn.found))
-    × (walked_regulars l.base.first (names_outside l.base) (plain_frames l.frames)
+    ≡ found_in_regulars innermost (lists_seen l.base l.levels) (plain_regulars l.all) (plain_found l.fn.found))
+    × (walked_regulars l.base.first (names_outside l.base) (plain_levels l.levels)
     (regulars_of (map plain_regular (drop l.expression-index l.expression-items))) (map plain_reg l.made.items)
     (plain_equations l.state.equations.items)
-    ≡ walked_regulars l.base.first (names_outside l.base) (plain_frames l.frames) (plain_regulars l.all) []
+    ≡ walked_regulars l.base.first (names_outside l.base) (plain_levels l.levels) (plain_regulars l.all) []
     (plain_equations l.fn.state.equations.items))
 
 -- those that are seen are the names of the declarations before
 abbrev pub invariant-declare::walk_declared-loop-place : goal.invariant-declare::walk_declared-loop-place
 invariant-declare::walk_declared-loop-place l =
-    (found_in_declared innermost (lists_seen l.base l.frames) l.frame.list
-    (take l.place (names_in (plain_declarations l.frame.declarations.now)))
+    (found_in_declared innermost (lists_seen l.base l.levels) l.level.list
+    (take l.place (names_in (plain_declarations l.level.declarations.now)))
     (declarations_of (map plain_declaration (drop l.place l.items))) (plain_found l.found)
-    ≡ found_in_declared innermost (lists_seen l.base l.frames) l.frame.list []
-    (plain_declarations l.frame.declarations.now) (plain_found l.fn.found))
-    × (walked_declared l.base.first (names_outside l.base) (plain_frames l.frames) l.number
+    ≡ found_in_declared innermost (lists_seen l.base l.levels) l.level.list []
+    (plain_declarations l.level.declarations.now) (plain_found l.fn.found))
+    × (walked_declared l.base.first (names_outside l.base) (plain_levels l.levels) l.number
     (declarations_of (map plain_declaration (drop l.place l.items))) (plain_equations l.state.equations.items)
-    ≡ walked_declared l.base.first (names_outside l.base) (plain_frames l.frames) l.fn.from
-    (plain_declarations l.frame.declarations.now) (plain_equations l.fn.state.equations.items))
+    ≡ walked_declared l.base.first (names_outside l.base) (plain_levels l.levels) l.fn.from
+    (plain_declarations l.level.declarations.now) (plain_equations l.fn.state.equations.items))

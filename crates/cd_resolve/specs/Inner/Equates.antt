@@ -14,7 +14,7 @@ use Rattle.cd_regex.specs.Regular.{Regular, Regulars, Nothing, Item, Seq, Alt, N
 use Rattle.cd_regex.specs.Regular.{AsksBelow}
 use Rattle.cd_regex.specs.Automaton.{sequence_formulas}
 use Rattle.cd_resolve.specs.Inner.Equation.{Equation, Equations, Is, Same, And, Or}
-use Rattle.cd_resolve.specs.Inner.Frames.{Frames, node_under}
+use Rattle.cd_resolve.specs.Inner.ScopeLevels.{ScopeLevels, node_under}
 use Rattle.cd_resolve.specs.Inner.Leaves.{integers, characters, atom, Joint, Pairs, Arrows, joined}
 use Rattle.cd_resolve.specs.Inner.Leaves.{sorted}
 use Rattle.cd_resolve.specs.Inner.Members.{Sign, union_of, meet_of}
@@ -59,101 +59,101 @@ module _ (first : ℕ) (equations : Equations) where
 
   module _ (names : List (Name × NodeId)) where
     abbrev mutual
-      pub Equates : Frames → Tree → NodeId → Type 0
-      Equates frames (tree span kind) id = EquatesKind frames kind id
+      pub Equates : ScopeLevels → Tree → NodeId → Type 0
+      Equates levels (tree span kind) id = EquatesKind levels kind id
 
-      pub EquatesKind : Frames → Kind → NodeId → Type 0
-      EquatesKind frames (type.Builtin name) id = id ≡ node_named name
-      EquatesKind frames (type.Ints low high) id = HasLeaf (integers low high) id
-      EquatesKind frames (type.Chars low high) id = HasLeaf (characters low high) id
-      EquatesKind frames (type.Atom name) id = IsAt id (Is (atom name))
-      EquatesKind frames (type.Text text) id = EquatesText text id
-      EquatesKind frames (type.Tuple (ATree one (ATree next rest))) id =
-          EquatesChain frames Pairs (ATree one (ATree next rest)) id
-      EquatesKind frames (type.Arrows (ATree one (ATree next rest))) id =
-          EquatesChain frames Arrows (ATree one (ATree next rest)) id
-      EquatesKind frames (type.Union trees) id = (ids : List NodeId) × HasUnion id (union_of ids)
-          × EquatesEach frames trees ids
-      EquatesKind frames (type.Meet one signs) id = (kept : NodeId) × (signed : List Sign)
-          × HasMeet id (meet_of ((true, kept) ∷ signed)) × Equates frames one kept
-          × EquatesSigns frames signs signed
-      EquatesKind frames (type.Sequence is) id = (regular : Regular)
+      pub EquatesKind : ScopeLevels → Kind → NodeId → Type 0
+      EquatesKind levels (type.Builtin name) id = id ≡ node_named name
+      EquatesKind levels (type.Ints low high) id = HasLeaf (integers low high) id
+      EquatesKind levels (type.Chars low high) id = HasLeaf (characters low high) id
+      EquatesKind levels (type.Atom name) id = IsAt id (Is (atom name))
+      EquatesKind levels (type.Text text) id = EquatesText text id
+      EquatesKind levels (type.Tuple (ATree one (ATree next rest))) id =
+          EquatesChain levels Pairs (ATree one (ATree next rest)) id
+      EquatesKind levels (type.Arrows (ATree one (ATree next rest))) id =
+          EquatesChain levels Arrows (ATree one (ATree next rest)) id
+      EquatesKind levels (type.Union trees) id = (ids : List NodeId) × HasUnion id (union_of ids)
+          × EquatesEach levels trees ids
+      EquatesKind levels (type.Meet one signs) id = (kept : NodeId) × (signed : List Sign)
+          × HasMeet id (meet_of ((true, kept) ∷ signed)) × Equates levels one kept
+          × EquatesSigns levels signs signed
+      EquatesKind levels (type.Sequence is) id = (regular : Regular)
           × HaveFormulas id.0 (sequence_formulas id.0 regular)
-          × EquatesRegular frames is regular × AsksBelow id.0 regular
-      EquatesKind frames (type.Record fields more) id = (named : List (Name × Field))
+          × EquatesRegular levels is regular × AsksBelow id.0 regular
+      EquatesKind levels (type.Record fields more) id = (named : List (Name × Field))
           × IsAt id (Is (Record (sorted named) (node_named (any_or_none more))))
-          × EquatesFields frames fields named
-      EquatesKind frames (type.Xml tag attributes content) id = (one other last : NodeId)
+          × EquatesFields levels fields named
+      EquatesKind levels (type.Xml tag attributes content) id = (one other last : NodeId)
           × IsAt id (Is (Xml one other last))
-          × Equates frames tag one × Equates frames attributes other
-          × Equates frames content last
-      EquatesKind frames (type.Named name) id = id ≡ node_under names frames name
-      EquatesKind frames (type.Where is declarations) id = (number : ℕ)
-          × AreEquated (record { declarations = declarations; first = number } ∷ frames) number
+          × Equates levels tag one × Equates levels attributes other
+          × Equates levels content last
+      EquatesKind levels (type.Named name) id = id ≡ node_under names levels name
+      EquatesKind levels (type.Where is declarations) id = (number : ℕ)
+          × AreEquated (record { declarations = declarations; first = number } ∷ levels) number
           declarations
-          × Equates (record { declarations = declarations; first = number } ∷ frames) is id
-      EquatesKind frames kind id = id ≡ EMPTY
+          × Equates (record { declarations = declarations; first = number } ∷ levels) is id
+      EquatesKind levels kind id = id ≡ EMPTY
 
       -- a chain of one tree is that tree
-      pub EquatesChain : Frames → Joint → Trees → NodeId → Type 0
-      EquatesChain frames joint NoTree id = id ≡ EMPTY
-      EquatesChain frames joint (ATree is NoTree) id = Equates frames is id
-      EquatesChain frames joint (ATree is (ATree next rest)) id = (one other : NodeId)
+      pub EquatesChain : ScopeLevels → Joint → Trees → NodeId → Type 0
+      EquatesChain levels joint NoTree id = id ≡ EMPTY
+      EquatesChain levels joint (ATree is NoTree) id = Equates levels is id
+      EquatesChain levels joint (ATree is (ATree next rest)) id = (one other : NodeId)
           × IsAt id (Is (joined joint one other))
-          × Equates frames is one × EquatesChain frames joint (ATree next rest) other
+          × Equates levels is one × EquatesChain levels joint (ATree next rest) other
 
-      pub EquatesEach : Frames → Trees → List NodeId → Type 0
-      EquatesEach frames NoTree [] = Unit {0}
-      EquatesEach frames (ATree one rest) (id ∷ ids) = Equates frames one id
-          × EquatesEach frames rest ids
-      EquatesEach frames trees ids = ⊥
+      pub EquatesEach : ScopeLevels → Trees → List NodeId → Type 0
+      EquatesEach levels NoTree [] = Unit {0}
+      EquatesEach levels (ATree one rest) (id ∷ ids) = Equates levels one id
+          × EquatesEach levels rest ids
+      EquatesEach levels trees ids = ⊥
 
-      pub EquatesSigns : Frames → Signs → List Sign → Type 0
-      EquatesSigns frames NoSign [] = Unit {0}
-      EquatesSigns frames (ASign kept is rest) (sign ∷ signs) = (sign.0 ≡ kept)
-          × Equates frames is sign.1 × EquatesSigns frames rest signs
-      EquatesSigns frames trees signs = ⊥
+      pub EquatesSigns : ScopeLevels → Signs → List Sign → Type 0
+      EquatesSigns levels NoSign [] = Unit {0}
+      EquatesSigns levels (ASign kept is rest) (sign ∷ signs) = (sign.0 ≡ kept)
+          × Equates levels is sign.1 × EquatesSigns levels rest signs
+      EquatesSigns levels trees signs = ⊥
 
-      pub EquatesFields : Frames → Fields → List (Name × Field) → Type 0
-      EquatesFields frames NoField [] = Unit {0}
-      EquatesFields frames (AField label at optional is rest) (field ∷ named) = (field.0 ≡ label)
+      pub EquatesFields : ScopeLevels → Fields → List (Name × Field) → Type 0
+      EquatesFields levels NoField [] = Unit {0}
+      EquatesFields levels (AField label at optional is rest) (field ∷ named) = (field.0 ≡ label)
           × (field.1.optional ≡ optional)
-          × Equates frames is field.1.type × EquatesFields frames rest named
-      EquatesFields frames fields named = ⊥
+          × Equates levels is field.1.type × EquatesFields levels rest named
+      EquatesFields levels fields named = ⊥
 
       -- an expression over the nodes of its items
-      pub EquatesRegular : Frames → type.Regular → Regular → Type 0
-      EquatesRegular frames (type.regular span kind) is = EquatesRegularKind frames kind is
+      pub EquatesRegular : ScopeLevels → type.Regular → Regular → Type 0
+      EquatesRegular levels (type.regular span kind) is = EquatesRegularKind levels kind is
 
-      pub EquatesRegularKind : Frames → type.RegularKind → Regular → Type 0
-      EquatesRegularKind frames type.Nothing is = is ≡ Nothing
-      EquatesRegularKind frames (type.Item part) is = (id : NodeId) × (is ≡ Item id)
-          × Equates frames part id
-      EquatesRegularKind frames (type.Seq all) is = (parts : Regulars) × (is ≡ Seq parts)
-          × EquatesRegulars frames all parts
-      EquatesRegularKind frames (type.Alt all) is = (parts : Regulars) × (is ≡ Alt parts)
-          × EquatesRegulars frames all parts
-      EquatesRegularKind frames (type.Repeat inner post) is = (part : Regular)
-          × (is ≡ repeated post part) × EquatesRegular frames inner part
+      pub EquatesRegularKind : ScopeLevels → type.RegularKind → Regular → Type 0
+      EquatesRegularKind levels type.Nothing is = is ≡ Nothing
+      EquatesRegularKind levels (type.Item part) is = (id : NodeId) × (is ≡ Item id)
+          × Equates levels part id
+      EquatesRegularKind levels (type.Seq all) is = (parts : Regulars) × (is ≡ Seq parts)
+          × EquatesRegulars levels all parts
+      EquatesRegularKind levels (type.Alt all) is = (parts : Regulars) × (is ≡ Alt parts)
+          × EquatesRegulars levels all parts
+      EquatesRegularKind levels (type.Repeat inner post) is = (part : Regular)
+          × (is ≡ repeated post part) × EquatesRegular levels inner part
       -- a form of patterns, which stands in no type
-      EquatesRegularKind frames (type.Capture name inner) is = is ≡ Alt NoRegular
+      EquatesRegularKind levels (type.Capture name inner) is = is ≡ Alt NoRegular
 
-      pub EquatesRegulars : Frames → type.Regulars → Regulars → Type 0
-      EquatesRegulars frames type.NoRegular NoRegular = Unit {0}
-      EquatesRegulars frames (type.ARegular one rest) (ARegular is others) =
-          EquatesRegular frames one is × EquatesRegulars frames rest others
-      EquatesRegulars frames all parts = ⊥
+      pub EquatesRegulars : ScopeLevels → type.Regulars → Regulars → Type 0
+      EquatesRegulars levels type.NoRegular NoRegular = Unit {0}
+      EquatesRegulars levels (type.ARegular one rest) (ARegular is others) =
+          EquatesRegular levels one is × EquatesRegulars levels rest others
+      EquatesRegulars levels all parts = ⊥
 
       -- the declared names whose nodes follow one another from this number on hold what their trees
       -- do
-      pub AreEquated : Frames → ℕ → Declarations → Type 0
-      AreEquated frames number NoDeclaration = Unit {0}
-      AreEquated frames number (ADeclaration name at is rest) =
-          ((root : NodeId) × IsAt (node number) (Same root) × Equates frames is root)
-          × AreEquated frames (number + 1) rest
+      pub AreEquated : ScopeLevels → ℕ → Declarations → Type 0
+      AreEquated levels number NoDeclaration = Unit {0}
+      AreEquated levels number (ADeclaration name at is rest) =
+          ((root : NodeId) × IsAt (node number) (Same root) × Equates levels is root)
+          × AreEquated levels (number + 1) rest
 
     -- so do the names of each of these lists
-    abbrev pub AllEquated : Frames → Type 0
+    abbrev pub AllEquated : ScopeLevels → Type 0
     AllEquated [] = Unit {0}
-    AllEquated (frame ∷ outer) = AreEquated (frame ∷ outer) frame.first frame.declarations
+    AllEquated (level ∷ outer) = AreEquated (level ∷ outer) level.first level.declarations
         × AllEquated outer

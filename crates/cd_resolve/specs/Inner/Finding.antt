@@ -14,16 +14,16 @@ use Rattle.cd_resolve.specs.Faults.{Fault}
 use Rattle.cd_resolve.specs.Inner.BuiltinNames.{is_among, is_builtin}
 
 -- a list of declarations that a tree stands under, and its number
-pub record Frame : Type 0 where
+pub record ScopeLevel : Type 0 where
   pub declarations : Declarations
   pub list : ℕ
 
-abbrev pub Frames : Type 0
-Frames = List Frame
+abbrev pub ScopeLevels : Type 0
+ScopeLevels = List ScopeLevel
 
-abbrev pub innermost : Frames → Declarations
+abbrev pub innermost : ScopeLevels → Declarations
 innermost [] = NoDeclaration
-innermost (frame ∷ outer) = frame.declarations
+innermost (level ∷ outer) = level.declarations
 
 -- a declared name: the first of its name in the list of this number
 pub record Id : Type 0 where
@@ -67,25 +67,25 @@ place_in NoDeclaration name = None
 place_in (ADeclaration other at is rest) name =
     if bytes_eq other name then Some at else place_in rest name
 
-pub record Place : Type 0 where
+pub record DeclaredAt : Type 0 where
   pub list : ℕ
   pub at : ℕ
 
-abbrev pub place_or : ℕ → Option ℕ → Option Place → Option Place
-place_or list (Some at) outer = Some (record { list = list; at = at })
-place_or list None outer = outer
+abbrev pub declared_here_or : ℕ → Option ℕ → Option DeclaredAt → Option DeclaredAt
+declared_here_or list (Some at) outer = Some (record { list = list; at = at })
+declared_here_or list None outer = outer
 
-abbrev pub place_of : Frames → Name → Option Place
-place_of [] name = None
-place_of (frame ∷ outer) name =
-    place_or frame.list (place_in frame.declarations name) (place_of outer name)
+abbrev pub declared_under : ScopeLevels → Name → Option DeclaredAt
+declared_under [] name = None
+declared_under (level ∷ outer) name =
+    declared_here_or level.list (place_in level.declarations name) (declared_under outer name)
 
 -- a name is met at this place, in the tree of this declared name and under no constructor
-abbrev pub met : {N : Type 0} → Option Id → Name → ℕ → Option Place → State N → State N
+abbrev pub met : {N : Type 0} → Option Id → Name → ℕ → Option DeclaredAt → State N → State N
 met start name at None s = reported Unknown name at s
-met None name at (Some place) s = s
-met (Some start) name at (Some place) s = linked start
-    (record { list = place.list; name = name }) place.at s
+met None name at (Some declared_at) s = s
+met (Some start) name at (Some declared_at) s = linked start
+    (record { list = declared_at.list; name = name }) declared_at.at s
 
 abbrev pub reported_if : {N : Type 0} → Bool → Name → ℕ → State N → State N
 reported_if true name at s = reported Twice name at s
@@ -105,74 +105,84 @@ labelled seen (AField label at optional is rest) s = labelled (seen ++ label ∷
 -- the walk over a tree under these lists. `start` is the declared name that leads to the tree
 -- through no constructor, and `keep` is what is kept of a list
 abbrev mutual
-  pub found_in : {N : Type 0} → (Frames → N) → Frames → Option Id → Tree → State N → State N
-  found_in keep frames start (tree span kind) s = found_in_kind keep frames start span.from kind s
-
-  pub found_in_kind : {N : Type 0} → (Frames → N) → Frames → Option Id → ℕ → Kind → State N
+  pub found_in : {N : Type 0} → (ScopeLevels → N) → ScopeLevels → Option Id → Tree → State N
       → State N
-  found_in_kind keep frames start at (Tuple trees) s = found_in_trees keep frames None trees s
-  found_in_kind keep frames start at (Arrows trees) s = found_in_trees keep frames None trees s
-  found_in_kind keep frames start at (Union trees) s = found_in_trees keep frames start trees s
-  found_in_kind keep frames start at (Meet first signs) s = found_in_signs keep frames start signs
-      (found_in keep frames start first s)
-  found_in_kind keep frames start at (Sequence is) s = found_in_regular keep frames is s
-  found_in_kind keep frames start at (Record fields more) s =
-      found_in_fields keep frames fields (labelled [] fields s)
-  found_in_kind keep frames start at (Xml tag attributes content) s =
-      found_in keep frames None content
-      (found_in keep frames None attributes (found_in keep frames None tag s))
-  found_in_kind keep frames start at (Named name) s = met start name at (place_of frames name) s
-  found_in_kind keep frames start at (Where is declarations) s =
-      found_in keep (record { declarations = declarations; list = length s.lists } ∷ frames)
+  found_in keep levels start (tree span kind) s = found_in_kind keep levels start span.from kind s
+
+  pub found_in_kind : {N : Type 0} → (ScopeLevels → N) → ScopeLevels → Option Id → ℕ → Kind
+      → State N
+      → State N
+  found_in_kind keep levels start at (Tuple trees) s = found_in_trees keep levels None trees s
+  found_in_kind keep levels start at (Arrows trees) s = found_in_trees keep levels None trees s
+  found_in_kind keep levels start at (Union trees) s = found_in_trees keep levels start trees s
+  found_in_kind keep levels start at (Meet first signs) s = found_in_signs keep levels start signs
+      (found_in keep levels start first s)
+  found_in_kind keep levels start at (Sequence is) s = found_in_regular keep levels is s
+  found_in_kind keep levels start at (Record fields more) s =
+      found_in_fields keep levels fields (labelled [] fields s)
+  found_in_kind keep levels start at (Xml tag attributes content) s =
+      found_in keep levels None content
+      (found_in keep levels None attributes (found_in keep levels None tag s))
+  found_in_kind keep levels start at (Named name) s =
+      met start name at (declared_under levels name) s
+  found_in_kind keep levels start at (Where is declarations) s =
+      found_in keep (record { declarations = declarations; list = length s.lists } ∷ levels)
       start is
       (found_in_declared keep
-      (record { declarations = declarations; list = length s.lists } ∷ frames)
+      (record { declarations = declarations; list = length s.lists } ∷ levels)
       (length s.lists) [] declarations
-      (entered (keep (record { declarations = declarations; list = length s.lists } ∷ frames)) s))
-  found_in_kind keep frames start at kind s = s
+      (entered (keep (record { declarations = declarations; list = length s.lists } ∷ levels)) s))
+  found_in_kind keep levels start at kind s = s
 
-  pub found_in_trees : {N : Type 0} → (Frames → N) → Frames → Option Id → Trees → State N → State N
-  found_in_trees keep frames start NoTree s = s
-  found_in_trees keep frames start (ATree first rest) s = found_in_trees keep frames start rest
-      (found_in keep frames start first s)
+  pub found_in_trees : {N : Type 0} → (ScopeLevels → N) → ScopeLevels → Option Id → Trees → State N
+      → State N
+  found_in_trees keep levels start NoTree s = s
+  found_in_trees keep levels start (ATree first rest) s = found_in_trees keep levels start rest
+      (found_in keep levels start first s)
 
-  pub found_in_signs : {N : Type 0} → (Frames → N) → Frames → Option Id → Signs → State N → State N
-  found_in_signs keep frames start NoSign s = s
-  found_in_signs keep frames start (ASign kept is rest) s = found_in_signs keep frames start rest
-      (found_in keep frames start is s)
+  pub found_in_signs : {N : Type 0} → (ScopeLevels → N) → ScopeLevels → Option Id → Signs → State N
+      → State N
+  found_in_signs keep levels start NoSign s = s
+  found_in_signs keep levels start (ASign kept is rest) s = found_in_signs keep levels start rest
+      (found_in keep levels start is s)
 
-  pub found_in_fields : {N : Type 0} → (Frames → N) → Frames → Fields → State N → State N
-  found_in_fields keep frames NoField s = s
-  found_in_fields keep frames (AField label at optional is rest) s =
-      found_in_fields keep frames rest (found_in keep frames None is s)
+  pub found_in_fields : {N : Type 0} → (ScopeLevels → N) → ScopeLevels → Fields → State N → State N
+  found_in_fields keep levels NoField s = s
+  found_in_fields keep levels (AField label at optional is rest) s =
+      found_in_fields keep levels rest (found_in keep levels None is s)
 
   -- the declarations of the innermost list after those of these names
-  pub found_in_declared : {N : Type 0} → (Frames → N) → Frames → ℕ → List Name → Declarations
+  pub found_in_declared : {N : Type 0} → (ScopeLevels → N) → ScopeLevels → ℕ → List Name
+      → Declarations
       → State N → State N
-  found_in_declared keep frames list seen NoDeclaration s = s
-  found_in_declared keep frames list seen (ADeclaration name at is rest) s =
-      found_in_declared keep frames list (seen ++ name ∷ []) rest
-      (found_in keep frames (start_of (is_among seen name) list name) is
+  found_in_declared keep levels list seen NoDeclaration s = s
+  found_in_declared keep levels list seen (ADeclaration name at is rest) s =
+      found_in_declared keep levels list (seen ++ name ∷ []) rest
+      (found_in keep levels (start_of (is_among seen name) list name) is
       (reported_if (is_among seen name || is_builtin name) name at s))
 
-  pub found_in_regular : {N : Type 0} → (Frames → N) → Frames → Regular → State N → State N
-  found_in_regular keep frames (regular span kind) s = found_in_regular_kind keep frames kind s
+  pub found_in_regular : {N : Type 0} → (ScopeLevels → N) → ScopeLevels → Regular → State N
+      → State N
+  found_in_regular keep levels (regular span kind) s = found_in_regular_kind keep levels kind s
 
-  pub found_in_regular_kind : {N : Type 0} → (Frames → N) → Frames → RegularKind → State N → State N
-  found_in_regular_kind keep frames Nothing s = s
-  found_in_regular_kind keep frames (Item is) s = found_in keep frames None is s
-  found_in_regular_kind keep frames (Seq all) s = found_in_regulars keep frames all s
-  found_in_regular_kind keep frames (Alt all) s = found_in_regulars keep frames all s
-  found_in_regular_kind keep frames (Repeat is post) s = found_in_regular keep frames is s
-  found_in_regular_kind keep frames (Capture name is) s = found_in_regular keep frames is s
+  pub found_in_regular_kind : {N : Type 0} → (ScopeLevels → N) → ScopeLevels → RegularKind → State N
+      → State N
+  found_in_regular_kind keep levels Nothing s = s
+  found_in_regular_kind keep levels (Item is) s = found_in keep levels None is s
+  found_in_regular_kind keep levels (Seq all) s = found_in_regulars keep levels all s
+  found_in_regular_kind keep levels (Alt all) s = found_in_regulars keep levels all s
+  found_in_regular_kind keep levels (Repeat is post) s = found_in_regular keep levels is s
+  found_in_regular_kind keep levels (Capture name is) s = found_in_regular keep levels is s
 
-  pub found_in_regulars : {N : Type 0} → (Frames → N) → Frames → Regulars → State N → State N
-  found_in_regulars keep frames NoRegular s = s
-  found_in_regulars keep frames (ARegular first rest) s = found_in_regulars keep frames rest
-      (found_in_regular keep frames first s)
+  pub found_in_regulars : {N : Type 0} → (ScopeLevels → N) → ScopeLevels → Regulars → State N
+      → State N
+  found_in_regulars keep levels NoRegular s = s
+  found_in_regulars keep levels (ARegular first rest) s = found_in_regulars keep levels rest
+      (found_in_regular keep levels first s)
 
 -- the walk over a list of declarations that stands first in the scope, and over the trees in it
-abbrev pub found_in_list : {N : Type 0} → (Frames → N) → Frames → Declarations → State N → State N
+abbrev pub found_in_list : {N : Type 0} → (ScopeLevels → N) → ScopeLevels → Declarations → State N
+    → State N
 found_in_list keep outer declarations s =
     found_in_declared keep (record { declarations = declarations; list = length s.lists } ∷ outer)
     (length s.lists) []

@@ -1,7 +1,7 @@
 -- What the code knows of a name that is met: its node, and where it is declared.
 use Rattle.std.specs.Prelude.{Option, Some, None}
 use Rattle.cd_sets.specs.declared.node_id.NodeId.{NodeId}
-use Rattle.cd_resolve.specs.Inner.Finding.{Place}
+use Rattle.cd_resolve.specs.Inner.Finding.{DeclaredAt}
 use Rattle.cd_resolve.specs.declared.lookup.Meaning.{Meaning}
 
 -- the node, or this one of a name that means nothing
@@ -10,7 +10,7 @@ id_or None outer = outer
 id_or (Some meaning) outer = meaning.id
 
 -- the place, or this one
-abbrev pub declared_at_or : Option Meaning → Option Place → Option Place
+abbrev pub declared_at_or : Option Meaning → Option DeclaredAt → Option DeclaredAt
 declared_at_or None outer = outer
 declared_at_or (Some meaning) outer =
-    Some (record { list = meaning.place.list; at = meaning.place.at })
+    Some (record { list = meaning.declared_at.list; at = meaning.declared_at.at })

@@ -6,20 +6,20 @@ use Rattle.cd_syntax.specs.PlainTree.{plain_declarations}
 use Rattle.cd_resolve.specs.PlainTold.{plain_reported}
 use Rattle.cd_resolve.specs.Inner.Finding as walk
 use Rattle.cd_resolve.specs.Inner.Finding.{State}
-use Rattle.cd_resolve.specs.declared.frame.Frame.{Frame}
+use Rattle.cd_resolve.specs.declared.scope_level.ScopeLevel.{ScopeLevel}
 use Rattle.cd_resolve.specs.declared.found.Id.{Id}
 use Rattle.cd_resolve.specs.declared.found.Link.{Link}
-use Rattle.cd_resolve.specs.declared.found.Place.{Place}
+use Rattle.cd_resolve.specs.declared.found.DeclaredAt.{DeclaredAt}
 use Rattle.cd_resolve.specs.declared.found.Found.{Found}
 
-abbrev pub list_frame : Frame → walk.Frame
-list_frame frame = record {
-  declarations = plain_declarations frame.declarations.now;
-  list = frame.list;
+abbrev pub list_level : ScopeLevel → walk.ScopeLevel
+list_level level = record {
+  declarations = plain_declarations level.declarations.now;
+  list = level.list;
 }
 
-abbrev pub list_frames : List Frame → walk.Frames
-list_frames frames = map list_frame frames
+abbrev pub list_levels : List ScopeLevel → walk.ScopeLevels
+list_levels levels = map list_level levels
 
 abbrev pub plain_id : Id → walk.Id
 plain_id id = record { list = id.list; name = id.name.now }
@@ -30,8 +30,9 @@ plain_start start = option_map plain_id start
 abbrev pub plain_link : Link → walk.Link
 plain_link link = record { start = plain_id link.start; to = plain_id link.to; at = link.at }
 
-abbrev pub plain_place : Option Place → Option walk.Place
-plain_place place = option_map (λ one. record { list = one.list; at = one.at }) place
+abbrev pub plain_declared_at : Option DeclaredAt → Option walk.DeclaredAt
+plain_declared_at declared_at =
+    option_map (λ one. record { list = one.list; at = one.at }) declared_at
 
 abbrev pub plain_found : Found → State Declarations
 plain_found found = record {
@@ -41,5 +42,5 @@ plain_found found = record {
 }
 
 -- a list that is met when so many others were
-abbrev pub list_after : Declarations → State Declarations → walk.Frame
+abbrev pub list_after : Declarations → State Declarations → walk.ScopeLevel
 list_after declarations s = record { declarations = declarations; list = length s.lists }

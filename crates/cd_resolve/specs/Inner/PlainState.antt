@@ -7,20 +7,20 @@ use Rattle.cd_model.specs.AllOf.{AllOf}
 use Rattle.cd_model.specs.Formula.{Field}
 use Rattle.cd_graph.specs.PlainFormula.{plain_field}
 use Rattle.cd_graph.specs.declared.fields.Field.{Field as CodeField}
-use Rattle.cd_resolve.specs.Inner.Frames.{Frame, Frames}
+use Rattle.cd_resolve.specs.Inner.ScopeLevels.{ScopeLevel, ScopeLevels}
 use Rattle.cd_resolve.specs.Inner.Leaves.{Joint, Pairs, Arrows}
-use Rattle.cd_resolve.specs.declared.frame.Frame.{Frame as CodeFrame}
+use Rattle.cd_resolve.specs.declared.scope_level.ScopeLevel.{ScopeLevel as CodeLevel}
 use Rattle.cd_resolve.specs.declared.state.Joint.{Joint as CodeJoint}
 use Rattle.cd_resolve.specs.declared.state.Joint.TheVariants as joint
 
-abbrev pub plain_frame : CodeFrame → Frame
-plain_frame frame = record {
-  declarations = plain_declarations frame.declarations.now;
-  first = frame.first;
+abbrev pub plain_level : CodeLevel → ScopeLevel
+plain_level level = record {
+  declarations = plain_declarations level.declarations.now;
+  first = level.first;
 }
 
-abbrev pub plain_frames : List CodeFrame → Frames
-plain_frames frames = map plain_frame frames
+abbrev pub plain_levels : List CodeLevel → ScopeLevels
+plain_levels levels = map plain_level levels
 
 abbrev pub plain_joint : CodeJoint → Joint
 plain_joint joint.Pairs = Pairs

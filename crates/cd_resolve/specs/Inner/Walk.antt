@@ -14,7 +14,7 @@ use Rattle.cd_model.specs.Written.{any_or_none}
 use Rattle.cd_regex.specs.Regular.{Regular, Nothing, Item, Seq, Alt, NoRegular, regulars_of}
 use Rattle.cd_regex.specs.Automaton.{sequence_formulas}
 use Rattle.cd_resolve.specs.Inner.Equation.{Equation, Equations, Is, Same, And, Or}
-use Rattle.cd_resolve.specs.Inner.Frames.{Frame, Frames, node_under, number_in}
+use Rattle.cd_resolve.specs.Inner.ScopeLevels.{ScopeLevel, ScopeLevels, node_under, number_in}
 use Rattle.cd_resolve.specs.Inner.Leaves.{integers, characters, atom, Joint, Pairs, Arrows, joined}
 use Rattle.cd_resolve.specs.Inner.Leaves.{sorted}
 use Rattle.cd_resolve.specs.Inner.Members.{Sign, union_of, meet_of}
@@ -124,91 +124,91 @@ module _ (first : ℕ) where
   one_of all = (Alt (regulars_of all.0), all.1)
 
   -- a list that is met when so many equations stand there
-  abbrev pub frame_after : Declarations → Equations → Frame
-  frame_after declarations s = record { declarations = declarations; first = first + length s }
+  abbrev pub level_after : Declarations → Equations → ScopeLevel
+  level_after declarations s = record { declarations = declarations; first = first + length s }
 
   -- names that no list declares have these nodes
   module _ (names : List (Name × NodeId)) where
     abbrev mutual
       -- the walk over a tree under these lists
-      pub walked : Frames → Tree → Equations → Read
-      walked frames (tree span kind) s = walked_kind frames kind s
+      pub walked : ScopeLevels → Tree → Equations → Read
+      walked levels (tree span kind) s = walked_kind levels kind s
 
-      pub walked_kind : Frames → Kind → Equations → Read
-      walked_kind frames (type.Builtin name) s = (node_named name, s)
-      walked_kind frames (type.Ints low high) s = leaf (integers low high) s
-      walked_kind frames (type.Chars low high) s = leaf (characters low high) s
-      walked_kind frames (type.Atom name) s = leaf (Some (atom name)) s
-      walked_kind frames (type.Text text) s = walked_text text s
-      walked_kind frames (type.Tuple (ATree one (ATree next rest))) s =
-          chained_all Pairs (walked_trees frames (ATree one (ATree next rest)) [] s)
-      walked_kind frames (type.Arrows (ATree one (ATree next rest))) s =
-          chained_all Arrows (walked_trees frames (ATree one (ATree next rest)) [] s)
-      walked_kind frames (type.Union trees) s = united_all (walked_trees frames trees [] s)
-      walked_kind frames (type.Meet one signs) s = met_all
-          (walked_signs frames signs ((true, (walked frames one s).0) ∷ []) (walked frames one s).1)
-      walked_kind frames (type.Sequence is) s = sequenced (walked_regular frames is s)
-      walked_kind frames (type.Record fields more) s =
-          recorded more (walked_fields frames fields [] s)
-      walked_kind frames (type.Xml tag attributes content) s =
-          elements (walked frames tag s).0 (walked frames attributes (walked frames tag s).1).0
-          (walked frames content (walked frames attributes (walked frames tag s).1).1)
-      walked_kind frames (type.Named name) s = (node_under names frames name, s)
+      pub walked_kind : ScopeLevels → Kind → Equations → Read
+      walked_kind levels (type.Builtin name) s = (node_named name, s)
+      walked_kind levels (type.Ints low high) s = leaf (integers low high) s
+      walked_kind levels (type.Chars low high) s = leaf (characters low high) s
+      walked_kind levels (type.Atom name) s = leaf (Some (atom name)) s
+      walked_kind levels (type.Text text) s = walked_text text s
+      walked_kind levels (type.Tuple (ATree one (ATree next rest))) s =
+          chained_all Pairs (walked_trees levels (ATree one (ATree next rest)) [] s)
+      walked_kind levels (type.Arrows (ATree one (ATree next rest))) s =
+          chained_all Arrows (walked_trees levels (ATree one (ATree next rest)) [] s)
+      walked_kind levels (type.Union trees) s = united_all (walked_trees levels trees [] s)
+      walked_kind levels (type.Meet one signs) s = met_all
+          (walked_signs levels signs ((true, (walked levels one s).0) ∷ []) (walked levels one s).1)
+      walked_kind levels (type.Sequence is) s = sequenced (walked_regular levels is s)
+      walked_kind levels (type.Record fields more) s =
+          recorded more (walked_fields levels fields [] s)
+      walked_kind levels (type.Xml tag attributes content) s =
+          elements (walked levels tag s).0 (walked levels attributes (walked levels tag s).1).0
+          (walked levels content (walked levels attributes (walked levels tag s).1).1)
+      walked_kind levels (type.Named name) s = (node_under names levels name, s)
       -- the names of the list have the next nodes, and their trees are read before the tree is
-      walked_kind frames (type.Where is declarations) s =
-          walked (frame_after declarations s ∷ frames) is
-          (walked_declared (frame_after declarations s ∷ frames) (length s) declarations
+      walked_kind levels (type.Where is declarations) s =
+          walked (level_after declarations s ∷ levels) is
+          (walked_declared (level_after declarations s ∷ levels) (length s) declarations
           (entered declarations s))
-      walked_kind frames kind s = nothing s
+      walked_kind levels kind s = nothing s
 
       -- the trees in turn, after nodes that were made
-      pub walked_trees : Frames → Trees → List NodeId → Equations → List NodeId × Equations
-      walked_trees frames NoTree made s = (made, s)
-      walked_trees frames (ATree one rest) made s =
-          walked_trees frames rest (one_more made (walked frames one s).0) (walked frames one s).1
+      pub walked_trees : ScopeLevels → Trees → List NodeId → Equations → List NodeId × Equations
+      walked_trees levels NoTree made s = (made, s)
+      walked_trees levels (ATree one rest) made s =
+          walked_trees levels rest (one_more made (walked levels one s).0) (walked levels one s).1
 
-      pub walked_signs : Frames → Signs → List Sign → Equations → List Sign × Equations
-      walked_signs frames NoSign made s = (made, s)
-      walked_signs frames (ASign kept is rest) made s =
-          walked_signs frames rest (one_more made (kept, (walked frames is s).0))
-          (walked frames is s).1
+      pub walked_signs : ScopeLevels → Signs → List Sign → Equations → List Sign × Equations
+      walked_signs levels NoSign made s = (made, s)
+      walked_signs levels (ASign kept is rest) made s =
+          walked_signs levels rest (one_more made (kept, (walked levels is s).0))
+          (walked levels is s).1
 
-      pub walked_fields : Frames → Fields → List (Name × Field) → Equations
+      pub walked_fields : ScopeLevels → Fields → List (Name × Field) → Equations
           → List (Name × Field) × Equations
-      walked_fields frames NoField made s = (made, s)
-      walked_fields frames (AField label at optional is rest) made s =
-          walked_fields frames rest
-          (one_more made (label, record { optional = optional; type = (walked frames is s).0 }))
-          (walked frames is s).1
+      walked_fields levels NoField made s = (made, s)
+      walked_fields levels (AField label at optional is rest) made s =
+          walked_fields levels rest
+          (one_more made (label, record { optional = optional; type = (walked levels is s).0 }))
+          (walked levels is s).1
 
-      pub walked_regular : Frames → type.Regular → Equations → ReadRegular
-      walked_regular frames (type.regular span kind) s = walked_regular_kind frames kind s
+      pub walked_regular : ScopeLevels → type.Regular → Equations → ReadRegular
+      walked_regular levels (type.regular span kind) s = walked_regular_kind levels kind s
 
-      pub walked_regular_kind : Frames → type.RegularKind → Equations → ReadRegular
-      walked_regular_kind frames type.Nothing s = (Nothing, s)
-      walked_regular_kind frames (type.Item is) s = item_of (walked frames is s)
-      walked_regular_kind frames (type.Seq all) s = in_turn (walked_regulars frames all [] s)
-      walked_regular_kind frames (type.Alt all) s = one_of (walked_regulars frames all [] s)
-      walked_regular_kind frames (type.Repeat is post) s =
-          repeats post (walked_regular frames is s)
+      pub walked_regular_kind : ScopeLevels → type.RegularKind → Equations → ReadRegular
+      walked_regular_kind levels type.Nothing s = (Nothing, s)
+      walked_regular_kind levels (type.Item is) s = item_of (walked levels is s)
+      walked_regular_kind levels (type.Seq all) s = in_turn (walked_regulars levels all [] s)
+      walked_regular_kind levels (type.Alt all) s = one_of (walked_regulars levels all [] s)
+      walked_regular_kind levels (type.Repeat is post) s =
+          repeats post (walked_regular levels is s)
       -- a form of patterns, of which no equations are made
-      walked_regular_kind frames (type.Capture name is) s = (Alt NoRegular, s)
+      walked_regular_kind levels (type.Capture name is) s = (Alt NoRegular, s)
 
-      pub walked_regulars : Frames → type.Regulars → List Regular → Equations
+      pub walked_regulars : ScopeLevels → type.Regulars → List Regular → Equations
           → List Regular × Equations
-      walked_regulars frames type.NoRegular made s = (made, s)
-      walked_regulars frames (type.ARegular one rest) made s =
-          walked_regulars frames rest (one_more made (walked_regular frames one s).0)
-          (walked_regular frames one s).1
+      walked_regulars levels type.NoRegular made s = (made, s)
+      walked_regulars levels (type.ARegular one rest) made s =
+          walked_regulars levels rest (one_more made (walked_regular levels one s).0)
+          (walked_regular levels one s).1
 
       -- the trees of a list of declarations in turn; its names have the equations from this one on
-      pub walked_declared : Frames → ℕ → Declarations → Equations → Equations
-      walked_declared frames number NoDeclaration s = s
-      walked_declared frames number (ADeclaration name at is rest) s =
-          walked_declared frames (number + 1) rest (settled number (walked frames is s))
+      pub walked_declared : ScopeLevels → ℕ → Declarations → Equations → Equations
+      walked_declared levels number NoDeclaration s = s
+      walked_declared levels number (ADeclaration name at is rest) s =
+          walked_declared levels (number + 1) rest (settled number (walked levels is s))
 
     -- the walk over a list of declarations under these lists
-    abbrev pub walked_list : Frames → Declarations → Equations → Equations
-    walked_list frames declarations s =
-        walked_declared (frame_after declarations s ∷ frames) (length s) declarations
+    abbrev pub walked_list : ScopeLevels → Declarations → Equations → Equations
+    walked_list levels declarations s =
+        walked_declared (level_after declarations s ∷ levels) (length s) declarations
         (entered declarations s)

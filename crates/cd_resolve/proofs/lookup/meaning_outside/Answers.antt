@@ -5,7 +5,7 @@ use Rattle.cd_sets.specs.declared.node_id.NodeId.{NodeId}
 use Rattle.cd_syntax.specs.PlainTree.{plain_declarations}
 use Rattle.cd_model.specs.BuiltIns.{EMPTY as NOTHING}
 use Rattle.cd_resolve.specs.Named.{index_in}
-use Rattle.cd_resolve.specs.Inner.Frames.{declared_or}
+use Rattle.cd_resolve.specs.Inner.ScopeLevels.{declared_or}
 use Rattle.cd_resolve.specs.Inner.Meaning.{id_or}
 use Rattle.cd_resolve.specs.Inner.Names.{node_of, numbered}
 use Rattle.cd_resolve.proofs.Numbered.{numbered_or}
@@ -14,8 +14,8 @@ use Rattle.cd_resolve.proofs.lookup.meaning_outside.Goals as goal
 -- the names of the list have nodes that follow one another
 pub returns-in-Some-clause-node : goal.returns-in-Some-clause-node
 returns-in-Some-clause-node c =
-    let first = c.in-Some.frame.now.first in
-    let declarations = plain_declarations c.in-Some.frame.now.declarations.now in
+    let first = c.in-Some.level.now.first in
+    let declarations = plain_declarations c.in-Some.level.now.declarations.now in
     rw c.in-Some.is (IfOk-weaker c.meaning_in.result
     (λ meaning. (outer : NodeId) → id_or meaning outer
     ≡ declared_or first (index_in declarations c.args.name.now) outer)

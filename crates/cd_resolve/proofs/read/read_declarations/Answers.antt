@@ -14,12 +14,12 @@ walk_list-requires c = declarations_are_patterns (plain_declarations c.args.decl
 pub returns-in-Ok-clause-sound : goal.returns-in-Ok-clause-sound
 returns-in-Ok-clause-sound c =
     let declared = plain_declarations c.args.declared.now in
-    let found = c.in_ok-frame.ensures.found ∙ ap (found_in_list innermost [] declared) c.new-found.ensures in
+    let found = c.in_ok-level.ensures.found ∙ ap (found_in_list innermost [] declared) c.new-found.ensures in
     declared_sound declared (subst (λ found. least_from None (all_faults found) ≡ None) found c.in-Ok.ensures.sound)
 
 pub returns-clause-fault : goal.returns-clause-fault
 returns-clause-fault c =
     let declared = plain_declarations c.args.declared.now in
-    let found = c.in_ok-frame.ensures.found ∙ ap (found_in_list innermost [] declared) c.new-found.ensures in
+    let found = c.in_ok-level.ensures.found ∙ ap (found_in_list innermost [] declared) c.new-found.ensures in
     declared_reported declared c.in-Err.error
     (subst (λ found. IsLeast (least_from None (all_faults found)) c.in-Err.error) found c.in-Err.ensures.fault)

@@ -1,6 +1,6 @@
 use Rattle.std.proofs.Common.{Some, None, sym, ◌∙◌}
 use Rattle.cd_resolve.proofs.Places.{found_before}
-use Rattle.cd_resolve.proofs.frame.Frame.declares_before.Goals as goal
+use Rattle.cd_resolve.proofs.scope_level.ScopeLevel.declares_before.Goals as goal
 
 -- the first place of the name says whether the name is one of the first so many
 pub returns-in-Some : goal.returns-in-Some

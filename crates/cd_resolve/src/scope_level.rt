@@ -13,7 +13,7 @@ use std::rc::Rc;
 /// A list of declarations, its names in their order, the number of the node of its first name,
 /// and its own number among the lists. The nodes of the other names follow.
 #[derive(Drop)]
-pub(crate) struct Frame<'t> {
+pub(crate) struct ScopeLevel<'t> {
     pub(crate) declarations: &'t Declarations,
     pub(crate) names: Rc<NameIndex<'t>>,
     pub(crate) first: usize,
@@ -28,14 +28,14 @@ pub(crate) struct Spot {
     pub(crate) at: usize,
 }
 
-impl<'t> Frame<'t> {
+impl<'t> ScopeLevel<'t> {
     ghost use Rattle.std.specs.Prelude.{take};
     ghost use Rattle.std.specs.Option.{option_map};
     ghost use Rattle.cd_resolve.specs.Named.{index_in};
     ghost use Rattle.cd_resolve.specs.Inner.BuiltinNames.{is_among};
     ghost use Rattle.cd_resolve.specs.Inner.Finding.{place_in};
-    ghost use Rattle.cd_resolve.specs.Inner.PlainFound.{list_frame};
-    ghost use Rattle.cd_resolve.specs.Inner.PlainState.{plain_frame};
+    ghost use Rattle.cd_resolve.specs.Inner.PlainFound.{list_level};
+    ghost use Rattle.cd_resolve.specs.Inner.PlainState.{plain_level};
 
     /// This list, whose first name has the node of this number.
     pub(crate) fn of(
@@ -43,21 +43,21 @@ impl<'t> Frame<'t> {
         declarations: &'t Declarations,
         first: usize,
         list: usize,
-    ) -> Result<Frame<'t>, AllocError>
-        ensures nodes { IfOk result (λ frame.
-            plain_frame frame ≡ record {
+    ) -> Result<ScopeLevel<'t>, AllocError>
+        ensures nodes { IfOk result (λ level.
+            plain_level level ≡ record {
               declarations = plain_declarations declarations.now;
               first = first;
             }) }
-        ensures list { IfOk result (λ frame.
-            list_frame frame ≡ record {
+        ensures list { IfOk result (λ level.
+            list_level level ≡ record {
               declarations = plain_declarations declarations.now;
               list = list;
             }) }
     {
         let names = declared_names(alloc, declarations)?;
         let names = Rc::new(alloc, names)?;
-        Ok(Frame {
+        Ok(ScopeLevel {
             declarations,
             names,
             first,
@@ -66,12 +66,12 @@ impl<'t> Frame<'t> {
     }
 
     /// The same list.
-    pub(crate) fn copy(&self) -> Result<Frame<'t>, AllocError>
-        ensures nodes { IfOk result (λ frame. plain_frame frame ≡ plain_frame self.now) }
-        ensures list { IfOk result (λ frame. list_frame frame ≡ list_frame self.now) }
+    pub(crate) fn copy(&self) -> Result<ScopeLevel<'t>, AllocError>
+        ensures nodes { IfOk result (λ level. plain_level level ≡ plain_level self.now) }
+        ensures list { IfOk result (λ level. list_level level ≡ list_level self.now) }
     {
         let names = self.names.clone()?;
-        Ok(Frame {
+        Ok(ScopeLevel {
             declarations: self.declarations,
             names,
             first: self.first,
@@ -82,9 +82,9 @@ impl<'t> Frame<'t> {
     /// The first of its declarations that has a name.
     pub(crate) fn find(&self, name: &Name) -> Option<Spot>
         ensures index { option_map (λ spot. spot.index) result
-            ≡ index_in (plain_frame self.now).declarations name.now }
+            ≡ index_in (plain_level self.now).declarations name.now }
         ensures place { option_map (λ spot. spot.at) result
-            ≡ place_in (list_frame self.now).declarations name.now }
+            ≡ place_in (list_level self.now).declarations name.now }
     {
         let index = self.names.as_ref().find(name)?;
         let declaration = self.declarations.items().get(index)?;

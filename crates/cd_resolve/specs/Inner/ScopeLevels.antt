@@ -11,17 +11,17 @@ use Rattle.cd_resolve.specs.Inner.Names.{node_of}
 
 -- a list of declarations, and the number of the node of its first name; the nodes of the others
 -- follow
-pub record Frame : Type 0 where
+pub record ScopeLevel : Type 0 where
   pub declarations : Declarations
   pub first : ℕ
 
 -- from the innermost to the outermost
-abbrev pub Frames : Type 0
-Frames = List Frame
+abbrev pub ScopeLevels : Type 0
+ScopeLevels = List ScopeLevel
 
 -- what a tree under these sees, where the outermost of them sees `base`
-abbrev pub scope_of : Scope → Frames → Scope
-scope_of base frames = map (λ frame. frame.declarations) frames ++ base
+abbrev pub scope_of : Scope → ScopeLevels → Scope
+scope_of base levels = map (λ level. level.declarations) levels ++ base
 
 -- the node of a name: of the innermost list that declares it, or the one that it was given. A name
 -- without a node holds nothing
@@ -29,10 +29,10 @@ abbrev pub declared_or : ℕ → Option ℕ → NodeId → NodeId
 declared_or first (Some index) outer = node (first + index)
 declared_or first None outer = outer
 
-abbrev pub node_under : List (Name × NodeId) → Frames → Name → NodeId
+abbrev pub node_under : List (Name × NodeId) → ScopeLevels → Name → NodeId
 node_under names [] name = unwrap_or (node_of names name) EMPTY
-node_under names (frame ∷ outer) name =
-    declared_or frame.first (index_in frame.declarations name) (node_under names outer name)
+node_under names (level ∷ outer) name =
+    declared_or level.first (index_in level.declarations name) (node_under names outer name)
 
 -- how many names a list declares
 abbrev pub number_in : Declarations → ℕ
